@@ -9,15 +9,16 @@ pub enum End {
 
 /// How a granted frame is mapped: for reading alone, or for writing too
 /// (`GNTMAP_readonly` set or not, `grant_table.h`).
-#[derive(Clone, Copy, Debug, PartialEq, Eq)]
+#[derive(Clone, Copy, Debug, Default, PartialEq, Eq)]
 pub enum Mode {
+    #[default]
     ReadOnly,
     ReadWrite,
 }
 
 /// A granted frame that the back has mapped. Numbers ascend from 1 over a whole run and are never
 /// used again; `gref` is the grant reference that was mapped.
-#[derive(Clone, Copy, Debug, PartialEq, Eq)]
+#[derive(Clone, Copy, Debug, Default, PartialEq, Eq)]
 pub struct Mapping {
     pub number: u64,
     pub gref: u32,
