@@ -1,0 +1,3 @@
+pub mod KeptMappings
+pub mod PutBack
+pub mod Stored
