@@ -1,5 +1,5 @@
 -- What the calls of a disk do to its sectors, where the disk tells.
-use Rattle.std.specs.Prelude.{◌≡◌, ℕ, ◌+◌, ◌<◌, ◌≤◌, ◌⊎◌, List, ◌++◌, Option, Some, None, length, take, drop, replicate, slice_get, slice_set}
+use Rattle.std.specs.Prelude.{◌≡◌, ℕ, zero, suc, ◌+◌, ◌<◌, ◌≤◌, ◌⊎◌, List, Option, Some, None, length, replicate, slice_get, slice_set}
 
 -- a sector of the attached disk
 abbrev pub IsIn : Option ℕ → ℕ → Type 0
@@ -30,10 +30,15 @@ with_sector (Some content) sector words = Some (slice_set content sector words)
 abbrev pub zero_sector : List ℕ
 zero_sector = replicate 128 0
 
+-- the sectors with `count` of them set to zeros, one after another
+abbrev pub zeroed : List (List ℕ) → ℕ → ℕ → List (List ℕ)
+zeroed content sector zero = content
+zeroed content sector (suc count) = slice_set (zeroed content sector count) (sector + count) zero_sector
+
 -- the sectors with `count` of them zeros
 abbrev pub with_zeros : Option (List (List ℕ)) → ℕ → ℕ → Option (List (List ℕ))
 with_zeros None sector count = None
-with_zeros (Some content) sector count = Some (take sector content ++ (replicate count zero_sector ++ drop (sector + count) content))
+with_zeros (Some content) sector count = Some (zeroed content sector count)
 
 -- as many sectors as before, all but `count` of them the same
 abbrev pub SameBut : ℕ → ℕ → Option (List (List ℕ)) → Option (List (List ℕ)) → Type 0
