@@ -1,0 +1,13 @@
+//! A front's requests whose answer is still to be told, each under its number, the `id` that a response echoes
+//! (`io/blkif.h`). An id that a response carries is looked up here, and after a suspend the rest is issued again in
+//! order of number. The front stands on it.
+#![tactic(auto)]
+
+mod in_order;
+mod shadow;
+
+pub use in_order::InOrder;
+pub use shadow::Shadow;
+
+#[cfg(test)]
+mod tests;
