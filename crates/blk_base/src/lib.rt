@@ -1,0 +1,24 @@
+//! The words that both ends of a Xen block ring speak: free-running ring indices (`io/ring.h`),
+//! operations, statuses and layouts (`io/blkif.h`), grants' modes and mappings (`grant_table.h`),
+//! what an end may ask of the machine and what it is answered, and the moves that a report shows.
+//! Every other crate stands on this one.
+#![tactic(auto)]
+
+mod ask;
+mod config;
+mod endpoint;
+mod index;
+mod moves;
+mod operation;
+mod parts;
+
+pub use ask::{BackAnswer, BackAsk, FrontAnswer, FrontAsk, Path, Text};
+pub use config::{Config, Job, SectorCount};
+pub use endpoint::{Endpoint, OutOfMemory};
+pub use index::Idx;
+pub use moves::{BackMover, Move, Mover};
+pub use operation::{Abi, Op, Status};
+pub use parts::{End, Mapping, Mode, SectorWords};
+
+#[cfg(test)]
+mod tests;

@@ -1,0 +1,28 @@
+use crate::{Idx, Op, SectorCount, Status};
+use std::test::Fail;
+
+#[test]
+fn a_distance_goes_round_the_wrap(rt: HostRuntime) {
+    assert_eq!(rt; Idx(4294967295).dist(Idx(1)), 2);
+    assert_eq!(rt; Idx(1).dist(Idx(4294967295)), 4294967294);
+    assert_eq!(rt; Idx(7).dist(Idx(7)), 0);
+    assert_eq!(rt; Idx(4294967295).add(3), Idx(2));
+}
+
+#[test]
+fn operations_have_the_numbers_of_the_header(rt: HostRuntime) {
+    assert_eq!(rt; Op::Read.code(), 0);
+    assert_eq!(rt; Op::Discard.code(), 5);
+    assert_eq!(rt; Op::from_code(6), Some(Op::Indirect));
+    assert_eq!(rt; Op::from_code(4), None);
+    assert_eq!(rt; Status::Unsupported.code(), -2);
+    assert_eq!(rt; Status::from_code(-1), Some(Status::Error));
+    assert_eq!(rt; Status::from_code(-3), None);
+}
+
+#[test]
+fn no_request_moves_nothing(rt: HostRuntime) -> Result<(), Fail> {
+    assert_eq!(rt; SectorCount::new(0), None);
+    assert_eq!(rt; SectorCount::new(8).ok_or("eight")?.get(), 8);
+    Ok(())
+}

@@ -1,0 +1,61 @@
+use crate::{Failed, FailsAt, MemorySink, MemorySource, ReaderSource, Sink, Source, WriterSink};
+use std::test::Fail;
+
+// Reads once, into a buffer of four bytes.
+fn next<S: Source>(source: &mut S) -> Result<(usize, [u8; 4]), Failed> {
+    let mut buf = [0u8; 4];
+    let n = source.read(&mut buf)?;
+    Ok((n, buf))
+}
+
+// Writes two pieces.
+fn pour<S: Sink>(sink: &mut S) -> Result<(), Failed> {
+    sink.write(b"ring")?;
+    sink.write(b" full")
+}
+
+#[test]
+fn a_source_in_memory_gives_its_bytes_in_pieces(rt: HostRuntime) -> Result<(), Fail> {
+    let mut source = MemorySource::new([1, 2, 3, 4, 5].to_vec(rt.alloc())?);
+    assert_eq!(rt; next(&mut source)?, (4, [1, 2, 3, 4]));
+    assert_eq!(rt; next(&mut source)?, (1, [5, 0, 0, 0]));
+    assert_eq!(rt; next(&mut source)?.0, 0);
+    Ok(())
+}
+
+#[test]
+fn a_sink_in_memory_takes_what_fits(rt: HostRuntime) -> Result<(), Fail> {
+    let mut sink = MemorySink::with_room(rt.alloc(), 9)?;
+    pour(&mut sink)?;
+    assert_eq!(rt; sink.bytes().len(), 9);
+    assert_eq!(rt; sink.bytes()[4], b' ');
+    assert_eq!(rt; sink.write(b"!"), Err(Failed));
+    assert_eq!(rt; sink.bytes().len(), 9);
+    Ok(())
+}
+
+#[test]
+fn listed_calls_fail_and_the_others_go_on(rt: HostRuntime) -> Result<(), Fail> {
+    let bytes = MemorySource::new([1, 2, 3, 4, 5].to_vec(rt.alloc())?);
+    let mut source = FailsAt::new(bytes, [2].to_vec(rt.alloc())?);
+    assert_eq!(rt; next(&mut source)?, (4, [1, 2, 3, 4]));
+    assert_eq!(rt; next(&mut source), Err(Failed));
+    assert_eq!(rt; next(&mut source)?, (1, [5, 0, 0, 0]));
+    assert_eq!(rt; source.faults, 1);
+    let shelf = MemorySink::with_room(rt.alloc(), 90)?;
+    let mut sink = FailsAt::new(shelf, [2].to_vec(rt.alloc())?);
+    assert_eq!(rt; pour(&mut sink), Err(Failed));
+    assert_eq!(rt; sink.inside.bytes().len(), 4);
+    Ok(())
+}
+
+#[test]
+fn real_streams_pass_their_bytes_on(rt: HostRuntime) -> Result<(), Fail> {
+    let bytes: &[u8] = &[7, 8];
+    let mut source = ReaderSource::new(bytes);
+    assert_eq!(rt; next(&mut source)?, (2, [7, 8, 0, 0]));
+    let held: Vec<u8> = Vec::new(rt.alloc());
+    let mut sink = WriterSink::new(held);
+    pour(&mut sink)?;
+    Ok(())
+}

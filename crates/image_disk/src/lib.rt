@@ -1,0 +1,13 @@
+//! Disk images of 512-byte sectors: one in memory, which tells its content, one that fails at
+//! listed calls, and one over a real file, the trusted edge, which tells nothing. A tail of a file
+//! that is shorter than a sector is never touched.
+#![tactic(auto)]
+
+
+
+
+mod memory;
+
+
+
+pub use memory::MemoryDisk;
