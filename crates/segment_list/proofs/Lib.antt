@@ -1,0 +1,4 @@
+pub mod Ends
+pub mod Ranges
+pub mod Spots
+pub mod Packed
