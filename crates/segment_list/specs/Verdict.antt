@@ -1,6 +1,6 @@
 -- What the back makes of a request before it does anything (`io/blkif.h`). For each operation the tests stand in
 -- order, and the first that applies decides. Sums are of whole numbers.
-use Rattle.std.specs.Prelude.{ℕ, ◌+◌, ◌%◌, Bool, true, false, not, ◌&&◌, ◌||◌, ◌==◌, nat_lt, if◌then◌else◌, List, [], ◌∷◌, take}
+use Rattle.std.specs.Prelude.{ℕ, ◌+◌, ◌%◌, Bool, true, false, not, ◌&&◌, ◌||◌, ◌==◌, nat_lt, if◌then◌else◌, List, [], ◌∷◌, take, All, Option, Some, None, is_none, unwrap_or, ◌≤◌}
 use Rattle.std.specs.List.{list_any}
 use Rattle.blk_base.specs.declared.operation.Op.TheVariants as op
 use Rattle.blk_base.specs.Operation.{op_code}
@@ -14,7 +14,7 @@ use Rattle.segment_list.specs.declared.verdict.Kind.TheVariants as kind
 use Rattle.segment_list.specs.declared.verdict.Plan.{Plan}
 use Rattle.segment_list.specs.declared.verdict.Verdict.{Verdict}
 use Rattle.segment_list.specs.declared.verdict.Verdict.TheVariants.{Serve, Error, Unsupported}
-use Rattle.segment_list.specs.Segments.{fails_test, sectors_of}
+use Rattle.segment_list.specs.Segments.{IsSound, fails_test, sectors_of}
 
 -- the first test that applies decides, and where none does the request is served
 abbrev pub first_of : List (Bool × Verdict) → Plan → Verdict
@@ -26,7 +26,6 @@ planned kind sector count = record { kind = kind; sector = sector; count = count
 
 abbrev pub is_write : Kind → Bool
 is_write kind.Write = true
-is_write kind.IndirectWrite = true
 is_write other = false
 
 abbrev pub is_barrier : Kind → Bool
@@ -62,17 +61,21 @@ discard_verdict flag count sector info =
     (nat_lt info.sectors (sector + count), Error why.Range) ∷ [])
     (planned kind.Discard sector count)
 
+-- what an INDIRECT does, by its inner operation
+abbrev pub kind_within : ℕ → Option Kind
+kind_within inner =
+    if inner == op_code op.Read then Some kind.IndirectRead
+    else (if inner == op_code op.Write then Some kind.IndirectWrite else None)
+
 -- INDIRECT, before its segments are copied from its pages
 abbrev pub indirect_verdict : ℕ → ℕ → ℕ → DiskInfo → Verdict
 indirect_verdict inner count sector info =
-    let reads = inner == op_code op.Read in
-    let writes = inner == op_code op.Write in
     first_of (
     (info.max_indirect == 0, Unsupported) ∷
-    (not (reads || writes), Error why.Op) ∷
-    (writes && info.read_only, Error why.ReadOnly) ∷
+    (is_none (kind_within inner), Error why.Op) ∷
+    ((inner == op_code op.Write) && info.read_only, Error why.ReadOnly) ∷
     ((count == 0) || nat_lt info.max_indirect count, Error why.Count) ∷ [])
-    (planned (if reads then kind.IndirectRead else kind.IndirectWrite) sector count)
+    (planned (unwrap_or (kind_within inner) kind.IndirectRead) sector count)
 
 -- the verdict on any request, by its operation
 abbrev pub verdict_of : RawRequest → DiskInfo → Verdict
@@ -92,3 +95,8 @@ finished_verdict plan segments info =
     (list_any fails_test segments, Error why.Segment) ∷
     (nat_lt info.sectors (plan.sector + sectors_of segments), Error why.Range) ∷ [])
     plan
+
+-- segments that each have a sector and none beyond its frame, and lie on the disk from `sector` on
+pub record IsOnDisk (sector : ℕ) (segments : List Segment) (info : DiskInfo) : Type 0 where
+  pub sound : All IsSound segments
+  pub within : sector + sectors_of segments ≤ info.sectors

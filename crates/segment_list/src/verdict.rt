@@ -2,13 +2,16 @@
 ghost use Rattle.std.specs.Prelude.{◌≡◌, ◌+◌, Some, None, if◌then◌else◌};
 ghost use Rattle.std.specs.List.{list_any};
 ghost use Rattle.segment_list.specs.Segments.{fails_test, sectors_of};
-ghost use Rattle.segment_list.specs.Verdict.{transfer_verdict, flush_verdict, discard_verdict, indirect_verdict, verdict_of, finished_verdict};
+ghost use Rattle.segment_list.specs.Verdict.{transfer_verdict, flush_verdict, discard_verdict, kind_within, indirect_verdict, verdict_of, finished_verdict, IsOnDisk};
 
 use blk_base::Op;
 use blk_layout::{RawRequest, Segment};
 
 /// Bit 0 of a discard's flag (`BLKIF_DISCARD_SECURE`): what was there must not be readable by any means.
 const SECURE: u8 = 1;
+
+/// Segments that an entry has room for (`BLKIF_MAX_SEGMENTS_PER_REQUEST`).
+const MAX_SEGMENTS: u8 = 11;
 
 /// The disk as the back knows it: its size in sectors of 512 bytes, whether it may be written, and what the back has
 /// published of barriers, flushes and discards. An indirect request may have `max_indirect` segments; 0 is none at all.
@@ -103,7 +106,8 @@ pub fn check(request: &RawRequest, info: &DiskInfo) -> Verdict
 
 /// The verdict on an indirect request of this plan once its segments are copied: it serves the same plan, or ends it.
 pub fn finish_indirect(plan: &Plan, segments: &[Segment], info: &DiskInfo) -> Verdict
-    ensures { result ≡ finished_verdict plan.now segments.now info.now }
+    ensures verdict { result ≡ finished_verdict plan.now segments.now info.now }
+    ensures on_disk { result ≡ Verdict.Serve plan.now → IsOnDisk plan.now.sector segments.now info.now }
 {
     match end_of(plan.sector, segments) {
         None => Verdict::Error(Why::Segment),
@@ -123,12 +127,10 @@ fn check_transfer(
 {
     match kind {
         Kind::Barrier if !info.barrier => return Verdict::Unsupported,
-        Kind::Write | Kind::IndirectWrite if info.read_only => {
-            return Verdict::Error(Why::ReadOnly);
-        }
+        Kind::Write if info.read_only => return Verdict::Error(Why::ReadOnly),
         _ => {}
     }
-    if count == 0 || count > 11 {
+    if count == 0 || count > MAX_SEGMENTS {
         return Verdict::Error(Why::Count);
     }
     let plan = Plan {
@@ -180,15 +182,10 @@ fn check_indirect(op: u8, count: u16, sector: u64, info: &DiskInfo) -> Verdict
     if info.max_indirect == 0 {
         return Verdict::Unsupported;
     }
-    let kind = match Op::from_code(op) {
-        Some(Op::Read) => Kind::IndirectRead,
-        Some(Op::Write) => Kind::IndirectWrite,
-        Some(Op::Barrier | Op::Flush | Op::Discard | Op::Indirect) => return Verdict::Error(
-            Why::Op,
-        ),
-        None => return Verdict::Error(Why::Op),
+    let Some(kind) = inner_kind(op) else {
+        return Verdict::Error(Why::Op);
     };
-    if op == Op::Write.code() && info.read_only {
+    if matches!(kind, Kind::IndirectWrite) && info.read_only {
         return Verdict::Error(Why::ReadOnly);
     }
     if count == 0 || u32::from(count) > info.max_indirect {
@@ -199,6 +196,17 @@ fn check_indirect(op: u8, count: u16, sector: u64, info: &DiskInfo) -> Verdict
         sector,
         count: u64::from(count),
     })
+}
+
+// What an indirect request does; `None` exactly where its inner operation is neither READ nor WRITE.
+fn inner_kind(op: u8) -> Option<Kind>
+    ensures { result ≡ kind_within op }
+{
+    match Op::from_code(op)? {
+        Op::Read => Some(Kind::IndirectRead),
+        Op::Write => Some(Kind::IndirectWrite),
+        Op::Barrier | Op::Flush | Op::Discard | Op::Indirect => None,
+    }
 }
 
 // The disk sector behind the last one of segments from `sector` on, as a whole number; `None` exactly where one of
