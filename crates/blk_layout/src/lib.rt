@@ -3,10 +3,20 @@
 //! Both ends of the ring, the verdicts on requests and the inspector of rings stand on it.
 #![tactic(auto)]
 
+mod laws;
+mod places;
+mod reader;
 mod request;
 mod response;
 mod segment;
+mod writer;
 
+pub use laws::reading_gives_back_what_was_written;
+pub use reader::read_request;
 pub use request::{DirectOp, IndirectOp, RawRequest, Request};
-pub use response::Response;
-pub use segment::Segment;
+pub use response::{Response, read_response, response_words};
+pub use segment::{Segment, read_segment, segment_words};
+pub use writer::request_words;
+
+#[cfg(test)]
+mod tests;
