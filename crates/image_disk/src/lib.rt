@@ -3,11 +3,13 @@
 //! that is shorter than a sector is never touched.
 #![tactic(auto)]
 
-
-
-
+mod failing;
+mod file;
 mod memory;
 
-
-
+pub use failing::{FailsAtCalls, ListedCalls};
+pub use file::FileDisk;
 pub use memory::MemoryDisk;
+
+#[cfg(test)]
+mod tests;

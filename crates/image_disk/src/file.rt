@@ -1,0 +1,153 @@
+// A disk over a real file: the trusted edge.
+ghost use Rattle.std.specs.Prelude.{◌≤◌, None, OnErr};
+ghost use Rattle.blk_io.specs.Outside.{Rose};
+
+use blk_base::SectorWords;
+use blk_io::{AttachStop, Failed, SectorDisk};
+use byteorder::{ByteOrder, LittleEndian};
+use std::fs::{OpenFile, OpenOptions};
+use std::io::{self, Read, Seek, SeekFrom, Write};
+use std::rt::Files;
+
+/// The bytes of a sector.
+const SECTOR: u64 = 512;
+
+/// A raw disk image in a file. Each error of the file is a fault; it tells nothing of what the file
+/// holds.
+#[derive(Drop)]
+pub struct FileDisk<R: Files + Drop> {
+    files: R,
+    file: Option<R::File>,
+    attached: Option<u64>,
+    faults: u64,
+}
+
+impl<R: Files + Drop> FileDisk<R> {
+    /// A disk to which no file is attached yet.
+    pub fn new(files: R) -> FileDisk<R> {
+        FileDisk {
+            files,
+            file: None,
+            attached: None,
+            faults: 0,
+        }
+    }
+}
+
+// Opens an image, and answers its whole number of sectors.
+fn open<R: Files>(files: &R, name: &str, writable: bool) -> io::Result<(R::File, u64)> {
+    let mut options = OpenOptions::new();
+    options.read(true).write(writable);
+    let file = options.open(files, name)?;
+    let sectors = file.metadata()?.len() / SECTOR;
+    Ok((file, sectors))
+}
+
+// Counts an error of the file as a fault.
+fn counted(outcome: io::Result<()>, faults: &mut u64) -> Result<(), Failed>
+    ensures later { faults.old ≤ faults.new }
+    ensures failed { OnErr result (Rose faults.old faults.new) }
+{
+    match outcome {
+        Ok(()) => Ok(()),
+        Err(_) => {
+            *faults = faults.saturating_add(1);
+            Err(Failed)
+        }
+    }
+}
+
+// The file, placed at the beginning of a sector.
+fn placed<F: Seek>(file: &mut Option<F>, sector: u64) -> io::Result<&mut F> {
+    let missing = io::Error::from(io::ErrorKind::NotFound);
+    let Some(file) = file else {
+        return Err(missing);
+    };
+    let place = sector.checked_mul(SECTOR);
+    let Some(place) = place else {
+        return Err(missing);
+    };
+    file.seek(SeekFrom::Start(place))?;
+    Ok(file)
+}
+
+impl<R: Files + Drop> SectorDisk for FileDisk<R> {
+    ghost attached = { λ d. d.attached };
+
+    ghost content = { λ _. None };
+
+    ghost durable = { λ _. None };
+
+    ghost faults = { λ d. d.faults };
+
+    fn attach(&mut self, name: &str, writable: bool) -> Result<u64, AttachStop> {
+        match open(&self.files, name, writable) {
+            Ok((file, sectors)) => {
+                self.file = Some(file);
+                self.attached = Some(sectors);
+                Ok(sectors)
+            }
+            Err(_) => {
+                self.faults = self.faults.saturating_add(1);
+                Err(AttachStop::Failed)
+            }
+        }
+    }
+
+    fn read(&mut self, sector: u64, words: &mut SectorWords) -> Result<(), Failed> {
+        let read = read_sector(&mut self.file, sector, words);
+        counted(read, &mut self.faults)
+    }
+
+    fn write(&mut self, sector: u64, words: &SectorWords) -> Result<(), Failed> {
+        let written = write_sector(&mut self.file, sector, words);
+        counted(written, &mut self.faults)
+    }
+
+    fn flush(&mut self) -> Result<(), Failed> {
+        let flushed = flush_file(&mut self.file);
+        counted(flushed, &mut self.faults)
+    }
+
+    fn trim(&mut self, sector: u64, count: u64) -> Result<(), Failed> {
+        let trimmed = zero_sectors(&mut self.file, sector, count);
+        counted(trimmed, &mut self.faults)
+    }
+}
+
+fn read_sector<F: Read + Seek>(
+    file: &mut Option<F>,
+    sector: u64,
+    words: &mut SectorWords,
+) -> io::Result<()> {
+    let mut bytes = [0u8; 512];
+    placed(file, sector)?.read_exact(&mut bytes)?;
+    LittleEndian::read_u32_into(&bytes, words);
+    Ok(())
+}
+
+fn write_sector<F: Write + Seek>(
+    file: &mut Option<F>,
+    sector: u64,
+    words: &SectorWords,
+) -> io::Result<()> {
+    let mut bytes = [0u8; 512];
+    LittleEndian::write_u32_into(words, &mut bytes);
+    placed(file, sector)?.write_all(&bytes)
+}
+
+fn flush_file<F: OpenFile>(file: &mut Option<F>) -> io::Result<()> {
+    match file {
+        Some(file) => file.sync_data(),
+        None => Ok(()),
+    }
+}
+
+fn zero_sectors<F: Write + Seek>(file: &mut Option<F>, sector: u64, count: u64) -> io::Result<()> {
+    let zeros = [0u8; 512];
+    let file = placed(file, sector)?;
+    for _ in 0..count {
+        file.write_all(&zeros)?;
+    }
+    Ok(())
+}
