@@ -1,0 +1,49 @@
+// A ring's bytes from a source.
+ghost use Rattle.std.specs.Prelude.{◌≡◌, ◌≢◌, ◌+◌, ◌<◌, ◌≤◌, ◌^◌, IfOk, IfErr, length};
+ghost use Rattle.blk_io.specs.Outside.{Rose};
+ghost use Rattle.ring_inspect.specs.Stop.{AreAll, IsNoRing};
+
+use crate::stop::InspectStop;
+use blk_io::{Failed, Source};
+use std::alloc::Global;
+
+/// How many bytes are asked for at once.
+const CHUNK: usize = 4096;
+
+/// Reads a source to its end, or until it has given more than `size` bytes.
+pub fn read_ring<S: Source>(
+    alloc: Global,
+    source: &mut S,
+    size: usize,
+) -> Result<Vec<u8>, InspectStop>
+    requires { size < 2 ^ 32 }
+    ensures size { IfOk result (λ bytes. length bytes.items ≡ size) }
+    ensures all { IfOk result (λ bytes. AreAll (S.left source.old) bytes.items) }
+    ensures stopped { IfErr result (IsNoRing (S.left source.old) size (S.faults source.old) (S.faults source.new)) }
+    ensures later { S.faults source.old ≤ S.faults source.new }
+{
+    let mut bytes = Vec::with_capacity(alloc, size + CHUNK)?;
+    let mut chunk = [0; CHUNK];
+    while bytes.len() <= size {
+        let Ok(count) = source.read(&mut chunk) else {
+            return Err(InspectStop::Source);
+        };
+        if count == 0 {
+            return whole(bytes, size);
+        }
+        bytes.extend_from_slice(&chunk[..count])?;
+    }
+    Err(InspectStop::Length(size as u64 + 1))
+}
+
+// All the bytes of a source, where they are a ring's.
+fn whole(bytes: Vec<u8>, size: usize) -> Result<Vec<u8>, InspectStop>
+    ensures ok { IfOk result (λ same. (same.items ≡ bytes.items) × (length bytes.items ≡ size)) }
+    ensures err { IfErr result (λ stop. (stop ≡ InspectStop.Length (length bytes.items)) × (length bytes.items ≢ size)) }
+{
+    if bytes.len() == size {
+        Ok(bytes)
+    } else {
+        Err(InspectStop::Length(bytes.len() as u64))
+    }
+}
