@@ -43,14 +43,6 @@ held_of_absent number (held ∷ live) absent =
     let later = held_of_absent number live (λ i lt. absent (suc i) (omega arith)) in
     grind (arith, nat_tests)
 
--- a mapping that is added under a new number is found
-pub held_of-append_new : (live : List Held) (next : Held) → ((i : ℕ) → i < length live → number_at live i < next.mapping.number) → held_of next.mapping.number (live ++ next ∷ []) ≡ Some next
-held_of-append_new [] next below = grind (arith, nat_tests)
-held_of-append_new (held ∷ live) next below =
-    let first = below 0 (omega arith) in
-    let later = held_of-append_new live next (λ i lt. below (suc i) (omega arith)) in
-    grind (arith, nat_tests)
-
 -- where no number is the one taken out, nothing is
 without_none : (number low : ℕ) (live : List Held) → IsAscending low live → number ≤ low → without number live ≡ live
 without_none number low [] up le = refl

@@ -3,7 +3,8 @@ use Rattle.std.proofs.lemmas.List.{get_or_default}
 use Rattle.grant_table.specs.declared.held.Held.{Held}
 use Rattle.grant_table.specs.Table.{GrantTable}
 use Rattle.grant_table.specs.Sound.{nothing_held}
-use Rattle.grant_table.proofs.Live.{held_of-append_new}
+use Rattle.grant_table.proofs.Live.{held_of_absent}
+use Rattle.grant_table.proofs.Lookups.{held_of-append_new}
 use Rattle.grant_table.proofs.Keeps.{mappings-le, writers-le, IsSound-hold}
 use Rattle.grant_table.proofs.grants.Grants.hold.Goals as goal
 
@@ -43,4 +44,4 @@ returns-clause-live c =
     let sound = c.self.invariant in
     let held : Held = record { mapping = record { number = fields.made + 1; gref = c.args.gref; mode = c.args.mode }; frame = c.args.frame } in
     let pushed = rw c.unwrap.ensures at c.push.ensures.items in
-    rw (pushed, held_of-append_new fields.held.items held (λ i lt. omega (arith, sound.made_before i nothing_held lt))) refl
+    rw (pushed, held_of-append_new fields.held.items held (held_of_absent held.mapping.number fields.held.items (λ i lt same. omega (arith, sound.made_before i nothing_held lt)))) refl
