@@ -1,0 +1,14 @@
+use Rattle.std.proofs.Common.{◌<◌, length, get_or, sym, arith}
+use Rattle.std.proofs.lemmas.List.{get_or_default}
+use Rattle.std.proofs.lemmas.List.Edits.{map_over_more}
+use Rattle.event_channel.specs.declared.channels.PortState.TheVariants.{Closed}
+use Rattle.event_channel.specs.Channels.{unbound_port}
+use Rattle.event_channel.proofs.channels.unbind_all.Goals as goal
+
+pub loop-port-preserved : goal.loop-port-preserved
+loop-port-preserved c =
+    let ports = c.loop-port.ports in
+    let i = c.loop-port.port-index in
+    let port = get_or ports i Closed in
+    let within : i < length ports = omega arith in
+    rw c.unbound_port.ensures (map_over_more unbound_port c.args.ports.now ports i port (omega arith) c.loop-port.invariant (sym (get_or_default ports i port Closed within)))

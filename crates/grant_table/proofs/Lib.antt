@@ -1,0 +1,5 @@
+pub mod Bits
+pub mod Keeps
+pub mod Live
+pub mod Lookups
+pub mod Place

@@ -1,0 +1,75 @@
+// Frames of words.
+ghost use Rattle.std.specs.Prelude.{◌≡◌, ◌<◌, length, IfOk};
+ghost use Rattle.xen_pages.specs.Pages.{word_of, with_word, zero_words, fresh_pages, owner_of, OnlyChanges};
+
+use blk_base::OutOfMemory;
+use std::alloc::Global;
+use std::marker::Model;
+
+const FRAMES: usize = 1088;
+
+const FRAME_WORDS: usize = 1024;
+
+const WORDS: usize = FRAMES * FRAME_WORDS;
+
+/// All frames of both domains. Contracts see the list of all words, frame after frame.
+#[derive(Drop)]
+pub struct Pages {
+    words: Vec<u32>,
+}
+
+impl Model for Pages {
+    ghost use Rattle.std.specs.Prelude.{◌≡◌, ℕ, List, length};
+
+    ghost Value = { List ℕ };
+
+    ghost view = { λ pages. pages.words.items };
+
+    ghost invariant = { λ pages. length pages.words.items ≡ 1114112 };
+}
+
+impl Pages {
+    /// Memory of which every word is 0, in one allocation.
+    pub fn new(alloc: Global) -> Result<Pages, OutOfMemory>
+        ensures zero { IfOk result (λ pages. pages ≡ fresh_pages) }
+    {
+        Ok(Pages {
+            words: zeroed(alloc, WORDS)?,
+        })
+    }
+
+    /// The word `word` of the frame `frame`: the one last written there, or 0.
+    pub fn read(&self, frame: u32, word: u32) -> u32
+        requires frame_in { frame < 1088 }
+        requires word_in { word < 1024 }
+        ensures { result ≡ word_of self.now frame word }
+    {
+        self.words[frame as usize * FRAME_WORDS + word as usize]
+    }
+
+    /// Writes the word `word` of the frame `frame`, and no other.
+    pub fn write(&mut self, frame: u32, word: u32, value: u32)
+        requires frame_in { frame < 1088 }
+        requires word_in { word < 1024 }
+        ensures value { self.new ≡ with_word self.old frame word value }
+        ensures only { OnlyChanges self.old self.new frame word value }
+    {
+        self.words[frame as usize * FRAME_WORDS + word as usize] = value;
+    }
+
+    /// The domain that a frame belongs to: 1 for frames 0 to 1023, 2 for frames 1024 to 1087.
+    pub fn owner(frame: u32) -> u16
+        requires { frame < 1088 }
+        ensures { result ≡ owner_of frame }
+    {
+        if frame < 1024 { 1 } else { 2 }
+    }
+}
+
+#[tactic(auto, unfolding(crate::specs::Pages::zero_words))]
+fn zeroed(alloc: Global, count: usize) -> Result<Vec<u32>, OutOfMemory>
+    ensures zero { IfOk result (λ words. words.items ≡ zero_words count) }
+    ensures len { IfOk result (λ words. length words.items ≡ count) }
+{
+    Ok(vec![in alloc; 0; count]?)
+}
