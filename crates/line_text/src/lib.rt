@@ -1,0 +1,13 @@
+//! The words of a line of text, with single spaces between them, and the numbers, words of memory
+//! and sectors that they say: each has one spelling. Reading takes any word for some number, and
+//! leaves it to the reader of the whole line to compare its text. The lines of schedules and
+//! reports stand on it.
+#![tactic(auto)]
+
+mod numbers;
+mod words;
+mod writing;
+
+pub use numbers::{hex, number, signed, small};
+pub use words::{Words, is};
+pub use writing::{LineText, begin, put, put_hex, put_number, put_signed};

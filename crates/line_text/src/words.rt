@@ -1,0 +1,61 @@
+// The words of a line.
+ghost use Rattle.std.specs.Prelude.{◌≡◌, ℕ, List, ◌==◌, length, take, drop};
+ghost use Rattle.std.specs.Str.{bytes_eq};
+ghost use Rattle.std.specs.List.{before_first, after_first, slice_split};
+ghost use Rattle.line_text.specs.Words.{is_space, first_of, later, words_in};
+
+use std::marker::Model;
+
+/// The words of a line that are left to read, with single spaces between them.
+#[derive(Drop)]
+pub struct Words<'a> {
+    rest: &'a [u8],
+}
+
+impl<'a> Model for Words<'a> {
+    ghost use Rattle.std.specs.Prelude.{ℕ, List};
+    ghost use Rattle.line_text.specs.Words.{words_in};
+
+    ghost Value = { List (List ℕ) };
+
+    ghost view = { λ w. words_in w.rest.now };
+}
+
+impl<'a> Words<'a> {
+    /// The words of a line.
+    pub fn new(line: &'a [u8]) -> Words<'a>
+        ensures { result ≡ words_in line.now }
+    {
+        Words { rest: line }
+    }
+
+    /// Takes the next word. After the last one there are only empty words.
+    pub fn next(&mut self) -> &'a [u8]
+        ensures word { result.now ≡ first_of self.old }
+        ensures rest { self.new ≡ later self.old }
+    {
+        let (word, rest) = cut(self.rest);
+        self.rest = rest;
+        word
+    }
+}
+
+/// Whether a word is this text.
+pub fn is(word: &[u8], text: &str) -> bool
+    ensures { result ≡ bytes_eq word.now text.now }
+{
+    word == text.as_bytes()
+}
+
+/// The bytes up to the first space, and those after it.
+fn cut(bytes: &[u8]) -> (&[u8], &[u8])
+    ensures before { result.0.now ≡ before_first is_space bytes.now }
+    ensures after { result.1.now ≡ after_first is_space bytes.now }
+{
+    for (at, byte) in bytes.iter().enumerate() {
+        if *byte == b' ' {
+            return (&bytes[..at], &bytes[at + 1..]);
+        }
+    }
+    (bytes, &[])
+}

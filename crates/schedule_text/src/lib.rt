@@ -1,0 +1,13 @@
+//! The text of a schedule and of a report, a line at a time: what each line says, its one
+//! spelling, and who keeps a report's lines. The lines speak of the requests and statuses of
+//! `io/blkif.h`, the states of `io/xenbus.h` and the grants of `grant_table.h`. Every crate that
+//! reads a schedule or a report, or makes one, stands on this one.
+#![tactic(auto)]
+
+mod event;
+mod line;
+mod recorder;
+
+pub use event::{BadLine, Event};
+pub use line::{Detail, Halt, KeyName, Line, Refusal};
+pub use recorder::{RecordStop, Recorder, Tally, Verdict};

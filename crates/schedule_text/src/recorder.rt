@@ -1,0 +1,59 @@
+// Who keeps a report's lines.
+ghost use Rattle.std.specs.Prelude.{◌≡◌, ℕ, ◌≤◌, Err, OnOk, OnErr};
+ghost use Rattle.schedule_text.specs.Recorder.{Told, gained, recorded, Rose, StopsWithin};
+
+use crate::line::{Detail, Line};
+
+/// Why a line wasn't added.
+#[derive(Clone, Copy, Debug, PartialEq, Eq)]
+pub enum RecordStop {
+    /// The sink failed.
+    Failed,
+    /// There is not enough memory.
+    OutOfMemory,
+}
+
+/// How a schedule's rounds ended.
+#[derive(Clone, Copy, Debug, PartialEq, Eq)]
+pub enum Verdict {
+    Quiet,
+    Unsettled,
+}
+
+/// How many lines of four kinds there were, each count stopping at 18446744073709551615, and the
+/// last word of `quiet` and `unsettled`.
+#[derive(Clone, Copy, Debug, PartialEq, Eq)]
+pub struct Tally {
+    pub submitted: u64,
+    pub refused: u64,
+    pub effects: u64,
+    pub answered: u64,
+    pub last: Option<Verdict>,
+}
+
+/// Who keeps a report's lines, as they come.
+pub trait Recorder {
+    ghost use Rattle.schedule_text.specs.Recorder.{Told};
+    ghost use Rattle.schedule_text.specs.declared.line.Detail.{Detail};
+
+    /// What it tells of the lines so far.
+    ghost told: { Self → Told };
+
+    /// Whether it keeps the lines of moves; it never changes.
+    ghost detail: { Self → Detail };
+
+    /// How often it failed.
+    ghost faults: { Self → ℕ };
+
+    /// Whether lines of moves are kept. Where they aren't, `add` takes them and does nothing.
+    fn detail(&self) -> Detail
+        ensures { result ≡ detail self.now };
+
+    /// Adds a line. A `begin` line says this recorder's word, whichever word it has here.
+    fn add(&mut self, line: &Line) -> Result<(), RecordStop>
+        ensures added { OnOk result (told self.new ≡ gained (told self.old) (recorded (detail self.old) line.now)) }
+        ensures stopped { OnErr result (StopsWithin (told self.old) (recorded (detail self.old) line.now) (told self.new)) }
+        ensures same_detail { detail self.new ≡ detail self.old }
+        ensures later { faults self.old ≤ faults self.new }
+        ensures failed { result ≡ Err RecordStop.Failed → Rose (faults self.old) (faults self.new) };
+}
