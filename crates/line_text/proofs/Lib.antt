@@ -1,1 +1,4 @@
 pub mod WordLemmas
+pub mod SectorLemmas
+pub mod Again
+pub mod SectorAgain

@@ -1,12 +1,11 @@
 -- Words and the single spaces between them.
-use Rattle.std.proofs.Common.{◌≡◌, ℕ, ◌+◌, ◌<◌, ◌≤◌, Bool, true, false, eqb, List, [], ◌∷◌, ◌++◌, length, get_or, take, drop, sym, ap, ◌∙◌, inl, inr, arith, rules, refl, All, cond, append_assoc}
+use Rattle.std.proofs.Common.{◌≡◌, ℕ, ◌+◌, ◌≤◌, true, false, List, [], ◌∷◌, ◌++◌, length, sym, ap, ◌∙◌, inl, inr, arith, refl, cond}
 use Rattle.std.specs.List.{position_or_len, before_first, after_first, slice_split, join_with_byte, AllByRecursion, onto_first}
 use Rattle.std.proofs.lemmas.Bool.{cases_lt}
-use Rattle.std.proofs.lemmas.List.{take_all, drop_all}
+use Rattle.std.proofs.lemmas.List.{take_all, drop_all, append-nil}
 use Rattle.std.proofs.lemmas.List.Sums.{fails_before_first}
 use Rattle.std.proofs.lemmas.List.Splits.{slice_split_first, slice_split_none, slice_split_at}
-use Rattle.std.proofs.lemmas.List.Elements.{All-from_recursion}
-use Rattle.line_text.specs.Words.{is_space, words_in, first_of, later, HasNoSpace}
+use Rattle.line_text.specs.Words.{is_space, words_in, first_of, later, joined, HasNoSpace}
 
 -- there is always a first word
 split_some : (bytes : List ℕ) → (w : List ℕ) × (ws : List (List ℕ)) × (slice_split is_space bytes ≡ w ∷ ws)
@@ -39,8 +38,15 @@ later_words bytes =
       | inr le ↦ ap later (no_space_at_all bytes le) ∙ ap (slice_split is_space) (sym (drop_all (position_or_len is_space bytes + 1) bytes (omega arith)))
     ]
 
--- words without spaces, joined by single spaces, are read again
-pub words_in-join : (w : List ℕ) (ws : List (List ℕ)) → HasNoSpace w → AllByRecursion HasNoSpace ws → words_in (join_with_byte 32 (w ∷ ws)) ≡ w ∷ ws
+joined-is : (w : List ℕ) (ws : List (List ℕ)) → joined (w ∷ ws) ≡ join_with_byte 32 (w ∷ ws)
+joined-is w [] = append-nil w
+joined-is w (v ∷ ws) = ap (λ (x : List ℕ). w ++ 32 ∷ x) (joined-is v ws)
+
+words_in-join : (w : List ℕ) (ws : List (List ℕ)) → HasNoSpace w → AllByRecursion HasNoSpace ws → words_in (join_with_byte 32 (w ∷ ws)) ≡ w ∷ ws
 unfolding words_in
 words_in-join w [] h hs = slice_split_none is_space w h
 words_in-join w (v ∷ ws) h hs = slice_split_at is_space w 32 (join_with_byte 32 (v ∷ ws)) h refl ∙ ap (λ (x : List (List ℕ)). w ∷ x) (words_in-join v ws hs.0 hs.1)
+
+-- words without spaces, with single spaces between them, are read again
+pub words_in-joined : (w : List ℕ) (ws : List (List ℕ)) → HasNoSpace w → AllByRecursion HasNoSpace ws → words_in (joined (w ∷ ws)) ≡ w ∷ ws
+words_in-joined w ws h hs = ap words_in (joined-is w ws) ∙ words_in-join w ws h hs

@@ -1,5 +1,5 @@
 -- The words of a line.
-use Rattle.std.specs.Prelude.{◌≡◌, ℕ, Bool, false, All, List, [], ◌∷◌, ◌==◌}
+use Rattle.std.specs.Prelude.{◌≡◌, ℕ, Bool, false, All, List, [], ◌∷◌, ◌++◌, ◌==◌}
 use Rattle.std.specs.List.{slice_split}
 
 -- the byte between two words
@@ -23,3 +23,13 @@ abbrev pub later : List (List ℕ) → List (List ℕ)
 later [] = [] ∷ []
 later (w ∷ []) = [] ∷ []
 later (w ∷ v ∷ ws) = v ∷ ws
+
+-- words, each with a space before it
+abbrev pub spaced : List (List ℕ) → List ℕ
+spaced [] = []
+spaced (w ∷ ws) = 32 ∷ (w ++ spaced ws)
+
+-- words with single spaces between them
+abbrev pub joined : List (List ℕ) → List ℕ
+joined [] = []
+joined (w ∷ ws) = w ++ spaced ws

@@ -5,9 +5,11 @@
 #![tactic(auto)]
 
 mod numbers;
+mod sectors;
 mod words;
 mod writing;
 
 pub use numbers::{hex, number, signed, small};
+pub use sectors::{put_sector, sector};
 pub use words::{Words, is};
 pub use writing::{LineText, begin, put, put_hex, put_number, put_signed};

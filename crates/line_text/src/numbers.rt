@@ -25,7 +25,7 @@ pub fn small(word: &[u8]) -> u32
 }
 
 /// The value of a hexadecimal digit.
-fn hex_value(digit: u8) -> u8
+pub fn hex_value(digit: u8) -> u8
     ensures { result ≡ digit_of digit }
 {
     if digit < b'a' {

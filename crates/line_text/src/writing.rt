@@ -52,7 +52,7 @@ pub fn put_signed(text: &mut LineText, number: i32)
 }
 
 /// A hexadecimal digit, of a number below 16.
-fn digit(d: u32) -> u8
+pub fn digit(d: u32) -> u8
     requires { d < 16 }
     ensures value { result ≡ glyph d }
     ensures ascii { result < 128 }
