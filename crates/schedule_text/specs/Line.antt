@@ -1,8 +1,8 @@
 -- The one spelling of each line of a report: its words, with single spaces between them. Numbers are
 -- decimal without leading zeros, words of memory are 8 lower-case hexadecimal digits.
 use Rattle.std.specs.Prelude.{ℕ, List, [], ◌∷◌, ◌++◌, codes, decimal, Option, Some, None, Bool, true, false}
-use Rattle.std.specs.List.{join_with_byte}
 use Rattle.std.specs.Fmt.{signed_decimal}
+use Rattle.line_text.specs.Words.{joined}
 use Rattle.line_text.specs.Numbers.{hex8}
 use Rattle.line_text.specs.Sector.{sector_words}
 use Rattle.blk_base.specs.declared.operation.Abi.{Abi}
@@ -146,4 +146,4 @@ words_of (lines.Move move) = codes "m" ∷ move_words move
 
 -- the text of a line
 abbrev pub text_of : Line → List ℕ
-text_of line = join_with_byte 32 (words_of line)
+text_of line = joined (words_of line)

@@ -1,5 +1,7 @@
 -- What a recorder tells of the lines that it was given.
-use Rattle.std.specs.Prelude.{◌≡◌, ℕ, ◌+◌, ◌-◌, ◌^◌, ◌≤◌, min, List, [], ◌∷◌, ◌++◌, fold, flat_map, take, Option, Some, None, MatchOption}
+use Rattle.std.specs.Prelude.{◌≡◌, ℕ, ◌+◌, ◌-◌, ◌^◌, min, List, [], ◌∷◌, ◌++◌, fold,  Option, Some, None, MatchOption}
+use Rattle.std.specs.List.{flat_map}
+use Rattle.blk_io.specs.Outside.{written, IsPartlyWritten}
 use Rattle.schedule_text.specs.declared.line.Detail.{Detail}
 use Rattle.schedule_text.specs.declared.line.Detail.TheVariants.{Lines, Moves}
 use Rattle.schedule_text.specs.declared.line.Line.{Line}
@@ -41,10 +43,6 @@ abbrev pub with_lines : Option (List Line) → List Line → Option (List Line)
 with_lines None more = None
 with_lines (Some lines) more = Some (lines ++ more)
 
-abbrev pub with_bytes : Option (List ℕ) → List ℕ → Option (List ℕ)
-with_bytes None more = None
-with_bytes (Some bytes) more = Some (bytes ++ more)
-
 abbrev pub with_counts : Option Tally → List Line → Option Tally
 with_counts None more = None
 with_counts (Some tally) more = Some (fold counted tally more)
@@ -53,7 +51,7 @@ with_counts (Some tally) more = Some (fold counted tally more)
 abbrev pub gained : Told → List Line → Told
 gained told more = record {
   lines = with_lines told.lines more;
-  text = with_bytes told.text (report_text more);
+  text = written told.text (report_text more);
   tally = with_counts told.tally more;
 }
 
@@ -68,8 +66,4 @@ recorded detail line = line ∷ []
 pub record StopsWithin (old : Told) (more : List Line) (new : Told) : Type 0 where
   pub lines : new.lines ≡ old.lines
   pub tally : new.tally ≡ old.tally
-  pub text : (n : ℕ) × (new.text ≡ with_bytes old.text (take n (report_text more)))
-
--- the count rose, or stands at its end
-abbrev pub Rose : ℕ → ℕ → Type 0
-Rose before now = min (before + 1) (2 ^ 64 - 1) ≤ now
+  pub text : IsPartlyWritten old.text (report_text more) new.text

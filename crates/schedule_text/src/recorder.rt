@@ -1,6 +1,7 @@
 // Who keeps a report's lines.
 ghost use Rattle.std.specs.Prelude.{◌≡◌, ℕ, ◌≤◌, Err, OnOk, OnErr};
-ghost use Rattle.schedule_text.specs.Recorder.{Told, gained, recorded, Rose, StopsWithin};
+ghost use Rattle.schedule_text.specs.Recorder.{Told, gained, recorded, StopsWithin};
+ghost use Rattle.blk_io.specs.Outside.{Rose};
 
 use crate::line::{Detail, Line};
 
