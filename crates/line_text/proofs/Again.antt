@@ -44,7 +44,7 @@ hex_step_is : (n d m : ℕ) → d < 16 → n * 16 + d ≡ m → m < 2 ^ 32 → h
 hex_step_is n d m lt e fits = rw (glyph_again d lt) (omega arith)
 
 pub hex_again : (w : ℕ) → w < 2 ^ 32 → hex_of (hex8 w) ≡ w
-unfolding hex_of
+unfolding hex_of hex8
 hex_again w fits =
     let s1 : hex_step 0 (glyph (w / 2 ^ 28)) ≡ w / 2 ^ 28 = hex_step_is 0 (w / 2 ^ 28) _ (omega arith) (omega arith) (omega arith) in
     let s2 : hex_step (w / 2 ^ 28) (glyph (w / 2 ^ 24 % 16)) ≡ w / 2 ^ 24 = hex_step_is (w / 2 ^ 28) (w / 2 ^ 24 % 16) _ (omega arith) (omega arith) (omega arith) in
@@ -66,6 +66,7 @@ pub glyph_no_space : (d : ℕ) → is_space (glyph d) ≡ false
 glyph_no_space d = grind (arith, nat_tests)
 
 pub hex8_no_space : (w : ℕ) → HasNoSpace (hex8 w)
+unfolding hex8
 hex8_no_space w =
     All-from_recursion (λ b. is_space b ≡ false) (hex8 w)
     (glyph_no_space _, (glyph_no_space _, (glyph_no_space _, (glyph_no_space _, (glyph_no_space _, (glyph_no_space _, (glyph_no_space _, (glyph_no_space _, tt))))))))

@@ -23,7 +23,7 @@ unfolding byte_digits
 byte_digits_more words i lt = ap byte_digits (take_more words i 0 lt) ∙ flat_map-append word_digits (take i words) (get_or words i 0 ∷ []) ∙ ap (λ (d : List ℕ). byte_digits (take i words) ++ d) (byte_digits_one (get_or words i 0))
 
 pub spaced_fill : (words : List ℕ) → are_all (slice_index words 0) words ≡ true → spaced (sector_words words) ≡ (32 ∷ codes "fill") ++ 32 ∷ hex8 (slice_index words 0)
-unfolding sector_words
+unfolding sector_words hex8
 spaced_fill words e = rw e refl
 
 pub spaced_digits : (words : List ℕ) → are_all (slice_index words 0) words ≡ false → spaced (sector_words words) ≡ 32 ∷ byte_digits words

@@ -28,5 +28,5 @@ abbrev pub glyph : ℕ → ℕ
 glyph d = if nat_lt d 10 then 48 + d else 87 + d
 
 -- a word as 8 lower-case hexadecimal digits
-abbrev pub hex8 : ℕ → List ℕ
+unfoldable pub hex8 : ℕ → List ℕ
 hex8 w = glyph (w / 2 ^ 28) ∷ glyph (w / 2 ^ 24 % 16) ∷ glyph (w / 2 ^ 20 % 16) ∷ glyph (w / 2 ^ 16 % 16) ∷ glyph (w / 2 ^ 12 % 16) ∷ glyph (w / 2 ^ 8 % 16) ∷ glyph (w / 16 % 16) ∷ glyph (w % 16) ∷ []

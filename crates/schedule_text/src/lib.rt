@@ -6,8 +6,11 @@
 
 mod event;
 mod line;
+mod moves;
 mod recorder;
+mod writing;
 
 pub use event::{BadLine, Event};
 pub use line::{Detail, Halt, KeyName, Line, Refusal};
 pub use recorder::{RecordStop, Recorder, Tally, Verdict};
+pub use writing::write_line;

@@ -1,0 +1,7 @@
+use Rattle.std.proofs.Common.{append_assoc}
+use Rattle.std.proofs.lemmas.List.{append-nil}
+use Rattle.schedule_text.proofs.Joining.{spaced-append}
+use Rattle.schedule_text.proofs.moves.put_found.Goals as goal
+
+pub returns-in-Some : goal.returns-in-Some
+returns-in-Some c = rw (c.in-Some.is, c.put_value.ensures, c.put_path.ensures.bytes) (simp (append_assoc, spaced-append, append-nil))

@@ -1,0 +1,234 @@
+// A report's line is written word by word.
+ghost use Rattle.std.specs.Prelude.{◌≡◌, ◌+◌, ◌≤◌, ◌∷◌, [], ◌++◌, decimal, codes, length};
+ghost use Rattle.arrayvec.specs.ArrayString.{array_string_len};
+ghost use Rattle.line_text.specs.Words.{spaced};
+ghost use Rattle.schedule_text.specs.Line.{text_of, job_words, halt_words, status_word, refusal_word, detail_word};
+
+use crate::line::{Detail, Halt, Line, Refusal};
+use crate::moves::put_move;
+use blk_base::{Abi, Config, Job, SectorCount, SectorWords, Status, Text};
+use line_text::{LineText, begin, put, put_hex, put_number, put_sector, put_signed};
+
+/// Writes the one spelling of a line, without its line feed, in place of what the text held.
+pub fn write_line(line: &Line, text: &mut LineText)
+    ensures { text.new.bytes ≡ text_of line.now }
+{
+    match line {
+        Line::Begin { config, detail } => write_begin(text, config, *detail),
+        Line::Ready => begin(text, "ready"),
+        Line::Closing => begin(text, "closing"),
+        Line::Closed => begin(text, "closed"),
+        Line::Broken(word) => {
+            begin(text, "broken");
+            put_hex(text, *word);
+        }
+        Line::Submit { id, job } => {
+            begin(text, "submit");
+            put_number(text, *id);
+            put_job(text, job);
+        }
+        Line::Refuse(refusal) => {
+            begin(text, "refuse");
+            put(text, refusal_text(*refusal));
+        }
+        Line::Effect { id, index } => write_place(text, "effect", *id, *index),
+        Line::EffectRead { id, index, words } => {
+            write_place(text, "effect", *id, *index);
+            put_sector(text, words);
+        }
+        Line::Flushed { id } => write_id(text, "flushed", *id),
+        Line::Trimmed { id } => write_id(text, "trimmed", *id),
+        Line::Fault { id, index } => write_place(text, "fault", *id, *index),
+        Line::Reply { id, status } => write_status(text, "reply", *id, *status),
+        Line::Answer { id, status } => write_status(text, "answer", *id, *status),
+        Line::Data { id, index, words } => {
+            write_place(text, "data", *id, *index);
+            put_sector(text, words);
+        }
+        Line::Epoch => begin(text, "epoch"),
+        Line::Halt(halt) => {
+            begin(text, "halt");
+            put_halt(text, halt);
+        }
+        Line::Poke { frame, word, value } => {
+            begin(text, "poke");
+            put_number(text, u64::from(*frame));
+            put_number(text, u64::from(*word));
+            put_number(text, u64::from(*value));
+        }
+        Line::Key {
+            name,
+            text: key_text,
+        } => {
+            begin(text, "key");
+            put(text, name.as_str());
+            put(text, key_text.as_str());
+        }
+        Line::Quiet => begin(text, "quiet"),
+        Line::Busy => begin(text, "busy"),
+        Line::Unsettled => begin(text, "unsettled"),
+        Line::Word { frame, word, value } => {
+            begin(text, "word");
+            put_number(text, u64::from(*frame));
+            put_number(text, u64::from(*word));
+            put_hex(text, *value);
+        }
+        Line::End => begin(text, "end"),
+        Line::Move(one) => {
+            begin(text, "m");
+            put_move(text, one);
+        }
+    }
+}
+
+fn write_begin(text: &mut LineText, config: &Config, detail: Detail)
+    ensures { text.new.bytes ≡ text_of (Line.Begin config.now detail) }
+{
+    begin(text, "begin");
+    put(
+        text,
+        match config.abi {
+            Abi::X64 => "64",
+            Abi::X32 => "32",
+        },
+    );
+    put_number(text, u64::from(config.order));
+    put_number(text, u64::from(config.persistent));
+    put_number(text, u64::from(config.indirect));
+    put_number(text, u64::from(config.start));
+    put(text, if config.read_only { "ro" } else { "rw" });
+    put_number(text, config.sectors);
+    put(text, detail_text(detail));
+}
+
+fn detail_text(detail: Detail) -> &'static str
+    ensures { result.now ≡ detail_word detail }
+{
+    match detail {
+        Detail::Lines => "lines",
+        Detail::Moves => "moves",
+    }
+}
+
+fn refusal_text(refusal: Refusal) -> &'static str
+    ensures { result.now ≡ refusal_word refusal }
+{
+    match refusal {
+        Refusal::Spent => "spent",
+        Refusal::NotReady => "notready",
+        Refusal::Closing => "closing",
+        Refusal::Unsupported => "unsupported",
+        Refusal::ReadOnly => "readonly",
+        Refusal::Range => "range",
+        Refusal::Long => "long",
+        Refusal::Full => "full",
+        Refusal::Buffers => "buffers",
+    }
+}
+
+fn status_text(status: Status) -> &'static str
+    ensures { result.now ≡ status_word status }
+{
+    match status {
+        Status::Okay => "ok",
+        Status::Error => "error",
+        Status::Unsupported => "unsupported",
+    }
+}
+
+/// A line of a word and a request.
+fn write_id(text: &mut LineText, name: &str, id: u64)
+    requires { length name.now ≤ 100 }
+    ensures bytes { text.new.bytes ≡ name.now ++ spaced (decimal id ∷ []) }
+    ensures len { array_string_len text.new ≤ length name.now + 21 }
+{
+    begin(text, name);
+    put_number(text, id);
+}
+
+/// A line of a word, a request and a sector's place in it.
+fn write_place(text: &mut LineText, name: &str, id: u64, index: u32)
+    requires { length name.now ≤ 80 }
+    ensures bytes { text.new.bytes ≡ name.now ++ spaced (decimal id ∷ decimal index ∷ []) }
+    ensures len { array_string_len text.new ≤ length name.now + 42 }
+{
+    begin(text, name);
+    put_number(text, id);
+    put_number(text, u64::from(index));
+}
+
+/// A line of a word, a request and a status.
+fn write_status(text: &mut LineText, name: &str, id: u64, status: Status)
+    requires { length name.now ≤ 100 }
+    ensures { text.new.bytes ≡ name.now ++ spaced (decimal id ∷ status_word status ∷ []) }
+{
+    begin(text, name);
+    put_number(text, id);
+    put(text, status_text(status));
+}
+
+/// Adds what a request asks for.
+pub fn put_job(text: &mut LineText, job: &Job)
+    requires { array_string_len text.old ≤ 200 }
+    ensures { text.new.bytes ≡ text.old.bytes ++ spaced (job_words job.now) }
+{
+    match job {
+        Job::Read { sector, count } => put_sectors(text, "read", *sector, *count),
+        Job::Write { sector, count, tag } => {
+            put_sectors(text, "write", *sector, *count);
+            put_hex(text, *tag);
+        }
+        Job::Barrier { sector, count, tag } => {
+            put_sectors(text, "barrier", *sector, *count);
+            put_hex(text, *tag);
+        }
+        Job::Flush => put(text, "flush"),
+        Job::Discard { sector, count } => put_sectors(text, "discard", *sector, *count),
+    }
+}
+
+/// Adds an operation, its first sector and how many there are.
+fn put_sectors(text: &mut LineText, name: &str, sector: u64, count: SectorCount)
+    requires { array_string_len text.old + length name.now ≤ 300 }
+    ensures bytes { text.new.bytes ≡ text.old.bytes ++ spaced (name.now ∷ decimal sector ∷ decimal count ∷ []) }
+    ensures len { array_string_len text.new ≤ 400 }
+{
+    put(text, name);
+    put_number(text, sector);
+    put_number(text, u64::from(count.get()));
+}
+
+/// Adds why the back halted.
+fn put_halt(text: &mut LineText, halt: &Halt)
+    requires { array_string_len text.old ≤ 200 }
+    ensures { text.new.bytes ≡ text.old.bytes ++ spaced (halt_words halt.now) }
+{
+    match halt {
+        Halt::Overrun { produced, replied } => {
+            put_small(text, "overrun", *produced);
+            put_number(text, u64::from(*replied));
+        }
+        Halt::Gone(state) => put_small(text, "gone", *state),
+        Halt::Unplugged(state) => put_small(text, "unplugged", *state),
+        Halt::BadKey(name) => {
+            put(text, "badkey");
+            put(text, name.as_str());
+        }
+        Halt::BadOrder(state) => put_small(text, "badorder", *state),
+        Halt::BadPort(port) => put_small(text, "badport", *port),
+        Halt::MapRefused { gref, status } => {
+            put_small(text, "refused", *gref);
+            put_signed(text, *status);
+        }
+    }
+}
+
+/// Adds a word and a number.
+fn put_small(text: &mut LineText, name: &str, number: u32)
+    requires { array_string_len text.old + length name.now ≤ 300 }
+    ensures bytes { text.new.bytes ≡ text.old.bytes ++ spaced (name.now ∷ decimal number ∷ []) }
+    ensures len { array_string_len text.new ≤ 400 }
+{
+    put(text, name);
+    put_number(text, u64::from(number));
+}
