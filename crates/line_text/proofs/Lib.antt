@@ -2,3 +2,4 @@ pub mod WordLemmas
 pub mod SectorLemmas
 pub mod Again
 pub mod SectorAgain
+pub mod TextLemmas

@@ -6,10 +6,11 @@
 
 mod numbers;
 mod sectors;
+mod texts;
 mod words;
 mod writing;
 
-pub use numbers::{hex, number, signed, small};
 pub use sectors::{put_sector, sector};
+pub use texts::{is_key_name, is_key_path, is_key_text, short_text};
 pub use words::{Words, is};
 pub use writing::{LineText, begin, put, put_hex, put_number, put_signed};

@@ -1,9 +1,11 @@
 // The words of a line.
-ghost use Rattle.std.specs.Prelude.{◌≡◌, ℕ, List, ◌==◌, length, take, drop};
+ghost use Rattle.std.specs.Prelude.{◌≡◌, ◌%◌, ◌^◌, ℕ, List, ◌==◌, length, take, drop};
 ghost use Rattle.std.specs.Str.{bytes_eq};
 ghost use Rattle.std.specs.List.{before_first, after_first, slice_split};
+ghost use Rattle.line_text.specs.Numbers.{number_of, hex_of, signed_of};
 ghost use Rattle.line_text.specs.Words.{is_space, first_of, later, words_in};
 
+use crate::numbers::{hex, number, signed, small};
 use std::marker::Model;
 
 /// The words of a line that are left to read, with single spaces between them.
@@ -37,6 +39,38 @@ impl<'a> Words<'a> {
         let (word, rest) = cut(self.rest);
         self.rest = rest;
         word
+    }
+
+    /// Takes the next word as a number of 64 bits.
+    pub fn number(&mut self) -> u64
+        ensures value { result ≡ number_of (first_of self.old) }
+        ensures rest { self.new ≡ later self.old }
+    {
+        number(self.next())
+    }
+
+    /// Takes the next word as a number of 32 bits.
+    pub fn small(&mut self) -> u32
+        ensures value { result ≡ number_of (first_of self.old) % 2 ^ 32 }
+        ensures rest { self.new ≡ later self.old }
+    {
+        small(self.next())
+    }
+
+    /// Takes the next word as a word of 32 bits in hexadecimal digits.
+    pub fn hex(&mut self) -> u32
+        ensures value { result ≡ hex_of (first_of self.old) }
+        ensures rest { self.new ≡ later self.old }
+    {
+        hex(self.next())
+    }
+
+    /// Takes the next word as a signed number of 32 bits.
+    pub fn signed(&mut self) -> i32
+        ensures value { result ≡ signed_of (first_of self.old) }
+        ensures rest { self.new ≡ later self.old }
+    {
+        signed(self.next())
     }
 }
 
