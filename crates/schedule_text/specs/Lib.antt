@@ -1,2 +1,4 @@
 pub mod Line
 pub mod Recorder
+pub mod Plain
+pub mod Reading

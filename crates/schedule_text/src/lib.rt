@@ -7,6 +7,8 @@
 mod event;
 mod line;
 mod moves;
+mod reading;
+mod reading_moves;
 mod recorder;
 mod writing;
 
