@@ -5,12 +5,12 @@ use Rattle.std.specs.List.{list_all, AllByRecursion}
 use Rattle.std.specs.Str.{bytes_eq}
 use Rattle.std.proofs.lemmas.List.Concat.{flat_map-cons}
 use Rattle.std.proofs.lemmas.List.{length-append}
-use Rattle.std.proofs.lemmas.List.Elements.{All-from_recursion, All-append}
+use Rattle.std.proofs.lemmas.List.Elements.{All-from_recursion, recursion_from_All, All-append}
 use Rattle.std.proofs.lemmas.Bool.{eqb-true}
 use Rattle.std.proofs.lemmas.Slice.Eq.{bytes_eq-Decides}
 use Rattle.line_text.specs.Words.{is_space, HasNoSpace, first_of, later}
 use Rattle.line_text.specs.Numbers.{glyph, hex8}
-use Rattle.line_text.specs.Sector.{byte_digits, word_digits, byte_of, words_of_digits, are_all, sector_words, digits_sector, sector_of}
+use Rattle.line_text.specs.Sector.{byte_digits, word_digits, byte_of, words_of_digits, are_all, sector_words, digits_sector, sector_of, IsSector}
 use Rattle.line_text.proofs.Again.{glyph_again, glyph_no_space, hex_again, hex8_no_space}
 
 abbrev pub AreWords : List ℕ → Type 0
@@ -96,17 +96,27 @@ first_fits [] fits = omega arith
 first_fits (w ∷ ws) fits = fits.0
 
 -- a sector's words are read again
-pub sector_again : (ws : List ℕ) → length ws ≡ 128 → AreWords ws → sector_of (first_of (sector_words ws)) (later (sector_words ws)) ≡ ws
+pub sector_again : (ws : List ℕ) → IsSector ws → sector_of (first_of (sector_words ws)) (later (sector_words ws)) ≡ ws
 unfolding sector_of
-sector_again ws len fits =
+sector_again ws is =
+    let len = is.size in
+    let fits = recursion_from_All (λ w. w < 2 ^ 32) ws is.fits in
     elim (shape_of ws len) [
       | fill text same ↦ rw (text, hex_again (slice_index ws 0) (first_fits ws fits)) (sym same)
       | digits text ↦ rw (text, not_fill ws len) (digits_again ws len fits)
     ]
 
-pub sector_no_space : (ws : List ℕ) → length ws ≡ 128 → AllByRecursion HasNoSpace (sector_words ws)
-sector_no_space ws len =
-    elim (shape_of ws len) [
+pub sector_no_space : (ws : List ℕ) → IsSector ws → AllByRecursion HasNoSpace (sector_words ws)
+sector_no_space ws is =
+    elim (shape_of ws is.size) [
       | fill text same ↦ rw text (All-from_recursion (λ b. is_space b ≡ false) (codes "fill") (refl, (refl, (refl, (refl, tt)))), (hex8_no_space _, tt))
       | digits text ↦ rw text (byte_digits_no_space ws, tt)
+    ]
+
+-- the words after one before a sector's are the sector's, and the first of them isn't empty
+pub sector_after : (w : List ℕ) (ws : List ℕ) → IsSector ws → (later (w ∷ sector_words ws) ≡ sector_words ws) × (eqb (length (first_of (sector_words ws))) 0 ≡ false)
+sector_after w ws is =
+    elim (shape_of ws is.size) [
+      | fill text same ↦ rw text (refl, refl)
+      | digits text ↦ let full : length (byte_digits ws) ≡ 1024 = omega (arith, length-byte_digits ws, is.size) in rw (text, full) (refl, refl)
     ]

@@ -1,9 +1,14 @@
 -- A sector's 128 words as text.
-use Rattle.std.specs.Prelude.{ℕ, ◌+◌, ◌*◌, ◌/◌, ◌%◌, ◌^◌, List, [], ◌∷◌, ◌++◌, ◌==◌, codes, replicate, length, slice_index, if◌then◌else◌, Bool}
+use Rattle.std.specs.Prelude.{◌≡◌, ℕ, ◌<◌, All, ◌+◌, ◌*◌, ◌/◌, ◌%◌, ◌^◌, List, [], ◌∷◌, ◌++◌, ◌==◌, codes, replicate, length, slice_index, if◌then◌else◌, Bool}
 use Rattle.std.specs.List.{list_all, flat_map}
 use Rattle.std.specs.Str.{bytes_eq}
 use Rattle.line_text.specs.Numbers.{glyph, hex8, hex_of, digit_of}
 use Rattle.line_text.specs.Words.{first_of}
+
+-- 128 words of 32 bits
+pub record IsSector (words : List ℕ) : Type 0 where
+  pub size : length words ≡ 128
+  pub fits : All (λ w. w < 2 ^ 32) words
 
 -- a byte as 2 lower-case hexadecimal digits
 abbrev pub hex2 : ℕ → List ℕ

@@ -1,11 +1,11 @@
 // A sector's words, as one word where all are equal and else as the sector's bytes.
-ghost use Rattle.std.specs.Prelude.{◌≡◌, ℕ, ◌+◌, ◌*◌, ◌^◌, ◌<◌, ◌≤◌, ◌∷◌, ◌++◌, length, slice_index, IsAscii};
+ghost use Rattle.std.specs.Prelude.{◌≡◌, ℕ, ◌+◌, ◌*◌, ◌^◌, ◌<◌, ◌≤◌, ◌∷◌, ◌++◌, length, slice_index, All, IsAscii};
 ghost use Rattle.std.specs.List.{flat_map};
 ghost use Rattle.arrayvec.specs.ArrayString.{array_string_len};
 ghost use Rattle.line_text.specs.Words.{spaced};
-ghost use Rattle.line_text.specs.Sector.{word_digits, byte_digits, are_all, sector_words, byte_of, digits_sector, words_of_digits, sector_of};
+ghost use Rattle.line_text.specs.Sector.{word_digits, byte_digits, are_all, sector_words, byte_of, IsSector, digits_sector, words_of_digits, sector_of};
 
-use crate::numbers::{hex, hex_value};
+use crate::numbers::hex_value;
 use crate::words::{Words, is};
 use crate::writing::{LineText, digit, put, put_hex};
 use blk_base::SectorWords;
@@ -116,11 +116,27 @@ fn from_digits(word: &[u8]) -> SectorWords
 /// The sector that a word and those after it say.
 #[tactic(auto, unfolding(crate::specs::Sector::sector_of))]
 pub fn sector(first: &[u8], words: &mut Words) -> SectorWords
-    ensures { result ≡ sector_of first.now words.old }
+    ensures says { result ≡ sector_of first.now words.old }
+    ensures sector { IsSector result }
 {
-    if is(first, "fill") {
-        [hex(words.next()); 128]
+    let read = if is(first, "fill") {
+        [words.hex(); 128]
     } else {
         from_digits(first)
-    }
+    };
+    every_sector(&read);
+    read
+}
+
+/// Every word has 32 bits.
+fn every_word(words: &[u32])
+    ensures { All (λ w. w < 2 ^ 32) words.now }
+{
+}
+
+/// Every sector has 128 words of 32 bits.
+fn every_sector(words: &SectorWords)
+    ensures { IsSector words.now }
+{
+    every_word(words.as_slice());
 }

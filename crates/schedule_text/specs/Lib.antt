@@ -2,3 +2,4 @@ pub mod Line
 pub mod Recorder
 pub mod Plain
 pub mod Reading
+pub mod Range

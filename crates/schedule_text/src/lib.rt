@@ -7,6 +7,7 @@
 mod event;
 mod line;
 mod moves;
+mod ranges;
 mod reading;
 mod reading_moves;
 mod recorder;

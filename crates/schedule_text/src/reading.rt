@@ -3,6 +3,7 @@
 ghost use Rattle.std.specs.Prelude.{◌≡◌, max};
 ghost use Rattle.line_text.specs.Words.{first_of, later, words_in};
 ghost use Rattle.schedule_text.specs.Plain.{plain, plain_halt};
+ghost use Rattle.schedule_text.specs.Range.{HasWidths, HaltHasWidths, JobHasWidths, AreOptions, IsCount};
 ghost use Rattle.schedule_text.specs.Reading.{line_at, word_line_at, request_at, other_at, effect_at, halt_at, job_at, count_of, options_at, status_at, detail_at, refusal_at, word0, word1, word2, small_of};
 ghost use Rattle.line_text.specs.Numbers.{number_of};
 ghost use Rattle.line_text.specs.Sector.{sector_of};
@@ -15,7 +16,8 @@ use line_text::{Words, is, sector, short_text};
 /// The line that words say.
 #[tactic(auto, unfolding(crate::specs::Reading::line_at))]
 pub fn line_of(bytes: &[u8]) -> Line
-    ensures { plain result ≡ line_at (words_in bytes.now) }
+    ensures says { plain result ≡ line_at (words_in bytes.now) }
+    ensures widths { HasWidths result }
 {
     let mut words = Words::new(bytes);
     let name = words.next();
@@ -28,7 +30,8 @@ pub fn line_of(bytes: &[u8]) -> Line
 
 /// A line of one word, or one of those below.
 fn word_line(name: &[u8], words: &mut Words) -> Line
-    ensures { plain result ≡ word_line_at name.now words.old }
+    ensures says { plain result ≡ word_line_at name.now words.old }
+    ensures widths { HasWidths result }
 {
     if is(name, "ready") {
         Line::Ready
@@ -53,7 +56,8 @@ fn word_line(name: &[u8], words: &mut Words) -> Line
 
 /// A line of a request, or one of those below.
 fn request_line(name: &[u8], words: &mut Words) -> Line
-    ensures { plain result ≡ request_at name.now words.old }
+    ensures says { plain result ≡ request_at name.now words.old }
+    ensures widths { HasWidths result }
 {
     if is(name, "submit") {
         let id = words.number();
@@ -86,7 +90,8 @@ fn request_line(name: &[u8], words: &mut Words) -> Line
 
 /// An effect, with what was read where that is told.
 fn effect_line(words: &mut Words) -> Line
-    ensures { plain result ≡ effect_at words.old }
+    ensures says { plain result ≡ effect_at words.old }
+    ensures widths { HasWidths result }
 {
     let id = words.number();
     let index = words.small();
@@ -101,7 +106,8 @@ fn effect_line(words: &mut Words) -> Line
 
 /// A sector that a request read.
 fn data_line(words: &mut Words) -> Line
-    ensures { plain result ≡ Line.Data (number_of (word0 words.old)) (small_of (word1 words.old)) (sector_of (word2 words.old) (later (later (later words.old)))) }
+    ensures says { plain result ≡ Line.Data (number_of (word0 words.old)) (small_of (word1 words.old)) (sector_of (word2 words.old) (later (later (later words.old)))) }
+    ensures widths { HasWidths result }
 {
     let id = words.number();
     let index = words.small();
@@ -112,7 +118,8 @@ fn data_line(words: &mut Words) -> Line
 
 /// Another line with numbers in it.
 fn other_line(name: &[u8], words: &mut Words) -> Line
-    ensures { plain result ≡ other_at name.now words.old }
+    ensures says { plain result ≡ other_at name.now words.old }
+    ensures widths { HasWidths result }
 {
     if is(name, "begin") {
         let config = options(words);
@@ -144,6 +151,7 @@ fn other_line(name: &[u8], words: &mut Words) -> Line
 /// The options of a run, each in its range.
 fn options(words: &mut Words) -> Config
     ensures value { result ≡ options_at words.old }
+    ensures widths { AreOptions result }
     ensures rest { words.new ≡ later (later (later (later (later (later (later words.old)))))) }
 {
     let abi = if is(words.next(), "64") { Abi::X64 } else { Abi::X32 };
@@ -213,6 +221,7 @@ fn refusal(word: &[u8]) -> Refusal
 /// A number of sectors, which isn't 0.
 fn count(words: &mut Words) -> SectorCount
     ensures value { result ≡ count_of (first_of words.old) }
+    ensures widths { IsCount result }
     ensures rest { words.new ≡ later words.old }
 {
     match SectorCount::new(words.small().max(1)) {
@@ -223,7 +232,8 @@ fn count(words: &mut Words) -> SectorCount
 
 /// What a request asks for.
 pub fn job(words: &mut Words) -> Job
-    ensures { result ≡ job_at words.old }
+    ensures says { result ≡ job_at words.old }
+    ensures widths { JobHasWidths result }
 {
     let name = words.next();
     if is(name, "flush") {
@@ -246,7 +256,8 @@ pub fn job(words: &mut Words) -> Job
 
 /// Why the back halted.
 fn halt(words: &mut Words) -> Halt
-    ensures { plain_halt result ≡ halt_at words.old }
+    ensures says { plain_halt result ≡ halt_at words.old }
+    ensures widths { HaltHasWidths result }
 {
     let name = words.next();
     if is(name, "overrun") {

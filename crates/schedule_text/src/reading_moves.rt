@@ -2,6 +2,7 @@
 ghost use Rattle.std.specs.Prelude.{◌≡◌};
 ghost use Rattle.line_text.specs.Words.{later};
 ghost use Rattle.schedule_text.specs.Plain.{plain_move};
+ghost use Rattle.schedule_text.specs.Range.{MoveHasWidths, MoverHasWidths, BackHasWidths};
 ghost use Rattle.schedule_text.specs.Reading.{move_at, mover_at, after_mover, front_at, own_at, job_move_at, back_at, map_at, act_at, mode_at};
 
 use blk_base::{BackMover, Mode, Move, Mover};
@@ -9,7 +10,8 @@ use line_text::{Words, is, short_text};
 
 /// The move that words say.
 pub fn movement(words: &mut Words) -> Move
-    ensures { plain_move result ≡ move_at words.old }
+    ensures says { plain_move result ≡ move_at words.old }
+    ensures widths { MoveHasWidths result }
 {
     match mover(words) {
         Mover::Front => front_move(words),
@@ -21,6 +23,7 @@ pub fn movement(words: &mut Words) -> Move
 /// Who moves.
 fn mover(words: &mut Words) -> Mover
     ensures value { result ≡ mover_at words.old }
+    ensures widths { MoverHasWidths result }
     ensures rest { words.new ≡ after_mover words.old }
 {
     let name = words.next();
@@ -35,7 +38,8 @@ fn mover(words: &mut Words) -> Mover
 
 /// What the front does.
 fn front_move(words: &mut Words) -> Move
-    ensures { plain_move result ≡ front_at words.old }
+    ensures says { plain_move result ≡ front_at words.old }
+    ensures widths { MoveHasWidths result }
 {
     let name = words.next();
     if is(name, "read") {
@@ -72,7 +76,8 @@ fn front_move(words: &mut Words) -> Move
 
 /// What the back does.
 fn own_move(words: &mut Words) -> Move
-    ensures { plain_move result ≡ own_at words.old }
+    ensures says { plain_move result ≡ own_at words.old }
+    ensures widths { MoveHasWidths result }
 {
     let name = words.next();
     if is(name, "bind") {
@@ -89,7 +94,8 @@ fn own_move(words: &mut Words) -> Move
 
 /// What a job does.
 fn job_move(job: u64, words: &mut Words) -> Move
-    ensures { plain_move result ≡ job_move_at job words.old }
+    ensures says { plain_move result ≡ job_move_at job words.old }
+    ensures widths { MoveHasWidths result }
 {
     let name = words.next();
     if is(name, "dread") {
@@ -111,7 +117,10 @@ fn job_move(job: u64, words: &mut Words) -> Move
 
 /// What the back and its jobs both do.
 fn back_move(who: BackMover, mover: Mover, name: &[u8], words: &mut Words) -> Move
-    ensures { plain_move result ≡ back_at who mover name.now words.old }
+    requires who { BackHasWidths who }
+    requires mover { MoverHasWidths mover }
+    ensures says { plain_move result ≡ back_at who mover name.now words.old }
+    ensures widths { MoveHasWidths result }
 {
     if is(name, "read") {
         let mapping = words.number();
@@ -151,7 +160,9 @@ fn back_move(who: BackMover, mover: Mover, name: &[u8], words: &mut Words) -> Mo
 
 /// What a map gave.
 fn map(who: BackMover, words: &mut Words) -> Move
-    ensures { plain_move result ≡ map_at who words.old }
+    requires { BackHasWidths who }
+    ensures says { plain_move result ≡ map_at who words.old }
+    ensures widths { MoveHasWidths result }
 {
     let gref = words.small();
     let mode = mode(words.next());
@@ -187,7 +198,9 @@ fn mode(word: &[u8]) -> Mode
 
 /// What either end does.
 fn act(who: Mover, name: &[u8], words: &mut Words) -> Move
-    ensures { plain_move result ≡ act_at who name.now words.old }
+    requires { MoverHasWidths who }
+    ensures says { plain_move result ≡ act_at who name.now words.old }
+    ensures widths { MoveHasWidths result }
 {
     if is(name, "fence") {
         Move::Fence(who)
