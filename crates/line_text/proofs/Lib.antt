@@ -3,3 +3,4 @@ pub mod SectorLemmas
 pub mod Again
 pub mod SectorAgain
 pub mod TextLemmas
+pub mod Solid
