@@ -1,2 +1,4 @@
 pub mod Joining
 pub mod Again
+pub mod Solid
+pub mod Spelling

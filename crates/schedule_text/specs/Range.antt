@@ -16,6 +16,7 @@ use Rattle.schedule_text.specs.declared.line.Halt.{Halt}
 use Rattle.schedule_text.specs.declared.line.Halt.TheVariants as halts
 use Rattle.schedule_text.specs.declared.line.Line.{Line}
 use Rattle.schedule_text.specs.declared.line.Line.TheVariants as lines
+use Rattle.schedule_text.specs.Line.{text_of}
 
 abbrev pub IsWord : ℕ → Type 0
 IsWord n = n < 2 ^ 32
@@ -187,3 +188,8 @@ is_allowed (lines.Move move) = is_move_allowed move
 pub record IsInRange (line : Line) : Type 0 where
   pub widths : HasWidths line
   pub allowed : is_allowed line ≡ true
+
+-- the bytes are the text of this line of the grammar
+pub record IsTextOf (line : Line) (bytes : List ℕ) : Type 0 where
+  pub in_range : IsInRange line
+  pub text : text_of line ≡ bytes

@@ -10,10 +10,12 @@ mod moves;
 mod ranges;
 mod reading;
 mod reading_moves;
+mod exact;
 mod recorder;
 mod writing;
 
 pub use event::{BadLine, Event};
 pub use line::{Detail, Halt, KeyName, Line, Refusal};
 pub use recorder::{RecordStop, Recorder, Tally, Verdict};
+pub use exact::read_line;
 pub use writing::write_line;
