@@ -74,7 +74,7 @@ mode_again ReadWrite = refl
 bounded : (n most : ℕ) → n ≤ most → most < 2 ^ 32 → min (number_of (decimal n) % 2 ^ 32) most ≡ n
 bounded n most le small = rw (small_again n (omega arith)) (omega arith)
 
-count_again : (c : ℕ) → IsCount c → max (number_of (decimal c) % 2 ^ 32) 1 ≡ c
+pub count_again : (c : ℕ) → IsCount c → max (number_of (decimal c) % 2 ^ 32) 1 ≡ c
 count_again c is = rw (small_again c is.1) (omega arith)
 
 halt_line_again : (halt : Halt) → HaltHasWidths halt → is_halt_allowed halt ≡ true → line_at (codes "halt" ∷ halt_words halt) ≡ lines.Halt (plain_halt halt)

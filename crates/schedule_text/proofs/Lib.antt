@@ -2,3 +2,4 @@ pub mod Joining
 pub mod Again
 pub mod Solid
 pub mod Spelling
+pub mod EventSpelling

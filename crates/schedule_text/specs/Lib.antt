@@ -3,3 +3,5 @@ pub mod Recorder
 pub mod Plain
 pub mod Reading
 pub mod Range
+pub mod Event
+pub mod EventReading

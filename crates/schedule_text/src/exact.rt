@@ -1,13 +1,16 @@
 // Whether a line is in the grammar.
-ghost use Rattle.std.specs.Prelude.{◌≡◌, ◌↔◌, IsTrue, IfOk, IsOkAnd};
+ghost use Rattle.std.specs.Prelude.{◌≡◌, ◌↔◌, IsTrue, IfOk, IsOkAnd, IfSome, IsSome, IsErr, ◌<◌, ◌≤◌, length};
 ghost use Rattle.schedule_text.specs.Range.{IsTextOf};
 ghost use Rattle.schedule_text.specs.declared.line.Line.{Line};
+ghost use Rattle.schedule_text.specs.declared.event.Event.{Event};
+ghost use Rattle.schedule_text.specs.Event.{IsEventOf, IsReadOf, IsSilent, IsSame};
 ghost use Rattle.schedule_text.specs.Plain.{plain};
 
-use crate::event::BadLine;
+use crate::event::{BadLine, Event};
 use crate::line::Line;
 use crate::ranges::is_allowed;
 use crate::reading::line_of;
+use crate::schedule::{event_of, is_event_allowed, write_event};
 use crate::writing::write_line;
 use line_text::LineText;
 
@@ -27,6 +30,54 @@ pub fn read_line(bytes: &[u8]) -> Result<Line, BadLine>
     write_line(&line, &mut text);
     if has_bytes(&text, bytes) {
         Ok(line)
+    } else {
+        Err(BadLine)
+    }
+}
+
+/// The event of a line of a schedule, without its line feed; `None` exactly for an empty line and
+/// for a comment, a line of at most 128 bytes that begins with `#`. `BadLine` comes exactly where
+/// the bytes are neither, nor an event's text.
+pub fn read_event(bytes: &[u8]) -> Result<Option<Event>, BadLine>
+    // What is read is a silent line, or an event of the grammar that has this text.
+    ensures found { IfOk result (λ read. IsReadOf read bytes.now) }
+    // A silent line is read as no event.
+    ensures silent { IsSilent bytes.now → result ≡ Ok None }
+    // Each event that has this text is read, and no other one has it.
+    ensures only { (event : Event) → IsEventOf event bytes.now → IsOkAnd result (IsSame event) }
+{
+    match bytes {
+        [] => Ok(None),
+        [b'#', ..] => comment(bytes),
+        _ => spoken(bytes),
+    }
+}
+
+/// The event of a line that isn't silent.
+fn spoken(bytes: &[u8]) -> Result<Option<Event>, BadLine>
+    ensures found { IfOk result (λ read. IfSome read (λ event. IsEventOf event bytes.now) × IsSome read) }
+    ensures only { (event : Event) → IsEventOf event bytes.now → IsOkAnd result (IsSame event) }
+{
+    let event = event_of(bytes);
+    if !is_event_allowed(&event) {
+        return Err(BadLine);
+    }
+    let mut text = LineText::new();
+    write_event(&event, &mut text);
+    if has_bytes(&text, bytes) {
+        Ok(Some(event))
+    } else {
+        Err(BadLine)
+    }
+}
+
+/// A comment, which has at most 128 bytes.
+fn comment(bytes: &[u8]) -> Result<Option<Event>, BadLine>
+    ensures short { length bytes.now ≤ 128 → result ≡ Ok None }
+    ensures long { 128 < length bytes.now → IsErr result }
+{
+    if bytes.len() <= 128 {
+        Ok(None)
     } else {
         Err(BadLine)
     }

@@ -12,10 +12,12 @@ mod reading;
 mod reading_moves;
 mod exact;
 mod recorder;
+mod schedule;
 mod writing;
 
 pub use event::{BadLine, Event};
 pub use line::{Detail, Halt, KeyName, Line, Refusal};
 pub use recorder::{RecordStop, Recorder, Tally, Verdict};
-pub use exact::read_line;
+pub use exact::{read_event, read_line};
+pub use schedule::write_event;
 pub use writing::write_line;

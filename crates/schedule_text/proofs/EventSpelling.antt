@@ -1,0 +1,133 @@
+-- A schedule's line that was written is read again.
+use Rattle.std.proofs.Common.{◌≡◌, ℕ, ◌<◌, ◌≤◌, get_or, ◌^◌, ◌%◌, Bool, true, false, List, [], ◌∷◌, ◌++◌, refl, sym, ap, ◌∙◌, ◌&&◌, decimal, codes, arith}
+use Rattle.std.specs.List.{list_all}
+use Rattle.line_text.specs.Words.{words_in, joined}
+use Rattle.line_text.specs.Texts.{is_key_name, is_key_text}
+use Rattle.line_text.proofs.Again.{number_again, small_again, hex_again}
+use Rattle.line_text.proofs.TextLemmas.{name_again, key_text_again}
+use Rattle.line_text.proofs.Solid.{is_solid, solid, solid_again, solid_decimal, solid_hex}
+use Rattle.blk_base.specs.declared.config.Job.{Job}
+use Rattle.blk_base.specs.declared.config.Job.TheVariants as jobs
+use Rattle.blk_base.specs.declared.parts.End.{End}
+use Rattle.blk_base.specs.declared.parts.End.TheVariants as ends
+use Rattle.schedule_text.specs.declared.event.Event.{Event}
+use Rattle.schedule_text.specs.declared.event.Event.TheVariants as events
+use Rattle.schedule_text.specs.Line.{job_words}
+use Rattle.schedule_text.specs.Range.{JobHasWidths}
+use Rattle.schedule_text.specs.Event.{event_words, event_text, end_word, EventHasWidths, is_event_allowed, plain_event, IsEventOf}
+use Rattle.schedule_text.specs.EventReading.{event_at, end_at}
+use Rattle.schedule_text.proofs.Again.{count_again}
+use Rattle.schedule_text.proofs.Solid.{solid_job}
+
+end_again : (end : End) → end_at (end_word end) ≡ end
+end_again ends.Front = refl
+end_again ends.Back = refl
+
+solid_end : (end : End) → is_solid (end_word end) ≡ true
+solid_end ends.Front = refl
+solid_end ends.Back = refl
+
+both_true : (a b : Bool) → (a && b) ≡ true → (a ≡ true) × (b ≡ true)
+both_true true true e = (refl, refl)
+both_true true false e = absurd cc
+both_true false b e = absurd cc
+
+submit_again : (job : Job) → JobHasWidths job → event_at (codes "submit" ∷ job_words job) ≡ events.Submit job
+unfolding event_at
+submit_again (jobs.Read s c) h = rw (number_again s h.0, count_again c h.1) refl
+submit_again (jobs.Write s c t) h = rw (number_again s h.0, count_again c h.1, hex_again t h.2) refl
+submit_again (jobs.Barrier s c t) h = rw (number_again s h.0, count_again c h.1, hex_again t h.2) refl
+submit_again jobs.Flush h = refl
+submit_again (jobs.Discard s c) h = rw (number_again s h.0, count_again c h.1) refl
+
+event_again : (event : Event) → EventHasWidths event → is_event_allowed event ≡ true → event_at (event_words event) ≡ plain_event event
+unfolding event_at
+event_again (events.Submit job) h e = submit_again job h
+event_again (events.Front n) h e = rw (small_again n h) refl
+event_again (events.Back n) h e = rw (small_again n h) refl
+event_again (events.Job k n) h e = rw (small_again k h.0, small_again n h.1) refl
+event_again (events.Turn n) h e = rw (small_again n h) refl
+event_again events.Settle h e = refl
+event_again events.Look h e = refl
+event_again (events.Notify end) h e = rw (end_again end) refl
+event_again events.Suspend h e = refl
+event_again (events.Close end) h e = rw (end_again end) refl
+event_again (events.Poke f w v) h e = rw (small_again f h.0, small_again w h.1, small_again v h.2) refl
+event_again (events.Key name text) h e =
+    let t = both_true (is_key_name name.bytes) (is_key_text text.bytes) e in
+    rw ((name_again name.bytes t.0).again, (key_text_again text.bytes t.1).again) refl
+event_again events.Dump h e = refl
+
+small : (n : ℕ) → n < 2 ^ 32 → is_solid (decimal n) ≡ true
+small n fits = solid_decimal n (omega arith)
+
+solid_event : (event : Event) → EventHasWidths event → is_event_allowed event ≡ true → list_all is_solid (event_words event) ≡ true
+solid_event (events.Submit job) h e = solid_job job h
+solid_event (events.Front n) h e = rw (small n h) refl
+solid_event (events.Back n) h e = rw (small n h) refl
+solid_event (events.Job k n) h e = rw (small k h.0, small n h.1) refl
+solid_event (events.Turn n) h e = rw (small n h) refl
+solid_event events.Settle h e = refl
+solid_event events.Look h e = refl
+solid_event (events.Notify end) h e = rw (solid_end end) refl
+solid_event events.Suspend h e = refl
+solid_event (events.Close end) h e = rw (solid_end end) refl
+solid_event (events.Poke f w v) h e = rw (small f h.0, small w h.1, small v h.2) refl
+solid_event (events.Key name text) h e =
+    let t = both_true (is_key_name name.bytes) (is_key_text text.bytes) e in
+    rw (solid name.bytes (name_again name.bytes t.0).no_space, solid text.bytes (key_text_again text.bytes t.1).no_space) refl
+solid_event events.Dump h e = refl
+
+some_words : (event : Event) → event_words event ≡ [] → ⊥
+some_words (events.Submit job) e = absurd cc
+some_words event e = absurd cc
+
+again_if : (words : List (List ℕ)) → (words ≡ [] → ⊥) → list_all is_solid words ≡ true → words_in (joined words) ≡ words
+again_if [] some e = absurd (some refl)
+again_if (w ∷ ws) some e = solid_again w ws e
+
+plain_text : (event : Event) → event_text (plain_event event) ≡ event_text event
+plain_text (events.Key name text) = refl
+plain_text event = refl
+
+plain_allowed : (event : Event) → is_event_allowed (plain_event event) ≡ is_event_allowed event
+plain_allowed (events.Key name text) = refl
+plain_allowed event = refl
+
+-- a text of the grammar is read as its event, which is allowed, and has that text
+pub record IsEventRead (read event : Event) (bytes : List ℕ) : Type 0 where
+  pub same : plain_event read ≡ plain_event event
+  pub allowed : is_event_allowed read ≡ true
+  pub text : event_text read ≡ bytes
+
+pub is_event_read : (read event : Event) (bytes : List ℕ) → plain_event read ≡ event_at (words_in bytes) → IsEventOf event bytes → IsEventRead read event bytes
+is_event_read read event bytes says is =
+    let again : words_in (event_text event) ≡ event_words event = again_if (event_words event) (some_words event) (solid_event event is.widths is.allowed) in
+    let same : plain_event read ≡ plain_event event = says ∙ ap (λ (b : List ℕ). event_at (words_in b)) (sym is.text) ∙ ap event_at again ∙ event_again event is.widths is.allowed in
+    record {
+      same = same;
+      allowed = sym (plain_allowed read) ∙ ap is_event_allowed same ∙ plain_allowed event ∙ is.allowed;
+      text = sym (plain_text read) ∙ ap event_text same ∙ plain_text event ∙ is.text;
+    }
+
+-- an event's text begins with a letter
+pub first_letter : (event : Event) → 97 ≤ get_or (event_text event) 0 0
+first_letter (events.Submit job) = omega arith
+first_letter (events.Front n) = omega arith
+first_letter (events.Back n) = omega arith
+first_letter (events.Job k n) = omega arith
+first_letter (events.Turn n) = omega arith
+first_letter events.Settle = omega arith
+first_letter events.Look = omega arith
+first_letter (events.Notify end) = omega arith
+first_letter events.Suspend = omega arith
+first_letter (events.Close end) = omega arith
+first_letter (events.Poke f w v) = omega arith
+first_letter (events.Key name text) = omega arith
+first_letter events.Dump = omega arith
+
+-- so it isn't the text of a silent line
+pub not_silent : (event : Event) (bytes : List ℕ) → get_or bytes 0 0 ≤ 35 → event_text event ≡ bytes → ⊥
+not_silent event bytes le e =
+    let same : get_or (event_text event) 0 0 ≡ get_or bytes 0 0 = ap (λ (b : List ℕ). get_or b 0 0) e in
+    omega (arith, first_letter event)

@@ -1,0 +1,167 @@
+// A line of a schedule, written and read.
+ghost use Rattle.std.specs.Prelude.{◌≡◌};
+ghost use Rattle.line_text.specs.Words.{words_in};
+ghost use Rattle.schedule_text.specs.Event.{event_text, EventHasWidths, is_event_allowed, is_number, end_word, plain_event};
+ghost use Rattle.schedule_text.specs.EventReading.{event_at, other_event_at, end_at};
+
+use crate::event::Event;
+use crate::reading::job;
+use crate::writing::put_job;
+use blk_base::End;
+use line_text::{LineText, Words, begin, is, is_key_name, is_key_text, put, put_number, short_text};
+
+/// Writes the one spelling of a schedule's line, without its line feed.
+pub fn write_event(event: &Event, text: &mut LineText)
+    ensures { text.new.bytes ≡ event_text event.now }
+{
+    match event {
+        Event::Submit(job) => {
+            begin(text, "submit");
+            put_job(text, job);
+        }
+        Event::Front(moves) => {
+            begin(text, "front");
+            put_number(text, u64::from(*moves));
+        }
+        Event::Back(moves) => {
+            begin(text, "back");
+            put_number(text, u64::from(*moves));
+        }
+        Event::Job { number, moves } => {
+            begin(text, "job");
+            put_number(text, u64::from(*number));
+            put_number(text, u64::from(*moves));
+        }
+        Event::Turn(rounds) => {
+            begin(text, "turn");
+            put_number(text, u64::from(*rounds));
+        }
+        Event::Settle => begin(text, "settle"),
+        Event::Look => begin(text, "look"),
+        Event::Notify(end) => {
+            begin(text, "notify");
+            put(text, end_text(*end));
+        }
+        Event::Suspend => begin(text, "suspend"),
+        Event::Close(end) => {
+            begin(text, "close");
+            put(text, end_text(*end));
+        }
+        Event::Poke { frame, word, value } => {
+            begin(text, "poke");
+            put_number(text, u64::from(*frame));
+            put_number(text, u64::from(*word));
+            put_number(text, u64::from(*value));
+        }
+        Event::Key {
+            name,
+            text: key_text,
+        } => {
+            begin(text, "key");
+            put(text, name.as_str());
+            put(text, key_text.as_str());
+        }
+        Event::Dump => begin(text, "dump"),
+    }
+}
+
+fn end_text(end: End) -> &'static str
+    ensures { result.now ≡ end_word end }
+{
+    match end {
+        End::Front => "front",
+        End::Back => "back",
+    }
+}
+
+/// The event that words say. Any words are read as some event.
+#[tactic(auto, unfolding(crate::specs::EventReading::event_at))]
+pub fn event_of(bytes: &[u8]) -> Event
+    ensures says { plain_event result ≡ event_at (words_in bytes.now) }
+    ensures widths { EventHasWidths result }
+{
+    let mut words = Words::new(bytes);
+    let name = words.next();
+    if is(name, "submit") {
+        Event::Submit(job(&mut words))
+    } else if is(name, "front") {
+        Event::Front(words.small())
+    } else if is(name, "back") {
+        Event::Back(words.small())
+    } else if is(name, "job") {
+        let number = words.small();
+        let moves = words.small();
+        Event::Job { number, moves }
+    } else if is(name, "turn") {
+        Event::Turn(words.small())
+    } else {
+        other_event(name, &mut words)
+    }
+}
+
+/// An event that is no move's.
+fn other_event(name: &[u8], words: &mut Words) -> Event
+    ensures says { plain_event result ≡ other_event_at name.now words.old }
+    ensures widths { EventHasWidths result }
+{
+    if is(name, "settle") {
+        Event::Settle
+    } else if is(name, "look") {
+        Event::Look
+    } else if is(name, "notify") {
+        Event::Notify(end(words.next()))
+    } else if is(name, "suspend") {
+        Event::Suspend
+    } else if is(name, "close") {
+        Event::Close(end(words.next()))
+    } else if is(name, "poke") {
+        let frame = words.small();
+        let word = words.small();
+        let value = words.small();
+        Event::Poke { frame, word, value }
+    } else if is(name, "key") {
+        let name = short_text(words.next());
+        let text = short_text(words.next());
+        Event::Key { name, text }
+    } else {
+        Event::Dump
+    }
+}
+
+fn end(word: &[u8]) -> End
+    ensures { result ≡ end_at word.now }
+{
+    if is(word, "front") {
+        End::Front
+    } else {
+        End::Back
+    }
+}
+
+/// Whether an event is one of the grammar: its texts, and the numbers that have bounds of their own.
+pub fn is_event_allowed(event: &Event) -> bool
+    ensures { result ≡ is_event_allowed event.now }
+{
+    match event {
+        Event::Front(n) | Event::Back(n) | Event::Turn(n) => is_number(*n),
+        Event::Job { number, moves } => is_number(*number) && is_number(*moves),
+        Event::Poke { frame, word, .. } => *frame < 1024 && *word < 1024,
+        Event::Key { name, text } => {
+            is_key_name(name.as_str().as_bytes()) && is_key_text(text.as_str().as_bytes())
+        }
+        Event::Submit(_)
+        | Event::Settle
+        | Event::Look
+        | Event::Notify(_)
+        | Event::Suspend
+        | Event::Close(_)
+        | Event::Dump => true,
+    }
+}
+
+/// Whether a number of moves, of rounds or of a job is 1 to 1000000.
+fn is_number(n: u32) -> bool
+    ensures { result ≡ is_number n }
+{
+    n > 0 && n <= 1_000_000
+}
