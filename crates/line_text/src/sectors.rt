@@ -57,7 +57,8 @@ fn are_all(word: u32, words: &SectorWords) -> bool
 /// Adds a space and all bytes of a sector.
 fn put_digits(text: &mut LineText, words: &SectorWords)
     requires { array_string_len text.old + 1025 ≤ 1152 }
-    ensures { text.new.bytes ≡ text.old.bytes ++ 32 ∷ byte_digits words.now }
+    ensures bytes { text.new.bytes ≡ text.old.bytes ++ 32 ∷ byte_digits words.now }
+    ensures len { array_string_len text.new ≤ array_string_len text.old + 1025 }
 {
     text.push_str(" ");
     for word in words {
@@ -68,7 +69,8 @@ fn put_digits(text: &mut LineText, words: &SectorWords)
 /// Adds what a sector holds: `fill` and a word, or all its bytes.
 pub fn put_sector(text: &mut LineText, words: &SectorWords)
     requires { array_string_len text.old + 1025 ≤ 1152 }
-    ensures { text.new.bytes ≡ text.old.bytes ++ spaced (sector_words words.now) }
+    ensures bytes { text.new.bytes ≡ text.old.bytes ++ spaced (sector_words words.now) }
+    ensures len { array_string_len text.new ≤ array_string_len text.old + 1025 }
 {
     if are_all(words[0], words) {
         put(text, "fill");

@@ -12,6 +12,7 @@ mod reading;
 mod reading_moves;
 mod exact;
 mod recorder;
+mod recorders;
 mod schedule;
 mod writing;
 
@@ -19,5 +20,6 @@ pub use event::{BadLine, Event};
 pub use line::{Detail, Halt, KeyName, Line, Refusal};
 pub use recorder::{RecordStop, Recorder, Tally, Verdict};
 pub use exact::{read_event, read_line};
+pub use recorders::{LineList, LineSink, LineTally};
 pub use schedule::write_event;
 pub use writing::write_line;

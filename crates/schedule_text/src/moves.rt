@@ -11,7 +11,8 @@ use line_text::{LineText, put, put_hex, put_number, put_signed};
 /// Adds a move.
 pub fn put_move(text: &mut LineText, one: &Move)
     requires { array_string_len text.old ≤ 200 }
-    ensures { text.new.bytes ≡ text.old.bytes ++ spaced (move_words one.now) }
+    ensures bytes { text.new.bytes ≡ text.old.bytes ++ spaced (move_words one.now) }
+    ensures len { array_string_len text.new ≤ 1000 }
 {
     match one {
         Move::FrontRead { frame, word, value } => put_front(text, "read", *frame, *word, *value),
@@ -117,7 +118,8 @@ fn put_front(text: &mut LineText, name: &str, frame: u32, word: u32, value: u32)
 /// Adds an access to a word through a mapping.
 fn put_access(text: &mut LineText, name: &str, mapping: u64, frame: u32, word: u32, value: u32)
     requires { array_string_len text.old + length name.now ≤ 300 }
-    ensures { text.new.bytes ≡ text.old.bytes ++ spaced (name.now ∷ decimal mapping ∷ decimal frame ∷ decimal word ∷ hex8 value ∷ []) }
+    ensures len { array_string_len text.new ≤ 450 }
+    ensures bytes { text.new.bytes ≡ text.old.bytes ++ spaced (name.now ∷ decimal mapping ∷ decimal frame ∷ decimal word ∷ hex8 value ∷ []) }
 {
     put(text, name);
     put_number(text, mapping);
@@ -175,7 +177,8 @@ fn put_map(text: &mut LineText, who: BackMover, gref: u32, mode: Mode)
 /// Adds a map that was refused.
 fn put_refused(text: &mut LineText, who: BackMover, gref: u32, mode: Mode, status: i32)
     requires { array_string_len text.old ≤ 200 }
-    ensures { text.new.bytes ≡ text.old.bytes ++ spaced (move_words (Move.MapRefused who gref mode status)) }
+    ensures len { array_string_len text.new ≤ 450 }
+    ensures bytes { text.new.bytes ≡ text.old.bytes ++ spaced (move_words (Move.MapRefused who gref mode status)) }
 {
     put_map(text, who, gref, mode);
     put(text, "refused");
@@ -185,7 +188,8 @@ fn put_refused(text: &mut LineText, who: BackMover, gref: u32, mode: Mode, statu
 /// Adds a bind of the back's, and how it ended.
 fn put_bind(text: &mut LineText, port: u32, end: &str)
     requires { array_string_len text.old + length end.now ≤ 300 }
-    ensures { text.new.bytes ≡ text.old.bytes ++ spaced (codes "back" ∷ codes "bind" ∷ decimal port ∷ end.now ∷ []) }
+    ensures len { array_string_len text.new ≤ 450 }
+    ensures bytes { text.new.bytes ≡ text.old.bytes ++ spaced (codes "back" ∷ codes "bind" ∷ decimal port ∷ end.now ∷ []) }
 {
     put(text, "back");
     put(text, "bind");
@@ -231,7 +235,8 @@ fn put_path(text: &mut LineText, who: Mover, name: &str, path: &Path)
 /// Adds the reading of a key, and its text where it is there.
 fn put_found(text: &mut LineText, who: Mover, path: &Path, found: &Option<Text>)
     requires { array_string_len text.old ≤ 200 }
-    ensures { text.new.bytes ≡ text.old.bytes ++ spaced (move_words (Move.GetKey who path.now found.now)) }
+    ensures len { array_string_len text.new ≤ 500 }
+    ensures bytes { text.new.bytes ≡ text.old.bytes ++ spaced (move_words (Move.GetKey who path.now found.now)) }
 {
     put_path(text, who, "getkey", path);
     if let Some(value) = found {
@@ -242,7 +247,8 @@ fn put_found(text: &mut LineText, who: Mover, path: &Path, found: &Option<Text>)
 /// Adds a key's text behind an equals sign.
 fn put_value(text: &mut LineText, value: &Text)
     requires { array_string_len text.old ≤ 400 }
-    ensures { text.new.bytes ≡ text.old.bytes ++ spaced ((61 ∷ value.now.bytes) ∷ []) }
+    ensures len { array_string_len text.new ≤ 500 }
+    ensures bytes { text.new.bytes ≡ text.old.bytes ++ spaced ((61 ∷ value.now.bytes) ∷ []) }
 {
     put(text, "=");
     text.push_str(value.as_str());

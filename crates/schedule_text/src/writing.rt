@@ -1,5 +1,5 @@
 // A report's line is written word by word.
-ghost use Rattle.std.specs.Prelude.{◌≡◌, ◌+◌, ◌≤◌, ◌∷◌, [], ◌++◌, decimal, codes, length};
+ghost use Rattle.std.specs.Prelude.{◌≡◌, ◌+◌, ◌<◌, ◌≤◌, ◌∷◌, [], ◌++◌, decimal, codes, length};
 ghost use Rattle.arrayvec.specs.ArrayString.{array_string_len};
 ghost use Rattle.line_text.specs.Words.{spaced};
 ghost use Rattle.schedule_text.specs.Line.{text_of, job_words, halt_words, status_word, refusal_word, detail_word};
@@ -11,7 +11,8 @@ use line_text::{LineText, begin, put, put_hex, put_number, put_sector, put_signe
 
 /// Writes the one spelling of a line, without its line feed, in place of what the text held.
 pub fn write_line(line: &Line, text: &mut LineText)
-    ensures { text.new.bytes ≡ text_of line.now }
+    ensures written { text.new.bytes ≡ text_of line.now }
+    ensures short { array_string_len text.new < 1152 }
 {
     match line {
         Line::Begin { config, detail } => write_begin(text, config, *detail),
@@ -82,7 +83,8 @@ pub fn write_line(line: &Line, text: &mut LineText)
 }
 
 fn write_begin(text: &mut LineText, config: &Config, detail: Detail)
-    ensures { text.new.bytes ≡ text_of (Line.Begin config.now detail) }
+    ensures written { text.new.bytes ≡ text_of (Line.Begin config.now detail) }
+    ensures short { array_string_len text.new < 1000 }
 {
     begin(text, "begin");
     put(
@@ -102,7 +104,8 @@ fn write_begin(text: &mut LineText, config: &Config, detail: Detail)
 }
 
 fn detail_text(detail: Detail) -> &'static str
-    ensures { result.now ≡ detail_word detail }
+    ensures value { result.now ≡ detail_word detail }
+    ensures short { length result.now ≤ 20 }
 {
     match detail {
         Detail::Lines => "lines",
@@ -111,7 +114,8 @@ fn detail_text(detail: Detail) -> &'static str
 }
 
 fn refusal_text(refusal: Refusal) -> &'static str
-    ensures { result.now ≡ refusal_word refusal }
+    ensures value { result.now ≡ refusal_word refusal }
+    ensures short { length result.now ≤ 20 }
 {
     match refusal {
         Refusal::Spent => "spent",
@@ -127,7 +131,8 @@ fn refusal_text(refusal: Refusal) -> &'static str
 }
 
 fn status_text(status: Status) -> &'static str
-    ensures { result.now ≡ status_word status }
+    ensures value { result.now ≡ status_word status }
+    ensures short { length result.now ≤ 20 }
 {
     match status {
         Status::Okay => "ok",
@@ -159,8 +164,9 @@ fn write_place(text: &mut LineText, name: &str, id: u64, index: u32)
 
 /// A line of a word, a request and a status.
 fn write_status(text: &mut LineText, name: &str, id: u64, status: Status)
-    requires { length name.now ≤ 100 }
-    ensures { text.new.bytes ≡ name.now ++ spaced (decimal id ∷ status_word status ∷ []) }
+    requires { length name.now ≤ 80 }
+    ensures bytes { text.new.bytes ≡ name.now ++ spaced (decimal id ∷ status_word status ∷ []) }
+    ensures len { array_string_len text.new ≤ 300 }
 {
     begin(text, name);
     put_number(text, id);
@@ -170,7 +176,8 @@ fn write_status(text: &mut LineText, name: &str, id: u64, status: Status)
 /// Adds what a request asks for.
 pub fn put_job(text: &mut LineText, job: &Job)
     requires { array_string_len text.old ≤ 200 }
-    ensures { text.new.bytes ≡ text.old.bytes ++ spaced (job_words job.now) }
+    ensures bytes { text.new.bytes ≡ text.old.bytes ++ spaced (job_words job.now) }
+    ensures len { array_string_len text.new ≤ 500 }
 {
     match job {
         Job::Read { sector, count } => put_sectors(text, "read", *sector, *count),
@@ -201,7 +208,8 @@ fn put_sectors(text: &mut LineText, name: &str, sector: u64, count: SectorCount)
 /// Adds why the back halted.
 fn put_halt(text: &mut LineText, halt: &Halt)
     requires { array_string_len text.old ≤ 200 }
-    ensures { text.new.bytes ≡ text.old.bytes ++ spaced (halt_words halt.now) }
+    ensures bytes { text.new.bytes ≡ text.old.bytes ++ spaced (halt_words halt.now) }
+    ensures len { array_string_len text.new ≤ 500 }
 {
     match halt {
         Halt::Overrun { produced, replied } => {

@@ -19,7 +19,7 @@ loop-word-preserved c =
       len = omega (arith, c.add_digits.ensures.len, c.loop-word.invariant.len);
     }
 
-pub returns : goal.returns
-returns c =
+pub returns-clause-bytes : goal.returns-clause-bytes
+returns-clause-bytes c =
     let le : length c.args.words.now ≤ c.loop-word.word-index = omega arith in
     c.loop-word.invariant.bytes ∙ ap (λ (ws : List ℕ). c.args.text.now.bytes ++ 32 ∷ byte_digits ws) (take_all c.loop-word.word-index c.args.words.now le)

@@ -13,4 +13,4 @@ returns-then-has_bytes-clause-only c = λ line is. (is_read c.line_of-line.resul
 pub returns-else-has_bytes-clause-only : goal.returns-else-has_bytes-clause-only
 returns-else-has_bytes-clause-only c = λ line is.
     let r = is_read c.line_of-line.result line c.args.bytes.now c.line_of-line.ensures.says is.in_range is.text in
-    cc (c.if-has_bytes.ensures.1 (c.write_line.ensures ∙ r.text))
+    cc (c.if-has_bytes.ensures.1 (c.write_line.ensures.written ∙ r.text))

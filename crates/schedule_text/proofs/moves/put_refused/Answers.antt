@@ -4,5 +4,5 @@ use Rattle.std.proofs.lemmas.List.{append-nil}
 use Rattle.schedule_text.proofs.Joining.{spaced-append}
 use Rattle.schedule_text.proofs.moves.put_refused.Goals as goal
 
-pub returns : goal.returns
-returns c = rw (c.put_signed.ensures.bytes, c.put.ensures.bytes, c.put_map.ensures.bytes) (simp (append_assoc, spaced-append, append-nil, to_z-of_z w32 c.args.status c.ranges.status))
+pub returns-clause-bytes : goal.returns-clause-bytes
+returns-clause-bytes c = rw (c.put_signed.ensures.bytes, c.put.ensures.bytes, c.put_map.ensures.bytes) (simp (append_assoc, spaced-append, append-nil, to_z-of_z w32 c.args.status c.ranges.status))
