@@ -1,3 +1,4 @@
+pub mod Both
 pub mod WordLemmas
 pub mod SectorLemmas
 pub mod Again

@@ -1,5 +1,5 @@
 -- A sector that was written is read again.
-use Rattle.std.proofs.Common.{◌≡◌, ℕ, ◌*◌, ◌/◌, ◌%◌, ◌^◌, ◌<◌, Bool, true, false, eqb, List, [], ◌∷◌, ◌++◌, length, sym, ap, ◌∙◌, inl, inr, arith, refl, eq-eqb, ◌&&◌, ◌⊎◌}
+use Rattle.std.proofs.Common.{◌≡◌, ℕ, ◌*◌, ◌/◌, ◌%◌, ◌^◌, ◌<◌, Bool, true, false, eqb, List, [], ◌∷◌, ◌++◌, length, sym, ap, ◌∙◌, inl, inr, arith, refl, eq-eqb, ◌⊎◌}
 use Rattle.std.specs.Prelude.{codes, slice_index, replicate}
 use Rattle.std.specs.List.{list_all, AllByRecursion}
 use Rattle.std.specs.Str.{bytes_eq}
@@ -8,6 +8,7 @@ use Rattle.std.proofs.lemmas.List.{length-append}
 use Rattle.std.proofs.lemmas.List.Elements.{All-from_recursion, recursion_from_All, All-append}
 use Rattle.std.proofs.lemmas.Bool.{eqb-true}
 use Rattle.std.proofs.lemmas.Slice.Eq.{bytes_eq-Decides}
+use Rattle.line_text.proofs.Both.{both_true}
 use Rattle.line_text.specs.Words.{is_space, HasNoSpace, first_of, later}
 use Rattle.line_text.specs.Numbers.{glyph, hex8}
 use Rattle.line_text.specs.Sector.{byte_digits, word_digits, byte_of, words_of_digits, are_all, sector_words, digits_sector, sector_of, IsSector}
@@ -51,11 +52,6 @@ digits_again ws len fits =
 is_false : (b : Bool) → (b ≡ true → ⊥) → b ≡ false
 is_false true h = absurd (h refl)
 is_false false h = refl
-
-both_true : (a b : Bool) → (a && b) ≡ true → (a ≡ true) × (b ≡ true)
-both_true true true e = (refl, refl)
-both_true true false e = absurd cc
-both_true false b e = absurd cc
 
 not_fill : (ws : List ℕ) → length ws ≡ 128 → bytes_eq (byte_digits ws) (codes "fill") ≡ false
 not_fill ws len =

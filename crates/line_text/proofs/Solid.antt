@@ -1,10 +1,11 @@
 -- Words without a space, by a test that computes.
-use Rattle.std.proofs.Common.{◌≡◌, ℕ, ◌<◌, ◌^◌, Bool, true, false, List, [], ◌∷◌, refl, ap, ◌∙◌, All, ◌&&◌, ℤ, decimal}
+use Rattle.std.proofs.Common.{◌≡◌, ℕ, ◌<◌, ◌^◌, Bool, true, false, List, [], ◌∷◌, refl, ap, ℤ, decimal}
 use Rattle.std.specs.Prelude.{not, FitsSigned}
 use Rattle.std.specs.Fmt.{signed_decimal}
 use Rattle.std.specs.Int.{w32}
 use Rattle.std.specs.List.{list_all, AllByRecursion}
 use Rattle.std.proofs.lemmas.List.Sums.{AllPass-from_list_all, list_all-from_AllPass}
+use Rattle.line_text.proofs.Both.{both_true}
 use Rattle.line_text.specs.Words.{is_space, HasNoSpace, words_in, joined}
 use Rattle.line_text.specs.Numbers.{hex8}
 use Rattle.line_text.specs.Sector.{IsSector, sector_words}
@@ -19,11 +20,6 @@ is_solid word = list_all (λ b. not (is_space b)) word
 not_true : (b : Bool) → not b ≡ true → b ≡ false
 not_true true e = absurd cc
 not_true false e = refl
-
-both_true : (a b : Bool) → (a && b) ≡ true → (a ≡ true) × (b ≡ true)
-both_true true true e = (refl, refl)
-both_true true false e = absurd cc
-both_true false b e = absurd cc
 
 no_space : (word : List ℕ) → is_solid word ≡ true → HasNoSpace word
 no_space word e = λ k d lt. not_true _ (AllPass-from_list_all (λ b. not (is_space b)) word e k d lt)

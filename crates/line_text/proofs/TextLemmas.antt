@@ -1,10 +1,11 @@
 -- Names, paths and texts.
-use Rattle.std.proofs.Common.{◌≡◌, ℕ, ◌<◌, ◌≤◌, Bool, true, false, List, [], ◌∷◌, length, refl, All, arith, rules, ◌&&◌, ltb, leb}
+use Rattle.std.proofs.Common.{◌≡◌, ℕ, ◌<◌, ◌≤◌, Bool, true, false, List, [], ◌∷◌, length, refl, arith, ◌&&◌, ltb, leb}
 use Rattle.std.specs.Prelude.{IsAscii}
 use Rattle.std.specs.List.{list_all}
 use Rattle.std.proofs.lemmas.Bool.Decides.{nat_tests}
 use Rattle.std.proofs.lemmas.List.Sums.{AllPass-from_list_all}
 use Rattle.std.proofs.lemmas.Str.Ascii.{IsAscii-from_all}
+use Rattle.line_text.proofs.Both.{both_true}
 use Rattle.line_text.specs.Words.{is_space, HasNoSpace}
 use Rattle.line_text.specs.Texts.{is_graphic, is_name_byte, is_text_of, is_key_name, is_key_text, is_key_path, text_in}
 
@@ -22,11 +23,6 @@ graphic_ascii bs e = IsAscii-from_all bs (λ k d lt. graphic_below _ (AllPass-fr
 
 graphic_no_space : (bs : List ℕ) → list_all is_graphic bs ≡ true → HasNoSpace bs
 graphic_no_space bs e = λ k d lt. graphic_is_no_space _ (AllPass-from_list_all is_graphic bs e k d lt)
-
-both_true : (a b : Bool) → (a && b) ≡ true → (a ≡ true) × (b ≡ true)
-both_true true true e = (refl, refl)
-both_true true false e = absurd cc
-both_true false b e = absurd cc
 
 -- what a test of a text says
 pub record Passes (passes : ℕ → Bool) (most : ℕ) (bytes : List ℕ) : Type 0 where

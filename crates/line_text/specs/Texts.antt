@@ -1,5 +1,5 @@
 -- The names, paths and texts of keys.
-use Rattle.std.specs.Prelude.{◌≡◌, ℕ, ◌<◌, ◌≤◌, Bool, true, ◌&&◌, ◌||◌, ◌==◌, nat_lt, nat_le, List, [], length, slice_index, if◌then◌else◌}
+use Rattle.std.specs.Prelude.{ℕ, Bool, ◌&&◌, ◌||◌, ◌==◌, nat_lt, nat_le, List, [], length, slice_index, if◌then◌else◌}
 use Rattle.std.specs.List.{list_all}
 
 -- a byte from `!` to `~`

@@ -14,3 +14,6 @@ pub use sectors::{put_sector, sector};
 pub use texts::{is_key_name, is_key_path, is_key_text, short_text};
 pub use words::{Words, is};
 pub use writing::{LineText, begin, put, put_hex, put_number, put_signed};
+
+#[cfg(test)]
+mod tests;

@@ -133,8 +133,7 @@ pub fn sector(first: &[u8], words: &mut Words) -> SectorWords
 /// Every word has 32 bits.
 fn every_word(words: &[u32])
     ensures { All (λ w. w < 2 ^ 32) words.now }
-{
-}
+{}
 
 /// Every sector has 128 words of 32 bits.
 fn every_sector(words: &SectorWords)

@@ -1,4 +1,4 @@
-use Rattle.std.proofs.Common.{sym, ◌∙◌}
+use Rattle.std.proofs.Common.{sym}
 use Rattle.std.proofs.lemmas.Str.{IsUtf8-from_ascii}
 use Rattle.line_text.proofs.TextLemmas.{graphic_ascii}
 use Rattle.line_text.proofs.texts.short_text.Goals as goal
