@@ -4,6 +4,7 @@ use Rattle.std.specs.Prelude.{min, max, FitsSigned}
 use Rattle.std.specs.Fmt.{signed_decimal}
 use Rattle.std.specs.Str.{bytes_eq}
 use Rattle.arrayvec.specs.ArrayString.{ArrayString}
+use Rattle.line_text.proofs.Both.{both_true}
 use Rattle.line_text.specs.Words.{first_of, later}
 use Rattle.line_text.specs.Numbers.{number_of, hex_of, hex8, signed_of}
 use Rattle.line_text.specs.Texts.{text_in, is_key_name, is_key_text, is_key_path}
@@ -181,11 +182,6 @@ unmap_by : (who : BackMover) (h : List ℕ) → move_by (as_mover who) (codes "u
 unfolding as_mover
 unmap_by back_mover.Back h = refl
 unmap_by (back_mover.Job k) h = refl
-
-both_true : (a b : Bool) → (a && b) ≡ true → (a ≡ true) × (b ≡ true)
-both_true true true e = (refl, refl)
-both_true true false e = absurd cc
-both_true false b e = absurd cc
 
 move_again : (m : Move) → MoveHasWidths m → is_move_allowed m ≡ true → line_at (codes "m" ∷ move_words m) ≡ lines.Move (plain_move m)
 unfolding line_at

@@ -1,6 +1,7 @@
 -- A schedule's line that was written is read again.
 use Rattle.std.proofs.Common.{◌≡◌, ℕ, ◌<◌, ◌≤◌, get_or, ◌^◌, ◌%◌, Bool, true, false, List, [], ◌∷◌, ◌++◌, refl, sym, ap, ◌∙◌, ◌&&◌, decimal, codes, arith}
 use Rattle.std.specs.List.{list_all}
+use Rattle.line_text.proofs.Both.{both_true}
 use Rattle.line_text.specs.Words.{words_in, joined}
 use Rattle.line_text.specs.Texts.{is_key_name, is_key_text}
 use Rattle.line_text.proofs.Again.{number_again, small_again, hex_again}
@@ -26,11 +27,6 @@ end_again ends.Back = refl
 solid_end : (end : End) → is_solid (end_word end) ≡ true
 solid_end ends.Front = refl
 solid_end ends.Back = refl
-
-both_true : (a b : Bool) → (a && b) ≡ true → (a ≡ true) × (b ≡ true)
-both_true true true e = (refl, refl)
-both_true true false e = absurd cc
-both_true false b e = absurd cc
 
 submit_again : (job : Job) → JobHasWidths job → event_at (codes "submit" ∷ job_words job) ≡ events.Submit job
 unfolding event_at
@@ -109,25 +105,3 @@ is_event_read read event bytes says is =
       allowed = sym (plain_allowed read) ∙ ap is_event_allowed same ∙ plain_allowed event ∙ is.allowed;
       text = sym (plain_text read) ∙ ap event_text same ∙ plain_text event ∙ is.text;
     }
-
--- an event's text begins with a letter
-pub first_letter : (event : Event) → 97 ≤ get_or (event_text event) 0 0
-first_letter (events.Submit job) = omega arith
-first_letter (events.Front n) = omega arith
-first_letter (events.Back n) = omega arith
-first_letter (events.Job k n) = omega arith
-first_letter (events.Turn n) = omega arith
-first_letter events.Settle = omega arith
-first_letter events.Look = omega arith
-first_letter (events.Notify end) = omega arith
-first_letter events.Suspend = omega arith
-first_letter (events.Close end) = omega arith
-first_letter (events.Poke f w v) = omega arith
-first_letter (events.Key name text) = omega arith
-first_letter events.Dump = omega arith
-
--- so it isn't the text of a silent line
-pub not_silent : (event : Event) (bytes : List ℕ) → get_or bytes 0 0 ≤ 35 → event_text event ≡ bytes → ⊥
-not_silent event bytes le e =
-    let same : get_or (event_text event) 0 0 ≡ get_or bytes 0 0 = ap (λ (b : List ℕ). get_or b 0 0) e in
-    omega (arith, first_letter event)

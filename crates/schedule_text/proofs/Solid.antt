@@ -3,6 +3,7 @@ use Rattle.std.proofs.Common.{◌≡◌, ℕ, ◌<◌, ◌^◌, Bool, true, fals
 use Rattle.std.specs.Prelude.{not}
 use Rattle.std.specs.List.{list_all}
 use Rattle.std.specs.Fmt.{signed_decimal}
+use Rattle.line_text.proofs.Both.{both_true}
 use Rattle.line_text.specs.Words.{words_in, joined}
 use Rattle.line_text.specs.Numbers.{hex8}
 use Rattle.line_text.specs.Texts.{is_key_name, is_key_text, is_key_path}
@@ -97,11 +98,6 @@ solid_mover (mover.Job k) more h e = rw (solid_decimal k h, e) refl
 solid_back : (who : BackMover) (more : List (List ℕ)) → BackHasWidths who → AreSolid more → AreSolid (back_words who ++ more)
 solid_back back_mover.Back more h e = e
 solid_back (back_mover.Job k) more h e = rw (solid_decimal k h, e) refl
-
-both_true : (a b : Bool) → (a && b) ≡ true → (a ≡ true) × (b ≡ true)
-both_true true true e = (refl, refl)
-both_true true false e = absurd cc
-both_true false b e = absurd cc
 
 solid_path : (path : List ℕ) → is_key_path path ≡ true → is_solid path ≡ true
 solid_path path e = solid path (path_again path e).no_space

@@ -95,4 +95,3 @@ IsReadOf (Some event) bytes = IsEventOf event bytes
 abbrev pub IsSame : Event → Option Event → Type 0
 IsSame event None = ⊥
 IsSame event (Some read) = plain_event read ≡ plain_event event
-

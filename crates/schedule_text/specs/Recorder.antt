@@ -1,5 +1,5 @@
 -- What a recorder tells of the lines that it was given.
-use Rattle.std.specs.Prelude.{◌≡◌, ℕ, ◌+◌, ◌-◌, ◌^◌, min, List, [], ◌∷◌, ◌++◌, fold,  Option, Some, None, MatchOption}
+use Rattle.std.specs.Prelude.{◌≡◌, ℕ, ◌+◌, ◌-◌, ◌^◌, min, List, [], ◌∷◌, ◌++◌, fold, Option, Some, None, MatchOption}
 use Rattle.std.specs.List.{flat_map}
 use Rattle.blk_io.specs.Outside.{written, IsPartlyWritten}
 use Rattle.schedule_text.specs.declared.line.Detail.{Detail}

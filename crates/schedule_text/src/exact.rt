@@ -64,11 +64,10 @@ fn spoken(bytes: &[u8]) -> Result<Option<Event>, BadLine>
     }
     let mut text = LineText::new();
     write_event(&event, &mut text);
-    if has_bytes(&text, bytes) {
-        Ok(Some(event))
-    } else {
-        Err(BadLine)
+    if !has_bytes(&text, bytes) {
+        return Err(BadLine);
     }
+    Ok(Some(event))
 }
 
 /// A comment, which has at most 128 bytes.

@@ -5,21 +5,24 @@
 #![tactic(auto)]
 
 mod event;
+mod exact;
 mod line;
 mod moves;
 mod ranges;
 mod reading;
 mod reading_moves;
-mod exact;
 mod recorder;
 mod recorders;
 mod schedule;
 mod writing;
 
 pub use event::{BadLine, Event};
+pub use exact::{read_event, read_line};
 pub use line::{Detail, Halt, KeyName, Line, Refusal};
 pub use recorder::{RecordStop, Recorder, Tally, Verdict};
-pub use exact::{read_event, read_line};
 pub use recorders::{LineList, LineSink, LineTally};
 pub use schedule::write_event;
 pub use writing::write_line;
+
+#[cfg(test)]
+mod tests;

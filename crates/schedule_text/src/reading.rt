@@ -154,7 +154,11 @@ fn options(words: &mut Words) -> Config
     ensures widths { AreOptions result }
     ensures rest { words.new ≡ later (later (later (later (later (later (later words.old)))))) }
 {
-    let abi = if is(words.next(), "64") { Abi::X64 } else { Abi::X32 };
+    let abi = if is(words.next(), "64") {
+        Abi::X64
+    } else {
+        Abi::X32
+    };
     let order = words.small().min(4);
     let persistent = words.small().min(1000);
     let indirect = words.small().min(960);

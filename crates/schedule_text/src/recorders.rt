@@ -80,6 +80,7 @@ fn kept(detail: Detail, line: &Line) -> Option<Line>
 }
 
 /// A recorder that writes each line, with its line feed, to a sink by one call.
+#[derive(Drop)]
 pub struct LineSink<'a, S> {
     pub sink: &'a mut S,
     pub detail: Detail,

@@ -8,7 +8,9 @@ use crate::event::Event;
 use crate::reading::job;
 use crate::writing::put_job;
 use blk_base::End;
-use line_text::{LineText, Words, begin, is, is_key_name, is_key_text, put, put_number, short_text};
+use line_text::{
+    LineText, Words, begin, is, is_key_name, is_key_text, put, put_number, short_text,
+};
 
 /// Writes the one spelling of a schedule's line, without its line feed.
 pub fn write_event(event: &Event, text: &mut LineText)

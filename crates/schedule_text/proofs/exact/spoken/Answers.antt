@@ -7,10 +7,10 @@ returns-then-not-is_event_allowed-clause-only c = λ event is.
     let r = is_event_read c.event_of-event.result event c.args.bytes.now c.event_of-event.ensures.says is in
     cc (r.allowed, c.if-not-is_event_allowed.ensures)
 
-pub returns-then-has_bytes-clause-only : goal.returns-then-has_bytes-clause-only
-returns-then-has_bytes-clause-only c = λ event is. (is_event_read c.event_of-event.result event c.args.bytes.now c.event_of-event.ensures.says is).same
+pub returns-clause-only : goal.returns-clause-only
+returns-clause-only c = λ event is. (is_event_read c.event_of-event.result event c.args.bytes.now c.event_of-event.ensures.says is).same
 
-pub returns-else-has_bytes-clause-only : goal.returns-else-has_bytes-clause-only
-returns-else-has_bytes-clause-only c = λ event is.
+pub returns-then-not-has_bytes-clause-only : goal.returns-then-not-has_bytes-clause-only
+returns-then-not-has_bytes-clause-only c = λ event is.
     let r = is_event_read c.event_of-event.result event c.args.bytes.now c.event_of-event.ensures.says is in
-    cc (c.if-has_bytes.ensures.1 (c.write_event.ensures ∙ r.text))
+    cc (c.if-not-has_bytes.ensures.1 (c.write_event.ensures ∙ r.text))
