@@ -1,11 +1,9 @@
 -- A line that was written is read again.
-use Rattle.std.proofs.Common.{◌≡◌, ℕ, ◌<◌, ◌≤◌, ◌^◌, ◌%◌, Bool, true, false, List, [], ◌∷◌, ◌++◌, Option, Some, None, refl, sym, ap, ◌∙◌, subst, arith, ◌&&◌, decimal, cond, codes}
-use Rattle.std.specs.Prelude.{min, max, FitsSigned}
+use Rattle.std.proofs.Common.{◌≡◌, ℕ, ◌<◌, ◌≤◌, ◌^◌, ◌%◌, Bool, true, false, List, [], ◌∷◌, ◌++◌, Some, None, refl, ap, ◌∙◌, arith, ◌&&◌, decimal, cond, codes}
+use Rattle.std.specs.Prelude.{min, max}
 use Rattle.std.specs.Fmt.{signed_decimal}
 use Rattle.std.specs.Str.{bytes_eq}
-use Rattle.arrayvec.specs.ArrayString.{ArrayString}
 use Rattle.line_text.proofs.Both.{both_true}
-use Rattle.line_text.specs.Words.{first_of, later}
 use Rattle.line_text.specs.Numbers.{number_of, hex_of, hex8, signed_of}
 use Rattle.line_text.specs.Texts.{text_in, is_key_name, is_key_text, is_key_path}
 use Rattle.line_text.specs.Sector.{IsSector}
@@ -36,9 +34,9 @@ use Rattle.schedule_text.specs.declared.line.Halt.TheVariants as halts
 use Rattle.schedule_text.specs.declared.line.Line.{Line}
 use Rattle.schedule_text.specs.declared.line.Line.TheVariants as lines
 use Rattle.schedule_text.specs.Line.{words_of, abi_word, access_word, detail_word, status_word, refusal_word, job_words, halt_words, mover_words, back_words, mode_word, move_words}
-use Rattle.schedule_text.specs.Plain.{plain, plain_halt, plain_move, bare}
-use Rattle.schedule_text.specs.Range.{IsInRange, IsWord, IsCount, JobHasWidths, HaltHasWidths, MoverHasWidths, BackHasWidths, MoveHasWidths, AreOptions, is_halt_allowed, is_move_allowed, is_mover_allowed}
-use Rattle.schedule_text.specs.Reading.{line_at, job_at, halt_at, count_of, small_of, move_by, status_at, detail_at, refusal_at, mode_at, bare_text}
+use Rattle.schedule_text.specs.Plain.{plain, plain_halt, plain_move}
+use Rattle.schedule_text.specs.Range.{IsInRange, IsCount, JobHasWidths, HaltHasWidths, MoverHasWidths, BackHasWidths, MoveHasWidths, AreOptions, is_halt_allowed, is_move_allowed, is_mover_allowed}
+use Rattle.schedule_text.specs.Reading.{line_at, small_of, move_by, status_at, detail_at, refusal_at, mode_at, bare_text}
 
 abi_again : (abi : Abi) → cond (bytes_eq (abi_word abi) (codes "64")) X64 X32 ≡ abi
 abi_again X64 = refl

@@ -1,12 +1,12 @@
 -- A schedule's line that was written is read again.
-use Rattle.std.proofs.Common.{◌≡◌, ℕ, ◌<◌, ◌≤◌, get_or, ◌^◌, ◌%◌, Bool, true, false, List, [], ◌∷◌, ◌++◌, refl, sym, ap, ◌∙◌, ◌&&◌, decimal, codes, arith}
+use Rattle.std.proofs.Common.{◌≡◌, ℕ, ◌<◌, ◌^◌, true, List, [], ◌∷◌, refl, sym, ap, ◌∙◌, decimal, codes, arith}
 use Rattle.std.specs.List.{list_all}
 use Rattle.line_text.proofs.Both.{both_true}
 use Rattle.line_text.specs.Words.{words_in, joined}
 use Rattle.line_text.specs.Texts.{is_key_name, is_key_text}
 use Rattle.line_text.proofs.Again.{number_again, small_again, hex_again}
 use Rattle.line_text.proofs.TextLemmas.{name_again, key_text_again}
-use Rattle.line_text.proofs.Solid.{is_solid, solid, solid_again, solid_decimal, solid_hex}
+use Rattle.line_text.proofs.Solid.{is_solid, solid, solid_again, solid_decimal}
 use Rattle.blk_base.specs.declared.config.Job.{Job}
 use Rattle.blk_base.specs.declared.config.Job.TheVariants as jobs
 use Rattle.blk_base.specs.declared.parts.End.{End}

@@ -1,13 +1,9 @@
 -- The words of a line have no spaces.
-use Rattle.std.proofs.Common.{◌≡◌, ℕ, ◌<◌, ◌^◌, Bool, true, false, List, [], ◌∷◌, ◌++◌, Option, Some, None, refl, ap, ◌∙◌, ◌&&◌, decimal, codes, arith}
-use Rattle.std.specs.Prelude.{not}
+use Rattle.std.proofs.Common.{◌≡◌, ℕ, ◌<◌, ◌^◌, Bool, true, false, List, [], ◌∷◌, ◌++◌, Some, None, refl, ◌&&◌, decimal, arith}
 use Rattle.std.specs.List.{list_all}
-use Rattle.std.specs.Fmt.{signed_decimal}
 use Rattle.line_text.proofs.Both.{both_true}
 use Rattle.line_text.specs.Words.{words_in, joined}
-use Rattle.line_text.specs.Numbers.{hex8}
 use Rattle.line_text.specs.Texts.{is_key_name, is_key_text, is_key_path}
-use Rattle.line_text.specs.Sector.{sector_words}
 use Rattle.line_text.proofs.TextLemmas.{name_again, key_text_again, path_again}
 use Rattle.line_text.proofs.Solid.{is_solid, solid, solid_again, solid_decimal, solid_hex, solid_signed, solid_sector}
 use Rattle.blk_base.specs.declared.operation.Abi.{Abi}
@@ -33,7 +29,7 @@ use Rattle.schedule_text.specs.declared.line.Halt.TheVariants as halts
 use Rattle.schedule_text.specs.declared.line.Line.{Line}
 use Rattle.schedule_text.specs.declared.line.Line.TheVariants as lines
 use Rattle.schedule_text.specs.Line.{words_of, text_of, abi_word, access_word, detail_word, status_word, refusal_word, job_words, halt_words, mover_words, back_words, mode_word, move_words}
-use Rattle.schedule_text.specs.Range.{IsInRange, IsCount, JobHasWidths, HaltHasWidths, MoverHasWidths, BackHasWidths, MoveHasWidths, AreOptions, is_halt_allowed, is_move_allowed, is_mover_allowed}
+use Rattle.schedule_text.specs.Range.{IsInRange, JobHasWidths, HaltHasWidths, MoverHasWidths, BackHasWidths, MoveHasWidths, is_halt_allowed, is_move_allowed, is_mover_allowed}
 
 solid_abi : (abi : Abi) → is_solid (abi_word abi) ≡ true
 solid_abi X64 = refl

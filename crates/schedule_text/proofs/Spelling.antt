@@ -1,14 +1,13 @@
 -- Whether a text is a line's: it says a line, that line is allowed, and its text is this one.
-use Rattle.std.proofs.Common.{◌≡◌, ℕ, Bool, true, false, List, [], refl, sym, ap, ◌∙◌, Option, Some, None, subst}
+use Rattle.std.proofs.Common.{◌≡◌, ℕ, true, List, refl, sym, ap, ◌∙◌, Some, None}
 use Rattle.line_text.specs.Words.{words_in}
-use Rattle.arrayvec.specs.ArrayString.{ArrayString}
 use Rattle.blk_base.specs.declared.moves.Move.{Move}
 use Rattle.blk_base.specs.declared.moves.Move.TheVariants as moves
 use Rattle.schedule_text.specs.declared.line.Halt.{Halt}
 use Rattle.schedule_text.specs.declared.line.Halt.TheVariants as halts
 use Rattle.schedule_text.specs.declared.line.Line.{Line}
 use Rattle.schedule_text.specs.declared.line.Line.TheVariants as lines
-use Rattle.schedule_text.specs.Line.{text_of, words_of}
+use Rattle.schedule_text.specs.Line.{text_of}
 use Rattle.schedule_text.specs.Plain.{plain, plain_move, plain_halt}
 use Rattle.schedule_text.specs.Range.{IsInRange, is_allowed, is_move_allowed, is_halt_allowed}
 use Rattle.schedule_text.specs.Reading.{line_at}

@@ -1,5 +1,5 @@
 -- The one spelling of each line of a schedule, and what its numbers and texts may be.
-use Rattle.std.specs.Prelude.{◌≡◌, ℕ, ◌<◌, ◌≤◌, Bool, true, ◌&&◌, ◌⊎◌, nat_lt, nat_le, List, [], ◌∷◌, ◌++◌, length, codes, decimal, Option, Some, None}
+use Rattle.std.specs.Prelude.{◌≡◌, ℕ, ◌≤◌, Bool, true, ◌&&◌, nat_lt, nat_le, List, [], ◌∷◌, length, codes, decimal, Option, Some, None}
 use Rattle.line_text.specs.Words.{joined}
 use Rattle.line_text.specs.Texts.{is_key_name, is_key_text}
 use Rattle.blk_base.specs.declared.parts.End.{End}

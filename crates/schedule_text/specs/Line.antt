@@ -1,6 +1,6 @@
 -- The one spelling of each line of a report: its words, with single spaces between them. Numbers are
 -- decimal without leading zeros, words of memory are 8 lower-case hexadecimal digits.
-use Rattle.std.specs.Prelude.{ℕ, List, [], ◌∷◌, ◌++◌, codes, decimal, Option, Some, None, Bool, true, false}
+use Rattle.std.specs.Prelude.{ℕ, List, [], ◌∷◌, ◌++◌, codes, decimal, Some, None, Bool, true, false}
 use Rattle.std.specs.Fmt.{signed_decimal}
 use Rattle.line_text.specs.Words.{joined}
 use Rattle.line_text.specs.Numbers.{hex8}
@@ -19,7 +19,6 @@ use Rattle.blk_base.specs.declared.moves.Mover.{Mover}
 use Rattle.blk_base.specs.declared.moves.Mover.TheVariants as mover
 use Rattle.blk_base.specs.declared.moves.Move.{Move}
 use Rattle.blk_base.specs.declared.moves.Move.TheVariants as moves
-use Rattle.blk_base.specs.Options.{Options}
 use Rattle.schedule_text.specs.declared.line.Detail.{Detail}
 use Rattle.schedule_text.specs.declared.line.Detail.TheVariants.{Lines, Moves}
 use Rattle.schedule_text.specs.declared.line.Refusal.{Refusal}

@@ -1,5 +1,5 @@
 -- What a line's numbers and texts may be.
-use Rattle.std.specs.Prelude.{◌≡◌, ℕ, ◌<◌, ◌≤◌, ◌^◌, Bool, true, ◌&&◌, nat_lt, List, length, All, FitsSigned, Option, Some, None}
+use Rattle.std.specs.Prelude.{◌≡◌, ℕ, ◌<◌, ◌≤◌, ◌^◌, Bool, true, ◌&&◌, nat_lt, List, FitsSigned, Some, None}
 use Rattle.std.specs.Int.{w32}
 use Rattle.line_text.specs.Sector.{IsSector}
 use Rattle.line_text.specs.Texts.{is_key_name, is_key_text, is_key_path}

@@ -1,9 +1,9 @@
 -- What the words of a line say, if they are those of a line. Any words are read as some line: whether
 -- they are that line's is seen by writing it again.
-use Rattle.std.specs.Prelude.{ℕ, ◌%◌, ◌^◌, List, [], ◌∷◌, ◌==◌, min, max, codes, drop, length, Option, Some, None, Bool, if◌then◌else◌}
+use Rattle.std.specs.Prelude.{ℕ, ◌%◌, ◌^◌, List, [], ◌∷◌, ◌==◌, min, max, codes, drop, length, Option, Some, None, if◌then◌else◌}
 use Rattle.std.specs.Str.{bytes_eq}
 use Rattle.arrayvec.specs.ArrayString.{ArrayString}
-use Rattle.line_text.specs.Words.{first_of, later, words_in}
+use Rattle.line_text.specs.Words.{first_of, later}
 use Rattle.line_text.specs.Numbers.{number_of, hex_of, signed_of}
 use Rattle.line_text.specs.Sector.{sector_of}
 use Rattle.line_text.specs.Texts.{text_in}

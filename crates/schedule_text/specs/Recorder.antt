@@ -1,9 +1,9 @@
 -- What a recorder tells of the lines that it was given.
-use Rattle.std.specs.Prelude.{◌≡◌, ℕ, ◌+◌, ◌-◌, ◌^◌, min, List, [], ◌∷◌, ◌++◌, fold, Option, Some, None, MatchOption}
+use Rattle.std.specs.Prelude.{◌≡◌, ℕ, ◌+◌, ◌-◌, ◌^◌, min, List, [], ◌∷◌, ◌++◌, fold, Option, Some, None}
 use Rattle.std.specs.List.{flat_map}
 use Rattle.blk_io.specs.Outside.{written, IsPartlyWritten}
 use Rattle.schedule_text.specs.declared.line.Detail.{Detail}
-use Rattle.schedule_text.specs.declared.line.Detail.TheVariants.{Lines, Moves}
+use Rattle.schedule_text.specs.declared.line.Detail.TheVariants.{Lines}
 use Rattle.schedule_text.specs.declared.line.Line.{Line}
 use Rattle.schedule_text.specs.declared.line.Line.TheVariants.{Begin, Submit, Refuse, Effect, EffectRead, Answer, Quiet, Unsettled, Move}
 use Rattle.schedule_text.specs.declared.recorder.Tally.{Tally}

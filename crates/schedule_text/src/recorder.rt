@@ -34,6 +34,8 @@ pub struct Tally {
 
 /// Who keeps a report's lines, as they come.
 pub trait Recorder {
+    ghost use Rattle.std.specs.Prelude.{Option};
+    ghost use Rattle.std.specs.Borrow.{GName};
     ghost use Rattle.schedule_text.specs.Recorder.{Told};
     ghost use Rattle.schedule_text.specs.declared.line.Detail.{Detail};
 
@@ -46,6 +48,10 @@ pub trait Recorder {
     /// How often it failed.
     ghost faults: { Self → ℕ };
 
+    /// The reference to a sink that it holds, if it holds one; it stays the same, so that what the
+    /// recorder tells in the end is what its sink then holds.
+    ghost lender: { Self → Option GName };
+
     /// Whether lines of moves are kept. Where they aren't, `add` takes them and does nothing.
     fn detail(&self) -> Detail
         ensures { result ≡ detail self.now };
@@ -55,6 +61,7 @@ pub trait Recorder {
         ensures added { OnOk result (told self.new ≡ gained (told self.old) (recorded (detail self.old) line.now)) }
         ensures stopped { OnErr result (StopsWithin (told self.old) (recorded (detail self.old) line.now) (told self.new)) }
         ensures same_detail { detail self.new ≡ detail self.old }
+        ensures same_lender { lender self.new ≡ lender self.old }
         ensures later { faults self.old ≤ faults self.new }
         ensures failed { result ≡ Err RecordStop.Failed → Rose (faults self.old) (faults self.new) };
 }

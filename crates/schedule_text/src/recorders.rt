@@ -39,6 +39,8 @@ impl Recorder for LineList {
 
     ghost faults = { λ _. 0 };
 
+    ghost lender = { λ _. None };
+
     fn detail(&self) -> Detail {
         self.detail
     }
@@ -87,13 +89,15 @@ pub struct LineSink<'a, S> {
 }
 
 impl<'a, S: Sink> Recorder for LineSink<'a, S> {
-    ghost use Rattle.std.specs.Prelude.{None};
+    ghost use Rattle.std.specs.Prelude.{Some, None};
 
     ghost told = { λ r. record { lines = None; text = S.held r.sink.now; tally = None } };
 
     ghost detail = { λ r. r.detail };
 
     ghost faults = { λ r. S.faults r.sink.now };
+
+    ghost lender = { λ r. Some r.sink.ghost_name };
 
     fn detail(&self) -> Detail {
         self.detail
@@ -145,6 +149,8 @@ impl Recorder for LineTally {
     ghost detail = { λ _. Lines };
 
     ghost faults = { λ _. 0 };
+
+    ghost lender = { λ _. None };
 
     fn detail(&self) -> Detail {
         Detail::Lines

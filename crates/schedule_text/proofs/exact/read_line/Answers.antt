@@ -1,4 +1,4 @@
-use Rattle.std.proofs.Common.{sym, ◌∙◌}
+use Rattle.std.proofs.Common.{◌∙◌}
 use Rattle.schedule_text.proofs.Spelling.{is_read}
 use Rattle.schedule_text.proofs.exact.read_line.Goals as goal
 

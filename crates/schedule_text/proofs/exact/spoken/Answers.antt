@@ -1,4 +1,4 @@
-use Rattle.std.proofs.Common.{sym, ◌∙◌}
+use Rattle.std.proofs.Common.{◌∙◌}
 use Rattle.schedule_text.proofs.EventSpelling.{is_event_read}
 use Rattle.schedule_text.proofs.exact.spoken.Goals as goal
 
