@@ -3,3 +3,4 @@ pub mod Again
 pub mod Solid
 pub mod Spelling
 pub mod EventSpelling
+pub mod Gaining
