@@ -160,7 +160,7 @@ fn states(alloc: Global, state: &Text) -> Result<BTreeMap<Path, Text>, OutOfMemo
 }
 
 // A text that fits.
-fn short<const N: usize>(text: &str) -> ArrayString<N>
+pub(crate) fn short<const N: usize>(text: &str) -> ArrayString<N>
     requires { length text.now ≤ N }
     ensures { result.bytes ≡ text.now }
 {
