@@ -1,0 +1,4 @@
+pub mod Below
+pub mod Changes
+pub mod Entries
+pub mod Texts

@@ -1,0 +1,3 @@
+pub mod Directory
+pub mod Paths
+pub mod Watches
