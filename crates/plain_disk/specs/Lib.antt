@@ -1,0 +1,7 @@
+pub mod Request
+pub mod Disk
+pub mod Step
+pub mod Stands
+pub mod Refusal
+pub mod Honest
+pub mod Echo

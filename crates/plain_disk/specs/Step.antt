@@ -1,0 +1,193 @@
+-- What a line of a report is for the plain disk (the operations of `io/blkif.h`): the disk after it, or none where the line can't stand there.
+-- A line that isn't named here leaves the disk as it is. "In this epoch" is since the last `epoch` line.
+use Rattle.std.specs.Prelude.{ℕ, ◌+◌, ◌-◌, Bool, true, false, not, ◌&&◌, ◌||◌, List, [], ◌∷◌, ◌++◌, filter, map, take, length, slice_set, Option, Some, None, option_and_then, if◌then◌else◌, ◌==◌, nat_eq, nat_lt, is_none}
+use Rattle.std.specs.List.{list_all}
+use Rattle.std.specs.Cmp.Lexicographic.{pointwise}
+use Rattle.blk_base.specs.declared.config.Job.{Job}
+use Rattle.blk_base.specs.declared.operation.Status.{Status}
+use Rattle.blk_base.specs.declared.operation.Status.TheVariants as status
+use Rattle.schedule_text.specs.declared.line.Line.{Line}
+use Rattle.schedule_text.specs.declared.line.Line.TheVariants as lines
+use Rattle.plain_disk.specs.declared.request.Stage.{Stage}
+use Rattle.plain_disk.specs.declared.request.Stage.TheVariants.{Open, Telling, Finished}
+use Rattle.plain_disk.specs.declared.request.Request.{Request}
+use Rattle.plain_disk.specs.declared.request.Place.{Place}
+use Rattle.plain_disk.specs.declared.request.Noted.{Noted}
+use Rattle.plain_disk.specs.declared.request.Written.{Written}
+use Rattle.plain_disk.specs.Request.{opened, places_of, is_read, is_write, is_flush, is_discard, is_barrier, is_ordered, sector_of, count_of, filling, is_open, is_finished, may_serve, done_count, are_settled}
+use Rattle.plain_disk.specs.Disk.{Disk, words_at, request_of, noted_at}
+
+-- the requests with one of them changed
+abbrev pub with_request : List Request → ℕ → Request → List Request
+with_request requests id r = slice_set requests (id - 1) r
+
+-- a request was submitted, under the next number
+abbrev pub submitted_of : Disk → ℕ → Job → Option Disk
+submitted_of d id job = if id == length d.requests + 1 then Some (record d { requests = d.requests ++ opened job ∷ [] }) else None
+
+-- the order condition of request `id`: each earlier write, barrier and discard is settled, where that one or this one is a barrier
+abbrev pub is_in_order : Disk → ℕ → Request → Bool
+is_in_order d id r = are_settled d.done 1 (take (id - 1) d.requests) (is_barrier r.job)
+
+-- a place was done
+abbrev pub place : ℕ → ℕ → Place
+place id index = record { id = id; index = index }
+
+-- what the sector of a request's place holds from now on
+abbrev pub one_sector : Job → ℕ → Option (List ℕ) → Written
+one_sector job index words = record { sector = sector_of job; from = index; count = 1; words = words }
+
+-- what all sectors of a request hold from now on
+abbrev pub all_sectors : Job → Option (List ℕ) → Written
+all_sectors job words = record { sector = sector_of job; from = 0; count = count_of job; words = words }
+
+-- a place was done, and sectors hold something else
+abbrev pub served : Disk → Place → Written → Disk
+served d p w = record d { done = d.done ++ p ∷ []; written = d.written ++ w ∷ [] }
+
+-- a sector of a write or barrier was filled
+abbrev pub effect_of : Disk → ℕ → ℕ → Option Request → Option Disk
+effect_of d id index None = None
+effect_of d id index (Some r) =
+    if is_write r.job && may_serve d.done id r index && is_in_order d id r
+    then Some (served d (place id index) (one_sector r.job index (Some (filling r.job index))))
+    else None
+
+-- the sector may hold these words: nobody knows it, or it holds them
+abbrev pub may_hold : Option (List ℕ) → List ℕ → Bool
+may_hold None words = true
+may_hold (Some known) words = pointwise nat_eq known words
+
+-- what the sector of a request's place holds
+abbrev pub place_words : List (List ℕ) → List Written → Job → ℕ → Option (List ℕ)
+place_words first written job index = words_at first written (sector_of job + index)
+
+-- a sector of a read showed these words
+abbrev pub read_of : Disk → ℕ → ℕ → List ℕ → Option Request → Option Disk
+read_of d id index words None = None
+read_of d id index words (Some r) =
+    if is_read r.job && may_serve d.done id r index && may_hold (place_words d.first d.written r.job index) words
+    then Some (record (served d (place id index) (one_sector r.job index (Some words))) { noted = d.noted ++ record { id = id; index = index; words = words } ∷ [] })
+    else None
+
+-- a flush was done
+abbrev pub flushed_of : Disk → ℕ → Option Request → Option Disk
+flushed_of d id None = None
+flushed_of d id (Some r) =
+    if is_flush r.job && may_serve d.done id r 0
+    then Some (record d { done = d.done ++ place id 0 ∷ [] })
+    else None
+
+-- a discard was done: its sectors are zeros
+abbrev pub trimmed_of : Disk → ℕ → Option Request → Option Disk
+trimmed_of d id None = None
+trimmed_of d id (Some r) =
+    if is_discard r.job && may_serve d.done id r 0 && is_in_order d id r
+    then Some (served d (place id 0) (all_sectors r.job (Some (filling r.job 0))))
+    else None
+
+-- what a fault leaves unknown: the sector in hand of a write or barrier, the range of a discard
+abbrev pub lost_of : List Written → Job → ℕ → List Written
+lost_of written job index =
+    if is_write job then written ++ one_sector job index None ∷ []
+    else (if is_discard job then written ++ all_sectors job None ∷ []
+    else written)
+
+-- the disk failed at a place
+abbrev pub fault_of : Disk → ℕ → ℕ → Option Request → Option Disk
+fault_of d id index None = None
+fault_of d id index (Some r) =
+    if may_serve d.done id r index && (not (is_ordered r.job) || is_in_order d id r)
+    then Some (record d { requests = with_request d.requests id (record r { faulted = true }); written = lost_of d.written r.job index })
+    else None
+
+-- a reply may say this: `ok` where all is done in this epoch, `error` where the disk failed in it, never `unsupported`
+abbrev pub may_reply : Disk → ℕ → Request → Status → Bool
+may_reply d id r status.Okay = done_count d.done id == places_of r.job
+may_reply d id r status.Error = r.faulted
+may_reply d id r status.Unsupported = false
+
+-- the back replied
+abbrev pub replied_of : Disk → ℕ → Status → Option Request → Option Disk
+replied_of d id status None = None
+replied_of d id status (Some r) =
+    if is_open r.stage && is_none r.reply && may_reply d id r status
+    then Some (record d { requests = with_request d.requests id (record r { reply = Some status }) })
+    else None
+
+abbrev pub is_okay : Status → Bool
+is_okay status.Okay = true
+is_okay s = false
+
+abbrev pub is_status : Option Status → Status → Bool
+is_status None s = false
+is_status (Some status.Okay) status.Okay = true
+is_status (Some status.Error) status.Error = true
+is_status (Some status.Unsupported) status.Unsupported = true
+is_status (Some a) b = false
+
+-- the stage of a request whose answer was told: a read that went well has its sectors told next
+abbrev pub told_stage : Job → Status → Stage
+told_stage job status = if is_read job && is_okay status then Telling 0 else Finished
+
+-- the front took the reply
+abbrev pub answered_of : Disk → ℕ → Status → Option Request → Option Disk
+answered_of d id status None = None
+answered_of d id status (Some r) =
+    if is_open r.stage && is_status r.reply status
+    then Some (record d { requests = with_request d.requests id (record r { stage = told_stage r.job status }) })
+    else None
+
+-- the stage after one sector more was told: after the last one nothing is left
+abbrev pub next_stage : Job → ℕ → Stage
+next_stage job index = if nat_lt (index + 1) (places_of job) then Telling (index + 1) else Finished
+
+-- these words were noted
+abbrev pub are_noted : Option (List ℕ) → List ℕ → Bool
+are_noted None words = false
+are_noted (Some noted) words = pointwise nat_eq noted words
+
+-- this sector is told next
+abbrev pub is_next : Stage → ℕ → Bool
+is_next (Telling next) index = index == next
+is_next stage index = false
+
+-- the front told a sector of a read
+abbrev pub data_of : Disk → ℕ → ℕ → List ℕ → Option Request → Option Disk
+data_of d id index words None = None
+data_of d id index words (Some r) =
+    if is_next r.stage index && are_noted (noted_at d.noted id index) words
+    then Some (record d { requests = with_request d.requests id (record r { stage = next_stage r.job index }) })
+    else None
+
+-- a new epoch: an open request has nothing done, no fault and no reply
+abbrev pub reopened : Request → Request
+reopened r = if is_open r.stage then record r { faulted = false; reply = None } else r
+
+-- what was noted stays: the last note of a sector counts, and an answer `ok` needs all sectors read anew
+abbrev pub epoch_of : Disk → Disk
+epoch_of d = record d { requests = map reopened d.requests; done = [] }
+
+-- nothing is left to do: all requests are finished
+abbrev pub quiet_of : Disk → Option Disk
+quiet_of d = if list_all (λ (r : Request). is_finished r.stage) d.requests then Some d else None
+
+-- the step of a line
+abbrev pub step : Disk → Line → Option Disk
+step d (lines.Submit id job) = submitted_of d id job
+step d (lines.Effect id index) = effect_of d id index (request_of d.requests id)
+step d (lines.EffectRead id index words) = read_of d id index words (request_of d.requests id)
+step d (lines.Flushed id) = flushed_of d id (request_of d.requests id)
+step d (lines.Trimmed id) = trimmed_of d id (request_of d.requests id)
+step d (lines.Fault id index) = fault_of d id index (request_of d.requests id)
+step d (lines.Reply id status) = replied_of d id status (request_of d.requests id)
+step d (lines.Answer id status) = answered_of d id status (request_of d.requests id)
+step d (lines.Data id index words) = data_of d id index words (request_of d.requests id)
+step d lines.Epoch = Some (epoch_of d)
+step d lines.Quiet = quiet_of d
+step d line = Some d
+
+-- the disk after these lines, none where one of them can't stand there: a report is a run from a disk exactly where there is one
+abbrev pub after : List Line → Disk → Option Disk
+after [] d = Some d
+after (line ∷ report) d = option_and_then (after report) (step d line)

@@ -1,0 +1,274 @@
+// The step of each kind of line.
+ghost use Rattle.std.specs.Prelude.{◌≡◌, ◌≤◌, ◌-◌, Option, Some, IfOk, OnOk, OnErr, length, map, filter};
+ghost use Rattle.plain_disk.specs.Disk.{request_of};
+ghost use Rattle.plain_disk.specs.Step.{submitted_of, effect_of, read_of, flushed_of, trimmed_of, fault_of, replied_of, answered_of, data_of, epoch_of, quiet_of, is_in_order, may_reply, reopened, served, one_sector, all_sectors, lost_of, with_request};
+ghost use Rattle.plain_disk.specs.Stands.{Leaves};
+
+use super::{PlainDisk, Stand};
+use crate::looking;
+use crate::request::{Noted, Place, Request, Stage, Written};
+use blk_base::{Job, OutOfMemory, SectorWords, Status};
+
+impl PlainDisk {
+    pub(super) fn submit(&mut self, id: u64, job: Job) -> Result<Stand, OutOfMemory>
+        ensures stands { IfOk result (λ stand. Leaves stand (submitted_of self.old id job) self.old self.new) }
+        ensures kept { OnErr result (self.new ≡ self.old) }
+    {
+        if id == 0 || id - 1 != self.requests.len() as u64 {
+            return Ok(Stand::Falls);
+        }
+        self.requests.push(Request {
+            job,
+            faulted: false,
+            reply: None,
+            stage: Stage::Open,
+        })?;
+        Ok(Stand::Stands)
+    }
+
+    // Whether the requests before this one that a barrier orders with it are settled.
+    fn is_in_order(&self, id: u64, r: &Request) -> bool
+        requires { id - 1 ≤ length self.now.requests }
+        ensures { result ≡ is_in_order self.now id r.now }
+    {
+        let before = id.saturating_sub(1) as usize;
+        looking::are_settled(
+            self.done.as_slice(),
+            &self.requests[..before],
+            looking::is_barrier(&r.job),
+        )
+    }
+
+    // Notes a place as done, and what its sectors hold from now on.
+    fn serve(&mut self, place: Place, written: Written) -> Result<(), OutOfMemory>
+        ensures ok { OnOk result (self.new ≡ served self.old place written) }
+        ensures kept { OnErr result (self.new ≡ self.old) }
+    {
+        self.done.push(place)?;
+        match self.written.push(written) {
+            Ok(()) => Ok(()),
+            Err(_) => {
+                let _ = self.done.pop();
+                Err(OutOfMemory)
+            }
+        }
+    }
+
+    pub(super) fn effect(&mut self, id: u64, index: u32) -> Result<Stand, OutOfMemory>
+        ensures stands { IfOk result (λ stand. Leaves stand (effect_of self.old id index (request_of self.old.requests id)) self.old self.new) }
+        ensures kept { OnErr result (self.new ≡ self.old) }
+    {
+        let Some(r) = looking::request_of(self.requests.as_slice(), id) else {
+            return Ok(Stand::Falls);
+        };
+        if !looking::is_write(&r.job)
+            || !looking::may_serve(self.done.as_slice(), id, &r, index)
+            || !self.is_in_order(id, &r)
+        {
+            return Ok(Stand::Falls);
+        }
+        let words = looking::filling(&r.job, index);
+        self.serve(Place { id, index }, one_sector(&r.job, index, Some(words)))?;
+        Ok(Stand::Stands)
+    }
+
+    pub(super) fn effect_read(
+        &mut self,
+        id: u64,
+        index: u32,
+        words: SectorWords,
+    ) -> Result<Stand, OutOfMemory>
+        ensures stands { IfOk result (λ stand. Leaves stand (read_of self.old id index words (request_of self.old.requests id)) self.old self.new) }
+        ensures kept { OnErr result (self.new ≡ self.old) }
+    {
+        let Some(r) = looking::request_of(self.requests.as_slice(), id) else {
+            return Ok(Stand::Falls);
+        };
+        let at = looking::place_words(
+            self.first.as_slice(),
+            self.written.as_slice(),
+            &r.job,
+            index,
+        );
+        if !looking::is_read(&r.job)
+            || !looking::may_serve(self.done.as_slice(), id, &r, index)
+            || !looking::may_hold(&at, &words)
+        {
+            return Ok(Stand::Falls);
+        }
+        self.noted.push(Noted { id, index, words })?;
+        match self.serve(Place { id, index }, one_sector(&r.job, index, Some(words))) {
+            Ok(()) => Ok(Stand::Stands),
+            Err(OutOfMemory) => {
+                let _ = self.noted.pop();
+                Err(OutOfMemory)
+            }
+        }
+    }
+
+    pub(super) fn flushed(&mut self, id: u64) -> Result<Stand, OutOfMemory>
+        ensures stands { IfOk result (λ stand. Leaves stand (flushed_of self.old id (request_of self.old.requests id)) self.old self.new) }
+        ensures kept { OnErr result (self.new ≡ self.old) }
+    {
+        let Some(r) = looking::request_of(self.requests.as_slice(), id) else {
+            return Ok(Stand::Falls);
+        };
+        if !looking::is_flush(&r.job) || !looking::may_serve(self.done.as_slice(), id, &r, 0) {
+            return Ok(Stand::Falls);
+        }
+        self.done.push(Place { id, index: 0 })?;
+        Ok(Stand::Stands)
+    }
+
+    pub(super) fn trimmed(&mut self, id: u64) -> Result<Stand, OutOfMemory>
+        ensures stands { IfOk result (λ stand. Leaves stand (trimmed_of self.old id (request_of self.old.requests id)) self.old self.new) }
+        ensures kept { OnErr result (self.new ≡ self.old) }
+    {
+        let Some(r) = looking::request_of(self.requests.as_slice(), id) else {
+            return Ok(Stand::Falls);
+        };
+        if !looking::is_discard(&r.job)
+            || !looking::may_serve(self.done.as_slice(), id, &r, 0)
+            || !self.is_in_order(id, &r)
+        {
+            return Ok(Stand::Falls);
+        }
+        let words = looking::filling(&r.job, 0);
+        self.serve(Place { id, index: 0 }, all_sectors(&r.job, Some(words)))?;
+        Ok(Stand::Stands)
+    }
+
+    pub(super) fn fault(&mut self, id: u64, index: u32) -> Result<Stand, OutOfMemory>
+        ensures stands { IfOk result (λ stand. Leaves stand (fault_of self.old id index (request_of self.old.requests id)) self.old self.new) }
+        ensures kept { OnErr result (self.new ≡ self.old) }
+    {
+        let Some(r) = looking::request_of(self.requests.as_slice(), id) else {
+            return Ok(Stand::Falls);
+        };
+        if !looking::may_serve(self.done.as_slice(), id, &r, index)
+            || (looking::is_ordered(&r.job) && !self.is_in_order(id, &r))
+        {
+            return Ok(Stand::Falls);
+        }
+        if looking::is_write(&r.job) {
+            self.written.push(one_sector(&r.job, index, None))?;
+        } else if looking::is_discard(&r.job) {
+            self.written.push(all_sectors(&r.job, None))?;
+        }
+        self.requests[(id - 1) as usize].faulted = true;
+        Ok(Stand::Stands)
+    }
+
+    pub(super) fn reply(&mut self, id: u64, status: Status) -> Result<Stand, OutOfMemory>
+        ensures stands { IfOk result (λ stand. Leaves stand (replied_of self.old id status (request_of self.old.requests id)) self.old self.new) }
+        ensures kept { OnErr result (self.new ≡ self.old) }
+    {
+        let Some(r) = looking::request_of(self.requests.as_slice(), id) else {
+            return Ok(Stand::Falls);
+        };
+        if !looking::is_open(r.stage) || r.reply.is_some() || !self.may_reply(id, &r, status) {
+            return Ok(Stand::Falls);
+        }
+        self.requests[(id - 1) as usize].reply = Some(status);
+        Ok(Stand::Stands)
+    }
+
+    // Whether a reply may say this.
+    fn may_reply(&self, id: u64, r: &Request, status: Status) -> bool
+        ensures { result ≡ may_reply self.now id r.now status }
+    {
+        match status {
+            Status::Okay => {
+                looking::done_count(self.done.as_slice(), id) == looking::places_of(&r.job) as usize
+            }
+            Status::Error => r.faulted,
+            Status::Unsupported => false,
+        }
+    }
+
+    pub(super) fn answer(&mut self, id: u64, status: Status) -> Result<Stand, OutOfMemory>
+        ensures stands { IfOk result (λ stand. Leaves stand (answered_of self.old id status (request_of self.old.requests id)) self.old self.new) }
+        ensures kept { OnErr result (self.new ≡ self.old) }
+    {
+        let Some(r) = looking::request_of(self.requests.as_slice(), id) else {
+            return Ok(Stand::Falls);
+        };
+        if !looking::is_open(r.stage) || !looking::is_status(r.reply, status) {
+            return Ok(Stand::Falls);
+        }
+        self.requests[(id - 1) as usize].stage = looking::told_stage(&r.job, status);
+        Ok(Stand::Stands)
+    }
+
+    pub(super) fn tell(
+        &mut self,
+        id: u64,
+        index: u32,
+        words: SectorWords,
+    ) -> Result<Stand, OutOfMemory>
+        ensures stands { IfOk result (λ stand. Leaves stand (data_of self.old id index words (request_of self.old.requests id)) self.old self.new) }
+        ensures kept { OnErr result (self.new ≡ self.old) }
+    {
+        let Some(r) = looking::request_of(self.requests.as_slice(), id) else {
+            return Ok(Stand::Falls);
+        };
+        let noted = looking::noted_at(self.noted.as_slice(), id, index);
+        if !looking::is_next(r.stage, index) || !looking::are_noted(&noted, &words) {
+            return Ok(Stand::Falls);
+        }
+        self.requests[(id - 1) as usize].stage = looking::next_stage(&r.job, index);
+        Ok(Stand::Stands)
+    }
+
+    pub(super) fn epoch(&mut self) -> Result<Stand, OutOfMemory>
+        ensures stands { IfOk result (λ stand. Leaves stand (Some (epoch_of self.old)) self.old self.new) }
+        ensures kept { OnErr result (self.new ≡ self.old) }
+    {
+        reopen(&mut self.requests);
+        self.done.clear();
+        Ok(Stand::Stands)
+    }
+
+    pub(super) fn quiet(&mut self) -> Result<Stand, OutOfMemory>
+        ensures stands { IfOk result (λ stand. Leaves stand (quiet_of self.old) self.old self.new) }
+        ensures kept { OnErr result (self.new ≡ self.old) }
+    {
+        if !looking::are_finished(self.requests.as_slice()) {
+            return Ok(Stand::Falls);
+        }
+        Ok(Stand::Stands)
+    }
+}
+
+// What the sector of a request's place holds from now on.
+fn one_sector(job: &Job, index: u32, words: Option<SectorWords>) -> Written
+    ensures { result ≡ one_sector job.now index words }
+{
+    Written {
+        sector: looking::sector_of(job),
+        from: index,
+        count: 1,
+        words,
+    }
+}
+
+// What all sectors of a request hold from now on.
+fn all_sectors(job: &Job, words: Option<SectorWords>) -> Written
+    ensures { result ≡ all_sectors job.now words }
+{
+    Written {
+        sector: looking::sector_of(job),
+        from: 0,
+        count: looking::count_of(job),
+        words,
+    }
+}
+
+// Forgets what this epoch's faults and replies were.
+fn reopen(requests: &mut [Request])
+    ensures { requests.new ≡ map reopened requests.old }
+{
+    for i in 0..requests.len() {
+        requests[i] = looking::reopened(&requests[i]);
+    }
+}

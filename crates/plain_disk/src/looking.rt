@@ -1,0 +1,309 @@
+// What a plain disk is asked before a line's step.
+ghost use Rattle.std.specs.Prelude.{◌≡◌, ◌+◌, ◌<◌, ◌-◌, ◌∷◌, slice_get, length, take, IsSome};
+ghost use Rattle.plain_disk.specs.Request.{places_of, sector_of, count_of, filling, is_read, is_write, is_flush, is_discard, is_barrier, is_ordered, is_open, is_finished, is_done, done_count, may_serve, is_settled, are_settled};
+ghost use Rattle.plain_disk.specs.Disk.{covers, words_at, request_of, noted_at};
+ghost use Rattle.plain_disk.specs.Step.{may_hold, are_noted, is_next, is_status, told_stage, next_stage, place_words, reopened};
+ghost use Rattle.std.specs.List.{list_all};
+ghost use Rattle.plain_disk.specs.declared.request.Request.{Request};
+
+use crate::request::{Noted, Place, Request, Stage, Written};
+use blk_base::{Job, SectorWords, Status};
+
+/// How many places a request has.
+pub fn places_of(job: &Job) -> u32
+    ensures { result ≡ places_of job.now }
+{
+    match *job {
+        Job::Read { count, .. } => count.get(),
+        Job::Write { count, .. } => count.get(),
+        Job::Barrier { count, .. } => count.get(),
+        Job::Flush => 1,
+        Job::Discard { .. } => 1,
+    }
+}
+
+/// The first sector of a request.
+pub fn sector_of(job: &Job) -> u64
+    ensures { result ≡ sector_of job.now }
+{
+    match *job {
+        Job::Read { sector, .. } => sector,
+        Job::Write { sector, .. } => sector,
+        Job::Barrier { sector, .. } => sector,
+        Job::Flush => 0,
+        Job::Discard { sector, .. } => sector,
+    }
+}
+
+/// How many sectors a request speaks of.
+pub fn count_of(job: &Job) -> u32
+    ensures { result ≡ count_of job.now }
+{
+    match *job {
+        Job::Read { count, .. } => count.get(),
+        Job::Write { count, .. } => count.get(),
+        Job::Barrier { count, .. } => count.get(),
+        Job::Flush => 0,
+        Job::Discard { count, .. } => count.get(),
+    }
+}
+
+/// The words of a sector of a write or barrier.
+pub fn filling(job: &Job, index: u32) -> SectorWords
+    ensures { result ≡ filling job.now index }
+{
+    match *job {
+        Job::Write { tag, .. } => [tag.wrapping_add(index); 128],
+        Job::Barrier { tag, .. } => [tag.wrapping_add(index); 128],
+        _ => [0; 128],
+    }
+}
+
+pub fn is_read(job: &Job) -> bool
+    ensures { result ≡ is_read job.now }
+{
+    matches!(*job, Job::Read { .. })
+}
+
+pub fn is_flush(job: &Job) -> bool
+    ensures { result ≡ is_flush job.now }
+{
+    matches!(*job, Job::Flush)
+}
+
+pub fn is_discard(job: &Job) -> bool
+    ensures { result ≡ is_discard job.now }
+{
+    matches!(*job, Job::Discard { .. })
+}
+
+pub fn is_barrier(job: &Job) -> bool
+    ensures { result ≡ is_barrier job.now }
+{
+    matches!(*job, Job::Barrier { .. })
+}
+
+pub fn is_write(job: &Job) -> bool
+    ensures { result ≡ is_write job.now }
+{
+    matches!(*job, Job::Write { .. } | Job::Barrier { .. })
+}
+
+pub fn is_ordered(job: &Job) -> bool
+    ensures { result ≡ is_ordered job.now }
+{
+    is_write(job) || is_discard(job)
+}
+
+pub fn is_open(stage: Stage) -> bool
+    ensures { result ≡ is_open stage }
+{
+    matches!(stage, Stage::Open)
+}
+
+pub fn is_finished(stage: Stage) -> bool
+    ensures { result ≡ is_finished stage }
+{
+    matches!(stage, Stage::Finished)
+}
+
+/// Whether a place was done in this epoch.
+pub fn is_done(done: &[Place], id: u64, index: u32) -> bool
+    ensures { result ≡ is_done done.now id index }
+{
+    done.iter().any(|p| p.id == id && p.index == index)
+}
+
+/// How many places of a request were done in this epoch.
+pub fn done_count(done: &[Place], id: u64) -> usize
+    ensures { result ≡ done_count done.now id }
+{
+    done.iter().filter(|p| p.id == id).count()
+}
+
+/// Whether a place may be served now.
+pub fn may_serve(done: &[Place], id: u64, r: &Request, index: u32) -> bool
+    ensures { result ≡ may_serve done.now id r.now index }
+{
+    is_open(r.stage)
+        && r.reply.is_none()
+        && !r.faulted
+        && index < places_of(&r.job)
+        && !is_done(done, id, index)
+}
+
+/// Whether what waits for a request may go on.
+pub fn is_settled(done: &[Place], id: u64, r: &Request) -> bool
+    ensures { result ≡ is_settled done.now id r.now }
+{
+    !is_open(r.stage)
+        || r.reply.is_some()
+        || r.faulted
+        || done_count(done, id) == places_of(&r.job) as usize
+}
+
+/// Whether the requests of the first numbers are settled where a barrier orders them with one that
+/// comes later.
+pub fn are_settled(done: &[Place], earlier: &[Request], barrier: bool) -> bool
+    ensures { result ≡ are_settled done.now 1 earlier.now barrier }
+{
+    for i in 0..earlier.len() {
+        let r = &earlier[i];
+        let waits = is_ordered(&r.job) && (barrier || is_barrier(&r.job));
+        if waits && !is_settled(done, i as u64 + 1, r) {
+            return false;
+        }
+    }
+    true
+}
+
+/// Whether a sector is among those written.
+pub fn covers(w: &Written, sector: u128) -> bool
+    ensures { result ≡ covers w.now sector }
+{
+    let begin = u128::from(w.sector) + u128::from(w.from);
+    begin <= sector && sector < begin + u128::from(w.count)
+}
+
+/// What a sector holds, where that is known.
+pub fn words_at(first: &[SectorWords], written: &[Written], sector: u128) -> Option<SectorWords>
+    ensures { result ≡ words_at first.now written.now sector }
+{
+    let mut words = first_words(first, sector);
+    for w in written {
+        if covers(w, sector) {
+            words = w.words;
+        }
+    }
+    words
+}
+
+// What a sector held at first.
+fn first_words(first: &[SectorWords], sector: u128) -> Option<SectorWords>
+    ensures { result ≡ slice_get first.now sector }
+{
+    if sector < first.len() as u128 {
+        Some(first[sector as usize])
+    } else {
+        None
+    }
+}
+
+/// The request of a number.
+pub fn request_of(requests: &[Request], id: u64) -> Option<Request>
+    ensures value { result ≡ request_of requests.now id }
+{
+    if id == 0 {
+        return None;
+    }
+    requests.get((id - 1) as usize).copied()
+}
+
+/// What a request's sector showed.
+pub fn noted_at(noted: &[Noted], id: u64, index: u32) -> Option<SectorWords>
+    ensures { result ≡ noted_at noted.now id index }
+{
+    let mut words = None;
+    for n in noted {
+        if n.id == id && n.index == index {
+            words = Some(n.words);
+        }
+    }
+    words
+}
+
+/// What the sector of a request's place holds, where that is known.
+pub fn place_words(
+    first: &[SectorWords],
+    written: &[Written],
+    job: &Job,
+    index: u32,
+) -> Option<SectorWords>
+    ensures { result ≡ place_words first.now written.now job.now index }
+{
+    let sector = u128::from(sector_of(job)) + u128::from(index);
+    words_at(first, written, sector)
+}
+
+/// Whether a sector may hold these words.
+pub fn may_hold(known: &Option<SectorWords>, words: &SectorWords) -> bool
+    ensures { result ≡ may_hold known.now words.now }
+{
+    match known {
+        None => true,
+        Some(known) => *known == *words,
+    }
+}
+
+/// Whether these words were noted.
+pub fn are_noted(noted: &Option<SectorWords>, words: &SectorWords) -> bool
+    ensures { result ≡ are_noted noted.now words.now }
+{
+    match noted {
+        None => false,
+        Some(noted) => *noted == *words,
+    }
+}
+
+/// Whether a sector is told next.
+pub fn is_next(stage: Stage, index: u32) -> bool
+    ensures { result ≡ is_next stage index }
+{
+    match stage {
+        Stage::Telling(next) => index == next,
+        _ => false,
+    }
+}
+
+/// Whether this was replied.
+pub fn is_status(reply: Option<Status>, status: Status) -> bool
+    ensures { result ≡ is_status reply status }
+{
+    matches!(
+        (reply, status),
+        (Some(Status::Okay), Status::Okay)
+            | (Some(Status::Error), Status::Error)
+            | (Some(Status::Unsupported), Status::Unsupported)
+    )
+}
+
+/// The stage of a request whose answer was told.
+pub fn told_stage(job: &Job, status: Status) -> Stage
+    ensures { result ≡ told_stage job.now status }
+{
+    match (is_read(job), status) {
+        (true, Status::Okay) => Stage::Telling(0),
+        _ => Stage::Finished,
+    }
+}
+
+/// The stage of a request after one sector more was told.
+pub fn next_stage(job: &Job, index: u32) -> Stage
+    ensures { result ≡ next_stage job.now index }
+{
+    let places = places_of(job);
+    if index < places && index + 1 != places {
+        Stage::Telling(index + 1)
+    } else {
+        Stage::Finished
+    }
+}
+
+/// A request in a new epoch.
+pub fn reopened(r: &Request) -> Request
+    ensures { result ≡ reopened r.now }
+{
+    let mut next = *r;
+    if is_open(r.stage) {
+        next.faulted = false;
+        next.reply = None;
+    }
+    next
+}
+
+/// Whether all of each request was told.
+pub fn are_finished(requests: &[Request]) -> bool
+    ensures { result ≡ list_all (λ (r : Request). is_finished r.stage) requests.now }
+{
+    requests.iter().all(|r| is_finished(r.stage))
+}

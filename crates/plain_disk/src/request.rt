@@ -1,0 +1,49 @@
+// What the plain disk keeps of each request.
+use blk_base::{Job, SectorWords, Status};
+
+/// How far a request is told of.
+#[derive(Clone, Copy, Debug, PartialEq, Eq)]
+pub enum Stage {
+    /// Its answer wasn't told.
+    Open,
+    /// A read whose answer was `ok`: the sector that is told next.
+    Telling(u32),
+    /// All of it was told.
+    Finished,
+}
+
+/// A request that was submitted. Whether it faulted and what was replied to it is kept for the
+/// present epoch alone.
+#[derive(Clone, Copy, Debug, PartialEq, Eq)]
+pub struct Request {
+    pub job: Job,
+    pub faulted: bool,
+    pub reply: Option<Status>,
+    pub stage: Stage,
+}
+
+/// A place of a request that was done in this epoch: its number, and the sector in it from 0; 0 for
+/// a flush and a discard.
+#[derive(Clone, Copy, Debug, PartialEq, Eq)]
+pub struct Place {
+    pub id: u64,
+    pub index: u32,
+}
+
+/// A sector that a request read, with the words that its effect showed.
+#[derive(Clone, Copy, Debug, PartialEq, Eq)]
+pub struct Noted {
+    pub id: u64,
+    pub index: u32,
+    pub words: SectorWords,
+}
+
+/// What sectors hold from a moment on: each of `count`, the first one `from` sectors behind
+/// `sector`, has these words, or words that nobody knows.
+#[derive(Clone, Copy, Debug, PartialEq, Eq)]
+pub struct Written {
+    pub sector: u64,
+    pub from: u32,
+    pub count: u32,
+    pub words: Option<SectorWords>,
+}

@@ -1,0 +1,87 @@
+// When a submission is refused.
+ghost use Rattle.std.specs.Prelude.{◌≡◌, ◌+◌, sum_by, count_by, not};
+ghost use Rattle.plain_disk.specs.declared.request.Request.{Request};
+ghost use Rattle.plain_disk.specs.Request.{is_finished};
+
+use crate::limits;
+use crate::request::Request;
+use blk_base::{Config, Job};
+use schedule_text::{Line, Refusal};
+
+/// What the lines so far show of the front: the options of the run, whether it is connected in this
+/// epoch, whether it was closing, and whether it was broken.
+#[derive(Clone, Copy, Debug, PartialEq, Eq)]
+pub struct Sight {
+    pub config: Option<Config>,
+    pub connected: bool,
+    pub closing: bool,
+    pub broken: bool,
+}
+
+impl Sight {
+    ghost use Rattle.plain_disk.specs.Refusal.{nothing_seen, seen, refusal_at, refusal_by};
+
+    /// Nothing was seen yet.
+    pub fn new() -> Sight
+        ensures { result ≡ nothing_seen }
+    {
+        Sight {
+            config: None,
+            connected: false,
+            closing: false,
+            broken: false,
+        }
+    }
+
+    /// Takes in a line.
+    pub fn see(&mut self, line: &Line)
+        ensures { self.new ≡ seen self.old line.now }
+    {
+        match *line {
+            Line::Begin { config, .. } => self.config = Some(config),
+            Line::Ready => self.connected = true,
+            Line::Epoch => self.connected = false,
+            Line::Closing => self.closing = true,
+            Line::Broken(_) => self.broken = true,
+            _ => {}
+        }
+    }
+
+    /// How a submission is refused now, where these requests were submitted; `None` exactly where it
+    /// is accepted.
+    pub fn refusal(&self, requests: &[Request], job: &Job) -> Option<Refusal>
+        ensures { result ≡ refusal_at self.now self.now.config requests.now job.now }
+    {
+        match &self.config {
+            None => Some(Refusal::NotReady),
+            Some(config) => self.refusal_by(config, requests, job),
+        }
+    }
+
+    // The first reason that applies.
+    fn refusal_by(&self, config: &Config, requests: &[Request], job: &Job) -> Option<Refusal>
+        ensures { result ≡ refusal_by self.now config.now requests.now job.now }
+    {
+        if requests.len() == 4294967295 {
+            Some(Refusal::Spent)
+        } else if !self.closing && (!self.connected || self.broken) {
+            Some(Refusal::NotReady)
+        } else if self.closing {
+            Some(Refusal::Closing)
+        } else if limits::is_unsupported(config, job) {
+            Some(Refusal::Unsupported)
+        } else if limits::is_refused_write(config, job) {
+            Some(Refusal::ReadOnly)
+        } else if limits::is_past_end(config, job) {
+            Some(Refusal::Range)
+        } else if limits::is_long(config, job) {
+            Some(Refusal::Long)
+        } else if limits::is_full(config, requests) {
+            Some(Refusal::Full)
+        } else if limits::lacks_frames(requests, job) {
+            Some(Refusal::Buffers)
+        } else {
+            None
+        }
+    }
+}
