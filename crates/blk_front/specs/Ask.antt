@@ -1,0 +1,70 @@
+-- What the front asks.
+use Rattle.std.specs.Prelude.{ℕ, ◌+◌, ◌<◌, Option, Some, None, if◌then◌else◌, ◌==◌, slice_index}
+use Rattle.blk_base.specs.declared.ask.FrontAsk.{FrontAsk}
+use Rattle.blk_base.specs.declared.ask.FrontAsk.TheVariants.{Wait, Fence, Read, Write, Cas, NewPort, Send}
+use Rattle.blk_base.specs.declared.ask.FrontAnswer.{FrontAnswer}
+use Rattle.blk_base.specs.declared.ask.FrontAnswer.TheVariants as answer
+use Rattle.ring_words.specs.Ring.{next_of, responses_of}
+use Rattle.blk_front.specs.declared.stage.Stage.{Stage}
+use Rattle.blk_front.specs.declared.stage.Stage.TheVariants as stage
+use Rattle.blk_front.specs.declared.request.Request.{Request}
+use Rattle.blk_front.specs.View.{View, ring_frame, entry_frame, entry_word, slot_frame, slot_word, fresh_word, next_request}
+
+-- in the loop: a request that waits is issued; else sleep; else the next response; else the responses' producer
+abbrev pub loop_ask : View → Option Request → FrontAsk
+loop_ask v (Some r) = Write r.frame 0 r.tag
+loop_ask v None =
+    if v.asleep then Wait
+    else (if responses_of v.ring v.seen == 0 then Read ring_frame 2
+    else Read (slot_frame v.ring.cons 0) (slot_word v.ring.cons 0))
+
+abbrev pub ask_at : Stage → View → FrontAsk
+ask_at (stage.RingWord k) v = Write ring_frame k (fresh_word v.start k)
+ask_at stage.RingFrame v = Write (entry_frame ring_frame) (entry_word ring_frame + 1) ring_frame
+ask_at stage.RingFence v = Fence
+ask_at stage.RingFlags v = Write (entry_frame ring_frame) (entry_word ring_frame) 1
+ask_at stage.NewPort v = NewPort
+ask_at stage.Loop v = loop_ask v (next_request v)
+ask_at (stage.Data r k) v = Write r.frame k r.tag
+ask_at (stage.GrantFrame r) v = Write (entry_frame r.frame) (entry_word r.frame + 1) r.frame
+ask_at (stage.GrantFence r) v = Fence
+ask_at (stage.GrantFlags r) v = Write (entry_frame r.frame) (entry_word r.frame) 5
+ask_at (stage.Slot k) v = Write (slot_frame v.ring.prod k) (slot_word v.ring.prod k) (slice_index v.entry k)
+ask_at stage.Producer v = Write ring_frame 0 (next_of v.ring.prod)
+ask_at (stage.ProducerFence old) v = Fence
+ask_at (stage.RequestEvent old) v = Read ring_frame 1
+ask_at stage.Send v = Send
+ask_at (stage.ResponseHigh low) v = Read (slot_frame v.ring.cons 1) (slot_word v.ring.cons 1)
+ask_at (stage.ResponseLast low high) v = Read (slot_frame v.ring.cons 2) (slot_word v.ring.cons 2)
+ask_at (stage.GrantRead e) v = Read (entry_frame e.frame) (entry_word e.frame)
+ask_at (stage.GrantEnd e seen) v = Cas (entry_frame e.frame) (entry_word e.frame) seen 0
+ask_at stage.StoreEvent v = Write ring_frame 3 (next_of v.ring.cons)
+ask_at stage.EventFence v = Fence
+ask_at stage.LookAgain v = Read ring_frame 2
+ask_at (stage.Broken word) v = Wait
+
+abbrev pub ask_of : View → FrontAsk
+ask_of v = ask_at v.stage v
+
+-- an answer of the ask's kind
+abbrev pub IsAnswer : FrontAsk → FrontAnswer → Type 0
+IsAnswer Wait answer.Event = Unit {0}
+IsAnswer Wait (answer.Watched path) = Unit {0}
+IsAnswer Fence answer.Done = Unit {0}
+IsAnswer (Read frame word) (answer.Word value) = Unit {0}
+IsAnswer (Write frame word value) answer.Done = Unit {0}
+IsAnswer (Cas frame word old new) (answer.Word seen) = Unit {0}
+IsAnswer NewPort (answer.Port port) = Unit {0}
+IsAnswer Send answer.Done = Unit {0}
+IsAnswer ask a = ⊥
+
+-- a shared word of the guest's memory: frames 0 to 1017, words 0 to 1023
+abbrev pub IsPlace : ℕ → ℕ → Type 0
+IsPlace frame word = (frame < 1018) × (word < 1024)
+
+-- an ask that touches memory touches one such word
+abbrev pub IsWithin : FrontAsk → Type 0
+IsWithin (Read frame word) = IsPlace frame word
+IsWithin (Write frame word value) = IsPlace frame word
+IsWithin (Cas frame word old new) = IsPlace frame word
+IsWithin ask = Unit {0}

@@ -1,0 +1,41 @@
+-- What is true of the front at every moment.
+use Rattle.std.specs.Prelude.{◌≡◌, ℕ, ◌+◌, ◌<◌, ◌≤◌, length}
+use Rattle.blk_base.specs.Distance.{distance_of}
+use Rattle.blk_front.specs.declared.stage.Stage.{Stage}
+use Rattle.blk_front.specs.declared.stage.Stage.TheVariants as stage
+use Rattle.blk_front.specs.Submit.{ending_of}
+use Rattle.blk_front.specs.View.{View}
+
+-- the word that a stage is at is one of those that it goes through
+abbrev pub IsPlaced : Stage → Type 0
+IsPlaced (stage.RingWord k) = k < 16
+IsPlaced (stage.Data r k) = k < 128
+IsPlaced (stage.Slot k) = k < 28
+IsPlaced s = Unit {0}
+
+-- while a request is issued, one waits
+abbrev pub IsIssuing : Stage → ℕ → Type 0
+IsIssuing (stage.Data r k) waiting = 0 < waiting
+IsIssuing (stage.GrantFrame r) waiting = 0 < waiting
+IsIssuing (stage.GrantFence r) waiting = 0 < waiting
+IsIssuing (stage.GrantFlags r) waiting = 0 < waiting
+IsIssuing (stage.Slot k) waiting = 0 < waiting
+IsIssuing stage.Producer waiting = 0 < waiting
+IsIssuing s waiting = Unit {0}
+
+-- while a response is read, one is there
+abbrev pub IsReading : Stage → ℕ → Type 0
+IsReading (stage.ResponseHigh low) ahead = 0 < ahead
+IsReading (stage.ResponseLast low high) ahead = 0 < ahead
+IsReading s ahead = Unit {0}
+
+pub record IsSound (v : View) : Type 0 where
+  pub entries : v.ring.entries ≡ 32
+  -- each request between the two indices is an issued one, and all fit the ring
+  pub counted : length v.requests ≡ distance_of v.ring.cons v.ring.prod + v.waiting
+  pub room : length v.requests + ending_of v.stage ≤ 32
+  -- no more responses were seen than requests were pushed
+  pub seen : distance_of v.ring.cons v.seen ≤ distance_of v.ring.cons v.ring.prod
+  pub placed : IsPlaced v.stage
+  pub issuing : IsIssuing v.stage v.waiting
+  pub reading : IsReading v.stage (distance_of v.ring.cons v.seen)

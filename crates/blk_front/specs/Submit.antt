@@ -1,0 +1,69 @@
+-- When the front refuses a submission, and what an accepted one makes of it.
+use Rattle.std.specs.Prelude.{ℕ, ◌+◌, Bool, true, false, not, [], ◌∷◌, ◌++◌, length, Option, Some, None, Result, Ok, Err, if◌then◌else◌, ◌==◌, nat_le}
+use Rattle.blk_base.specs.declared.ask.FrontAsk.{FrontAsk}
+use Rattle.blk_base.specs.declared.ask.FrontAsk.TheVariants.{Wait}
+use Rattle.blk_base.specs.declared.config.Job.{Job}
+use Rattle.blk_base.specs.declared.config.Job.TheVariants.{Write}
+use Rattle.blk_front.specs.declared.stage.Stage.{Stage}
+use Rattle.blk_front.specs.declared.stage.Stage.TheVariants as stage
+use Rattle.blk_front.specs.declared.told.Refusal.{Refusal}
+use Rattle.blk_front.specs.declared.told.Refusal.TheVariants as refusal
+use Rattle.blk_front.specs.Pool.{lowest_of, with_taken}
+use Rattle.ring_words.specs.Shape.{entries_of}
+use Rattle.blk_front.specs.View.{View, shape}
+
+-- connected (XenbusStateConnected of `io/xenbus.h`) and not broken
+abbrev pub is_ready : Stage → Bool
+is_ready (stage.RingWord k) = false
+is_ready stage.RingFrame = false
+is_ready stage.RingFence = false
+is_ready stage.RingFlags = false
+is_ready stage.NewPort = false
+is_ready (stage.Broken word) = false
+is_ready s = true
+
+-- a request whose grant is being ended is unfinished still
+abbrev pub ending_of : Stage → ℕ
+ending_of (stage.GrantRead e) = 1
+ending_of (stage.GrantEnd e before) = 1
+ending_of s = 0
+
+abbrev pub unfinished : View → ℕ
+unfinished v = length v.requests + ending_of v.stage
+
+-- the sector and the word of a write of one sector
+abbrev pub one_sector : Job → Option (ℕ × ℕ)
+one_sector (Write sector count tag) = if count == 1 then Some (sector, tag) else None
+one_sector job = None
+
+-- nothing is to be done until an event comes
+abbrev pub is_wait : FrontAsk → Bool
+is_wait Wait = true
+is_wait ask = false
+
+-- accepted: the next number, the lowest free frame, last in the queue
+abbrev pub accepted : View → ℕ → ℕ → ℕ → View
+accepted v sector tag frame = record v {
+  last = v.last + 1;
+  waiting = v.waiting + 1;
+  requests = v.requests ++ record { number = v.last + 1; sector = sector; tag = tag; frame = frame } ∷ [];
+  pool = with_taken v.pool frame;
+}
+
+abbrev pub submit_with : View → ℕ × ℕ → Option ℕ → Result ℕ Refusal × View
+submit_with v what None = (Err refusal.Buffers, v)
+submit_with v what (Some frame) = (Ok (v.last + 1), accepted v what.0 what.1 frame)
+
+abbrev pub submit_one : View → Option (ℕ × ℕ) → Result ℕ Refusal × View
+submit_one v None = (Err refusal.Unsupported, v)
+submit_one v (Some what) =
+    if nat_le v.sectors what.0 then (Err refusal.Range, v)
+    else (if nat_le (entries_of shape.order) (unfinished v) then (Err refusal.Full, v)
+    else submit_with v what (lowest_of v.pool))
+
+-- the answer to a submission, and the front after it
+abbrev pub submit_of : View → Job → Result ℕ Refusal × View
+submit_of v job =
+    if v.last == 4294967295 then (Err refusal.Spent, v)
+    else (if not (is_ready v.stage) then (Err refusal.NotReady, v)
+    else submit_one v (one_sector job))

@@ -1,0 +1,81 @@
+-- What contracts see of the front, and the places of the machine that it works in.
+use Rattle.std.specs.Prelude.{ℕ, ◌+◌, ◌-◌, ◌*◌, ◌/◌, ◌%◌, Bool, false, List, [], length, slice_get, Option, None, if◌then◌else◌, ◌==◌}
+use Rattle.blk_base.specs.declared.operation.Abi.TheVariants.{X64}
+use Rattle.ring_words.specs.Ring.{Ring, next_of}
+use Rattle.ring_words.specs.Shape.{Shape, slot_word_of}
+use Rattle.blk_base.specs.Options.{Options}
+use Rattle.blk_front.specs.declared.stage.Stage.{Stage}
+use Rattle.blk_front.specs.declared.stage.Stage.TheVariants as stage
+use Rattle.blk_front.specs.Pool.{empty_pool}
+use Rattle.blk_front.specs.declared.request.Request.{Request}
+use Rattle.blk_front.specs.declared.told.Told.{Told}
+
+-- The front: the disk's sectors and the ring's first index; its own indices and what it does; whether it sleeps; the responses' producer as last read; the last number given; the unfinished requests in order of number, of which the last `waiting` aren't issued yet; the frames in use; the words of the entry being written; what is to be told.
+pub record View : Type 0 where
+  pub sectors : ℕ
+  pub start : ℕ
+  pub ring : Ring
+  pub stage : Stage
+  pub asleep : Bool
+  pub seen : ℕ
+  pub last : ℕ
+  pub waiting : ℕ
+  pub requests : List Request
+  pub pool : List Bool
+  pub entry : List ℕ
+  pub told : Option Told
+
+-- a ring of one page under the layout of 64-bit guests
+abbrev pub shape : Shape
+shape = record { abi = X64; order = 0 }
+
+-- the ring's first frame
+abbrev pub ring_frame : ℕ
+ring_frame = 2
+
+-- frame f has the reference f + 6; the entry of reference r is at frame r / 512, words 2 (r mod 512) and the next
+abbrev pub reference_of : ℕ → ℕ
+reference_of frame = frame + 6
+
+abbrev pub entry_frame : ℕ → ℕ
+entry_frame frame = reference_of frame / 512
+
+abbrev pub entry_word : ℕ → ℕ
+entry_word frame = 2 * (reference_of frame % 512)
+
+-- the frame and the word of word i of the entry of index k
+abbrev pub slot_frame : ℕ → ℕ → ℕ
+slot_frame k i = ring_frame + (slot_word_of shape k i).0
+
+abbrev pub slot_word : ℕ → ℕ → ℕ
+slot_word k i = (slot_word_of shape k i).1
+
+-- a fresh ring: both producers at its first index, both event words one further (FRONT_RING_INIT of `io/ring.h`), zeros up to the first entry
+abbrev pub fresh_word : ℕ → ℕ → ℕ
+fresh_word start k =
+    if k == 0 then start
+    else (if k == 1 then next_of start
+    else (if k == 2 then start
+    else (if k == 3 then next_of start
+    else 0)))
+
+-- the request that is issued next
+abbrev pub next_request : View → Option Request
+next_request v = if v.waiting == 0 then None else slice_get v.requests (length v.requests - v.waiting)
+
+-- a front that makes its ring next
+abbrev pub start_of : Options → View
+start_of config = record {
+  sectors = config.sectors;
+  start = config.start;
+  ring = record { entries = 32; prod = config.start; cons = config.start };
+  stage = stage.RingWord 0;
+  asleep = false;
+  seen = config.start;
+  last = 0;
+  waiting = 0;
+  requests = [];
+  pool = empty_pool;
+  entry = [];
+  told = None;
+}

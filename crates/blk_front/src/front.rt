@@ -1,0 +1,276 @@
+// The front end.
+ghost use Rattle.std.specs.Prelude.{◌≡◌, ◌<◌, ◌+◌, None, IfOk, IsOk, slice_index};
+ghost use Rattle.blk_base.specs.declared.ask.FrontAsk.TheVariants.{Wait};
+ghost use Rattle.blk_front.specs.View.{start_of, next_request, slot_frame, slot_word, entry_frame, entry_word};
+ghost use Rattle.blk_front.specs.Ask.{ask_of, loop_ask, IsAnswer, IsPlace, IsWithin};
+ghost use Rattle.blk_front.specs.Step.{step_of, step_at};
+ghost use Rattle.blk_front.specs.Submit.{submit_of, unfinished};
+
+mod steps;
+mod submit;
+
+use crate::place;
+use crate::pool::{Pool, PoolFrame};
+use crate::request::Request;
+use crate::stage::Stage;
+use crate::told::{Refusal, Told};
+use arrayvec::ArrayVec;
+use blk_base::{Abi, Config, Endpoint, FrontAnswer, FrontAsk, Job, OutOfMemory};
+use ring_words::{FrontRing, RingShape};
+use std::alloc::Global;
+use std::marker::Model;
+
+/// The front end of a ring of one page under the layout of 64-bit guests, which issues writes of one
+/// sector. After `new` it takes no memory.
+#[derive(Drop)]
+pub struct Front {
+    sectors: u64,
+    start: u32,
+    ring: FrontRing,
+    stage: Stage,
+    asleep: bool,
+    seen: u32,
+    last: u32,
+    waiting: u32,
+    requests: Vec<Request>,
+    pool: Pool,
+    entry: ArrayVec<u32, 28>,
+    told: Option<Told>,
+}
+
+impl Model for Front {
+    ghost use Rattle.std.specs.Prelude.{◌≤◌, vec_capacity};
+    ghost use Rattle.blk_front.specs.View.{View};
+    ghost use Rattle.blk_front.specs.Sound.{IsSound};
+
+    ghost Value = { View };
+
+    ghost view = { λ f. record { sectors = f.sectors; start = f.start; ring = f.ring; stage = f.stage; asleep = f.asleep; seen = f.seen; last = f.last; waiting = f.waiting; requests = f.requests.items; pool = f.pool; entry = f.entry.items; told = f.told } };
+
+    ghost invariant = { λ f. IsSound (record { sectors = f.sectors; start = f.start; ring = f.ring; stage = f.stage; asleep = f.asleep; seen = f.seen; last = f.last; waiting = f.waiting; requests = f.requests.items; pool = f.pool; entry = f.entry.items; told = f.told }) × (32 ≤ vec_capacity f.requests) };
+}
+
+impl Front {
+    /// A front that makes its ring first. It fails only where there is not enough memory.
+    pub fn new(alloc: Global, config: &Config) -> Result<Front, OutOfMemory>
+        ensures { IfOk result (λ front. front ≡ start_of config.now) }
+    {
+        let requests = Vec::with_capacity(alloc, 32)?;
+        Ok(Front {
+            sectors: config.sectors,
+            start: config.start,
+            ring: FrontRing::attach(RingShape::of(Abi::X64, 0), config.start),
+            stage: Stage::RingWord(0),
+            asleep: false,
+            seen: config.start,
+            last: 0,
+            waiting: 0,
+            requests,
+            pool: Pool::new(),
+            entry: ArrayVec::new(),
+            told: None,
+        })
+    }
+}
+
+impl Front {
+    // The request that is issued next.
+    fn next_request(&self) -> Option<Request>
+        ensures { result ≡ next_request self.now }
+    {
+        if self.waiting == 0 {
+            return None;
+        }
+        let first = self.requests.len() - self.waiting as usize;
+        self.requests.get(first).copied()
+    }
+
+    // What is asked where nothing was begun.
+    fn ask_in_loop(&self) -> FrontAsk
+        ensures value { result ≡ loop_ask self.now (next_request self.now) }
+        ensures within { IsWithin result }
+    {
+        if let Some(r) = self.next_request() {
+            return FrontAsk::Write {
+                frame: r.frame.number(),
+                word: 0,
+                value: r.tag,
+            };
+        }
+        if self.asleep {
+            FrontAsk::Wait
+        } else if self.ring.unconsumed(self.seen) == 0 {
+            read(place::RING_FRAME, 2)
+        } else {
+            self.read_response(0)
+        }
+    }
+
+    // Reads a word of the next response.
+    fn read_response(&self, word: u32) -> FrontAsk
+        requires { word < 28 }
+        ensures value { result ≡ FrontAsk.Read (slot_frame self.now.ring.cons word) (slot_word self.now.ring.cons word) }
+        ensures within { IsWithin result }
+    {
+        let (frame, place) = place::slot(self.ring.cons(), word);
+        read(frame, place)
+    }
+
+    // Writes a word of the next request's entry.
+    fn write_slot(&self, word: u32) -> FrontAsk
+        requires { word < 28 }
+        ensures value { result ≡ FrontAsk.Write (slot_frame self.now.ring.prod word) (slot_word self.now.ring.prod word) (slice_index self.now.entry word) }
+        ensures within { IsWithin result }
+    {
+        let (frame, place) = place::slot(self.ring.prod(), word);
+        let value = self
+            .entry
+            .as_slice()
+            .get(word as usize)
+            .copied()
+            .unwrap_or(0);
+        write(frame, place, value)
+    }
+}
+
+// One word of memory is read.
+fn read(frame: u32, word: u32) -> FrontAsk
+    requires { IsPlace frame word }
+    ensures value { result ≡ FrontAsk.Read frame word }
+    ensures within { IsWithin result }
+{
+    FrontAsk::Read { frame, word }
+}
+
+// One word of memory is written.
+fn write(frame: u32, word: u32, value: u32) -> FrontAsk
+    requires { IsPlace frame word }
+    ensures value { result ≡ FrontAsk.Write frame word value }
+    ensures within { IsWithin result }
+{
+    FrontAsk::Write { frame, word, value }
+}
+
+// The first word of a frame's grant entry is written.
+fn write_flags(frame: &PoolFrame, flags: u32) -> FrontAsk
+    ensures value { result ≡ FrontAsk.Write (entry_frame frame.now) (entry_word frame.now) flags }
+    ensures within { IsWithin result }
+{
+    let (entry, word) = place::entry(frame);
+    write(entry, word, flags)
+}
+
+// The second word of a frame's grant entry is written.
+fn write_frame(frame: &PoolFrame) -> FrontAsk
+    ensures value { result ≡ FrontAsk.Write (entry_frame frame.now) (entry_word frame.now + 1) frame.now }
+    ensures within { IsWithin result }
+{
+    let (entry, word) = place::entry(frame);
+    write(entry, word + 1, frame.number())
+}
+
+// The first word of a frame's grant entry is read.
+fn read_flags(frame: &PoolFrame) -> FrontAsk
+    ensures value { result ≡ FrontAsk.Read (entry_frame frame.now) (entry_word frame.now) }
+    ensures within { IsWithin result }
+{
+    let (entry, word) = place::entry(frame);
+    read(entry, word)
+}
+
+// The first word of a frame's grant entry becomes 0 if it is still this one.
+fn end_grant(frame: &PoolFrame, old: u32) -> FrontAsk
+    ensures value { result ≡ FrontAsk.Cas (entry_frame frame.now) (entry_word frame.now) old 0 }
+    ensures within { IsWithin result }
+{
+    let (frame, word) = place::entry(frame);
+    FrontAsk::Cas {
+        frame,
+        word,
+        old,
+        new: 0,
+    }
+}
+
+impl Endpoint for Front {
+    ghost use Rattle.std.specs.Prelude.{None};
+    ghost use Rattle.blk_front.specs.Ask.{ask_of, IsAnswer};
+
+    type Ask = FrontAsk;
+
+    type Answer = FrontAnswer;
+
+    ghost asked = { ask_of };
+
+    ghost MayBeTold = { λ front answer. IsAnswer (ask_of front) answer × (front.told ≡ None) };
+
+    fn ask(&self) -> FrontAsk
+        ensures value { result ≡ ask_of self.now }
+        ensures within { IsWithin result }
+    {
+        match self.stage {
+            Stage::RingWord(word) => write(place::RING_FRAME, word, place::fresh(self.start, word)),
+            Stage::RingFrame => write(0, 17, place::RING_FRAME),
+            Stage::RingFence => FrontAsk::Fence,
+            Stage::RingFlags => write(0, 16, 1),
+            Stage::NewPort => FrontAsk::NewPort,
+            Stage::Loop => self.ask_in_loop(),
+            Stage::Data(r, word) => write(r.frame.number(), word, r.tag),
+            Stage::GrantFrame(r) => write_frame(&r.frame),
+            Stage::GrantFence(_) => FrontAsk::Fence,
+            Stage::GrantFlags(r) => write_flags(&r.frame, 5),
+            Stage::Slot(word) => self.write_slot(word),
+            Stage::Producer => write(place::RING_FRAME, 0, self.ring.prod().wrapping_add(1)),
+            Stage::ProducerFence(_) => FrontAsk::Fence,
+            Stage::RequestEvent(_) => read(place::RING_FRAME, 1),
+            Stage::Send => FrontAsk::Send,
+            Stage::ResponseHigh(_) => self.read_response(1),
+            Stage::ResponseLast(_, _) => self.read_response(2),
+            Stage::GrantRead(ending) => read_flags(&ending.frame),
+            Stage::GrantEnd(ending, seen) => end_grant(&ending.frame, seen),
+            Stage::StoreEvent => write(place::RING_FRAME, 3, self.ring.cons().wrapping_add(1)),
+            Stage::EventFence => FrontAsk::Fence,
+            Stage::LookAgain => read(place::RING_FRAME, 2),
+            Stage::Broken(_) => FrontAsk::Wait,
+        }
+    }
+
+    fn tell(&mut self, answer: FrontAnswer) -> Result<(), OutOfMemory>
+        requires { IsAnswer (ask_of self.old) answer × (self.old.told ≡ None) }
+        ensures told { self.new ≡ step_of self.old answer }
+        ensures takes_no_memory { IsOk result }
+    {
+        match (self.stage, answer) {
+            (Stage::RingWord(word), _) => self.wrote_ring_word(word),
+            (Stage::RingFrame, _) => self.stage = Stage::RingFence,
+            (Stage::RingFence, _) => self.stage = Stage::RingFlags,
+            (Stage::RingFlags, _) => self.stage = Stage::NewPort,
+            (Stage::NewPort, _) => self.connected(),
+            (Stage::Loop, answer) => self.begin(answer),
+            (Stage::Data(r, word), _) => self.wrote_data(r, word),
+            (Stage::GrantFrame(r), _) => self.stage = Stage::GrantFence(r),
+            (Stage::GrantFence(r), _) => self.stage = Stage::GrantFlags(r),
+            (Stage::GrantFlags(r), _) => self.granted(r),
+            (Stage::Slot(word), _) => self.wrote_slot(word),
+            (Stage::Producer, _) => self.pushed(),
+            (Stage::ProducerFence(old), _) => self.stage = Stage::RequestEvent(old),
+            (Stage::RequestEvent(old), FrontAnswer::Word(event)) => self.notify(old, event),
+            (Stage::Send, _) => self.stage = Stage::Loop,
+            (Stage::ResponseHigh(low), FrontAnswer::Word(high)) => {
+                self.stage = Stage::ResponseLast(low, high);
+            }
+            (Stage::ResponseLast(low, high), FrontAnswer::Word(last)) => {
+                self.take_response(low, high, last);
+            }
+            (Stage::GrantRead(ending), FrontAnswer::Word(word)) => self.end_grant(ending, word),
+            (Stage::GrantEnd(ending, before), FrontAnswer::Word(word)) => {
+                self.ended_grant(ending, before, word);
+            }
+            (Stage::StoreEvent, _) => self.stage = Stage::EventFence,
+            (Stage::EventFence, _) => self.stage = Stage::LookAgain,
+            (Stage::LookAgain, FrontAnswer::Word(word)) => self.look_again(word),
+            _ => {}
+        }
+        Ok(())
+    }
+}

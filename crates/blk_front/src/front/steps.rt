@@ -1,0 +1,250 @@
+// What the front makes of each answer.
+ghost use Rattle.std.specs.Prelude.{◌≡◌, ◌<◌, ◌≤◌, ◌+◌, ◌-◌, ◌*◌, ◌^◌, length, position, IfSome, ◌==◌};
+ghost use Rattle.blk_base.specs.declared.ask.FrontAnswer.TheVariants.{Word, Done};
+ghost use Rattle.blk_front.specs.declared.stage.Stage.TheVariants as stage;
+ghost use Rattle.blk_front.specs.View.{next_request};
+ghost use Rattle.blk_front.specs.Ask.{loop_ask, IsAnswer};
+ghost use Rattle.blk_front.specs.Step.{step_at, loop_step, loop_word, looked, broken, issued, taken, response_step, end_step, exchanged, pushed, entry_request, IsTaking};
+ghost use Rattle.blk_layout.specs.Entry.{raw_of};
+ghost use Rattle.blk_front.specs.declared.request.Request.{Request};
+
+use super::Front;
+use crate::request::Request;
+use crate::stage::{Ending, Stage};
+use crate::told::Told;
+use blk_base::{Abi, FrontAnswer, Status};
+use blk_layout::{DirectOp, Request as Wire, Segment, read_response, request_words};
+use ring_words::notify;
+
+impl Front {
+    pub(super) fn wrote_ring_word(&mut self, word: u32)
+        requires stage { self.old.stage ≡ stage.RingWord word }
+        requires placed { word < 16 }
+        ensures { self.new ≡ step_at (stage.RingWord word) self.old Done }
+    {
+        self.stage = if word == 15 {
+            Stage::RingFrame
+        } else {
+            Stage::RingWord(word + 1)
+        };
+    }
+
+    pub(super) fn connected(&mut self)
+        requires { self.old.stage ≡ stage.NewPort }
+        ensures { self.new ≡ step_at stage.NewPort self.old Done }
+    {
+        self.stage = Stage::Loop;
+        self.told = Some(Told::Ready);
+    }
+
+    /// Begins the next step of the loop.
+    pub(super) fn begin(&mut self, answer: FrontAnswer)
+        requires stage { self.old.stage ≡ stage.Loop }
+        requires kind { IsAnswer (loop_ask self.old (next_request self.old)) answer }
+        ensures { self.new ≡ loop_step self.old (next_request self.old) answer }
+    {
+        match (self.next_request(), answer) {
+            (Some(r), _) => self.stage = Stage::Data(r, 1),
+            (None, FrontAnswer::Word(word)) => self.read_in_loop(word),
+            (None, FrontAnswer::Event) => self.asleep = false,
+            _ => {}
+        }
+    }
+
+    // A word was read: of the responses' producer, or of a response.
+    fn read_in_loop(&mut self, word: u32)
+        requires { self.old.stage ≡ stage.Loop }
+        ensures { self.new ≡ loop_word self.old word }
+    {
+        if self.ring.unconsumed(self.seen) == 0 {
+            self.look(word);
+        } else {
+            self.stage = Stage::ResponseHigh(word);
+        }
+    }
+
+    // The responses' producer was read for the first time.
+    fn look(&mut self, word: u32)
+        requires { self.old.stage ≡ stage.Loop }
+        ensures { self.new ≡ looked self.old word (record self.old { seen = word; stage = stage.StoreEvent }) }
+    {
+        if self.ring.unconsumed(word) > self.ring.unconsumed(self.ring.prod()) {
+            self.break_with(word);
+        } else {
+            self.seen = word;
+            self.stage = if word == self.ring.cons() {
+                Stage::StoreEvent
+            } else {
+                Stage::Loop
+            };
+        }
+    }
+
+    /// The responses' producer was read again, after the event word was stored.
+    pub(super) fn look_again(&mut self, word: u32)
+        requires { self.old.stage ≡ stage.LookAgain }
+        ensures { self.new ≡ step_at stage.LookAgain self.old (Word word) }
+    {
+        if self.ring.unconsumed(word) > self.ring.unconsumed(self.ring.prod()) {
+            self.break_with(word);
+        } else {
+            self.seen = word;
+            self.stage = Stage::Loop;
+            if word == self.ring.cons() {
+                self.asleep = true;
+            }
+        }
+    }
+
+    // A word was found that no honest back leaves.
+    fn break_with(&mut self, word: u32)
+        ensures { self.new ≡ broken word self.old }
+    {
+        self.stage = Stage::Broken(word);
+        self.told = Some(Told::Broken(word));
+    }
+
+    pub(super) fn wrote_data(&mut self, r: Request, word: u32)
+        requires stage { self.old.stage ≡ stage.Data r word }
+        requires placed { word < 128 }
+        ensures { self.new ≡ step_at (stage.Data r word) self.old Done }
+    {
+        if word == 127 {
+            self.stage = Stage::GrantFrame(r);
+        } else {
+            self.stage = Stage::Data(r, word + 1);
+        }
+    }
+
+    pub(super) fn granted(&mut self, r: Request)
+        requires { self.old.stage ≡ stage.GrantFlags r }
+        ensures { self.new ≡ step_at (stage.GrantFlags r) self.old Done }
+    {
+        self.entry = request_words(Abi::X64, &wire(&r));
+        self.stage = Stage::Slot(0);
+    }
+
+    pub(super) fn wrote_slot(&mut self, word: u32)
+        requires stage { self.old.stage ≡ stage.Slot word }
+        requires placed { word < 28 }
+        ensures { self.new ≡ step_at (stage.Slot word) self.old Done }
+    {
+        self.stage = if word == 27 {
+            Stage::Producer
+        } else {
+            Stage::Slot(word + 1)
+        };
+    }
+
+    pub(super) fn pushed(&mut self)
+        requires { self.old.stage ≡ stage.Producer }
+        ensures { self.new ≡ pushed self.old }
+    {
+        let old = self.ring.prod();
+        self.ring.produce();
+        self.waiting -= 1;
+        self.stage = Stage::ProducerFence(old);
+    }
+
+    pub(super) fn notify(&mut self, old: u32, event: u32)
+        requires { self.old.stage ≡ stage.RequestEvent old }
+        ensures { self.new ≡ step_at (stage.RequestEvent old) self.old (Word event) }
+    {
+        self.stage = if notify(old, self.ring.prod(), event) {
+            Stage::Send
+        } else {
+            Stage::Loop
+        };
+    }
+
+    // The issued request of an id, and where it stands.
+    fn issued(&self, id: u64) -> Option<(usize, Request)>
+        ensures value { result ≡ issued self.now id }
+        ensures within { IfSome result (λ found. found.0 < length self.now.requests) }
+    {
+        let count = self.requests.len() - self.waiting as usize;
+        let place = place_of(&self.requests[..count], id)?;
+        Some((place, self.requests[place]))
+    }
+
+    /// A response was read whole.
+    pub(super) fn take_response(&mut self, low: u32, high: u32, last: u32)
+        requires { self.old.stage ≡ stage.ResponseLast low high }
+        ensures { self.new ≡ response_step self.old low high last }
+    {
+        let id = u64::from(low) | u64::from(high) << 32;
+        match (self.issued(id), read_response([low, high, last])) {
+            (None, _) => self.break_with(low),
+            (Some(_), Err(word)) => self.break_with(word),
+            (Some((place, r)), Ok(response)) => self.take(place, r, response.status),
+        }
+    }
+
+    // The response to an issued request is taken.
+    fn take(&mut self, place: usize, r: Request, status: Status)
+        requires stage { IsTaking self.old.stage }
+        requires within { place < length self.old.requests }
+        ensures { self.new ≡ taken self.old place r status }
+    {
+        self.ring.consume();
+        self.requests.remove(place);
+        self.stage = Stage::GrantRead(Ending {
+            number: r.number,
+            frame: r.frame,
+            status,
+        });
+    }
+
+    /// The flags of a grant's entry were read.
+    pub(super) fn end_grant(&mut self, ending: Ending, word: u32)
+        requires { self.old.stage ≡ stage.GrantRead ending }
+        ensures { self.new ≡ end_step self.old ending word }
+    {
+        if word / 8 % 4 != 0 {
+            self.break_with(word);
+        } else {
+            self.stage = Stage::GrantEnd(ending, word);
+        }
+    }
+
+    /// A grant's entry was exchanged for 0 if it was still the word read.
+    pub(super) fn ended_grant(&mut self, ending: Ending, before: u32, word: u32)
+        requires { self.old.stage ≡ stage.GrantEnd ending before }
+        ensures { self.new ≡ exchanged self.old ending before word }
+    {
+        if word == before {
+            self.pool.free(&ending.frame);
+            self.told = Some(Told::Answer {
+                id: ending.number,
+                status: ending.status,
+            });
+            self.stage = Stage::Loop;
+        } else {
+            self.break_with(word);
+        }
+    }
+}
+
+// Where the request of an id stands.
+fn place_of(requests: &[Request], id: u64) -> Option<usize>
+    ensures value { result ≡ position (λ (r : Request). r.number == id) requests.now }
+    ensures within { IfSome result (λ place. place < length requests.now) }
+{
+    requests.iter().position(|r| u64::from(r.number) == id)
+}
+
+// The request as its entry has it.
+fn wire(r: &Request) -> Wire
+    ensures { raw_of result ≡ entry_request r.now }
+{
+    let mut segments = [Segment::default(); 11];
+    segments[0].gref = r.frame.reference();
+    Wire::Direct {
+        op: DirectOp::Write,
+        count: 1,
+        device: 51712,
+        id: u64::from(r.number),
+        sector: r.sector,
+        segments,
+    }
+}

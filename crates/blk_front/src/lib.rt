@@ -1,0 +1,19 @@
+//! The front end of a block ring: what the guest's disk driver does, one shared word at a time
+//! (`io/ring.h`, `io/blkif.h`, `grant_table.h`), as a machine that asks for one thing and is told
+//! the answer. The machine of both domains stands on it.
+#![tactic(auto)]
+
+mod front;
+mod place;
+mod pool;
+mod request;
+mod stage;
+#[cfg(test)]
+mod tests;
+mod told;
+
+pub use front::Front;
+pub use pool::PoolFrame;
+pub use request::Request;
+pub use stage::{Ending, Stage};
+pub use told::{Refusal, Told};

@@ -1,0 +1,232 @@
+// How the front begins, sleeps, refuses and writes, held against a guest's memory.
+mod answers;
+mod guest;
+
+use crate::{Refusal, Told};
+use blk_base::{FrontAsk, Job, SectorCount};
+use guest::{Memory, asks, asleep, connected, front_of, one_move, quiet_moves, write};
+use std::test::Fail;
+
+// The entry of a write of sector 0 with id 1 whose data are granted by reference 24, up to its
+// first two words of zeros.
+const ENTRY: [u32; 8] = [0xca00_0101, 0, 1, 0, 0, 0, 0x18, 0];
+
+#[test]
+fn the_start_writes_a_fresh_ring_and_grants_it_by_reference_8(rt: HostRuntime) -> Result<(), Fail> {
+    for (start, next) in [(0, 1), (7, 8), (4294967295, 0)] {
+        let mut memory = Memory::new(rt.alloc())?;
+        let mut front = front_of(rt.alloc(), start)?;
+        for word in 0..16 {
+            let value = match word {
+                0 | 2 => start,
+                1 | 3 => next,
+                _ => 0,
+            };
+            assert_eq!(rt; front.submit(write(0, 7)?), Err(Refusal::NotReady));
+            asks(
+                &rt,
+                &mut front,
+                &mut memory,
+                &[FrontAsk::Write {
+                    frame: 2,
+                    word,
+                    value,
+                }],
+            )?;
+        }
+        let grant = [
+            FrontAsk::Write {
+                frame: 0,
+                word: 17,
+                value: 2,
+            },
+            FrontAsk::Fence,
+            FrontAsk::Write {
+                frame: 0,
+                word: 16,
+                value: 1,
+            },
+        ];
+        asks(&rt, &mut front, &mut memory, &grant)?;
+        assert_eq!(rt; front.submit(write(0, 7)?), Err(Refusal::NotReady));
+        let port = one_move(&rt, &mut front, &mut memory)?;
+        assert_eq!(rt; port, (FrontAsk::NewPort, Some(Told::Ready)));
+    }
+    Ok(())
+}
+
+#[test]
+fn it_sleeps_after_the_second_look_and_an_event_wakes_it(rt: HostRuntime) -> Result<(), Fail> {
+    let mut memory = Memory::new(rt.alloc())?;
+    let mut front = connected(&rt, rt.alloc(), &mut memory, 0)?;
+    let look = FrontAsk::Read { frame: 2, word: 2 };
+    let event = FrontAsk::Write {
+        frame: 2,
+        word: 3,
+        value: 1,
+    };
+    for _ in 0..2 {
+        assert!(rt; !front.idle());
+        asks(
+            &rt,
+            &mut front,
+            &mut memory,
+            &[look, event, FrontAsk::Fence, look],
+        )?;
+        assert!(rt; front.idle());
+        asks(&rt, &mut front, &mut memory, &[FrontAsk::Wait])?;
+    }
+
+    // a response that comes between the two looks is taken, and no event is waited for
+    front.submit(write(0, 7)?)?;
+    quiet_moves(&rt, &mut front, &mut memory, 163)?;
+    asks(
+        &rt,
+        &mut front,
+        &mut memory,
+        &[look, event, FrontAsk::Fence],
+    )?;
+    memory.respond(0, [1, 0, 1]);
+    asks(
+        &rt,
+        &mut front,
+        &mut memory,
+        &[look, FrontAsk::Read { frame: 2, word: 16 }],
+    )?;
+    Ok(())
+}
+
+#[test]
+fn the_first_write_takes_163_moves_and_sends_an_event(rt: HostRuntime) -> Result<(), Fail> {
+    let mut memory = Memory::new(rt.alloc())?;
+    let mut front = asleep(&rt, rt.alloc(), &mut memory, 0)?;
+    assert_eq!(rt; front.submit(write(0, 7)?), Ok(1));
+    for word in 0..128 {
+        let data = FrontAsk::Write {
+            frame: 18,
+            word,
+            value: 7,
+        };
+        asks(&rt, &mut front, &mut memory, &[data])?;
+    }
+    let grant = [
+        FrontAsk::Write {
+            frame: 0,
+            word: 49,
+            value: 18,
+        },
+        FrontAsk::Fence,
+        FrontAsk::Write {
+            frame: 0,
+            word: 48,
+            value: 5,
+        },
+    ];
+    asks(&rt, &mut front, &mut memory, &grant)?;
+    for word in 0..28 {
+        let value = ENTRY.get(word as usize).copied().unwrap_or(0);
+        let entry = FrontAsk::Write {
+            frame: 2,
+            word: 16 + word,
+            value,
+        };
+        asks(&rt, &mut front, &mut memory, &[entry])?;
+    }
+    let push = [
+        FrontAsk::Write {
+            frame: 2,
+            word: 0,
+            value: 1,
+        },
+        FrontAsk::Fence,
+        FrontAsk::Read { frame: 2, word: 1 },
+        FrontAsk::Send,
+        FrontAsk::Wait,
+    ];
+    asks(&rt, &mut front, &mut memory, &push)
+}
+
+#[test]
+fn the_second_write_sends_no_event_where_none_is_waited_for(rt: HostRuntime) -> Result<(), Fail> {
+    let mut memory = Memory::new(rt.alloc())?;
+    let mut front = asleep(&rt, rt.alloc(), &mut memory, 0)?;
+    front.submit(write(0, 1)?)?;
+    quiet_moves(&rt, &mut front, &mut memory, 162)?;
+    assert_eq!(rt; one_move(&rt, &mut front, &mut memory)?.0, FrontAsk::Send);
+    front.submit(write(1, 2)?)?;
+    quiet_moves(&rt, &mut front, &mut memory, 159)?;
+    let push = [
+        FrontAsk::Write {
+            frame: 2,
+            word: 0,
+            value: 2,
+        },
+        FrontAsk::Fence,
+        FrontAsk::Read { frame: 2, word: 1 },
+        FrontAsk::Wait,
+    ];
+    asks(&rt, &mut front, &mut memory, &push)?;
+    assert_eq!(rt;
+        (memory.read(2, 46), memory.read(2, 48), memory.read(2, 50)),
+        (2, 1, 0x19)
+    );
+    Ok(())
+}
+
+#[test]
+fn what_it_cannot_do_is_refused_and_changes_nothing(rt: HostRuntime) -> Result<(), Fail> {
+    let mut memory = Memory::new(rt.alloc())?;
+    let mut front = asleep(&rt, rt.alloc(), &mut memory, 0)?;
+    let one = SectorCount::new(1).ok_or("a count above 0")?;
+    let two = SectorCount::new(2).ok_or("a count above 0")?;
+    for (job, refusal) in [
+        (
+            Job::Read {
+                sector: 0,
+                count: one,
+            },
+            Refusal::Unsupported,
+        ),
+        (
+            Job::Write {
+                sector: 0,
+                count: two,
+                tag: 7,
+            },
+            Refusal::Unsupported,
+        ),
+        (
+            Job::Barrier {
+                sector: 0,
+                count: one,
+                tag: 7,
+            },
+            Refusal::Unsupported,
+        ),
+        (Job::Flush, Refusal::Unsupported),
+        (
+            Job::Discard {
+                sector: 0,
+                count: one,
+            },
+            Refusal::Unsupported,
+        ),
+        (write(8, 7)?, Refusal::Range),
+        (write(18446744073709551615, 7)?, Refusal::Range),
+    ] {
+        assert_eq!(rt; front.submit(job), Err(refusal));
+        assert_eq!(rt; (front.owed(), front.idle()), ((0, 0), true));
+    }
+    for number in 1..33 {
+        assert_eq!(rt; front.submit(write(7, 7)?), Ok(number));
+    }
+    assert_eq!(rt; front.submit(write(0, 7)?), Err(Refusal::Full));
+    assert_eq!(rt; front.owed(), (32, 32));
+
+    // the last of the 32 is issued from frame 49 into the ring's last slot, and no more is begun
+    quiet_moves(&rt, &mut front, &mut memory, 163 + 31 * 162)?;
+    assert_eq!(rt; (memory.read(49, 127), memory.read(0, 111)), (7, 49));
+    assert_eq!(rt; (memory.read(2, 886), memory.read(2, 0)), (32, 32));
+    assert!(rt; front.idle());
+    Ok(())
+}

@@ -1,0 +1,160 @@
+// A guest's memory, which answers what the front asks, and the ring's other end by hand.
+ghost use Rattle.std.specs.Prelude.{IfSome};
+ghost use Rattle.blk_front.specs.Ask.{IsAnswer};
+
+use crate::{Front, Told};
+use blk_base::{Abi, Config, Endpoint, FrontAnswer, FrontAsk, Job, SectorCount};
+use std::alloc::Global;
+use std::process::Abort;
+use std::test::Fail;
+
+/// The words of frames 0 to 63.
+#[derive(Drop)]
+pub struct Memory {
+    words: Vec<u32>,
+}
+
+impl Memory {
+    pub fn new(alloc: Global) -> Result<Memory, Fail> {
+        Ok(Memory {
+            words: vec![in alloc; 0; 65536]?,
+        })
+    }
+
+    pub fn read(&self, frame: u32, word: u32) -> u32 {
+        let place = frame as usize * 1024 + word as usize;
+        self.words.get(place).copied().unwrap_or(0)
+    }
+
+    pub fn write(&mut self, frame: u32, word: u32, value: u32) {
+        if let Some(old) = self.words.get_mut(frame as usize * 1024 + word as usize) {
+            *old = value;
+        }
+    }
+
+    /// Writes the response of an index, and the responses' producer behind it.
+    pub fn respond(&mut self, index: u32, words: [u32; 3]) {
+        let first = 16 + index % 32 * 28;
+        self.write(2, first, words[0]);
+        self.write(2, first + 1, words[1]);
+        self.write(2, first + 2, words[2]);
+        self.write(2, 2, index.wrapping_add(1));
+    }
+
+    // Does what is asked; `None` for what this front never asks.
+    fn answer(&mut self, ask: &FrontAsk) -> Option<FrontAnswer>
+        ensures { IfSome result (λ answer. IsAnswer ask.now answer) }
+    {
+        match *ask {
+            FrontAsk::Wait => Some(FrontAnswer::Event),
+            FrontAsk::Fence => Some(FrontAnswer::Done),
+            FrontAsk::Read { frame, word } => Some(FrontAnswer::Word(self.read(frame, word))),
+            FrontAsk::Write { frame, word, value } => {
+                self.write(frame, word, value);
+                Some(FrontAnswer::Done)
+            }
+            FrontAsk::Cas {
+                frame,
+                word,
+                old,
+                new,
+            } => {
+                let seen = self.read(frame, word);
+                if seen == old {
+                    self.write(frame, word, new);
+                }
+                Some(FrontAnswer::Word(seen))
+            }
+            FrontAsk::NewPort => Some(FrontAnswer::Port(1)),
+            FrontAsk::Send => Some(FrontAnswer::Done),
+            _ => None,
+        }
+    }
+}
+
+/// The next move: what was asked, and what the front tells then. A `Wait` is answered by an event.
+pub fn one_move(
+    rt: &impl Abort,
+    front: &mut Front,
+    memory: &mut Memory,
+) -> Result<(FrontAsk, Option<Told>), Fail> {
+    assert_eq!(rt; front.take_told(), None);
+    let ask = front.ask();
+    let answer = memory.answer(&ask).ok_or("never asked")?;
+    front.tell(answer)?;
+    Ok((ask, front.take_told()))
+}
+
+/// That many moves, of which none tells anything.
+pub fn quiet_moves(
+    rt: &impl Abort,
+    front: &mut Front,
+    memory: &mut Memory,
+    count: u32,
+) -> Result<(), Fail> {
+    for _ in 0..count {
+        assert_eq!(rt; one_move(rt, front, memory)?.1, None);
+    }
+    Ok(())
+}
+
+/// A front over a disk of 8 sectors.
+pub fn front_of(alloc: Global, start: u32) -> Result<Front, Fail> {
+    let config = Config {
+        abi: Abi::X64,
+        order: 0,
+        persistent: 0,
+        indirect: 0,
+        start,
+        read_only: false,
+        sectors: 8,
+    };
+    Ok(Front::new(alloc, &config)?)
+}
+
+/// Whether the next moves ask these, and tell nothing.
+pub fn asks(
+    rt: &impl Abort,
+    front: &mut Front,
+    memory: &mut Memory,
+    wanted: &[FrontAsk],
+) -> Result<(), Fail> {
+    for ask in wanted {
+        let (asked, told) = one_move(rt, front, memory)?;
+        assert_eq!(rt; (asked, told), (*ask, None));
+    }
+    Ok(())
+}
+
+/// A front that is connected: 16 words of the ring, the 3 moves of its grant, and the port.
+pub fn connected(
+    rt: &impl Abort,
+    alloc: Global,
+    memory: &mut Memory,
+    start: u32,
+) -> Result<Front, Fail> {
+    let mut front = front_of(alloc, start)?;
+    quiet_moves(rt, &mut front, memory, 19)?;
+    let port = one_move(rt, &mut front, memory)?;
+    assert_eq!(rt; port, (FrontAsk::NewPort, Some(Told::Ready)));
+    Ok(front)
+}
+
+/// A connected front that sleeps: the event word and its fence between two looks.
+pub fn asleep(
+    rt: &impl Abort,
+    alloc: Global,
+    memory: &mut Memory,
+    start: u32,
+) -> Result<Front, Fail> {
+    let mut front = connected(rt, alloc, memory, start)?;
+    quiet_moves(rt, &mut front, memory, 4)?;
+    assert!(rt; front.idle());
+    Ok(front)
+}
+
+/// A write of one sector.
+pub fn write(sector: u64, tag: u32) -> Result<Job, Fail> {
+    let count = SectorCount::new(1).ok_or("a count above 0")?;
+    Ok(Job::Write { sector, count, tag })
+}

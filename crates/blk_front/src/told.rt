@@ -1,0 +1,30 @@
+// What the front tells, and how it refuses.
+use blk_base::Status;
+
+/// What happened at the front in its last move.
+#[derive(Clone, Copy, Debug, PartialEq, Eq)]
+pub enum Told {
+    /// It is connected.
+    Ready,
+    /// It took the response to a request.
+    Answer { id: u32, status: Status },
+    /// It found this word, which no honest back leaves, and does nothing more.
+    Broken(u32),
+}
+
+/// Why a submission is refused: the first of these that applies. Nothing changes then.
+#[derive(Clone, Copy, Debug, PartialEq, Eq)]
+pub enum Refusal {
+    /// Number 4294967295 was given.
+    Spent,
+    /// The front isn't connected, or is broken.
+    NotReady,
+    /// Not a write of one sector: this front issues nothing else.
+    Unsupported,
+    /// The sector is past the disk's end.
+    Range,
+    /// As many requests are unfinished as the ring has entries.
+    Full,
+    /// No frame of the pool is free.
+    Buffers,
+}
