@@ -1,0 +1,122 @@
+-- The jobs that the back holds, in order of number.
+use Rattle.std.specs.Prelude.{◌≡◌, ℕ, ◌<◌, Bool, true, false, List, [], ◌∷◌, ◌++◌, length, find, position, remove, slice_get, slice_set, map, Option, Some, None, ◌==◌, nat_lt, cond, is_some}
+use Rattle.std.specs.Option.{option_map, option_map_or}
+use Rattle.blk_base.specs.declared.operation.Status.{Status}
+use Rattle.blk_base.specs.declared.parts.Mapping.{Mapping}
+use Rattle.blk_base.specs.declared.ask.BackAsk.{BackAsk}
+use Rattle.blk_base.specs.declared.ask.BackAsk.TheVariants.{Wait}
+use Rattle.blk_base.specs.declared.ask.BackAnswer.{BackAnswer}
+use Rattle.blk_base.specs.declared.ask.BackAnswer.TheVariants as answer
+use Rattle.back_jobs.specs.declared.effect.Effect.{Effect}
+use Rattle.blk_layout.specs.declared.request.RawRequest.{RawRequest}
+use Rattle.segment_list.specs.declared.verdict.DiskInfo.{DiskInfo}
+use Rattle.segment_list.specs.Verdict.{verdict_of}
+use Rattle.back_jobs.specs.declared.stage.Stage.{Stage}
+use Rattle.back_jobs.specs.declared.stage.Stage.TheVariants as stage
+use Rattle.back_jobs.specs.Task.{Work, ask_of, step_of, begun, IsAnswer}
+
+-- the jobs held, the lowest number first; how many there is room for; and the disk as the back knows it
+pub record Held : Type 0 where
+  pub works : List Work
+  pub room : ℕ
+  pub info : DiskInfo
+
+abbrev pub none_held : ℕ → DiskInfo → Held
+none_held room info = record { works = []; room = room; info = info }
+
+-- where the job of a number stands
+abbrev pub place_of : List Work → ℕ → Option ℕ
+place_of works number = position (λ (t : Work). t.number == number) works
+
+abbrev pub work_at : List Work → Option ℕ → Option Work
+work_at works None = None
+work_at works (Some place) = slice_get works place
+
+-- the job of a number
+abbrev pub work_of : List Work → ℕ → Option Work
+work_of works number = work_at works (place_of works number)
+
+-- what the job of a number asks; one that isn't held waits
+abbrev pub asked : Option Work → BackAsk
+asked None = Wait
+asked (Some t) = ask_of t
+
+abbrev pub ask_job : Held → ℕ → BackAsk
+ask_job h number = asked (work_of h.works number)
+
+-- the job of a number is told an answer
+abbrev pub told_at : List Work → Option ℕ → Option Work → BackAnswer → List Work
+told_at works None t a = works
+told_at works (Some place) None a = works
+told_at works (Some place) (Some t) a = slice_set works place (step_of t a)
+
+abbrev pub tell_job : Held → ℕ → BackAnswer → Held
+tell_job h number a = record h { works = told_at h.works (place_of h.works number) (work_of h.works number) a }
+
+-- a request is begun under a number above all that are held
+abbrev pub start_job : Held → ℕ → RawRequest → Held
+start_job h number request = record h { works = h.works ++ begun number request h.info.sectors (verdict_of request h.info) ∷ [] }
+
+-- a job that is done
+abbrev pub is_done_at : Stage → Bool
+is_done_at (stage.Done status) = true
+is_done_at s = false
+
+abbrev pub is_done : Work → Bool
+is_done t = is_done_at t.stage
+
+-- number, id, operation and status of a job that is done
+abbrev pub response_at : Stage → Work → Option (ℕ × ℕ × ℕ × Status)
+response_at (stage.Done status) t = Some (t.number, t.id, t.op, status)
+response_at s t = None
+
+abbrev pub response_of : Work → Option (ℕ × ℕ × ℕ × Status)
+response_of t = response_at t.stage t
+
+-- the lowest job that is done
+abbrev pub done_of : Held → Option Work
+done_of h = work_at h.works (position (λ (t : Work). is_done t) h.works)
+
+-- the jobs without the lowest one that is done
+abbrev pub removed_at : List Work → Option ℕ → List Work
+removed_at works None = works
+removed_at works (Some place) = remove works place
+
+abbrev pub without_done : Held → Held
+without_done h = record h { works = removed_at h.works (position (λ (t : Work). is_done t) h.works) }
+
+-- the lowest number above this one
+abbrev pub next_after : Held → ℕ → Option ℕ
+next_after h number = option_map (λ (t : Work). t.number) (find (λ (t : Work). nat_lt number t.number) h.works)
+
+-- the mapping in a job's hand
+abbrev pub mapping_at : Stage → Option Mapping
+mapping_at (stage.ReadWord m k) = Some m
+mapping_at (stage.DiskWrite m) = Some m
+mapping_at (stage.DiskRead m) = Some m
+mapping_at (stage.WriteWord m k) = Some m
+mapping_at (stage.Unmap m) = Some m
+mapping_at (stage.GiveUp m) = Some m
+mapping_at s = None
+
+-- the jobs behind the lowest with a mapping in its hand; those before it are over
+abbrev pub behind_mapping : List Work → List Work
+behind_mapping [] = []
+behind_mapping (t ∷ works) = cond (is_some (mapping_at t.stage)) works (behind_mapping works)
+
+-- the mapping in the hand of the lowest job that has one
+abbrev pub first_mapping : List Work → Option Mapping
+first_mapping [] = None
+first_mapping (t ∷ works) = cond (is_some (mapping_at t.stage)) (mapping_at t.stage) (first_mapping works)
+
+-- what a job's move does to its request: the id and the sector's place in it, and whether the disk failed there
+abbrev pub effect_at : Stage → Work → BackAnswer → Option Effect
+effect_at (stage.DiskWrite m) t answer.Done = Some (record { id = t.id; index = t.moved; failed = false })
+effect_at (stage.DiskWrite m) t answer.DiskFailed = Some (record { id = t.id; index = t.moved; failed = true })
+effect_at (stage.DiskRead m) t (answer.Sector words) = Some (record { id = t.id; index = t.moved; failed = false })
+effect_at (stage.DiskRead m) t answer.DiskFailed = Some (record { id = t.id; index = t.moved; failed = true })
+effect_at s t a = None
+
+abbrev pub effect_of : Option Work → BackAnswer → Option Effect
+effect_of None a = None
+effect_of (Some t) a = effect_at t.stage t a

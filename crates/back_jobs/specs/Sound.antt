@@ -1,0 +1,43 @@
+-- What is true of a job at every moment.
+use Rattle.std.specs.Prelude.{ℕ, ◌+◌, ◌-◌, ◌<◌, ◌≤◌, List, [], ◌∷◌}
+use Rattle.std.specs.List.{AllByRecursion}
+use Rattle.blk_base.specs.declared.ask.BackAsk.{BackAsk}
+use Rattle.blk_base.specs.declared.ask.BackAsk.TheVariants as ask
+use Rattle.blk_layout.specs.declared.segment.Segment.{Segment}
+use Rattle.segment_list.specs.Segments.{IsSound, sectors_of}
+use Rattle.back_jobs.specs.declared.stage.Stage.{Stage}
+use Rattle.back_jobs.specs.declared.stage.Stage.TheVariants as stage
+use Rattle.back_jobs.specs.Task.{Work}
+
+-- the present segment has come as far as `within`; after `ahead` more sectors of it, those of the others lie on the disk
+abbrev pub IsUnderWay : Work → ℕ → List Segment → Type 0
+IsUnderWay t ahead [] = ⊥
+IsUnderWay t ahead (s ∷ rest) = (s.last ≤ 7) × (t.within ≤ s.last) × (t.disk + (s.last - t.within) + ahead + sectors_of rest ≤ t.size) × AllByRecursion IsSound rest
+
+-- the sectors that are left once a segment is done lie on the disk
+abbrev pub IsLeft : Work → List Segment → Type 0
+IsLeft t [] = ⊥
+IsLeft t (s ∷ rest) = (t.disk + sectors_of rest ≤ t.size) × AllByRecursion IsSound rest
+
+abbrev pub IsPlaced : Stage → Work → Type 0
+IsPlaced stage.Map t = IsUnderWay t 1 t.rest
+IsPlaced (stage.ReadWord m k) t = (k < 128) × IsUnderWay t 1 t.rest
+IsPlaced (stage.DiskWrite m) t = IsUnderWay t 1 t.rest
+IsPlaced (stage.DiskRead m) t = IsUnderWay t 1 t.rest
+IsPlaced (stage.WriteWord m k) t = (k < 128) × IsUnderWay t 0 t.rest
+IsPlaced (stage.Unmap m) t = IsLeft t t.rest
+IsPlaced (stage.GiveUp m) t = Unit {0}
+IsPlaced (stage.Done status) t = Unit {0}
+
+-- segments that a job may begin with: there is one, each has a sector and none beyond its frame, and all lie on the disk
+abbrev pub AreMovable : ℕ → ℕ → List Segment → Type 0
+AreMovable size sector [] = ⊥
+AreMovable size sector (s ∷ rest) = (sector + sectors_of (s ∷ rest) ≤ size) × AllByRecursion IsSound (s ∷ rest)
+
+-- an ask that touches memory names a word below 1024, and one that calls the disk a sector below `size`
+abbrev pub IsWithin : ℕ → BackAsk → Type 0
+IsWithin size (ask.Read m word) = word < 1024
+IsWithin size (ask.Write m word value) = word < 1024
+IsWithin size (ask.DiskRead sector) = sector < size
+IsWithin size (ask.DiskWrite sector words) = sector < size
+IsWithin size a = Unit {0}

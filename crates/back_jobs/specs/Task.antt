@@ -1,0 +1,185 @@
+-- One job as a machine: what it asks, and what an answer makes of it.
+use Rattle.std.specs.Prelude.{◌≡◌, ℕ, ◌+◌, ◌*◌, ◌%◌, ◌^◌, ◌<◌, Bool, true, false, List, [], ◌∷◌, take, replicate, slice_index, slice_set, Option, Some, None, if◌then◌else◌, ◌==◌, nat_le}
+use Rattle.blk_base.specs.declared.parts.Mapping.{Mapping}
+use Rattle.blk_base.specs.declared.parts.Mode.{Mode}
+use Rattle.blk_base.specs.declared.parts.Mode.TheVariants.{ReadOnly, ReadWrite}
+use Rattle.blk_base.specs.declared.operation.Status.TheVariants.{Okay, Error, Unsupported}
+use Rattle.blk_base.specs.declared.ask.BackAsk.{BackAsk}
+use Rattle.blk_base.specs.declared.ask.BackAsk.TheVariants as ask
+use Rattle.blk_base.specs.declared.ask.BackAnswer.{BackAnswer}
+use Rattle.blk_base.specs.declared.ask.BackAnswer.TheVariants.{Done, Word, Mapped, MapRefused, Sector, DiskFailed}
+use Rattle.blk_layout.specs.declared.segment.Segment.{Segment}
+use Rattle.blk_layout.specs.declared.request.RawRequest.{RawRequest}
+use Rattle.blk_layout.specs.declared.request.RawRequest.TheVariants.{Direct, Discard, Indirect}
+use Rattle.segment_list.specs.declared.verdict.Verdict.{Verdict}
+use Rattle.segment_list.specs.declared.verdict.Verdict.TheVariants as verdict
+use Rattle.back_jobs.specs.declared.stage.Stage.{Stage}
+use Rattle.back_jobs.specs.declared.stage.Stage.TheVariants as stage
+
+-- A job: its number; the id and the operation that its response names; whether it writes to the disk; the size of the disk; the disk sector that it comes to next, and how many it moved; the segments that it isn't done with, the present one first; the sector in its frame; the words in hand; what it does.
+pub record Work : Type 0 where
+  pub number : ℕ
+  pub id : ℕ
+  pub op : ℕ
+  pub writes : Bool
+  pub size : ℕ
+  pub disk : ℕ
+  pub moved : ℕ
+  pub rest : List Segment
+  pub within : ℕ
+  pub words : List ℕ
+  pub stage : Stage
+
+-- a frame is mapped for reading alone where its words go to the disk
+abbrev pub mode_of : Bool → Mode
+mode_of true = ReadOnly
+mode_of false = ReadWrite
+
+abbrev pub map_ask : List Segment → Bool → BackAsk
+map_ask [] writes = ask.Wait
+map_ask (s ∷ rest) writes = ask.Map s.gref (mode_of writes)
+
+-- 128 words a sector
+abbrev pub word_at : Work → ℕ → ℕ
+word_at t k = t.within * 128 + k
+
+abbrev pub ask_at : Stage → Work → BackAsk
+ask_at stage.Map t = map_ask t.rest t.writes
+ask_at (stage.ReadWord m k) t = ask.Read m (word_at t k)
+ask_at (stage.DiskWrite m) t = ask.DiskWrite t.disk t.words
+ask_at (stage.DiskRead m) t = ask.DiskRead t.disk
+ask_at (stage.WriteWord m k) t = ask.Write m (word_at t k) (slice_index t.words k)
+ask_at (stage.Unmap m) t = ask.Unmap m
+ask_at (stage.GiveUp m) t = ask.Unmap m
+ask_at (stage.Done status) t = ask.Wait
+
+-- what a job asks
+abbrev pub ask_of : Work → BackAsk
+ask_of t = ask_at t.stage t
+
+abbrev pub first_of : List Segment → ℕ
+first_of [] = 0
+first_of (s ∷ rest) = s.first
+
+abbrev pub last_of : List Segment → ℕ
+last_of [] = 0
+last_of (s ∷ rest) = s.last
+
+abbrev pub rest_of : List Segment → List Segment
+rest_of [] = []
+rest_of (s ∷ rest) = rest
+
+-- a sector is begun
+abbrev pub sector_stage : Bool → Mapping → Stage
+sector_stage true m = stage.ReadWord m 0
+sector_stage false m = stage.DiskRead m
+
+-- a sector was moved: the next one of the segment, or none is left in it
+abbrev pub next_sector : Work → Mapping → Work
+next_sector t m =
+    if t.within == last_of t.rest then record t { stage = stage.Unmap m }
+    else record t { within = t.within + 1; stage = sector_stage t.writes m }
+
+-- a segment is done: the next one, or all are done
+abbrev pub next_segment : Work → List Segment → Work
+next_segment t [] = record t { rest = []; stage = stage.Done Okay }
+next_segment t (s ∷ rest) = record t { rest = s ∷ rest; within = s.first; stage = stage.Map }
+
+-- the disk took or gave a sector
+abbrev pub counted : Work → Work
+counted t = record t { disk = t.disk + 1; moved = (t.moved + 1) % 2 ^ 32 }
+
+abbrev pub step_at : Stage → Work → BackAnswer → Work
+step_at stage.Map t (Mapped m) = record t { stage = sector_stage t.writes m }
+step_at stage.Map t (MapRefused status) = record t { stage = stage.Done Error }
+step_at (stage.ReadWord m k) t (Word word) = record t { words = slice_set t.words k word; stage = if k == 127 then stage.DiskWrite m else stage.ReadWord m (k + 1) }
+step_at (stage.DiskWrite m) t Done = next_sector (counted t) m
+step_at (stage.DiskWrite m) t DiskFailed = record t { stage = stage.GiveUp m }
+step_at (stage.DiskRead m) t (Sector words) = record (counted t) { words = words; stage = stage.WriteWord m 0 }
+step_at (stage.DiskRead m) t DiskFailed = record t { stage = stage.GiveUp m }
+step_at (stage.WriteWord m k) t Done = if k == 127 then next_sector t m else record t { stage = stage.WriteWord m (k + 1) }
+step_at (stage.Unmap m) t Done = next_segment t (rest_of t.rest)
+step_at (stage.GiveUp m) t Done = record t { stage = stage.Done Error }
+step_at s t answer = t
+
+-- what an answer makes of a job
+abbrev pub step_of : Work → BackAnswer → Work
+step_of t answer = step_at t.stage t answer
+
+-- a segment is done, and its frame is given up now
+abbrev pub IsUnmap : Stage → Type 0
+IsUnmap (stage.Unmap m) = Unit {0}
+IsUnmap s = ⊥
+
+abbrev pub IsDone : Stage → Type 0
+IsDone (stage.Done status) = Unit {0}
+IsDone s = ⊥
+
+-- an answer that an ask allows
+abbrev pub IsAnswer : BackAsk → BackAnswer → Type 0
+IsAnswer (ask.Map gref mode) (Mapped m) = (m.gref ≡ gref) × (m.mode ≡ mode)
+IsAnswer (ask.Map gref mode) (MapRefused status) = Unit {0}
+IsAnswer (ask.Read m word) (Word value) = Unit {0}
+IsAnswer (ask.Write m word value) Done = Unit {0}
+IsAnswer (ask.Unmap m) Done = Unit {0}
+IsAnswer (ask.DiskRead sector) (Sector words) = Unit {0}
+IsAnswer (ask.DiskRead sector) DiskFailed = Unit {0}
+IsAnswer (ask.DiskWrite sector words) Done = Unit {0}
+IsAnswer (ask.DiskWrite sector words) DiskFailed = Unit {0}
+IsAnswer a answer = ⊥
+
+-- the id and the operation that a response names: the entry's first byte, or the inner operation of an INDIRECT
+abbrev pub id_of : RawRequest → ℕ
+id_of (Direct op count device id sector segments) = id
+id_of (Discard flag device id sector count) = id
+id_of (Indirect op count device id sector pages) = id
+
+abbrev pub response_op : RawRequest → ℕ
+response_op (Direct op count device id sector segments) = op
+response_op (Discard flag device id sector count) = 5
+response_op (Indirect op count device id sector pages) = op
+
+-- a job that is done before it began
+abbrev pub ended : ℕ → RawRequest → ℕ → Stage → Work
+ended number request size s = record {
+  number = number;
+  id = id_of request;
+  op = response_op request;
+  writes = false;
+  size = size;
+  disk = 0;
+  moved = 0;
+  rest = [];
+  within = 0;
+  words = replicate 128 0;
+  stage = s;
+}
+
+-- a job that reads or writes these segments
+abbrev pub moving : ℕ → RawRequest → ℕ → Bool → ℕ → List Segment → Work
+moving number request size writes sector segments = record {
+  number = number;
+  id = id_of request;
+  op = response_op request;
+  writes = writes;
+  size = size;
+  disk = sector;
+  moved = 0;
+  rest = segments;
+  within = first_of segments;
+  words = replicate 128 0;
+  stage = stage.Map;
+}
+
+-- a served request: of READ (0) and WRITE (1) the segments are moved; of no other operation is one served that this back publishes
+abbrev pub served : ℕ → RawRequest → ℕ → Work
+served number (Direct op count device id sector segments) size =
+    if nat_le op 1 then moving number (Direct op count device id sector segments) size (op == 1) sector (take count segments)
+    else ended number (Direct op count device id sector segments) size (stage.Done Error)
+served number request size = ended number request size (stage.Done Error)
+
+-- the job of a request with this verdict
+abbrev pub begun : ℕ → RawRequest → ℕ → Verdict → Work
+begun number request size (verdict.Serve plan) = served number request size
+begun number request size (verdict.Error why) = ended number request size (stage.Done Error)
+begun number request size verdict.Unsupported = ended number request size (stage.Done Unsupported)

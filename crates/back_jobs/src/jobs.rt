@@ -1,0 +1,202 @@
+// All jobs of the back.
+ghost use Rattle.std.specs.Prelude.{◌≡◌, ◌<◌, ◌+◌, ◌↔◌, IfOk, IfSome, IsSome, IsTrue, length, vec_capacity};
+ghost use Rattle.std.specs.Option.{option_map};
+ghost use Rattle.std.specs.Prelude.{option_and_then, position};
+ghost use Rattle.back_jobs.specs.Task.{IsAnswer, step_of};
+ghost use Rattle.back_jobs.specs.Sound.{IsWithin};
+ghost use Rattle.back_jobs.specs.Jobs.{none_held, place_of, work_of, ask_job, tell_job, start_job, without_done, first_mapping, behind_mapping, effect_of, done_of, is_done, response_of, next_after};
+ghost use Rattle.back_jobs.specs.Task.{Work};
+ghost use Rattle.ring_words.specs.Shape.{entries_of};
+
+use crate::effect::Effect;
+use crate::task::Task;
+use blk_base::{BackAnswer, BackAsk, Mapping, OutOfMemory, Status};
+use blk_layout::RawRequest;
+use ring_words::RingShape;
+use segment_list::DiskInfo;
+use std::alloc::Global;
+use std::marker::Model;
+
+/// The jobs of a back, in order of number: the `number`-th request that it fetched in this epoch.
+/// After `reserve` no call takes memory.
+#[derive(Drop)]
+pub struct Jobs {
+    tasks: Vec<Task>,
+    room: u32,
+    info: DiskInfo,
+}
+
+impl Model for Jobs {
+    ghost use Rattle.std.specs.Prelude.{◌≤◌, vec_capacity};
+    ghost use Rattle.back_jobs.specs.Jobs.{Held};
+
+    ghost Value = { Held };
+
+    ghost view = { λ j. record { works = j.tasks.items; room = j.room; info = j.info } };
+
+    ghost invariant = { λ j. j.room ≤ vec_capacity j.tasks };
+}
+
+impl Jobs {
+    /// No job, and room for as many as a ring of this shape has entries, on a disk of this kind. It
+    /// fails only where there is not enough memory.
+    pub fn reserve(alloc: Global, shape: RingShape, info: DiskInfo) -> Result<Jobs, OutOfMemory>
+        ensures { IfOk result (λ jobs. jobs ≡ none_held (entries_of shape.order) info) }
+    {
+        let room = shape.entries();
+        let tasks = Vec::with_capacity(alloc, room as usize)?;
+        Ok(Jobs { tasks, room, info })
+    }
+
+    // Where the job of a number stands.
+    fn place(&self, number: u64) -> Option<usize>
+        ensures place { result ≡ place_of self.now.works number }
+        ensures within { IfSome result (λ place. place < length self.now.works) }
+    {
+        place_in(self.tasks.as_slice(), number)
+    }
+
+    /// Begins a request that was fetched as the `number`-th: by the verdict on it its job moves its
+    /// sectors, or is done at once. `has_room()` holds.
+    pub fn start(&mut self, number: u64, request: &RawRequest)
+        requires { length self.old.works < self.old.room }
+        ensures { self.new ≡ start_job self.old number request.now }
+    {
+        let task = Task::begin(number, request, &self.info);
+        let _ = self.tasks.push(task);
+    }
+
+    /// What the job of a number asks next; `Wait` also where none has it.
+    pub fn ask(&self, number: u64) -> BackAsk
+        ensures { result ≡ ask_job self.now number }
+    {
+        match self.place(number) {
+            None => BackAsk::Wait,
+            Some(place) => self.tasks[place].ask(),
+        }
+    }
+
+    /// Tells the job of a number the answer to what it asks.
+    pub fn tell(&mut self, number: u64, answer: BackAnswer)
+        requires { IsAnswer (ask_job self.old number) answer }
+        ensures { self.new ≡ tell_job self.old number answer }
+    {
+        if let Some(place) = self.place(number) {
+            let task = &mut self.tasks[place];
+            task.tell(answer);
+        }
+    }
+
+    /// What the answer to the ask of the job of a number does to its request; `None` also where none
+    /// has that number.
+    pub fn effect(&self, number: u64, answer: &BackAnswer) -> Option<Effect>
+        ensures { result ≡ effect_of (work_of self.now.works number) answer.now }
+    {
+        match self.place(number) {
+            None => None,
+            Some(place) => self.tasks[place].effect(answer),
+        }
+    }
+
+    /// The id and the place of the next sector of the job of a number: how many of its sectors were
+    /// read from or written to the disk. `None` exactly where none has that number.
+    pub fn at(&self, number: u64) -> Option<(u64, u32)>
+        ensures { result ≡ option_map (λ (t : Work). (t.id, t.moved)) (work_of self.now.works number) }
+    {
+        match self.place(number) {
+            None => None,
+            Some(place) => Some((self.tasks[place].id(), self.tasks[place].moved())),
+        }
+    }
+
+    /// The least number above this one; `None` exactly where there is none.
+    pub fn next_after(&self, number: u64) -> Option<u64>
+        ensures { result ≡ next_after self.now number }
+    {
+        match self.tasks.iter().find(|t| number < t.number()) {
+            None => None,
+            Some(task) => Some(task.number()),
+        }
+    }
+
+    /// Number, id, operation and status of the lowest job that is done; `None` exactly where none is.
+    pub fn done(&self) -> Option<(u64, u64, u8, Status)>
+        ensures { result ≡ option_and_then response_of (done_of self.now) }
+    {
+        match done_place(self.tasks.as_slice()) {
+            None => None,
+            Some(place) => self.tasks[place].response(),
+        }
+    }
+
+    /// Removes the lowest job that is done, and gives its number, id, operation and status; `None`
+    /// exactly where none is.
+    pub fn take_done(&mut self) -> Option<(u64, u64, u8, Status)>
+        ensures taken { result ≡ option_and_then response_of (done_of self.old) }
+        ensures rest { self.new ≡ without_done self.old }
+        ensures one_less { IsSome result → length self.new.works + 1 ≡ length self.old.works }
+    {
+        match done_place(self.tasks.as_slice()) {
+            None => None,
+            Some(place) => {
+                let response = self.tasks[place].response();
+                self.tasks.remove(place);
+                response
+            }
+        }
+    }
+
+    /// Whether another job may be started: fewer are held than there is room for.
+    pub fn has_room(&self) -> bool
+        ensures { IsTrue result ↔ (length self.now.works < self.now.room) }
+    {
+        self.tasks.len() < self.room as usize
+    }
+
+    /// How many jobs are held.
+    pub fn count(&self) -> usize
+        ensures { result ≡ length self.now.works }
+    {
+        self.tasks.len()
+    }
+
+    /// Gives up the jobs up to the lowest that has a mapping in its hand, and gives that mapping;
+    /// `None` exactly where no job is left that has one. No job goes on after that.
+    pub fn give_up(&mut self) -> Option<Mapping>
+        ensures mapping { result ≡ first_mapping self.old.works }
+        ensures rest { self.new ≡ record self.old { works = behind_mapping self.old.works } }
+    {
+        give_up_first(&mut self.tasks)
+    }
+}
+
+// Drops the jobs up to the lowest that has a mapping in its hand, and gives that mapping.
+fn give_up_first(tasks: &mut Vec<Task>) -> Option<Mapping>
+    ensures mapping { result ≡ first_mapping tasks.old.items }
+    ensures rest { tasks.new.items ≡ behind_mapping tasks.old.items }
+    ensures capacity { vec_capacity tasks.new ≡ vec_capacity tasks.old }
+{
+    while !tasks.is_empty() {
+        let task = tasks.remove(0);
+        if let Some(mapping) = task.mapping() {
+            return Some(mapping);
+        }
+    }
+    None
+}
+
+// Where the job of a number stands.
+fn place_in(tasks: &[Task], number: u64) -> Option<usize>
+    ensures place { result ≡ place_of tasks.now number }
+    ensures within { IfSome result (λ place. place < length tasks.now) }
+{
+    tasks.iter().position(|t| t.number() == number)
+}
+
+// Where the lowest job that is done stands.
+fn done_place(tasks: &[Task]) -> Option<usize>
+    ensures place { result ≡ position (λ (t : Work). is_done t) tasks.now }
+    ensures within { IfSome result (λ place. place < length tasks.now) }
+{
+    tasks.iter().position(|t| t.is_done())
+}

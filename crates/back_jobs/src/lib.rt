@@ -1,0 +1,18 @@
+//! What the back does for each request that it fetched (`io/blkif.h`): a job that maps the request's
+//! frames one after another, moves its sectors word by word between them and the disk, gives each
+//! mapping up, and ends with the status of the response. Jobs move apart from the back and from
+//! each other. The back end stands on it.
+#![tactic(auto)]
+
+mod effect;
+mod jobs;
+mod stage;
+mod task;
+
+pub use effect::Effect;
+pub use jobs::Jobs;
+pub use stage::Stage;
+pub use task::Task;
+
+#[cfg(test)]
+mod tests;

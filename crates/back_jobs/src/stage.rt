@@ -1,0 +1,23 @@
+// What a job is doing.
+use blk_base::{Mapping, Status};
+
+/// What a job is doing. Each has exactly one thing to ask next.
+#[derive(Clone, Copy, Debug, PartialEq, Eq)]
+pub enum Stage {
+    /// Maps the frame of its next segment.
+    Map,
+    /// Writes to the disk: reads a sector's words from the frame, the one of this number next, and
+    /// then writes the sector.
+    ReadWord(Mapping, u32),
+    DiskWrite(Mapping),
+    /// Reads from the disk: reads the sector, and then writes its words to the frame, the one of
+    /// this number next.
+    DiskRead(Mapping),
+    WriteWord(Mapping, u32),
+    /// Gives the mapping up after its segment's last sector.
+    Unmap(Mapping),
+    /// Gives the mapping up after the disk failed.
+    GiveUp(Mapping),
+    /// Is done, with the status of the response.
+    Done(Status),
+}
