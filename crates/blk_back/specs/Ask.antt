@@ -1,0 +1,93 @@
+-- What the back asks.
+use Rattle.std.specs.Prelude.{ℕ, ◌+◌, ◌<◌, Bool, true, false, ◌&&◌, List, length, Option, Some, None, option_and_then, if◌then◌else◌, ◌==◌, slice_index}
+use Rattle.blk_base.specs.declared.operation.Status.{Status}
+use Rattle.blk_base.specs.declared.parts.Mode.TheVariants.{ReadWrite}
+use Rattle.blk_base.specs.declared.ask.BackAsk.{BackAsk}
+use Rattle.blk_base.specs.declared.ask.BackAsk.TheVariants.{Wait, Fence, Read, Write, Map, Unmap, Bind, Send, ClosePort}
+use Rattle.blk_base.specs.declared.ask.BackAnswer.{BackAnswer}
+use Rattle.blk_base.specs.declared.ask.BackAnswer.TheVariants as answer
+use Rattle.ring_words.specs.Ring.{next_of, requests_of}
+use Rattle.blk_layout.specs.declared.response.Response.{Response}
+use Rattle.blk_layout.specs.Response.{response_words_of}
+use Rattle.back_jobs.specs.Jobs.{done_of, response_of}
+use Rattle.blk_back.specs.declared.stage.Reply.{Reply}
+use Rattle.blk_back.specs.declared.stage.Stage.{Stage}
+use Rattle.blk_back.specs.declared.stage.Stage.TheVariants as stage
+use Rattle.blk_back.specs.View.{View, slot_word}
+
+-- the response to the lowest job that is done
+abbrev pub reply_of : Option (ℕ × ℕ × ℕ × Status) → Option Reply
+reply_of None = None
+reply_of (Some done) = Some (record { id = done.1; op = done.2; status = done.3 })
+
+abbrev pub next_reply : View → Option Reply
+next_reply v = reply_of (option_and_then response_of (done_of v.jobs))
+
+abbrev pub response_word : Reply → ℕ → ℕ
+response_word r i = slice_index (response_words_of (record { id = r.id; op = r.op; status = r.status })) i
+
+-- a word of the next response is written
+abbrev pub reply_ask : View → Reply → ℕ → BackAsk
+reply_ask v r i = Write v.page (slot_word v.ring.prod i) (response_word r i)
+
+-- in the loop: a reply to what is done; else sleep; else the next entry; else the requests' producer
+abbrev pub loop_ask : View → Option Reply → BackAsk
+loop_ask v (Some r) = reply_ask v r 0
+loop_ask v None =
+    if v.asleep then Wait
+    else (if requests_of v.ring v.seen == 0 then Read v.page 0
+    else Read v.page (slot_word v.ring.cons 0))
+
+-- reference 8 is that of the ring's frame; the front's port is its first
+abbrev pub ask_at : Stage → View → BackAsk
+ask_at stage.MapRing v = Map 8 ReadWrite
+ask_at stage.Bind v = Bind 1
+ask_at stage.Loop v = loop_ask v (next_reply v)
+ask_at (stage.Fetch k) v = Read v.page (slot_word v.ring.cons k)
+ask_at (stage.ReplyHigh r) v = reply_ask v r 1
+ask_at (stage.ReplyLast r) v = reply_ask v r 2
+ask_at (stage.Producer r) v = Write v.page 2 (next_of v.ring.prod)
+ask_at (stage.ProducerFence old) v = Fence
+ask_at (stage.ResponseEvent old) v = Read v.page 3
+ask_at stage.Send v = Send
+ask_at stage.StoreEvent v = Write v.page 1 (next_of v.ring.cons)
+ask_at stage.EventFence v = Fence
+ask_at stage.LookAgain v = Read v.page 0
+ask_at (stage.GiveUp m) v = Unmap m
+ask_at stage.UnmapRing v = Unmap v.page
+ask_at stage.ClosePort v = ClosePort
+ask_at stage.UnmapUnbound v = Unmap v.page
+ask_at stage.Halted v = Wait
+
+abbrev pub ask_of : View → BackAsk
+ask_of v = ask_at v.stage v
+
+-- an answer that an ask allows
+abbrev pub IsAnswer : BackAsk → BackAnswer → Type 0
+IsAnswer Wait answer.Event = Unit {0}
+IsAnswer Fence answer.Done = Unit {0}
+IsAnswer (Read m word) (answer.Word value) = Unit {0}
+IsAnswer (Write m word value) answer.Done = Unit {0}
+IsAnswer (Map gref mode) (answer.Mapped m) = Unit {0}
+IsAnswer (Map gref mode) (answer.MapRefused status) = Unit {0}
+IsAnswer (Unmap m) answer.Done = Unit {0}
+IsAnswer (Bind port) answer.Done = Unit {0}
+IsAnswer (Bind port) answer.BindRefused = Unit {0}
+IsAnswer Send answer.Done = Unit {0}
+IsAnswer ClosePort answer.Done = Unit {0}
+IsAnswer ask a = ⊥
+
+-- an ask on memory names a word of the page
+abbrev pub IsWithin : BackAsk → Type 0
+IsWithin (Read m word) = word < 1024
+IsWithin (Write m word value) = word < 1024
+IsWithin ask = Unit {0}
+
+-- nothing is to be done until an event comes
+abbrev pub is_wait : BackAsk → Bool
+is_wait Wait = true
+is_wait ask = false
+
+-- and no job is held
+abbrev pub is_idle : View → Bool
+is_idle v = is_wait (ask_of v) && length v.jobs.works == 0

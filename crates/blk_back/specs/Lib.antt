@@ -1,0 +1,4 @@
+pub mod View
+pub mod Ask
+pub mod Step
+pub mod Sound

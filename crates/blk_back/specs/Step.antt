@@ -1,0 +1,114 @@
+-- What an answer makes of the back, and of one of its jobs.
+use Rattle.std.specs.Prelude.{ℕ, ◌+◌, ◌%◌, ◌^◌, Bool, true, false, ℤ, List, [], ◌∷◌, ◌++◌, Option, Some, None, if◌then◌else◌, ◌==◌}
+use Rattle.blk_base.specs.declared.operation.Abi.TheVariants.{X64}
+use Rattle.blk_base.specs.declared.parts.Mapping.{Mapping}
+use Rattle.blk_base.specs.declared.ask.BackAnswer.{BackAnswer}
+use Rattle.blk_base.specs.declared.ask.BackAnswer.TheVariants.{Done, Word, Mapped, MapRefused, BindRefused, Sector, DiskFailed}
+use Rattle.ring_words.specs.Ring.{next_of, requests_of, overruns, notifies}
+use Rattle.blk_layout.specs.Entry.{request_of}
+use Rattle.back_jobs.specs.declared.effect.Effect.{Effect}
+use Rattle.back_jobs.specs.Jobs.{start_job, tell_job, without_done, first_mapping, behind_mapping, work_of, effect_of}
+use Rattle.blk_back.specs.declared.stage.Reply.{Reply}
+use Rattle.blk_back.specs.declared.stage.Stage.{Stage}
+use Rattle.blk_back.specs.declared.stage.Stage.TheVariants as stage
+use Rattle.blk_back.specs.declared.told.BackTold.{BackTold}
+use Rattle.blk_back.specs.declared.told.BackTold.TheVariants as told
+use Rattle.blk_back.specs.declared.told.Halt.{Halt}
+use Rattle.blk_back.specs.declared.told.Halt.TheVariants as halt
+use Rattle.blk_back.specs.View.{View}
+use Rattle.blk_back.specs.Ask.{next_reply}
+
+abbrev pub at : Stage → View → View
+at s v = record v { stage = s }
+
+-- after a mapping of the jobs, or none: what is given up next
+abbrev pub giving_up : Option Mapping → Stage
+giving_up None = stage.UnmapRing
+giving_up (Some m) = stage.GiveUp m
+
+-- the jobs are given up as far as the next mapping in a job's hand
+abbrev pub give_up : View → View
+give_up v = record v { stage = giving_up (first_mapping v.jobs.works); jobs = record v.jobs { works = behind_mapping v.jobs.works } }
+
+-- the back halts: it serves nothing more
+abbrev pub overrun : View → ℕ → View
+overrun v word = give_up (record v { halted = Some (halt.Overrun word v.ring.prod) })
+
+-- the requests' producer was read: one that overran halts the back; where nothing is new, `otherwise`
+abbrev pub looked : View → ℕ → View → View
+looked v word otherwise =
+    if overruns v.ring word then overrun v word
+    else (if word == v.ring.cons then otherwise else record v { seen = word; stage = stage.Loop })
+
+abbrev pub loop_word : View → ℕ → View
+loop_word v word =
+    if requests_of v.ring v.seen == 0
+    then looked v word (record v { seen = word; stage = stage.StoreEvent })
+    else record v { entry = word ∷ []; stage = stage.Fetch 1 }
+
+-- a reply begins: its job is held no longer
+abbrev pub loop_step : View → Option Reply → BackAnswer → View
+loop_step v (Some r) answer = record v { stage = stage.ReplyHigh r; jobs = without_done v.jobs }
+loop_step v None (Word word) = loop_word v word
+loop_step v None answer = record v { asleep = false }
+
+-- one more request was fetched
+abbrev pub next_number : View → ℕ
+next_number v = (v.fetched + 1) % 2 ^ 64
+
+-- the entry's last word was read: its job is made of the words as they were read
+abbrev pub fetched : View → List ℕ → View
+fetched v words = record v {
+  entry = words;
+  fetched = next_number v;
+  ring = record v.ring { cons = next_of v.ring.cons };
+  jobs = start_job v.jobs (next_number v) (request_of X64 words);
+  stage = stage.Loop;
+}
+
+abbrev pub fetch_step : View → ℕ → ℕ → View
+fetch_step v k word =
+    if k == 27 then fetched v (v.entry ++ word ∷ [])
+    else record v { entry = v.entry ++ word ∷ []; stage = stage.Fetch (k + 1) }
+
+-- the reply is pushed
+abbrev pub replied : View → Reply → View
+replied v r = record v {
+  ring = record v.ring { prod = next_of v.ring.prod };
+  stage = stage.ProducerFence v.ring.prod;
+  told = Some (told.Reply r.id r.status);
+}
+
+abbrev pub step_at : Stage → View → BackAnswer → View
+step_at stage.MapRing v (Mapped m) = record v { page = m; stage = stage.Bind }
+step_at stage.MapRing v (MapRefused status) = record v { halted = Some (halt.MapRefused 8 status); stage = stage.Halted }
+step_at stage.Bind v Done = at stage.Loop v
+step_at stage.Bind v BindRefused = record v { halted = Some (halt.BadPort 1); stage = stage.UnmapUnbound }
+step_at stage.Loop v answer = loop_step v (next_reply v) answer
+step_at (stage.Fetch k) v (Word word) = fetch_step v k word
+step_at (stage.ReplyHigh r) v answer = at (stage.ReplyLast r) v
+step_at (stage.ReplyLast r) v answer = at (stage.Producer r) v
+step_at (stage.Producer r) v answer = replied v r
+step_at (stage.ProducerFence old) v answer = at (stage.ResponseEvent old) v
+step_at (stage.ResponseEvent old) v (Word event) = at (if notifies old v.ring.prod event then stage.Send else stage.Loop) v
+step_at stage.Send v answer = at stage.Loop v
+step_at stage.StoreEvent v answer = at stage.EventFence v
+step_at stage.EventFence v answer = at stage.LookAgain v
+step_at stage.LookAgain v (Word word) = looked v word (record v { seen = word; stage = stage.Loop; asleep = true })
+step_at (stage.GiveUp m) v answer = give_up v
+step_at stage.UnmapRing v answer = at stage.ClosePort v
+step_at stage.ClosePort v answer = at stage.Halted v
+step_at stage.UnmapUnbound v answer = at stage.Halted v
+step_at s v answer = v
+
+abbrev pub step_of : View → BackAnswer → View
+step_of v answer = step_at v.stage v answer
+
+-- what a job's move tells
+abbrev pub told_effect : Option Effect → Option BackTold
+told_effect None = None
+told_effect (Some e) = Some (if e.failed then told.Fault e.id e.index else told.Effect e.id e.index)
+
+-- what an answer to the job of a number makes of the back
+abbrev pub job_step : View → ℕ → BackAnswer → View
+job_step v number answer = record v { jobs = tell_job v.jobs number answer; told = told_effect (effect_of (work_of v.jobs.works number) answer) }

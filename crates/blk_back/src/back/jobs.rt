@@ -1,0 +1,76 @@
+// The back's jobs, and what it tells.
+ghost use Rattle.std.specs.Prelude.{◌≡◌, None};
+ghost use Rattle.blk_back.specs.Ask.{is_idle};
+ghost use Rattle.blk_back.specs.Step.{job_step, told_effect};
+ghost use Rattle.back_jobs.specs.Jobs.{ask_job, next_after};
+ghost use Rattle.back_jobs.specs.Task.{IsAnswer};
+
+use super::Back;
+use crate::told::{BackTold, Halt};
+use back_jobs::Effect;
+use blk_base::{BackAnswer, BackAsk, Endpoint};
+
+impl Back {
+    /// What the job of the `number`-th request that was fetched in this epoch asks next; `Wait` also
+    /// where there is none.
+    pub fn job_ask(&self, number: u64) -> BackAsk
+        ensures { result ≡ ask_job self.now.jobs number }
+    {
+        self.jobs.ask(number)
+    }
+
+    /// Tells the job of a number the answer to what it asks.
+    pub fn job_tell(&mut self, number: u64, answer: BackAnswer)
+        requires answer { IsAnswer (ask_job self.old.jobs number) answer }
+        requires told { self.old.told ≡ None }
+        ensures { self.new ≡ job_step self.old number answer }
+    {
+        self.told = told_effect(self.jobs.effect(number, &answer));
+        self.jobs.tell(number, answer);
+    }
+
+    /// The least number above this one of a job that is held; `None` exactly where there is none.
+    pub fn next_job(&self, after: u64) -> Option<u64>
+        ensures { result ≡ next_after self.now.jobs after }
+    {
+        self.jobs.next_after(after)
+    }
+
+    /// Whether it asks for nothing but an event, and no job is held.
+    pub fn idle(&self) -> bool
+        ensures { result ≡ is_idle self.now }
+    {
+        matches!(self.ask(), BackAsk::Wait) && self.jobs.count() == 0
+    }
+
+    /// What happened in the last move, once; `None` exactly where nothing is left to tell.
+    pub fn take_told(&mut self) -> Option<BackTold>
+        ensures told { result ≡ self.old.told }
+        ensures taken { self.new ≡ record self.old { told = None } }
+    {
+        self.told.take()
+    }
+
+    /// Why it halted; `None` exactly where it didn't.
+    pub fn halted(&self) -> Option<Halt>
+        ensures { result ≡ self.now.halted }
+    {
+        self.halted
+    }
+}
+
+// What a job's move tells.
+fn told_effect(effect: Option<Effect>) -> Option<BackTold>
+    ensures { result ≡ told_effect effect }
+{
+    match effect {
+        None => None,
+        Some(Effect { id, index, failed }) => {
+            if failed {
+                Some(BackTold::Fault { id, index })
+            } else {
+                Some(BackTold::Effect { id, index })
+            }
+        }
+    }
+}

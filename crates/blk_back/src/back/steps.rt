@@ -1,0 +1,182 @@
+// What the back makes of each answer.
+ghost use Rattle.std.specs.Prelude.{◌≡◌, ◌<◌, [], ◌∷◌, ◌++◌, Some};
+ghost use Rattle.blk_base.specs.declared.ask.BackAnswer.TheVariants.{Word, Done, Mapped, MapRefused, BindRefused};
+ghost use Rattle.blk_back.specs.declared.stage.Stage.TheVariants as stage;
+ghost use Rattle.blk_back.specs.Ask.{loop_ask, next_reply, IsAnswer};
+ghost use Rattle.blk_back.specs.Step.{step_at, loop_step, loop_word, looked, overrun, give_up, fetched, fetch_step, replied};
+
+use super::Back;
+use crate::stage::{Reply, Stage};
+use crate::told::{BackTold, Halt};
+use arrayvec::ArrayVec;
+use blk_base::{Abi, BackAnswer, Mapping};
+use blk_layout::read_request;
+use ring_words::notify;
+
+impl Back {
+    pub(super) fn mapped(&mut self, mapping: Mapping)
+        requires { self.old.stage ≡ stage.MapRing }
+        ensures { self.new ≡ step_at stage.MapRing self.old (Mapped mapping) }
+    {
+        self.page = mapping;
+        self.stage = Stage::Bind;
+    }
+
+    pub(super) fn refused(&mut self, status: i32)
+        requires { self.old.stage ≡ stage.MapRing }
+        ensures { self.new ≡ step_at stage.MapRing self.old (MapRefused status) }
+    {
+        self.halted = Some(Halt::MapRefused { gref: 8, status });
+        self.stage = Stage::Halted;
+    }
+
+    pub(super) fn unbound(&mut self)
+        requires { self.old.stage ≡ stage.Bind }
+        ensures { self.new ≡ step_at stage.Bind self.old BindRefused }
+    {
+        self.halted = Some(Halt::BadPort(1));
+        self.stage = Stage::UnmapUnbound;
+    }
+
+    /// Begins the next step of the loop.
+    pub(super) fn begin(&mut self, answer: BackAnswer)
+        requires stage { self.old.stage ≡ stage.Loop }
+        requires kind { IsAnswer (loop_ask self.old (next_reply self.old)) answer }
+        ensures { self.new ≡ loop_step self.old (next_reply self.old) answer }
+    {
+        match (self.next_reply(), answer) {
+            (Some(r), _) => self.begin_reply(r),
+            (None, BackAnswer::Word(word)) => self.read_in_loop(word),
+            (None, _) => self.asleep = false,
+        }
+    }
+
+    // The first word of a reply was written: its job is held no longer.
+    fn begin_reply(&mut self, r: Reply)
+        requires stage { self.old.stage ≡ stage.Loop }
+        requires reply { next_reply self.old ≡ Some r }
+        ensures { self.new ≡ loop_step self.old (Some r) Done }
+    {
+        let _ = self.jobs.take_done();
+        self.stage = Stage::ReplyHigh(r);
+    }
+
+    // A word was read: of the requests' producer, or of an entry.
+    fn read_in_loop(&mut self, word: u32)
+        requires { self.old.stage ≡ stage.Loop }
+        ensures { self.new ≡ loop_word self.old word }
+    {
+        if self.ring.unconsumed(self.seen) == 0 {
+            self.look(word);
+        } else {
+            self.entry = ArrayVec::new();
+            self.entry.push(word);
+            self.stage = Stage::Fetch(1);
+        }
+    }
+
+    // The requests' producer was read for the first time.
+    fn look(&mut self, word: u32)
+        requires { self.old.stage ≡ stage.Loop }
+        ensures { self.new ≡ looked self.old word (record self.old { seen = word; stage = stage.StoreEvent }) }
+    {
+        if self.ring.overran(word) {
+            self.overrun(word);
+        } else {
+            self.seen = word;
+            self.stage = if word == self.ring.cons() {
+                Stage::StoreEvent
+            } else {
+                Stage::Loop
+            };
+        }
+    }
+
+    /// The requests' producer was read again, after the event word was stored.
+    pub(super) fn look_again(&mut self, word: u32)
+        requires { self.old.stage ≡ stage.LookAgain }
+        ensures { self.new ≡ step_at stage.LookAgain self.old (Word word) }
+    {
+        if self.ring.overran(word) {
+            self.overrun(word);
+        } else {
+            self.seen = word;
+            self.stage = Stage::Loop;
+            if word == self.ring.cons() {
+                self.asleep = true;
+            }
+        }
+    }
+
+    // The requests' producer overran the ring.
+    fn overrun(&mut self, word: u32)
+        ensures { self.new ≡ overrun self.old word }
+    {
+        self.halted = Some(Halt::Overrun {
+            prod: word,
+            rsp_prod: self.ring.prod(),
+        });
+        self.give_up();
+    }
+
+    /// Gives up the jobs as far as the next mapping in a job's hand.
+    pub(super) fn give_up(&mut self)
+        ensures { self.new ≡ give_up self.old }
+    {
+        self.stage = match self.jobs.give_up() {
+            None => Stage::UnmapRing,
+            Some(mapping) => Stage::GiveUp(mapping),
+        };
+    }
+
+    /// A word of an entry was read.
+    pub(super) fn fetch(&mut self, k: u32, word: u32)
+        requires stage { self.old.stage ≡ stage.Fetch k }
+        requires placed { k < 28 }
+        ensures { self.new ≡ fetch_step self.old k word }
+    {
+        if k == 27 {
+            self.fetched(word);
+        } else {
+            self.entry.push(word);
+            self.stage = Stage::Fetch(k + 1);
+        }
+    }
+
+    // The last word of an entry was read: its job begins.
+    fn fetched(&mut self, word: u32)
+        requires { self.old.stage ≡ stage.Fetch 27 }
+        ensures { self.new ≡ fetched self.old (self.old.entry ++ word ∷ []) }
+    {
+        self.entry.push(word);
+        let request = read_request(Abi::X64, self.entry.as_slice());
+        self.fetched = self.fetched.wrapping_add(1);
+        self.ring.consume();
+        self.jobs.start(self.fetched, &request);
+        self.stage = Stage::Loop;
+    }
+
+    pub(super) fn replied(&mut self, r: Reply)
+        requires { self.old.stage ≡ stage.Producer r }
+        ensures { self.new ≡ replied self.old r }
+    {
+        let old = self.ring.prod();
+        self.ring.produce();
+        self.told = Some(BackTold::Reply {
+            id: r.id,
+            status: r.status,
+        });
+        self.stage = Stage::ProducerFence(old);
+    }
+
+    pub(super) fn notify(&mut self, old: u32, event: u32)
+        requires { self.old.stage ≡ stage.ResponseEvent old }
+        ensures { self.new ≡ step_at (stage.ResponseEvent old) self.old (Word event) }
+    {
+        self.stage = if notify(old, self.ring.prod(), event) {
+            Stage::Send
+        } else {
+            Stage::Loop
+        };
+    }
+}

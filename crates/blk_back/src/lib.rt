@@ -1,0 +1,16 @@
+//! The back end of a block ring: what the host's disk driver does, one shared word at a time
+//! (`io/ring.h`, `io/blkif.h`), as a machine that asks for one thing and is told the answer. It
+//! copies each entry's words once, hands each request to a job, replies to what is done, and halts
+//! where the front's producer overran the ring. The machine of both domains stands on it.
+#![tactic(auto)]
+
+mod back;
+mod stage;
+mod told;
+
+pub use back::Back;
+pub use stage::{Reply, Stage};
+pub use told::{BackTold, Halt};
+
+#[cfg(test)]
+mod tests;

@@ -1,0 +1,44 @@
+// What the back is doing.
+use blk_base::{Mapping, Status};
+
+/// The response to a request whose job is done: the request's id, the operation that is answered,
+/// and how it ended.
+#[derive(Clone, Copy, Debug, PartialEq, Eq)]
+pub struct Reply {
+    pub id: u64,
+    pub op: u8,
+    pub status: Status,
+}
+
+/// What the back is doing. Each has exactly one thing to ask next.
+#[derive(Clone, Copy, Debug, PartialEq, Eq)]
+pub enum Stage {
+    /// Maps the ring's page.
+    MapRing,
+    /// Binds the front's port.
+    Bind,
+    /// Is connected, and at nothing in particular.
+    Loop,
+    /// Copies the next entry: its word of this number is read next, 1 to 27.
+    Fetch(u32),
+    /// Replies: the response's second word, its third, and then the producer.
+    ReplyHigh(Reply),
+    ReplyLast(Reply),
+    Producer(Reply),
+    /// Pushes: a fence, the event word, and an event where it is due. The producer was this before.
+    ProducerFence(u32),
+    ResponseEvent(u32),
+    Send,
+    /// Looks for requests a last time: the event word, a fence, the producer again.
+    StoreEvent,
+    EventFence,
+    LookAgain,
+    /// Has halted: gives up this mapping, which a job had in its hand; then the ring's page; then
+    /// closes its port; then does nothing more.
+    GiveUp(Mapping),
+    UnmapRing,
+    ClosePort,
+    /// Has halted before the port was bound: gives up the ring's page.
+    UnmapUnbound,
+    Halted,
+}

@@ -1,0 +1,25 @@
+// What the back tells, and why it halts.
+use blk_base::Status;
+
+/// What happened at the back or one of its jobs in its last move.
+#[derive(Clone, Copy, Debug, PartialEq, Eq)]
+pub enum BackTold {
+    /// A sector of a request was written to the disk or read from it.
+    Effect { id: u64, index: u32 },
+    /// The disk failed at a sector of a request.
+    Fault { id: u64, index: u32 },
+    /// A reply was pushed.
+    Reply { id: u64, status: Status },
+}
+
+/// Why the back halted. It serves nothing more then.
+#[derive(Clone, Copy, Debug, PartialEq, Eq)]
+pub enum Halt {
+    /// The front's producer was this, further ahead of the back's own producer than the ring has
+    /// entries (`RING_REQUEST_PROD_OVERFLOW` of `io/ring.h`).
+    Overrun { prod: u32, rsp_prod: u32 },
+    /// The front's port can't be bound.
+    BadPort(u32),
+    /// The ring's page can't be mapped: the reference and the status.
+    MapRefused { gref: u32, status: i32 },
+}
