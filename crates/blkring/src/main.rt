@@ -1,0 +1,40 @@
+//! The program `blkring`: its command line, input, disk, output and error output over the real
+//! streams and files. All that it does is `commands::blkring`.
+#![tactic(auto)]
+
+use blk_io::{ReaderSource, WriterSink};
+use commands::{Stop, blkring, give_up};
+use image_disk::FileDisk;
+use std::process::ExitCode;
+use std::{env, io};
+
+fn main(rt: HostRuntime) -> ExitCode {
+    let mut err = WriterSink::new(rt.stderr());
+    let words = match words(&rt) {
+        Ok(words) => words,
+        Err(stop) => return ExitCode::from(give_up(&mut err, stop)),
+    };
+    let Ok(files) = rt.clone() else {
+        return ExitCode::from(give_up(&mut err, Stop::OutOfMemory));
+    };
+    let status = blkring(
+        rt.alloc(),
+        words.as_slice(),
+        &mut ReaderSource::new(rt.stdin()),
+        &mut FileDisk::new(files),
+        &mut WriterSink::new(rt.stdout()),
+        &mut err,
+    );
+    ExitCode::from(status)
+}
+
+// The words after the program's name. Where one of them isn't text they give no command.
+fn words(rt: &HostRuntime) -> Result<Vec<String>, Stop> {
+    let mut args = match env::args(rt) {
+        Ok(args) => args,
+        Err(e) if e.kind() == io::ErrorKind::OutOfMemory => return Err(Stop::OutOfMemory),
+        Err(_) => return Err(Stop::Words),
+    };
+    let _program = args.next();
+    Ok(args.collect(rt.alloc())?)
+}

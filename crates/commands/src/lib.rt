@@ -1,0 +1,15 @@
+//! The program as one call over its outside: the words of its command line, its input, its disk,
+//! its output and its error output, answered by its exit status. The program itself only makes
+//! those over the real streams and files.
+#![tactic(auto)]
+
+mod status;
+mod top;
+mod words;
+
+pub use status::{ErrorLine, Stop};
+pub use top::{blkring, give_up};
+pub use words::{Command, read_command};
+
+#[cfg(test)]
+mod tests;

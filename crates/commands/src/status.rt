@@ -1,0 +1,97 @@
+// Why the program stops, its exit status, and what it then says.
+ghost use Rattle.std.specs.Prelude.{◌≡◌, ◌+◌, ◌≤◌, ◌++◌, length, decimal};
+ghost use Rattle.arrayvec.specs.ArrayString.{array_string_len};
+ghost use Rattle.commands.specs.Status.{status_of, error_line, line_of};
+
+use arrayvec::ArrayString;
+use itoa::Buffer;
+use std::alloc::AllocError;
+
+/// A line of the error output.
+pub type ErrorLine = ArrayString<96>;
+
+/// Why the program stops before its command is done.
+#[derive(Clone, Copy, Debug, PartialEq, Eq)]
+pub enum Stop {
+    /// The input has `count` bytes and not the `expected` ones, where one too many stand for more.
+    Length { count: u64, expected: u64 },
+    /// The words of the command line give no command.
+    Words,
+    /// The input failed.
+    Source,
+    /// The output failed.
+    Sink,
+    /// There was no memory.
+    OutOfMemory,
+}
+
+impl From<AllocError> for Stop {
+    ghost use Rattle.commands.specs.declared.status.Stop.TheVariants.{OutOfMemory};
+
+    ghost from_gives = { λ _ stop. stop ≡ OutOfMemory };
+
+    fn from(_e: AllocError) -> Stop {
+        Stop::OutOfMemory
+    }
+}
+
+impl Stop {
+    /// The exit status.
+    pub fn status(self) -> u8
+        ensures { result ≡ status_of self }
+    {
+        match self {
+            Stop::Length { .. } => 1,
+            Stop::Words => 2,
+            Stop::Source => 4,
+            Stop::Sink => 5,
+            Stop::OutOfMemory => 6,
+        }
+    }
+
+    /// The line of the error output, with its line feed.
+    pub fn line(self) -> ErrorLine
+        ensures { result.bytes ≡ line_of self }
+    {
+        match self {
+            Stop::Length { count, expected } => length_line(count, expected),
+            Stop::Words => plain_line("bad command line"),
+            Stop::Source => plain_line("the input failed"),
+            Stop::Sink => plain_line("the output failed"),
+            Stop::OutOfMemory => plain_line("out of memory"),
+        }
+    }
+}
+
+fn plain_line(reason: &str) -> ErrorLine
+    requires { length reason.now ≤ 32 }
+    ensures { result.bytes ≡ error_line reason.now }
+{
+    let mut line = ErrorLine::new();
+    line.push_str("blkring: ");
+    line.push_str(reason);
+    line.push_str("\n");
+    line
+}
+
+fn length_line(count: u64, expected: u64) -> ErrorLine
+    ensures { result.bytes ≡ line_of (Stop.Length count expected) }
+{
+    let mut line = ErrorLine::new();
+    line.push_str("blkring: ");
+    put(&mut line, count);
+    line.push_str(" bytes, expected ");
+    put(&mut line, expected);
+    line.push_str("\n");
+    line
+}
+
+// Adds a decimal number.
+fn put(line: &mut ErrorLine, number: u64)
+    requires { array_string_len line.old + 20 ≤ 96 }
+    ensures added { line.new.bytes ≡ line.old.bytes ++ decimal number }
+    ensures short { array_string_len line.new ≤ array_string_len line.old + 20 }
+{
+    let mut buffer = Buffer::new();
+    line.push_str(buffer.format(number));
+}

@@ -1,0 +1,143 @@
+// The program over an outside in memory, as a client would hold it.
+
+use crate::{Command, blkring, read_command};
+use blk_base::Abi;
+use blk_io::{FailsAt, MemorySink, MemorySource};
+use image_disk::MemoryDisk;
+use std::alloc::{AllocError, Global};
+use std::test::Fail;
+
+fn words(alloc: Global, line: &str) -> Result<Vec<String>, AllocError> {
+    let mut words = Vec::new(alloc);
+    for word in line.split_whitespace() {
+        let word = String::from_str(alloc, word)?;
+        words.push(word)?;
+    }
+    Ok(words)
+}
+
+// Reads the words of a line.
+fn read(alloc: Global, line: &str) -> Result<Option<Command>, AllocError> {
+    let words = words(alloc, line)?;
+    Ok(read_command(words.as_slice()))
+}
+
+#[test]
+fn the_options_of_inspect_come_once_each_in_either_order(rt: HostRuntime) -> Result<(), Fail> {
+    let alloc = rt.alloc();
+    for (line, abi, order) in [
+        ("inspect", Abi::X64, 0),
+        ("inspect --abi 32", Abi::X32, 0),
+        ("inspect --order 4", Abi::X64, 4),
+        ("inspect --abi 64 --order 1", Abi::X64, 1),
+        ("inspect --order 3 --abi 32", Abi::X32, 3),
+    ] {
+        assert_eq!(rt; read(alloc, line)?, Some(Command::Inspect { abi, order }));
+    }
+    for line in [
+        "",
+        "fly",
+        "inspect x",
+        "inspect --abi",
+        "inspect --abi 16",
+        "inspect --order 5",
+        "inspect --order 04",
+        "inspect --abi 64 --abi 64",
+        "inspect --abi 32 --order 1 --order 1",
+    ] {
+        assert_eq!(rt; read(alloc, line)?, None);
+    }
+    Ok(())
+}
+
+// What a run left.
+#[derive(Drop)]
+struct Left {
+    status: u8,
+    out: MemorySink,
+    err: MemorySink,
+}
+
+// Runs the program on so many zeros.
+fn run(alloc: Global, line: &str, zeros: usize) -> Result<Left, Fail> {
+    let words = words(alloc, line)?;
+    let mut src = MemorySource::new(vec![in alloc; 0u8; zeros]?);
+    let mut disk = MemoryDisk::new(alloc, Vec::new(alloc))?;
+    let mut out = MemorySink::with_room(alloc, 4096)?;
+    let mut err = MemorySink::with_room(alloc, 4096)?;
+    let status = blkring(
+        alloc,
+        words.as_slice(),
+        &mut src,
+        &mut disk,
+        &mut out,
+        &mut err,
+    );
+    Ok(Left { status, out, err })
+}
+
+#[test]
+fn a_ring_is_shown_and_a_wrong_one_is_said(rt: HostRuntime) -> Result<(), Fail> {
+    let alloc = rt.alloc();
+    let left = run(alloc, "inspect --order 1", 8192)?;
+    assert_eq!(rt; left.status, 0);
+    assert_eq!(rt;
+        left.out.bytes(),
+        b"indices 0 0 0 0\nentries 64\nrequests 0\n".as_slice()
+    );
+    assert_eq!(rt; left.err.bytes(), b"".as_slice());
+    let left = run(alloc, "inspect", 4095)?;
+    assert_eq!(rt; left.status, 1);
+    assert_eq!(rt; left.out.bytes(), b"".as_slice());
+    assert_eq!(rt;
+        left.err.bytes(),
+        b"blkring: 4095 bytes, expected 4096\n".as_slice()
+    );
+    let left = run(alloc, "fly", 4096)?;
+    assert_eq!(rt; left.status, 2);
+    assert_eq!(rt; left.err.bytes(), b"blkring: bad command line\n".as_slice());
+    Ok(())
+}
+
+#[test]
+fn a_failing_outside_gives_its_status_and_a_failing_error_output_none(
+    rt: HostRuntime,
+) -> Result<(), Fail> {
+    let alloc = rt.alloc();
+    let words = words(alloc, "inspect")?;
+    let mut disk = MemoryDisk::new(alloc, Vec::new(alloc))?;
+    let zeros = MemorySource::new(vec![in alloc; 0u8; 4096]?);
+    let mut src = FailsAt::new(zeros, [1].to_vec(alloc)?);
+    let mut out = MemorySink::with_room(alloc, 4096)?;
+    let shelf = MemorySink::with_room(alloc, 4096)?;
+    let mut err = FailsAt::new(shelf, [2].to_vec(alloc)?);
+    let status = blkring(
+        alloc,
+        words.as_slice(),
+        &mut src,
+        &mut disk,
+        &mut out,
+        &mut err,
+    );
+    assert_eq!(rt; status, 4);
+    assert_eq!(rt;
+        err.inside.bytes(),
+        b"blkring: the input failed\n".as_slice()
+    );
+    let mut full = MemorySink::with_room(alloc, 20)?;
+    let status = blkring(
+        alloc,
+        words.as_slice(),
+        &mut src,
+        &mut disk,
+        &mut full,
+        &mut err,
+    );
+    assert_eq!(rt; status, 5);
+    assert_eq!(rt; full.bytes(), b"indices 0 0 0 0\n".as_slice());
+    assert_eq!(rt;
+        err.inside.bytes(),
+        b"blkring: the input failed\n".as_slice()
+    );
+    Ok(())
+}
