@@ -1,0 +1,4 @@
+pub mod World
+pub mod Act
+pub mod Shown
+pub mod Happening

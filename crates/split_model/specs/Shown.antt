@@ -1,0 +1,53 @@
+-- The lines that follow a move's own, for what it made happen at its end.
+use Rattle.std.specs.Prelude.{ℕ, List, [], ◌∷◌, Option, Some, None}
+use Rattle.blk_base.specs.declared.ask.BackAnswer.{BackAnswer}
+use Rattle.blk_base.specs.declared.ask.BackAnswer.TheVariants.{Sector}
+use Rattle.schedule_text.specs.declared.line.Line.{Line}
+use Rattle.schedule_text.specs.declared.line.Line.TheVariants as lines
+use Rattle.schedule_text.specs.declared.line.Halt.{Halt as HaltLine}
+use Rattle.schedule_text.specs.declared.line.Halt.TheVariants as halts
+use Rattle.schedule_text.specs.declared.line.Refusal.{Refusal as RefusalWord}
+use Rattle.schedule_text.specs.declared.line.Refusal.TheVariants as words
+use Rattle.blk_front.specs.declared.told.Told.{Told}
+use Rattle.blk_front.specs.declared.told.Told.TheVariants as front_told
+use Rattle.blk_front.specs.declared.told.Refusal.{Refusal}
+use Rattle.blk_front.specs.declared.told.Refusal.TheVariants as refusal
+use Rattle.blk_back.specs.declared.told.BackTold.{BackTold}
+use Rattle.blk_back.specs.declared.told.BackTold.TheVariants as back_told
+use Rattle.blk_back.specs.declared.told.Halt.{Halt}
+use Rattle.blk_back.specs.declared.told.Halt.TheVariants as halt
+
+abbrev pub front_lines : Option Told → List Line
+front_lines None = []
+front_lines (Some front_told.Ready) = lines.Ready ∷ []
+front_lines (Some (front_told.Answer id status)) = lines.Answer id status ∷ []
+front_lines (Some (front_told.Broken word)) = lines.Broken word ∷ []
+
+-- an effect shows the words of a sector that was read
+abbrev pub effect_line : ℕ → ℕ → BackAnswer → Line
+effect_line id index (Sector words) = lines.EffectRead id index words
+effect_line id index answer = lines.Effect id index
+
+abbrev pub back_lines : Option BackTold → BackAnswer → List Line
+back_lines None answer = []
+back_lines (Some (back_told.Effect id index)) answer = effect_line id index answer ∷ []
+back_lines (Some (back_told.Fault id index)) answer = lines.Fault id index ∷ []
+back_lines (Some (back_told.Reply id status)) answer = lines.Reply id status ∷ []
+
+abbrev pub halt_line : Halt → HaltLine
+halt_line (halt.Overrun prod rsp_prod) = halts.Overrun prod rsp_prod
+halt_line (halt.BadPort p) = halts.BadPort p
+halt_line (halt.MapRefused gref status) = halts.MapRefused gref status
+
+-- the line of a halt, at the move that halted the back
+abbrev pub halt_lines : Option Halt → Option Halt → List Line
+halt_lines None (Some h) = lines.Halt (halt_line h) ∷ []
+halt_lines before after = []
+
+abbrev pub refusal_word : Refusal → RefusalWord
+refusal_word refusal.Spent = words.Spent
+refusal_word refusal.NotReady = words.NotReady
+refusal_word refusal.Unsupported = words.Unsupported
+refusal_word refusal.Range = words.Range
+refusal_word refusal.Full = words.Full
+refusal_word refusal.Buffers = words.Buffers
