@@ -9,7 +9,7 @@ use Rattle.segment_list.specs.declared.verdict.Kind.{Kind}
 use Rattle.segment_list.specs.declared.verdict.Plan.{Plan}
 use Rattle.segment_list.specs.declared.verdict.Verdict.TheVariants.{Serve}
 use Rattle.segment_list.specs.Segments.{IsSound, sectors_of}
-use Rattle.segment_list.specs.Verdict.{transfer_verdict, IsOnDisk}
+use Rattle.segment_list.specs.Verdict.{transfer_verdict}
 use Rattle.segment_list.proofs.Served.{transfer_served}
 use Rattle.back_jobs.specs.Sound.{AreMovable}
 

@@ -1,6 +1,6 @@
 -- The jobs that the back holds, in order of number.
-use Rattle.std.specs.Prelude.{◌≡◌, ℕ, ◌<◌, Bool, true, false, List, [], ◌∷◌, ◌++◌, length, find, position, remove, slice_get, slice_set, map, Option, Some, None, ◌==◌, nat_lt, cond, is_some}
-use Rattle.std.specs.Option.{option_map, option_map_or}
+use Rattle.std.specs.Prelude.{ℕ, Bool, true, false, List, [], ◌∷◌, ◌++◌, find, position, remove, slice_get, slice_set, Option, Some, None, ◌==◌, nat_lt, cond, is_some}
+use Rattle.std.specs.Option.{option_map}
 use Rattle.blk_base.specs.declared.operation.Status.{Status}
 use Rattle.blk_base.specs.declared.parts.Mapping.{Mapping}
 use Rattle.blk_base.specs.declared.ask.BackAsk.{BackAsk}
@@ -13,7 +13,7 @@ use Rattle.segment_list.specs.declared.verdict.DiskInfo.{DiskInfo}
 use Rattle.segment_list.specs.Verdict.{verdict_of}
 use Rattle.back_jobs.specs.declared.stage.Stage.{Stage}
 use Rattle.back_jobs.specs.declared.stage.Stage.TheVariants as stage
-use Rattle.back_jobs.specs.Task.{Work, ask_of, step_of, begun, IsAnswer}
+use Rattle.back_jobs.specs.Task.{Work, ask_of, step_of, begun}
 
 -- the jobs held, the lowest number first; how many there is room for; and the disk as the back knows it
 pub record Held : Type 0 where

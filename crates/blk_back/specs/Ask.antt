@@ -1,5 +1,5 @@
 -- What the back asks.
-use Rattle.std.specs.Prelude.{ℕ, ◌+◌, ◌<◌, Bool, true, false, ◌&&◌, List, length, Option, Some, None, option_and_then, if◌then◌else◌, ◌==◌, slice_index}
+use Rattle.std.specs.Prelude.{ℕ, ◌<◌, Bool, true, false, ◌&&◌, length, Option, Some, None, option_and_then, if◌then◌else◌, ◌==◌, slice_index}
 use Rattle.blk_base.specs.declared.operation.Status.{Status}
 use Rattle.blk_base.specs.declared.parts.Mode.TheVariants.{ReadWrite}
 use Rattle.blk_base.specs.declared.ask.BackAsk.{BackAsk}
@@ -7,7 +7,6 @@ use Rattle.blk_base.specs.declared.ask.BackAsk.TheVariants.{Wait, Fence, Read, W
 use Rattle.blk_base.specs.declared.ask.BackAnswer.{BackAnswer}
 use Rattle.blk_base.specs.declared.ask.BackAnswer.TheVariants as answer
 use Rattle.ring_words.specs.Ring.{next_of, requests_of}
-use Rattle.blk_layout.specs.declared.response.Response.{Response}
 use Rattle.blk_layout.specs.Response.{response_words_of}
 use Rattle.back_jobs.specs.Jobs.{done_of, response_of}
 use Rattle.blk_back.specs.declared.stage.Reply.{Reply}

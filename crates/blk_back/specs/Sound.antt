@@ -1,7 +1,6 @@
 -- What is true of the back at every moment.
 use Rattle.std.specs.Prelude.{◌≡◌, ℕ, ◌+◌, ◌<◌, ◌≤◌, length}
 use Rattle.blk_base.specs.Distance.{distance_of}
-use Rattle.ring_words.specs.Ring.{Ring}
 use Rattle.blk_back.specs.declared.stage.Stage.{Stage}
 use Rattle.blk_back.specs.declared.stage.Stage.TheVariants as stage
 use Rattle.blk_back.specs.View.{View}

@@ -1,9 +1,9 @@
 -- What an answer makes of the back, and of one of its jobs.
-use Rattle.std.specs.Prelude.{ℕ, ◌+◌, ◌%◌, ◌^◌, Bool, true, false, ℤ, List, [], ◌∷◌, ◌++◌, Option, Some, None, if◌then◌else◌, ◌==◌}
+use Rattle.std.specs.Prelude.{ℕ, ◌+◌, ◌%◌, ◌^◌, true, false, List, [], ◌∷◌, ◌++◌, Option, Some, None, if◌then◌else◌, ◌==◌}
 use Rattle.blk_base.specs.declared.operation.Abi.TheVariants.{X64}
 use Rattle.blk_base.specs.declared.parts.Mapping.{Mapping}
 use Rattle.blk_base.specs.declared.ask.BackAnswer.{BackAnswer}
-use Rattle.blk_base.specs.declared.ask.BackAnswer.TheVariants.{Done, Word, Mapped, MapRefused, BindRefused, Sector, DiskFailed}
+use Rattle.blk_base.specs.declared.ask.BackAnswer.TheVariants.{Done, Word, Mapped, MapRefused, BindRefused}
 use Rattle.ring_words.specs.Ring.{next_of, requests_of, overruns, notifies}
 use Rattle.blk_layout.specs.Entry.{request_of}
 use Rattle.back_jobs.specs.declared.effect.Effect.{Effect}
@@ -13,7 +13,6 @@ use Rattle.blk_back.specs.declared.stage.Stage.{Stage}
 use Rattle.blk_back.specs.declared.stage.Stage.TheVariants as stage
 use Rattle.blk_back.specs.declared.told.BackTold.{BackTold}
 use Rattle.blk_back.specs.declared.told.BackTold.TheVariants as told
-use Rattle.blk_back.specs.declared.told.Halt.{Halt}
 use Rattle.blk_back.specs.declared.told.Halt.TheVariants as halt
 use Rattle.blk_back.specs.View.{View}
 use Rattle.blk_back.specs.Ask.{next_reply}

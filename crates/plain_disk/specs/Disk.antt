@@ -1,5 +1,5 @@
 -- The plain disk: what each sector holds, where that is known, and what was asked of it.
-use Rattle.std.specs.Prelude.{ℕ, ◌+◌, ◌-◌, Bool, ◌&&◌, nat_le, nat_lt, List, [], ◌∷◌, fold, length, slice_get, Option, Some, None, if◌then◌else◌, ◌==◌}
+use Rattle.std.specs.Prelude.{ℕ, ◌+◌, ◌-◌, Bool, ◌&&◌, nat_le, nat_lt, List, [], fold, slice_get, Option, Some, None, if◌then◌else◌, ◌==◌}
 use Rattle.plain_disk.specs.declared.request.Request.{Request}
 use Rattle.plain_disk.specs.declared.request.Place.{Place}
 use Rattle.plain_disk.specs.declared.request.Noted.{Noted}

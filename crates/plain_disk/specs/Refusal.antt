@@ -1,5 +1,5 @@
 -- When a submission is refused, and how (the limits of `io/blkif.h`, the states of `io/xenbus.h`): what the report's earlier lines say decides.
-use Rattle.std.specs.Prelude.{◌≡◌, ℕ, ◌+◌, ◌-◌, ◌*◌, ◌/◌, ◌^◌, max, Bool, true, false, not, ◌&&◌, ◌||◌, List, [], ◌∷◌, fold, sum_by, count_by, length, Option, Some, None, if◌then◌else◌, ◌==◌, nat_lt, nat_le}
+use Rattle.std.specs.Prelude.{ℕ, ◌+◌, ◌*◌, ◌/◌, ◌^◌, max, Bool, true, false, not, ◌&&◌, ◌||◌, List, [], fold, sum_by, count_by, length, Option, Some, None, if◌then◌else◌, ◌==◌, nat_lt, nat_le}
 use Rattle.blk_base.specs.Options.{Options}
 use Rattle.blk_base.specs.declared.config.Job.{Job}
 use Rattle.blk_base.specs.declared.config.Job.TheVariants.{Read, Write, Barrier, Flush, Discard}

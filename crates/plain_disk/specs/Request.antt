@@ -1,10 +1,10 @@
 -- What the plain disk keeps of each request, and what each operation does to it (`io/blkif.h`).
-use Rattle.std.specs.Prelude.{ℕ, ◌+◌, ◌-◌, ◌^◌, ◌%◌, Bool, true, false, not, ◌&&◌, ◌||◌, List, [], ◌∷◌, count_by, ◌==◌, nat_lt, is_none, is_some, Option, Some, None, replicate}
+use Rattle.std.specs.Prelude.{ℕ, ◌+◌, ◌^◌, ◌%◌, Bool, true, false, not, ◌&&◌, ◌||◌, List, [], ◌∷◌, count_by, ◌==◌, nat_lt, is_none, is_some, None, replicate}
 use Rattle.std.specs.List.{list_any}
 use Rattle.blk_base.specs.declared.config.Job.{Job}
 use Rattle.blk_base.specs.declared.config.Job.TheVariants.{Read, Write, Barrier, Flush, Discard}
 use Rattle.plain_disk.specs.declared.request.Stage.{Stage}
-use Rattle.plain_disk.specs.declared.request.Stage.TheVariants.{Open, Telling, Finished}
+use Rattle.plain_disk.specs.declared.request.Stage.TheVariants.{Open, Finished}
 use Rattle.plain_disk.specs.declared.request.Request.{Request}
 use Rattle.plain_disk.specs.declared.request.Place.{Place}
 

@@ -1,6 +1,6 @@
 -- What a line of a report is for the plain disk (the operations of `io/blkif.h`): the disk after it, or none where the line can't stand there.
 -- A line that isn't named here leaves the disk as it is. "In this epoch" is since the last `epoch` line.
-use Rattle.std.specs.Prelude.{ℕ, ◌+◌, ◌-◌, Bool, true, false, not, ◌&&◌, ◌||◌, List, [], ◌∷◌, ◌++◌, filter, map, take, length, slice_set, Option, Some, None, option_and_then, if◌then◌else◌, ◌==◌, nat_eq, nat_lt, is_none}
+use Rattle.std.specs.Prelude.{ℕ, ◌+◌, ◌-◌, Bool, true, false, not, ◌&&◌, ◌||◌, List, [], ◌∷◌, ◌++◌, map, take, length, slice_set, Option, Some, None, option_and_then, if◌then◌else◌, ◌==◌, nat_eq, nat_lt, is_none}
 use Rattle.std.specs.List.{list_all}
 use Rattle.std.specs.Cmp.Lexicographic.{pointwise}
 use Rattle.blk_base.specs.declared.config.Job.{Job}
@@ -9,10 +9,9 @@ use Rattle.blk_base.specs.declared.operation.Status.TheVariants as status
 use Rattle.schedule_text.specs.declared.line.Line.{Line}
 use Rattle.schedule_text.specs.declared.line.Line.TheVariants as lines
 use Rattle.plain_disk.specs.declared.request.Stage.{Stage}
-use Rattle.plain_disk.specs.declared.request.Stage.TheVariants.{Open, Telling, Finished}
+use Rattle.plain_disk.specs.declared.request.Stage.TheVariants.{Telling, Finished}
 use Rattle.plain_disk.specs.declared.request.Request.{Request}
 use Rattle.plain_disk.specs.declared.request.Place.{Place}
-use Rattle.plain_disk.specs.declared.request.Noted.{Noted}
 use Rattle.plain_disk.specs.declared.request.Written.{Written}
 use Rattle.plain_disk.specs.Request.{opened, places_of, is_read, is_write, is_flush, is_discard, is_barrier, is_ordered, sector_of, count_of, filling, is_open, is_finished, may_serve, done_count, are_settled}
 use Rattle.plain_disk.specs.Disk.{Disk, words_at, request_of, noted_at}

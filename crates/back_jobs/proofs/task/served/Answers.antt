@@ -1,4 +1,3 @@
-use Rattle.std.proofs.Common.{rules, arith}
 use Rattle.segment_list.specs.declared.verdict.Kind.TheVariants.{Read, Write}
 use Rattle.back_jobs.proofs.task.served.Goals as goal
 
