@@ -1,13 +1,15 @@
 -- What an answer makes of the back, and of one of its jobs.
-use Rattle.std.specs.Prelude.{ℕ, ◌+◌, ◌%◌, ◌^◌, true, false, List, [], ◌∷◌, ◌++◌, Option, Some, None, if◌then◌else◌, ◌==◌}
+use Rattle.std.specs.Prelude.{ℕ, ◌+◌, ◌%◌, ◌^◌, true, false, List, [], ◌∷◌, ◌++◌, Option, Some, None, is_some, if◌then◌else◌, ◌==◌}
 use Rattle.blk_base.specs.declared.operation.Abi.TheVariants.{X64}
 use Rattle.blk_base.specs.declared.parts.Mapping.{Mapping}
+use Rattle.blk_base.specs.declared.ask.BackAsk.{BackAsk}
+use Rattle.blk_base.specs.declared.ask.BackAsk.TheVariants as ask
 use Rattle.blk_base.specs.declared.ask.BackAnswer.{BackAnswer}
 use Rattle.blk_base.specs.declared.ask.BackAnswer.TheVariants.{Done, Word, Mapped, MapRefused, BindRefused}
 use Rattle.ring_words.specs.Ring.{next_of, requests_of, overruns, notifies}
 use Rattle.blk_layout.specs.Entry.{request_of}
 use Rattle.back_jobs.specs.declared.effect.Effect.{Effect}
-use Rattle.back_jobs.specs.Jobs.{start_job, tell_job, without_done, first_mapping, behind_mapping, work_of, effect_of}
+use Rattle.back_jobs.specs.Jobs.{start_job, tell_job, without_done, first_mapping, behind_mapping, work_of, effect_of, ask_job, next_after}
 use Rattle.blk_back.specs.declared.stage.Reply.{Reply}
 use Rattle.blk_back.specs.declared.stage.Stage.{Stage}
 use Rattle.blk_back.specs.declared.stage.Stage.TheVariants as stage
@@ -102,6 +104,14 @@ step_at s v answer = v
 
 abbrev pub step_of : View → BackAnswer → View
 step_of v answer = step_at v.stage v answer
+
+-- what the job of a number asks; after a halt no job asks for anything
+abbrev pub job_ask_of : View → ℕ → BackAsk
+job_ask_of v number = if is_some v.halted then ask.Wait else ask_job v.jobs number
+
+-- the least number above this one of a job that is held; after a halt none is
+abbrev pub next_job_of : View → ℕ → Option ℕ
+next_job_of v after = if is_some v.halted then None else next_after v.jobs after
 
 -- what a job's move tells
 abbrev pub told_effect : Option Effect → Option BackTold

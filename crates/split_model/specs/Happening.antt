@@ -7,7 +7,6 @@ use Rattle.blk_base.specs.declared.moves.BackMover.TheVariants as back_mover
 use Rattle.schedule_text.specs.declared.line.Line.{Line}
 use Rattle.schedule_text.specs.declared.line.Line.TheVariants.{Move, Submit, Refuse}
 use Rattle.event_channel.specs.Channels.{sent}
-use Rattle.back_jobs.specs.Jobs.{ask_job}
 use Rattle.blk_front.specs.declared.told.Refusal.{Refusal}
 use Rattle.blk_front.specs.View as front
 use Rattle.blk_front.specs.Ask as front_ask
@@ -64,7 +63,7 @@ abbrev pub back_turn : World → Option BackAct
 back_turn w = back_act w back_mover.Back (back_ask.ask_of w.back) Took
 
 abbrev pub job_turn : World → ℕ → Outcome → Option BackAct
-job_turn w number outcome = back_act w (back_mover.Job number) (ask_job w.back.jobs number) outcome
+job_turn w number outcome = back_act w (back_mover.Job number) (back_step.job_ask_of w.back number) outcome
 
 abbrev pub submit_line : Job → Result ℕ Refusal → Line
 submit_line job (Ok number) = Submit number job

@@ -1,8 +1,7 @@
 // The back's jobs, and what it tells.
 ghost use Rattle.std.specs.Prelude.{◌≡◌, None};
 ghost use Rattle.blk_back.specs.Ask.{is_idle};
-ghost use Rattle.blk_back.specs.Step.{job_step, told_effect};
-ghost use Rattle.back_jobs.specs.Jobs.{ask_job, next_after};
+ghost use Rattle.blk_back.specs.Step.{job_step, told_effect, job_ask_of, next_job_of};
 ghost use Rattle.back_jobs.specs.Task.{IsAnswer};
 
 use super::Back;
@@ -12,28 +11,39 @@ use blk_base::{BackAnswer, BackAsk, Endpoint};
 
 impl Back {
     /// What the job of the `number`-th request that was fetched in this epoch asks next; `Wait` also
-    /// where there is none.
+    /// where there is none, and for every job after a halt.
     pub fn job_ask(&self, number: u64) -> BackAsk
-        ensures { result ≡ ask_job self.now.jobs number }
+        ensures { result ≡ job_ask_of self.now number }
     {
-        self.jobs.ask(number)
+        match self.halted {
+            Some(_) => BackAsk::Wait,
+            None => self.jobs.ask(number),
+        }
     }
 
     /// Tells the job of a number the answer to what it asks.
     pub fn job_tell(&mut self, number: u64, answer: BackAnswer)
-        requires answer { IsAnswer (ask_job self.old.jobs number) answer }
+        requires answer { IsAnswer (job_ask_of self.old number) answer }
         requires told { self.old.told ≡ None }
         ensures { self.new ≡ job_step self.old number answer }
     {
+        // After a halt jobs ask for nothing, so there is no answer to tell.
+        if let Some(_) = self.halted {
+            unreachable!();
+        }
         self.told = told_effect(self.jobs.effect(number, &answer));
         self.jobs.tell(number, answer);
     }
 
-    /// The least number above this one of a job that is held; `None` exactly where there is none.
+    /// The least number above this one of a job that is held; `None` exactly where there is none, and
+    /// always after a halt.
     pub fn next_job(&self, after: u64) -> Option<u64>
-        ensures { result ≡ next_after self.now.jobs after }
+        ensures { result ≡ next_job_of self.now after }
     {
-        self.jobs.next_after(after)
+        match self.halted {
+            Some(_) => None,
+            None => self.jobs.next_after(after),
+        }
     }
 
     /// Whether it asks for nothing but an event, and no job is held.
