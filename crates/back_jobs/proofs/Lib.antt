@@ -1,1 +1,4 @@
 pub mod Served
+pub mod Hands
+pub mod Sizes
+pub mod Order

@@ -1,3 +1,4 @@
 pub mod Task
 pub mod Sound
 pub mod Jobs
+pub mod Hands

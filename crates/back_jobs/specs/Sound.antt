@@ -1,13 +1,14 @@
 -- What is true of a job at every moment.
-use Rattle.std.specs.Prelude.{ℕ, ◌+◌, ◌-◌, ◌<◌, ◌≤◌, List, [], ◌∷◌}
+use Rattle.std.specs.Prelude.{◌≡◌, ℕ, ◌+◌, ◌-◌, ◌<◌, ◌≤◌, true, false, List, [], ◌∷◌, All}
 use Rattle.std.specs.List.{AllByRecursion}
+use Rattle.blk_base.specs.declared.parts.Mapping.{Mapping}
 use Rattle.blk_base.specs.declared.ask.BackAsk.{BackAsk}
 use Rattle.blk_base.specs.declared.ask.BackAsk.TheVariants as ask
 use Rattle.blk_layout.specs.declared.segment.Segment.{Segment}
 use Rattle.segment_list.specs.Segments.{IsSound, sectors_of}
 use Rattle.back_jobs.specs.declared.stage.Stage.{Stage}
 use Rattle.back_jobs.specs.declared.stage.Stage.TheVariants as stage
-use Rattle.back_jobs.specs.Task.{Work}
+use Rattle.back_jobs.specs.Task.{Work, mode_of}
 
 -- the present segment has come as far as `within`; after `ahead` more sectors of it, those of the others lie on the disk
 abbrev pub IsUnderWay : Work → ℕ → List Segment → Type 0
@@ -19,15 +20,24 @@ abbrev pub IsLeft : Work → List Segment → Type 0
 IsLeft t [] = ⊥
 IsLeft t (s ∷ rest) = (t.disk + sectors_of rest ≤ t.size) × AllByRecursion IsSound rest
 
+-- a mapping in the hand of a job was made in the mode that its request needs
+abbrev pub IsInMode : Mapping → Work → Type 0
+IsInMode m t = m.mode ≡ mode_of t.writes
+
+-- words go from the frame to the disk in a job that writes, and from the disk to the frame in one that reads
 abbrev pub IsPlaced : Stage → Work → Type 0
 IsPlaced stage.Map t = IsUnderWay t 1 t.rest
-IsPlaced (stage.ReadWord m k) t = (k < 128) × IsUnderWay t 1 t.rest
-IsPlaced (stage.DiskWrite m) t = IsUnderWay t 1 t.rest
-IsPlaced (stage.DiskRead m) t = IsUnderWay t 1 t.rest
-IsPlaced (stage.WriteWord m k) t = (k < 128) × IsUnderWay t 0 t.rest
-IsPlaced (stage.Unmap m) t = IsLeft t t.rest
-IsPlaced (stage.GiveUp m) t = Unit {0}
+IsPlaced (stage.ReadWord m k) t = (k < 128) × IsUnderWay t 1 t.rest × IsInMode m t × (t.writes ≡ true)
+IsPlaced (stage.DiskWrite m) t = IsUnderWay t 1 t.rest × IsInMode m t × (t.writes ≡ true)
+IsPlaced (stage.DiskRead m) t = IsUnderWay t 1 t.rest × IsInMode m t × (t.writes ≡ false)
+IsPlaced (stage.WriteWord m k) t = (k < 128) × IsUnderWay t 0 t.rest × IsInMode m t × (t.writes ≡ false)
+IsPlaced (stage.Unmap m) t = IsLeft t t.rest × IsInMode m t
+IsPlaced (stage.GiveUp m) t = IsInMode m t
 IsPlaced (stage.Done status) t = Unit {0}
+
+-- every job knows the disk's size
+abbrev pub AreSized : ℕ → List Work → Type 0
+AreSized size works = All (λ (t : Work). t.size ≡ size) works
 
 -- segments that a job may begin with: there is one, each has a sector and none beyond its frame, and all lie on the disk
 abbrev pub AreMovable : ℕ → ℕ → List Segment → Type 0

@@ -1,9 +1,10 @@
 // All jobs of the back.
-ghost use Rattle.std.specs.Prelude.{◌≡◌, ◌<◌, ◌+◌, ◌↔◌, IfOk, IfSome, IsSome, IsTrue, length, vec_capacity};
+ghost use Rattle.std.specs.Prelude.{◌≡◌, ◌<◌, ◌≤◌, ◌+◌, ◌↔◌, IfOk, IfSome, IsSome, IsTrue, length, vec_capacity};
 ghost use Rattle.std.specs.Option.{option_map};
 ghost use Rattle.std.specs.Prelude.{option_and_then, position};
 ghost use Rattle.back_jobs.specs.Task.{IsAnswer, step_of};
 ghost use Rattle.back_jobs.specs.Sound.{IsWithin};
+ghost use Rattle.back_jobs.specs.Hands.{hands_in, Names};
 ghost use Rattle.back_jobs.specs.Jobs.{none_held, place_of, work_of, ask_job, tell_job, start_job, without_done, first_mapping, behind_mapping, effect_of, done_of, is_done, response_of, next_after};
 ghost use Rattle.back_jobs.specs.Task.{Work};
 ghost use Rattle.ring_words.specs.Shape.{entries_of};
@@ -29,12 +30,13 @@ pub struct Jobs {
 impl Model for Jobs {
     ghost use Rattle.std.specs.Prelude.{◌≤◌, vec_capacity};
     ghost use Rattle.back_jobs.specs.Jobs.{Held};
+    ghost use Rattle.back_jobs.specs.Sound.{AreSized};
 
     ghost Value = { Held };
 
     ghost view = { λ j. record { works = j.tasks.items; room = j.room; info = j.info } };
 
-    ghost invariant = { λ j. j.room ≤ vec_capacity j.tasks };
+    ghost invariant = { λ j. (j.room ≤ vec_capacity j.tasks) × AreSized j.info.sectors j.tasks.items };
 }
 
 impl Jobs {
@@ -68,7 +70,9 @@ impl Jobs {
 
     /// What the job of a number asks next; `Wait` also where none has it.
     pub fn ask(&self, number: u64) -> BackAsk
-        ensures { result ≡ ask_job self.now number }
+        ensures value { result ≡ ask_job self.now number }
+        ensures within { IsWithin self.now.info.sectors result }
+        ensures names { Names (hands_in self.now.works) result }
     {
         match self.place(number) {
             None => BackAsk::Wait,
@@ -165,6 +169,7 @@ impl Jobs {
     pub fn give_up(&mut self) -> Option<Mapping>
         ensures mapping { result ≡ first_mapping self.old.works }
         ensures rest { self.new ≡ record self.old { works = behind_mapping self.old.works } }
+        ensures no_more { length self.new.works ≤ length self.old.works }
     {
         give_up_first(&mut self.tasks)
     }

@@ -1,7 +1,8 @@
 // One job.
 ghost use Rattle.std.specs.Prelude.{◌≡◌, ◌<◌, ◌≤◌, length, take};
 ghost use Rattle.back_jobs.specs.Task.{ask_of, map_ask, step_of, step_at, IsAnswer, next_sector, next_segment, counted, sector_stage, rest_of, first_of, last_of, IsUnmap, IsDone, id_of, response_op, begun, served, moving, ended};
-ghost use Rattle.back_jobs.specs.Sound.{IsWithin, AreMovable};
+ghost use Rattle.back_jobs.specs.Sound.{IsWithin, IsInMode, AreMovable};
+ghost use Rattle.back_jobs.specs.Hands.{hand_of, Names};
 ghost use Rattle.back_jobs.specs.Jobs.{is_done, response_of, mapping_at, effect_at};
 ghost use Rattle.segment_list.specs.declared.verdict.Plan.{Plan};
 ghost use Rattle.segment_list.specs.Verdict.{verdict_of, transfer_verdict};
@@ -139,6 +140,7 @@ impl Task {
     pub fn ask(&self) -> BackAsk
         ensures value { result ≡ ask_of self.now }
         ensures within { IsWithin self.now.size result }
+        ensures names { Names (hand_of self.now) result }
     {
         match self.stage {
             Stage::Map => self.map(),
@@ -210,7 +212,8 @@ impl Task {
 impl Task {
     // The present segment's frame is mapped.
     fn begin_sector(&mut self, mapping: Mapping)
-        requires { self.old.stage ≡ stage.Map }
+        requires stage { self.old.stage ≡ stage.Map }
+        requires mode { IsInMode mapping self.old }
         ensures { self.new ≡ record self.old { stage = sector_stage self.old.writes mapping } }
     {
         if self.writes {

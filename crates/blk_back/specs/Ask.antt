@@ -1,5 +1,5 @@
 -- What the back asks.
-use Rattle.std.specs.Prelude.{ℕ, ◌<◌, Bool, true, false, ◌&&◌, length, Option, Some, None, option_and_then, if◌then◌else◌, ◌==◌, slice_index}
+use Rattle.std.specs.Prelude.{◌≡◌, ℕ, ◌<◌, Bool, true, false, ◌&&◌, length, Option, Some, None, option_and_then, if◌then◌else◌, ◌==◌, slice_index}
 use Rattle.blk_base.specs.declared.operation.Status.{Status}
 use Rattle.blk_base.specs.declared.parts.Mode.TheVariants.{ReadWrite}
 use Rattle.blk_base.specs.declared.ask.BackAsk.{BackAsk}
@@ -67,7 +67,7 @@ IsAnswer Wait answer.Event = Unit {0}
 IsAnswer Fence answer.Done = Unit {0}
 IsAnswer (Read m word) (answer.Word value) = Unit {0}
 IsAnswer (Write m word value) answer.Done = Unit {0}
-IsAnswer (Map gref mode) (answer.Mapped m) = Unit {0}
+IsAnswer (Map gref mode) (answer.Mapped m) = (m.gref ≡ gref) × (m.mode ≡ mode)
 IsAnswer (Map gref mode) (answer.MapRefused status) = Unit {0}
 IsAnswer (Unmap m) answer.Done = Unit {0}
 IsAnswer (Bind port) answer.Done = Unit {0}

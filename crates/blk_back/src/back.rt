@@ -1,8 +1,10 @@
 // The back end.
-ghost use Rattle.std.specs.Prelude.{◌≡◌, ◌<◌, IfOk, IsOk, IsErr, OnErr, None, length};
+ghost use Rattle.std.specs.Prelude.{◌≡◌, ◌<◌, ◌≤◌, IfOk, IsOk, IsErr, OnErr, None, length};
 ghost use Rattle.blk_back.specs.View.{start_of, slot_word};
 ghost use Rattle.blk_back.specs.Ask.{ask_of, loop_ask, reply_ask, next_reply, response_word, IsAnswer, IsWithin};
 ghost use Rattle.blk_back.specs.Step.{step_of, step_at, job_step};
+ghost use Rattle.blk_back.specs.Hands.{hands_of};
+ghost use Rattle.back_jobs.specs.Hands.{Names, HandsAfter};
 ghost use Rattle.back_jobs.specs.Jobs.{ask_job, next_after};
 ghost use Rattle.back_jobs.specs.Task.{IsAnswer as IsJobAnswer};
 
@@ -179,6 +181,30 @@ impl Endpoint for Back {
     fn ask(&self) -> BackAsk
         ensures value { result ≡ ask_of self.now }
         ensures within { IsWithin result }
+        ensures names { Names (hands_of self.now) result }
+        ensures few { length (hands_of self.now) ≤ 34 }
+    {
+        // Opens the back, for what is true of it at every moment.
+        let _ = &self.page;
+        self.next_ask()
+    }
+
+    fn tell(&mut self, answer: BackAnswer) -> Result<(), OutOfMemory>
+        requires { IsAnswer (ask_of self.old) answer × (self.old.told ≡ None) }
+        ensures told { self.new ≡ step_of self.old answer }
+        ensures hands { HandsAfter (ask_of self.old) answer (hands_of self.old) (hands_of self.new) }
+        ensures takes_no_memory { IsOk result }
+    {
+        self.step(answer);
+        Ok(())
+    }
+}
+
+impl Back {
+    // What is asked at each stage.
+    fn next_ask(&self) -> BackAsk
+        ensures value { result ≡ ask_of self.now }
+        ensures within { IsWithin result }
     {
         match self.stage {
             Stage::MapRing => BackAsk::Map {
@@ -205,10 +231,10 @@ impl Endpoint for Back {
         }
     }
 
-    fn tell(&mut self, answer: BackAnswer) -> Result<(), OutOfMemory>
-        requires { IsAnswer (ask_of self.old) answer × (self.old.told ≡ None) }
-        ensures told { self.new ≡ step_of self.old answer }
-        ensures takes_no_memory { IsOk result }
+    // What an answer makes of it at each stage.
+    fn step(&mut self, answer: BackAnswer)
+        requires { IsAnswer (ask_of self.old) answer }
+        ensures { self.new ≡ step_of self.old answer }
     {
         match (self.stage, answer) {
             (Stage::MapRing, BackAnswer::Mapped(mapping)) => self.mapped(mapping),
@@ -232,6 +258,5 @@ impl Endpoint for Back {
             (Stage::UnmapUnbound, _) => self.stage = Stage::Halted,
             _ => {}
         }
-        Ok(())
     }
 }

@@ -32,7 +32,11 @@ fn tell(back: &mut Back, given: BackAnswer) -> Result<Option<BackTold>, OutOfMem
         (BackAsk::Fence, BackAnswer::Done) => back.tell(given)?,
         (BackAsk::Read { .. }, BackAnswer::Word(_)) => back.tell(given)?,
         (BackAsk::Write { .. }, BackAnswer::Done) => back.tell(given)?,
-        (BackAsk::Map { .. }, BackAnswer::Mapped(_)) => back.tell(given)?,
+        (BackAsk::Map { gref, mode }, BackAnswer::Mapped(m)) => {
+            if m.gref == gref && m.mode == mode {
+                back.tell(given)?;
+            }
+        }
         (BackAsk::Map { .. }, BackAnswer::MapRefused(_)) => back.tell(given)?,
         (BackAsk::Unmap(_), BackAnswer::Done) => back.tell(given)?,
         (BackAsk::Bind(_), BackAnswer::Done) => back.tell(given)?,

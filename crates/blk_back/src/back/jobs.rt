@@ -1,8 +1,11 @@
 // The back's jobs, and what it tells.
-ghost use Rattle.std.specs.Prelude.{◌≡◌, None};
+ghost use Rattle.std.specs.Prelude.{◌≡◌, ◌<◌, ◌≤◌, None, IfSome, length};
 ghost use Rattle.blk_back.specs.Ask.{is_idle};
 ghost use Rattle.blk_back.specs.Step.{job_step, told_effect, job_ask_of, next_job_of};
+ghost use Rattle.blk_back.specs.Hands.{hands_of};
 ghost use Rattle.back_jobs.specs.Task.{IsAnswer};
+ghost use Rattle.back_jobs.specs.Sound.{IsWithin};
+ghost use Rattle.back_jobs.specs.Hands.{Names, HandsAfter};
 
 use super::Back;
 use crate::told::{BackTold, Halt};
@@ -13,7 +16,10 @@ impl Back {
     /// What the job of the `number`-th request that was fetched in this epoch asks next; `Wait` also
     /// where there is none, and for every job after a halt.
     pub fn job_ask(&self, number: u64) -> BackAsk
-        ensures { result ≡ job_ask_of self.now number }
+        ensures value { result ≡ job_ask_of self.now number }
+        ensures within { IsWithin self.now.jobs.info.sectors result }
+        ensures names { Names (hands_of self.now) result }
+        ensures few { length (hands_of self.now) ≤ 34 }
     {
         match self.halted {
             Some(_) => BackAsk::Wait,
@@ -25,7 +31,8 @@ impl Back {
     pub fn job_tell(&mut self, number: u64, answer: BackAnswer)
         requires answer { IsAnswer (job_ask_of self.old number) answer }
         requires told { self.old.told ≡ None }
-        ensures { self.new ≡ job_step self.old number answer }
+        ensures stepped { self.new ≡ job_step self.old number answer }
+        ensures hands { HandsAfter (job_ask_of self.old number) answer (hands_of self.old) (hands_of self.new) }
     {
         // After a halt jobs ask for nothing, so there is no answer to tell.
         if let Some(_) = self.halted {
@@ -36,9 +43,11 @@ impl Back {
     }
 
     /// The least number above this one of a job that is held; `None` exactly where there is none, and
-    /// always after a halt.
+    /// always after a halt. At most 32 are held.
     pub fn next_job(&self, after: u64) -> Option<u64>
-        ensures { result ≡ next_job_of self.now after }
+        ensures value { result ≡ next_job_of self.now after }
+        ensures above { IfSome result (λ next. after < next) }
+        ensures few { length self.now.jobs.works ≤ 32 }
     {
         match self.halted {
             Some(_) => None,

@@ -1,5 +1,6 @@
 // What the back makes of each answer.
 ghost use Rattle.std.specs.Prelude.{◌≡◌, ◌<◌, [], ◌∷◌, ◌++◌, Some};
+ghost use Rattle.blk_base.specs.declared.parts.Mode.TheVariants.{ReadWrite};
 ghost use Rattle.blk_base.specs.declared.ask.BackAnswer.TheVariants.{Word, Done, Mapped, MapRefused, BindRefused};
 ghost use Rattle.blk_back.specs.declared.stage.Stage.TheVariants as stage;
 ghost use Rattle.blk_back.specs.Ask.{loop_ask, next_reply, IsAnswer};
@@ -15,7 +16,8 @@ use ring_words::notify;
 
 impl Back {
     pub(super) fn mapped(&mut self, mapping: Mapping)
-        requires { self.old.stage ≡ stage.MapRing }
+        requires stage { self.old.stage ≡ stage.MapRing }
+        requires mode { mapping.mode ≡ ReadWrite }
         ensures { self.new ≡ step_at stage.MapRing self.old (Mapped mapping) }
     {
         self.page = mapping;
@@ -110,6 +112,7 @@ impl Back {
 
     // The requests' producer overran the ring.
     fn overrun(&mut self, word: u32)
+        requires { self.old.page.mode ≡ ReadWrite }
         ensures { self.new ≡ overrun self.old word }
     {
         self.halted = Some(Halt::Overrun {
@@ -121,6 +124,7 @@ impl Back {
 
     /// Gives up the jobs as far as the next mapping in a job's hand.
     pub(super) fn give_up(&mut self)
+        requires { self.old.page.mode ≡ ReadWrite }
         ensures { self.new ≡ give_up self.old }
     {
         self.stage = match self.jobs.give_up() {

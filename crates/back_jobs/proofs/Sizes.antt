@@ -1,0 +1,115 @@
+-- Every job knows the disk's size, and names only what it may.
+use Rattle.std.proofs.Common.{◌≡◌, ℕ, ◌+◌, Bool, true, false, if◌then◌else◌, cond, List, [], ◌∷◌, ◌++◌, take, refl, sym, ap, ◌∙◌, suc, arith}
+use Rattle.std.specs.Prelude.{Option, Some, None, Contains, is_some, remove, ◌==◌, nat_le}
+use Rattle.std.proofs.lemmas.Option.{get_or_from_slice_get, slice_get_within}
+use Rattle.std.proofs.lemmas.List.Elements.{All-tail, All-set, All-push, All-append, All-take, All-drop, All-get_or}
+use Rattle.blk_base.specs.declared.parts.Mapping.{Mapping}
+use Rattle.blk_base.specs.declared.operation.Status.TheVariants.{Error}
+use Rattle.blk_base.specs.declared.ask.BackAnswer.{BackAnswer}
+use Rattle.blk_base.specs.declared.ask.BackAnswer.TheVariants as answer
+use Rattle.blk_layout.specs.declared.segment.Segment.{Segment}
+use Rattle.blk_layout.specs.declared.request.RawRequest.{RawRequest}
+use Rattle.blk_layout.specs.declared.request.RawRequest.TheVariants.{Direct, Discard, Indirect}
+use Rattle.segment_list.specs.declared.verdict.Verdict.{Verdict}
+use Rattle.segment_list.specs.declared.verdict.Verdict.TheVariants as verdict
+use Rattle.back_jobs.specs.declared.stage.Stage.{Stage}
+use Rattle.back_jobs.specs.declared.stage.Stage.TheVariants as stage
+use Rattle.back_jobs.specs.Task.{Work, ask_of, ask_at, map_ask, mode_of, step_of, step_at, sector_stage, next_sector, next_segment, counted, rest_of, last_of, begun, served, moving, ended}
+use Rattle.back_jobs.specs.Jobs.{mapping_at, work_at, told_at, behind_mapping}
+use Rattle.back_jobs.specs.Sound.{AreSized, IsPlaced, IsWithin}
+use Rattle.back_jobs.specs.Hands.{hand_of, Names}
+use Rattle.back_jobs.proofs.Hands.{hand_at}
+
+either_size : (b : Bool) (x y : Work) (size : ℕ) → x.size ≡ size → y.size ≡ size → (if b then x else y).size ≡ size
+either_size true x y size p q = p
+either_size false x y size p q = q
+
+next_sector_size : (t : Work) (m : Mapping) → (next_sector t m).size ≡ t.size
+next_sector_size t m = either_size (t.within == last_of t.rest) (record t { stage = stage.Unmap m }) (record t { within = t.within + 1; stage = sector_stage t.writes m }) t.size refl refl
+
+next_segment_size : (t : Work) (rest : List Segment) → (next_segment t rest).size ≡ t.size
+next_segment_size t [] = refl
+next_segment_size t (s ∷ rest) = refl
+
+step_size_at : (s : Stage) (t : Work) (given : BackAnswer) → (step_at s t given).size ≡ t.size
+step_size_at stage.Map t (answer.Mapped m) = refl
+step_size_at stage.Map t (answer.MapRefused status) = refl
+step_size_at (stage.ReadWord m k) t (answer.Word word) = refl
+step_size_at (stage.DiskWrite m) t answer.Done = next_sector_size (counted t) m
+step_size_at (stage.DiskWrite m) t answer.DiskFailed = refl
+step_size_at (stage.DiskRead m) t (answer.Sector words) = refl
+step_size_at (stage.DiskRead m) t answer.DiskFailed = refl
+step_size_at (stage.WriteWord m k) t answer.Done = either_size (k == 127) (next_sector t m) (record t { stage = stage.WriteWord m (k + 1) }) t.size (next_sector_size t m) refl
+step_size_at (stage.Unmap m) t answer.Done = next_segment_size t (rest_of t.rest)
+step_size_at (stage.GiveUp m) t answer.Done = refl
+step_size_at s t given = refl
+
+-- an answer leaves a job the disk's size
+pub step_size : (t : Work) (given : BackAnswer) → (step_of t given).size ≡ t.size
+step_size t given = step_size_at t.stage t given
+
+served_size : (number : ℕ) (request : RawRequest) (size : ℕ) → (served number request size).size ≡ size
+served_size number (Direct op count device id sector segments) size = either_size (nat_le op 1) (moving number (Direct op count device id sector segments) size (op == 1) sector (take count segments)) (ended number (Direct op count device id sector segments) size (stage.Done Error)) size refl refl
+served_size number (Discard flag device id sector count) size = refl
+served_size number (Indirect op count device id sector pages) size = refl
+
+-- a job begins with the disk's size
+pub begun_size : (number : ℕ) (request : RawRequest) (size : ℕ) (v : Verdict) → (begun number request size v).size ≡ size
+begun_size number request size (verdict.Serve plan) = served_size number request size
+begun_size number request size (verdict.Error why) = refl
+begun_size number request size verdict.Unsupported = refl
+
+abbrev Sized : ℕ → Work → Type 0
+Sized size t = t.size ≡ size
+
+-- a job that may have been added, where there was room for it
+pub started_sized : (size : ℕ) (added : Bool) (works : List Work) (t : Work) → AreSized size works → t.size ≡ size → AreSized size (if added then works ++ t ∷ [] else works)
+started_sized size true works t all this = All-push (Sized size) works t all this
+started_sized size false works t all this = all
+
+-- told a job's answer, all know it still
+pub told_sized : (size : ℕ) (works : List Work) (place : Option ℕ) (found : Option Work) (given : BackAnswer) → work_at works place ≡ found → AreSized size works → AreSized size (told_at works place found given)
+told_sized size works None found given h all = all
+told_sized size works (Some place) None given h all = all
+told_sized size works (Some place) (Some t) given h all =
+    let within = slice_get_within works place t h in
+    let same = get_or_from_slice_get works place t t h in
+    let this = All-get_or (Sized size) works place t within all in
+    All-set (Sized size) works place (step_of t given) (step_size t given ∙ ap (λ (u : Work). u.size) (sym same) ∙ this) all
+
+-- so do those that are left when one is removed
+pub removed_sized : (size : ℕ) (works : List Work) (place : ℕ) → AreSized size works → AreSized size (remove works place)
+removed_sized size works place all = All-append (Sized size) _ _ (All-take (Sized size) place works all) (All-drop (Sized size) (suc place) works all)
+
+behind_sized_at : (size : ℕ) (b : Bool) (works : List Work) → AreSized size works → AreSized size (behind_mapping works) → AreSized size (cond b works (behind_mapping works))
+behind_sized_at size true works all less = all
+behind_sized_at size false works all less = less
+
+-- and those behind a mapping
+pub behind_sized : (size : ℕ) (works : List Work) → AreSized size works → AreSized size (behind_mapping works)
+behind_sized size [] all = all
+behind_sized size (t ∷ works) all =
+    let rest = All-tail (Sized size) t works all in
+    behind_sized_at size (is_some (mapping_at t.stage)) works rest (behind_sized size works rest)
+
+-- a single mapping
+pub only : (m : Mapping) → Contains (m ∷ []) m
+only m = (0, omega arith, refl)
+
+names_map : (size : ℕ) (rest : List Segment) (writes : Bool) → Names [] (map_ask rest writes)
+names_map size [] writes = tt
+names_map size (s ∷ rest) writes = tt
+
+names_at : (size : ℕ) (s : Stage) (t : Work) → IsPlaced s t → IsWithin size (ask_at s t) → Names (hand_at s) (ask_at s t)
+names_at size stage.Map t placed within = names_map size t.rest t.writes
+names_at size (stage.ReadWord m k) t placed within = (only m, within)
+names_at size (stage.DiskWrite m) t placed within = tt
+names_at size (stage.DiskRead m) t placed within = tt
+names_at size (stage.WriteWord m k) t placed within = (only m, placed.2 ∙ ap mode_of placed.3, within)
+names_at size (stage.Unmap m) t placed within = only m
+names_at size (stage.GiveUp m) t placed within = only m
+names_at size (stage.Done status) t placed within = tt
+
+-- a job names what is in its hand, and writes only to a frame that it mapped for writing
+pub names_hand : (size : ℕ) (t : Work) → IsPlaced t.stage t → IsWithin size (ask_of t) → Names (hand_of t) (ask_of t)
+names_hand size t placed within = names_at size t.stage t placed within

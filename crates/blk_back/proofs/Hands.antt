@@ -1,0 +1,234 @@
+-- The mappings that the back and its jobs hold.
+use Rattle.std.proofs.Common.{◌≡◌, ℕ, ◌+◌, ◌<◌, ◌≤◌, Bool, true, false, if◌then◌else◌, List, [], ◌∷◌, ◌++◌, length, refl, ap, ◌∙◌, arith, length-append}
+use Rattle.std.specs.Prelude.{Option, Some, None, Contains, option_to_list, is_some, ◌==◌}
+use Rattle.std.proofs.lemmas.Option.{none-some}
+use Rattle.std.proofs.lemmas.List.Elements.{Contains-push}
+use Rattle.blk_base.specs.declared.parts.Mapping.{Mapping}
+use Rattle.blk_base.specs.declared.ask.BackAsk.{BackAsk}
+use Rattle.blk_base.specs.declared.ask.BackAsk.TheVariants as ask
+use Rattle.blk_base.specs.declared.ask.BackAnswer.{BackAnswer}
+use Rattle.blk_base.specs.declared.ask.BackAnswer.TheVariants as answer
+use Rattle.blk_layout.specs.Entry.{request_of}
+use Rattle.blk_base.specs.declared.operation.Abi.TheVariants.{X64}
+use Rattle.ring_words.specs.Ring.{requests_of, overruns, notifies}
+use Rattle.back_jobs.specs.Task.{IsAnswer as IsJobAnswer}
+use Rattle.back_jobs.specs.Jobs.{place_of, work_of, ask_job, first_mapping, behind_mapping, next_after}
+use Rattle.back_jobs.specs.Hands.{hands_in, Names, HasOneMore, HandsAfter}
+use Rattle.back_jobs.proofs.Hands.{framed, named_among, told_hands, done_hands, started_hands, behind_hands, few_in_hands}
+use Rattle.back_jobs.proofs.Order.{next_above}
+use Rattle.segment_list.specs.declared.verdict.DiskInfo.{DiskInfo}
+use Rattle.blk_back.specs.declared.told.Halt.TheVariants as halt
+use Rattle.blk_back.specs.declared.stage.Reply.{Reply}
+use Rattle.blk_back.specs.declared.stage.Stage.{Stage}
+use Rattle.blk_back.specs.declared.stage.Stage.TheVariants as stage
+use Rattle.blk_back.specs.View.{View, slot_word}
+use Rattle.blk_back.specs.Ask.{ask_at, ask_of, loop_ask, next_reply, IsAnswer, IsWithin}
+use Rattle.blk_back.specs.Step.{giving_up, give_up, overrun, looked, loop_word, loop_step, fetched, fetch_step, next_number, step_at, step_of, job_ask_of, job_step, next_job_of}
+use Rattle.blk_back.specs.Sound.{IsMapped}
+use Rattle.blk_back.specs.Hands.{given_up, page_at, hands_at, hands_of}
+
+-- what is held while the ring's page is, and nothing is being given up
+abbrev connected : View → List Mapping
+connected v = hands_in v.jobs.works ++ v.page ∷ []
+
+either : (b : Bool) (x y : View) (l : List Mapping) → hands_of x ≡ l → hands_of y ≡ l → hands_of (if b then x else y) ≡ l
+either true x y l p q = p
+either false x y l p q = q
+
+either_stage : (b : Bool) (x y : Stage) (v : View) (l : List Mapping) → hands_at x v ≡ l → hands_at y v ≡ l → hands_at (if b then x else y) v ≡ l
+either_stage true x y v l p q = p
+either_stage false x y v l p q = q
+
+given_apart : (m : Option Mapping) (rest : List Mapping) (page : Mapping) → given_up (giving_up m) ++ (rest ++ page_at (giving_up m) page) ≡ (option_to_list m ++ rest) ++ page ∷ []
+given_apart None rest page = refl
+given_apart (Some m) rest page = refl
+
+-- to begin to give up the jobs gives up none of what they hold
+give_up_hands : (v : View) → hands_of (give_up v) ≡ connected v
+give_up_hands v =
+    given_apart (first_mapping v.jobs.works) (hands_in (behind_mapping v.jobs.works)) v.page
+    ∙ ap (λ (l : List Mapping). l ++ v.page ∷ []) (behind_hands v.jobs.works)
+
+looked_hands : (v : View) (word : ℕ) (otherwise : View) → hands_of otherwise ≡ connected v → hands_of (looked v word otherwise) ≡ connected v
+looked_hands v word otherwise h =
+    either (overruns v.ring word) (overrun v word) (if word == v.ring.cons then otherwise else record v { seen = word; stage = stage.Loop }) (connected v)
+    (give_up_hands (record v { halted = Some (halt.Overrun word v.ring.prod) }))
+    (either (word == v.ring.cons) otherwise (record v { seen = word; stage = stage.Loop }) (connected v) h refl)
+
+loop_word_hands : (v : View) (word : ℕ) → hands_of (loop_word v word) ≡ connected v
+loop_word_hands v word =
+    either (requests_of v.ring v.seen == 0) (looked v word (record v { seen = word; stage = stage.StoreEvent })) (record v { entry = word ∷ []; stage = stage.Fetch 1 }) (connected v)
+    (looked_hands v word (record v { seen = word; stage = stage.StoreEvent }) refl)
+    refl
+
+loop_hands : (v : View) (r : Option Reply) (given : BackAnswer) → v.stage ≡ stage.Loop → hands_of (loop_step v r given) ≡ connected v
+loop_hands v (Some r) given here = ap (λ (l : List Mapping). l ++ v.page ∷ []) (done_hands v.jobs)
+loop_hands v None (answer.Word word) here = loop_word_hands v word
+loop_hands v None given here = ap (λ (s : Stage). hands_at s v) here
+
+either_after : (b : Bool) (x y : BackAsk) (given : BackAnswer) (before after : List Mapping) → HandsAfter x given before after → HandsAfter y given before after → HandsAfter (if b then x else y) given before after
+either_after true x y given before after p q = p
+either_after false x y given before after p q = q
+
+-- in the loop nothing is mapped or given up
+loop_after : (v : View) (r : Option Reply) (given : BackAnswer) (before after : List Mapping) → after ≡ before → HandsAfter (loop_ask v r) given before after
+loop_after v (Some r) given before after h = h
+loop_after v None given before after h =
+    either_after v.asleep ask.Wait (if requests_of v.ring v.seen == 0 then ask.Read v.page 0 else ask.Read v.page (slot_word v.ring.cons 0)) given before after h
+    (either_after (requests_of v.ring v.seen == 0) (ask.Read v.page 0) (ask.Read v.page (slot_word v.ring.cons 0)) given before after h h)
+
+fetched_hands : (v : View) (k word : ℕ) → hands_of (fetch_step v k word) ≡ connected v
+fetched_hands v k word =
+    either (k == 27) (fetched v (v.entry ++ word ∷ [])) (record v { entry = v.entry ++ word ∷ []; stage = stage.Fetch (k + 1) }) (connected v)
+    (ap (λ (l : List Mapping). l ++ v.page ∷ []) (started_hands v.jobs (next_number v) (request_of X64 (v.entry ++ word ∷ []))))
+    refl
+
+-- the page is held last
+page_more : (m : Mapping) (works : List Mapping) → HasOneMore m (works ++ []) (works ++ m ∷ [])
+page_more m works = record { front = works; rest = []; without = refl; with_it = refl }
+
+hands_after_at : (s : Stage) (v : View) (given : BackAnswer) → v.stage ≡ s → IsAnswer (ask_at s v) given → HandsAfter (ask_at s v) given (hands_at s v) (hands_of (step_at s v given))
+hands_after_at stage.MapRing v (answer.Mapped m) here h = page_more m (hands_in v.jobs.works)
+hands_after_at stage.MapRing v (answer.MapRefused status) here h = refl
+hands_after_at stage.Bind v answer.Done here h = refl
+hands_after_at stage.Bind v answer.BindRefused here h = refl
+hands_after_at stage.Loop v given here h = loop_after v (next_reply v) given (hands_at stage.Loop v) (hands_of (loop_step v (next_reply v) given)) (loop_hands v (next_reply v) given here)
+hands_after_at (stage.Fetch k) v (answer.Word word) here h = fetched_hands v k word
+hands_after_at (stage.ReplyHigh r) v given here h = refl
+hands_after_at (stage.ReplyLast r) v given here h = refl
+hands_after_at (stage.Producer r) v given here h = refl
+hands_after_at (stage.ProducerFence old) v given here h = refl
+hands_after_at (stage.ResponseEvent old) v (answer.Word event) here h = either_stage (notifies old v.ring.prod event) stage.Send stage.Loop v (connected v) refl refl
+hands_after_at stage.Send v given here h = refl
+hands_after_at stage.StoreEvent v given here h = refl
+hands_after_at stage.EventFence v given here h = refl
+hands_after_at stage.LookAgain v (answer.Word word) here h = looked_hands v word (record v { seen = word; stage = stage.Loop; asleep = true }) refl
+hands_after_at (stage.GiveUp m) v answer.Done here h = record { front = []; rest = connected v; without = give_up_hands v; with_it = refl }
+hands_after_at stage.UnmapRing v answer.Done here h = page_more v.page (hands_in v.jobs.works)
+hands_after_at stage.ClosePort v given here h = refl
+hands_after_at stage.UnmapUnbound v answer.Done here h = page_more v.page (hands_in v.jobs.works)
+hands_after_at stage.Halted v given here h = ap (λ (s : Stage). hands_at s v) here
+hands_after_at s v given here h = absurd h
+
+-- what an answer to the back makes of what is held
+pub hands_after : (v : View) (given : BackAnswer) → IsAnswer (ask_of v) given → HandsAfter (ask_of v) given (hands_of v) (hands_of (step_of v given))
+hands_after v given h = hands_after_at v.stage v given refl h
+
+-- the jobs' hands among all
+framed_job : (a : BackAsk) (v : View) (given : BackAnswer) (number : ℕ) → a ≡ ask_job v.jobs number → IsJobAnswer a given → HandsAfter a given (hands_of v) (hands_of (job_step v number given))
+framed_job a v given number same h =
+    rw same (framed (ask_job v.jobs number) given (given_up v.stage) (page_at v.stage v.page) (hands_in v.jobs.works) (hands_in (job_step v number given).jobs.works)
+    (told_hands v.jobs.works (place_of v.jobs.works number) (work_of v.jobs.works number) given refl (rw same at h)))
+
+job_hands_after_at : (halted : Bool) (v : View) (number : ℕ) (given : BackAnswer) → IsJobAnswer (if halted then ask.Wait else ask_job v.jobs number) given → HandsAfter (if halted then ask.Wait else ask_job v.jobs number) given (hands_of v) (hands_of (job_step v number given))
+job_hands_after_at true v number given h = absurd h
+job_hands_after_at false v number given h = framed_job (ask_job v.jobs number) v given number refl h
+
+-- what an answer to a job makes of what is held
+pub job_hands_after : (v : View) (number : ℕ) (given : BackAnswer) → IsJobAnswer (job_ask_of v number) given → HandsAfter (job_ask_of v number) given (hands_of v) (hands_of (job_step v number given))
+job_hands_after v number given h = job_hands_after_at (is_some v.halted) v number given h
+
+page_in : (works : List Mapping) (page : Mapping) → Contains (works ++ page ∷ []) page
+page_in works page = Contains-push works page
+
+loop_names_at : (asleep new : Bool) (page : Mapping) (works : List Mapping) (word : ℕ) → IsWithin (if asleep then ask.Wait else (if new then ask.Read page 0 else ask.Read page word)) → Names (works ++ page ∷ []) (if asleep then ask.Wait else (if new then ask.Read page 0 else ask.Read page word))
+loop_names_at true new page works word within = tt
+loop_names_at false true page works word within = (page_in works page, within)
+loop_names_at false false page works word within = (page_in works page, within)
+
+loop_names : (v : View) (r : Option Reply) → IsMapped stage.Loop v.page → IsWithin (loop_ask v r) → Names (connected v) (loop_ask v r)
+loop_names v (Some r) mapped within = (page_in (hands_in v.jobs.works) v.page, mapped, within)
+loop_names v None mapped within = loop_names_at v.asleep (requests_of v.ring v.seen == 0) v.page (hands_in v.jobs.works) (slot_word v.ring.cons 0) within
+
+names_at : (s : Stage) (v : View) → IsMapped s v.page → IsWithin (ask_at s v) → Names (hands_at s v) (ask_at s v)
+names_at stage.Loop v mapped within = loop_names v (next_reply v) mapped within
+names_at (stage.Fetch k) v mapped within = (page_in (hands_in v.jobs.works) v.page, within)
+names_at (stage.ReplyHigh r) v mapped within = (page_in (hands_in v.jobs.works) v.page, mapped, within)
+names_at (stage.ReplyLast r) v mapped within = (page_in (hands_in v.jobs.works) v.page, mapped, within)
+names_at (stage.Producer r) v mapped within = (page_in (hands_in v.jobs.works) v.page, mapped, within)
+names_at (stage.ResponseEvent old) v mapped within = (page_in (hands_in v.jobs.works) v.page, within)
+names_at stage.StoreEvent v mapped within = (page_in (hands_in v.jobs.works) v.page, mapped, within)
+names_at stage.LookAgain v mapped within = (page_in (hands_in v.jobs.works) v.page, within)
+names_at (stage.GiveUp m) v mapped within = (0, omega arith, refl)
+names_at stage.UnmapRing v mapped within = page_in (hands_in v.jobs.works) v.page
+names_at stage.UnmapUnbound v mapped within = page_in (hands_in v.jobs.works) v.page
+names_at s v mapped within = tt
+
+-- the back names only what is held
+pub names_of : (v : View) → IsMapped v.stage v.page → IsWithin (ask_of v) → Names (hands_of v) (ask_of v)
+names_of v mapped within = names_at v.stage v mapped within
+
+-- so does a job
+pub job_names : (v : View) (a : BackAsk) → Names (hands_in v.jobs.works) a → Names (hands_of v) a
+job_names v a names = named_among a (given_up v.stage) (page_at v.stage v.page) (hands_in v.jobs.works) names
+
+few_given_up : (s : Stage) → length (given_up s) ≤ 1
+few_given_up (stage.GiveUp m) = omega arith
+few_given_up s = omega arith
+
+few_pages : (s : Stage) (page : Mapping) → length (page_at s page) ≤ 1
+few_pages stage.MapRing page = omega arith
+few_pages stage.ClosePort page = omega arith
+few_pages stage.Halted page = omega arith
+few_pages s page = omega arith
+
+-- one in each job's hand, the page, and one that is being given up
+pub few_hands : (v : View) → length v.jobs.works ≤ 32 → length (hands_of v) ≤ 34
+few_hands v few =
+    let given = few_given_up v.stage in let page = few_pages v.stage v.page in let hands = few_in_hands v.jobs.works in
+    rw (length-append (given_up v.stage) (hands_in v.jobs.works ++ page_at v.stage v.page), length-append (hands_in v.jobs.works) (page_at v.stage v.page)) (omega arith)
+
+either_info : (b : Bool) (x y : View) (info : DiskInfo) → x.jobs.info ≡ info → y.jobs.info ≡ info → (if b then x else y).jobs.info ≡ info
+either_info true x y info p q = p
+either_info false x y info p q = q
+
+looked_info : (v : View) (word : ℕ) (otherwise : View) → otherwise.jobs.info ≡ v.jobs.info → (looked v word otherwise).jobs.info ≡ v.jobs.info
+looked_info v word otherwise h =
+    either_info (overruns v.ring word) (overrun v word) (if word == v.ring.cons then otherwise else record v { seen = word; stage = stage.Loop }) v.jobs.info refl
+    (either_info (word == v.ring.cons) otherwise (record v { seen = word; stage = stage.Loop }) v.jobs.info h refl)
+
+loop_info : (v : View) (r : Option Reply) (given : BackAnswer) → (loop_step v r given).jobs.info ≡ v.jobs.info
+loop_info v (Some r) given = refl
+loop_info v None (answer.Word word) =
+    either_info (requests_of v.ring v.seen == 0) (looked v word (record v { seen = word; stage = stage.StoreEvent })) (record v { entry = word ∷ []; stage = stage.Fetch 1 }) v.jobs.info
+    (looked_info v word (record v { seen = word; stage = stage.StoreEvent }) refl)
+    refl
+loop_info v None given = refl
+
+step_info_at : (s : Stage) (v : View) (given : BackAnswer) → (step_at s v given).jobs.info ≡ v.jobs.info
+step_info_at stage.MapRing v (answer.Mapped m) = refl
+step_info_at stage.MapRing v (answer.MapRefused status) = refl
+step_info_at stage.Bind v answer.Done = refl
+step_info_at stage.Bind v answer.BindRefused = refl
+step_info_at stage.Loop v given = loop_info v (next_reply v) given
+step_info_at (stage.Fetch k) v (answer.Word word) = either_info (k == 27) (fetched v (v.entry ++ word ∷ [])) (record v { entry = v.entry ++ word ∷ []; stage = stage.Fetch (k + 1) }) v.jobs.info refl refl
+step_info_at (stage.ReplyHigh r) v given = refl
+step_info_at (stage.ReplyLast r) v given = refl
+step_info_at (stage.Producer r) v given = refl
+step_info_at (stage.ProducerFence old) v given = refl
+step_info_at (stage.ResponseEvent old) v (answer.Word event) = refl
+step_info_at stage.Send v given = refl
+step_info_at stage.StoreEvent v given = refl
+step_info_at stage.EventFence v given = refl
+step_info_at stage.LookAgain v (answer.Word word) = looked_info v word (record v { seen = word; stage = stage.Loop; asleep = true }) refl
+step_info_at (stage.GiveUp m) v given = refl
+step_info_at stage.UnmapRing v given = refl
+step_info_at stage.ClosePort v given = refl
+step_info_at stage.UnmapUnbound v given = refl
+step_info_at s v given = refl
+
+-- the disk stays as the back knows it, whatever it is told
+pub step_info : (v : View) (given : BackAnswer) → (step_of v given).jobs.info ≡ v.jobs.info
+step_info v given = step_info_at v.stage v given
+
+-- and whatever its jobs are told
+pub job_step_info : (v : View) (number : ℕ) (given : BackAnswer) → (job_step v number given).jobs.info ≡ v.jobs.info
+job_step_info v number given = refl
+
+next_job_above_at : (halted : Bool) (v : View) (after k : ℕ) → (if halted then None else next_after v.jobs after) ≡ Some k → after < k
+next_job_above_at true v after k h = absurd (none-some k h)
+next_job_above_at false v after k h = next_above v.jobs after k h
+
+-- the next job's number is above
+pub next_job_above : (v : View) (after k : ℕ) → next_job_of v after ≡ Some k → after < k
+next_job_above v after k h = next_job_above_at (is_some v.halted) v after k h

@@ -1,0 +1,26 @@
+-- The mappings that the back and its jobs hold (`grant_table.h`).
+use Rattle.std.specs.Prelude.{List, [], ◌∷◌, ◌++◌}
+use Rattle.blk_base.specs.declared.parts.Mapping.{Mapping}
+use Rattle.back_jobs.specs.Hands.{hands_in}
+use Rattle.blk_back.specs.declared.stage.Stage.{Stage}
+use Rattle.blk_back.specs.declared.stage.Stage.TheVariants as stage
+use Rattle.blk_back.specs.View.{View}
+
+-- after a halt: the mapping that is being given up
+abbrev pub given_up : Stage → List Mapping
+given_up (stage.GiveUp m) = m ∷ []
+given_up s = []
+
+-- the ring's page, from its mapping until it is given up
+abbrev pub page_at : Stage → Mapping → List Mapping
+page_at stage.MapRing page = []
+page_at stage.ClosePort page = []
+page_at stage.Halted page = []
+page_at s page = page ∷ []
+
+abbrev pub hands_at : Stage → View → List Mapping
+hands_at s v = given_up s ++ (hands_in v.jobs.works ++ page_at s v.page)
+
+-- the one being given up, then those in the jobs' hands, then the ring's page
+abbrev pub hands_of : View → List Mapping
+hands_of v = hands_at v.stage v
