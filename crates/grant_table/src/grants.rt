@@ -1,5 +1,5 @@
 // The back's live mappings, and the calls through them.
-ghost use Rattle.std.specs.Prelude.{◌≡◌, ℕ, ◌+◌, ◌^◌, ◌<◌, ◌≤◌, ◌↔◌, length, slice_index, IsTrue, IsSomeAnd, IfSome, IfNone, None, IfOk, OnErr};
+ghost use Rattle.std.specs.Prelude.{◌≡◌, ℕ, ◌+◌, ◌^◌, ◌<◌, ◌≤◌, ◌↔◌, length, slice_index, IsTrue, IsSomeAnd, IfSome, IfNone, None, Ok, IfOk, OnErr};
 ghost use Rattle.xen_pages.specs.Pages.{word_of, with_word};
 ghost use Rattle.grant_table.specs.Entry.{writer_count};
 ghost use Rattle.grant_table.specs.Table.{fresh_table, entry_word0, entry_word1, with_entry_word0, held_of, IsLive, frame_of, mappings_of, writers_of, verdict_at, next_mapping, with_mapping, map_answer, map_table, map_pages, unmap_table, unmap_pages, revoked_table};
@@ -88,6 +88,7 @@ impl Grants {
         ensures table { self.new ≡ map_table self.old gref mode (verdict_at pages.old gref mode) }
         ensures pages { pages.new ≡ map_pages pages.old gref mode (verdict_at pages.old gref mode) }
         ensures live { IfOk result (λ mapping. IsLive self.new mapping) }
+        ensures frame { IfOk result (λ mapping. verdict_at pages.old gref mode ≡ Ok (frame_of self.new mapping)) }
         ensures refused { OnErr result ((self.new ≡ self.old) × (pages.new ≡ pages.old)) }
     {
         let frame = verdict_now(pages, gref, mode)?;
@@ -156,6 +157,7 @@ impl Grants {
         requires grantable { (2 ≤ frame) × (frame ≤ 1023) }
         ensures answer { result ≡ next_mapping self.old gref mode }
         ensures live { IsLive self.new result }
+        ensures frame { frame_of self.new result ≡ frame }
         ensures table { self.new ≡ with_mapping self.old gref mode frame }
     {
         self.made += 1;

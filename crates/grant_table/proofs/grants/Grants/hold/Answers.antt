@@ -45,3 +45,12 @@ returns-clause-live c =
     let held : Held = record { mapping = record { number = fields.made + 1; gref = c.args.gref; mode = c.args.mode }; frame = c.args.frame } in
     let pushed = rw c.unwrap.ensures at c.push.ensures.items in
     rw (pushed, held_of-append_new fields.held.items held (held_of_absent held.mapping.number fields.held.items (λ i lt same. omega (arith, sound.made_before i nothing_held lt)))) refl
+
+-- it has the frame that it was given
+pub returns-clause-frame : goal.returns-clause-frame
+returns-clause-frame c =
+    let fields = c.self.inside in
+    let sound = c.self.invariant in
+    let held : Held = record { mapping = record { number = fields.made + 1; gref = c.args.gref; mode = c.args.mode }; frame = c.args.frame } in
+    let pushed = rw c.unwrap.ensures at c.push.ensures.items in
+    rw (pushed, held_of-append_new fields.held.items held (held_of_absent held.mapping.number fields.held.items (λ i lt same. omega (arith, sound.made_before i nothing_held lt)))) refl

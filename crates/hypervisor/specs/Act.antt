@@ -1,0 +1,181 @@
+-- What is done at an ask: the answer that its end is told, what lies under the ends after it, and the move that a report shows.
+use Rattle.std.specs.Prelude.{ℕ, ◌+◌, List, Option, Some, None, Result, Ok, Err, if◌then◌else◌, ◌==◌}
+use Rattle.std.specs.Option.{option_map}
+use Rattle.blk_base.specs.declared.parts.Mode.{Mode}
+use Rattle.blk_base.specs.declared.parts.End.TheVariants as end
+use Rattle.blk_base.specs.declared.ask.FrontAsk.{FrontAsk}
+use Rattle.blk_base.specs.declared.ask.FrontAsk.TheVariants as front_ask
+use Rattle.blk_base.specs.declared.ask.FrontAnswer.{FrontAnswer}
+use Rattle.blk_base.specs.declared.ask.FrontAnswer.TheVariants as front_answer
+use Rattle.blk_base.specs.declared.ask.BackAsk.{BackAsk}
+use Rattle.blk_base.specs.declared.ask.BackAsk.TheVariants as back_ask
+use Rattle.blk_base.specs.declared.ask.BackAnswer.{BackAnswer}
+use Rattle.blk_base.specs.declared.ask.BackAnswer.TheVariants as back_answer
+use Rattle.blk_base.specs.declared.moves.BackMover.{BackMover}
+use Rattle.blk_base.specs.declared.moves.BackMover.TheVariants as back_mover
+use Rattle.blk_base.specs.declared.moves.Mover.{Mover}
+use Rattle.blk_base.specs.declared.moves.Mover.TheVariants as mover
+use Rattle.blk_base.specs.declared.moves.Move.{Move}
+use Rattle.blk_base.specs.declared.moves.Move.TheVariants as moves
+use Rattle.xen_pages.specs.Pages.{word_of, with_word}
+use Rattle.grant_table.specs.declared.entry.MapRefusal.{MapRefusal}
+use Rattle.grant_table.specs.Entry.{status_of}
+use Rattle.grant_table.specs.Table.{frame_of, verdict_at, next_mapping, map_table, map_pages, unmap_table, unmap_pages}
+use Rattle.event_channel.specs.declared.channels.PortState.{PortState}
+use Rattle.event_channel.specs.declared.channels.PortState.TheVariants as port
+use Rattle.event_channel.specs.Channels.{state_of, with_port, bound, is_pending, sent, taken, closed}
+use Rattle.hypervisor.specs.Hypervisor.{Hypervisor}
+
+pub record FrontAct : Type 0 where
+  pub answer : FrontAnswer
+  pub under : Hypervisor
+  pub shown : Move
+
+pub record BackAct : Type 0 where
+  pub answer : BackAnswer
+  pub under : Hypervisor
+  pub shown : Move
+
+-- what the disk answers a call: the words of the sector that was read, that it took the call, or that it failed
+pub data Outcome : Type 0 where
+  Gave : (words : List ℕ) → Outcome
+  Took : Outcome
+  Failed : Outcome
+
+abbrev pub with_pages : Hypervisor → List ℕ → Hypervisor
+with_pages h pages = record h { pages = pages }
+
+-- compare and exchange: the new word where the old one was seen
+abbrev pub exchanged : List ℕ → ℕ → ℕ → ℕ → ℕ → List ℕ
+exchanged pages frame word old new = if word_of pages frame word == old then with_word pages frame word new else pages
+
+-- the front's act; none where it waits and no event is pending, or asks for a key, of which there are none yet
+abbrev pub front_act : Hypervisor → FrontAsk → Option FrontAct
+front_act h front_ask.Wait =
+    if is_pending h.channels end.Front
+    then Some (record { answer = front_answer.Event; under = record h { channels = taken h.channels end.Front }; shown = moves.Event mover.Front })
+    else None
+front_act h front_ask.Fence = Some (record { answer = front_answer.Done; under = h; shown = moves.Fence mover.Front })
+front_act h (front_ask.Read frame word) = Some (record {
+  answer = front_answer.Word (word_of h.pages frame word);
+  under = h;
+  shown = moves.FrontRead frame word (word_of h.pages frame word);
+})
+front_act h (front_ask.Write frame word value) = Some (record {
+  answer = front_answer.Done;
+  under = with_pages h (with_word h.pages frame word value);
+  shown = moves.FrontWrite frame word value;
+})
+front_act h (front_ask.Cas frame word old new) = Some (record {
+  answer = front_answer.Word (word_of h.pages frame word);
+  under = with_pages h (exchanged h.pages frame word old new);
+  shown = moves.FrontCas frame word old new (word_of h.pages frame word);
+})
+front_act h front_ask.NewPort = Some (record {
+  answer = front_answer.Port (h.channels.made + 1);
+  under = record h { channels = with_port h.channels };
+  shown = moves.FrontPort (h.channels.made + 1);
+})
+front_act h front_ask.Send = Some (record { answer = front_answer.Done; under = record h { channels = sent h.channels end.Front }; shown = moves.Send mover.Front })
+front_act h front_ask.ClosePort = Some (record { answer = front_answer.Done; under = record h { channels = closed h.channels end.Front }; shown = moves.ClosePort mover.Front })
+front_act h (front_ask.GetKey path) = None
+front_act h (front_ask.SetKey path text) = None
+front_act h (front_ask.Watch path) = None
+
+-- what is told and shown of an act
+abbrev pub front_seen : Option FrontAct → Option (FrontAnswer × Move)
+front_seen act = option_map (λ (a : FrontAct). (a.answer, a.shown)) act
+
+-- what lies under the ends after an act; where there was none, what lay there
+abbrev pub front_under : Hypervisor → Option FrontAct → Hypervisor
+front_under h None = h
+front_under h (Some a) = a.under
+
+-- who moves, as other moves show it
+abbrev pub mover_of : BackMover → Mover
+mover_of back_mover.Back = mover.Back
+mover_of (back_mover.Job k) = mover.Job k
+
+-- the number of a job; the back itself calls no disk
+abbrev pub job_of : BackMover → ℕ
+job_of back_mover.Back = 0
+job_of (back_mover.Job k) = k
+
+-- a map, by the verdict on the entry as it stands
+abbrev pub map_act : Hypervisor → BackMover → ℕ → Mode → Result ℕ MapRefusal → BackAct
+map_act h who gref mode (Ok frame) = record {
+  answer = back_answer.Mapped (next_mapping h.grants gref mode);
+  under = record h { grants = map_table h.grants gref mode (Ok frame); pages = map_pages h.pages gref mode (Ok frame) };
+  shown = moves.Map who gref mode (h.grants.made + 1) frame;
+}
+map_act h who gref mode (Err refusal) = record { answer = back_answer.MapRefused (status_of refusal); under = h; shown = moves.MapRefused who gref mode (status_of refusal) }
+
+-- a bind succeeds exactly at an unbound port
+abbrev pub bind_act : Hypervisor → ℕ → PortState → BackAct
+bind_act h p port.Unbound = record { answer = back_answer.Done; under = record h { channels = bound h.channels p }; shown = moves.Bind p }
+bind_act h p state = record { answer = back_answer.BindRefused; under = h; shown = moves.BindRefused p }
+
+abbrev pub read_act : Hypervisor → Move → Outcome → Option BackAct
+read_act h shown (Gave words) = Some (record { answer = back_answer.Sector words; under = h; shown = shown })
+read_act h shown Failed = Some (record { answer = back_answer.DiskFailed; under = h; shown = shown })
+read_act h shown Took = None
+
+-- a call of the disk that gives nothing back
+abbrev pub disk_act : Hypervisor → Move → Outcome → Option BackAct
+disk_act h shown Took = Some (record { answer = back_answer.Done; under = h; shown = shown })
+disk_act h shown Failed = Some (record { answer = back_answer.DiskFailed; under = h; shown = shown })
+disk_act h shown (Gave words) = None
+
+-- the back waits: it takes its event; a job that waits is told nothing
+abbrev pub wait_act : Hypervisor → BackMover → Option BackAct
+wait_act h back_mover.Back =
+    if is_pending h.channels end.Back
+    then Some (record { answer = back_answer.Event; under = record h { channels = taken h.channels end.Back }; shown = moves.Event mover.Back })
+    else None
+wait_act h (back_mover.Job k) = None
+
+-- the act of the back or a job; none where it waits and no event is pending, where the disk's outcome isn't one of its ask, or where it asks for a key
+abbrev pub back_act : Hypervisor → BackMover → BackAsk → Outcome → Option BackAct
+back_act h who back_ask.Wait outcome = wait_act h who
+back_act h who back_ask.Fence outcome = Some (record { answer = back_answer.Done; under = h; shown = moves.Fence (mover_of who) })
+back_act h who (back_ask.Read m word) outcome =
+    let frame = frame_of h.grants m in
+    Some (record { answer = back_answer.Word (word_of h.pages frame word); under = h; shown = moves.Read who m.number frame word (word_of h.pages frame word) })
+back_act h who (back_ask.Write m word value) outcome =
+    let frame = frame_of h.grants m in
+    Some (record { answer = back_answer.Done; under = with_pages h (with_word h.pages frame word value); shown = moves.Write who m.number frame word value })
+back_act h who (back_ask.Map gref mode) outcome = Some (map_act h who gref mode (verdict_at h.pages gref mode))
+back_act h who (back_ask.Unmap m) outcome = Some (record {
+  answer = back_answer.Done;
+  under = record h { grants = unmap_table h.grants m; pages = unmap_pages h.grants h.pages m };
+  shown = moves.Unmap who m.number;
+})
+back_act h who (back_ask.Bind p) outcome = Some (bind_act h p (state_of h.channels p))
+back_act h who back_ask.Send outcome = Some (record { answer = back_answer.Done; under = record h { channels = sent h.channels end.Back }; shown = moves.Send (mover_of who) })
+back_act h who back_ask.ClosePort outcome = Some (record { answer = back_answer.Done; under = record h { channels = closed h.channels end.Back }; shown = moves.ClosePort (mover_of who) })
+back_act h who (back_ask.GetKey path) outcome = None
+back_act h who (back_ask.SetKey path text) outcome = None
+back_act h who (back_ask.Watch path) outcome = None
+back_act h who (back_ask.DiskRead sector) outcome = read_act h (moves.DiskRead (job_of who) sector) outcome
+back_act h who (back_ask.DiskWrite sector words) outcome = disk_act h (moves.DiskWrite (job_of who) sector) outcome
+back_act h who back_ask.Flush outcome = disk_act h (moves.DiskFlush (job_of who)) outcome
+back_act h who (back_ask.Trim sector count) outcome = disk_act h (moves.DiskTrim (job_of who) sector count) outcome
+
+-- what is told and shown of an act
+abbrev pub back_seen : Option BackAct → Option (BackAnswer × Move)
+back_seen act = option_map (λ (a : BackAct). (a.answer, a.shown)) act
+
+-- what lies under the ends after an act; where there was none, what lay there
+abbrev pub back_under : Hypervisor → Option BackAct → Hypervisor
+back_under h None = h
+back_under h (Some a) = a.under
+
+-- what the disk did, by what was told
+abbrev pub outcome_told : BackAnswer → Outcome
+outcome_told (back_answer.Sector words) = Gave words
+outcome_told back_answer.DiskFailed = Failed
+outcome_told answer = Took
+
+abbrev pub outcome_of : Option (BackAnswer × Move) → Outcome
+outcome_of None = Took
+outcome_of (Some seen) = outcome_told seen.0

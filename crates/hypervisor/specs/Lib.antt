@@ -1,0 +1,4 @@
+pub mod Hypervisor
+pub mod Act
+pub mod May
+pub mod Disk

@@ -1,0 +1,58 @@
+// Memory, mappings and event channels, and what is done at an ask.
+ghost use Rattle.std.specs.Prelude.{◌≡◌, IfOk};
+ghost use Rattle.event_channel.specs.Channels.{is_pending, sent};
+ghost use Rattle.hypervisor.specs.Hypervisor.{fresh};
+
+use blk_base::{End, OutOfMemory};
+use event_channel::Channels;
+use grant_table::Grants;
+use std::alloc::Global;
+use std::marker::Model;
+use xen_pages::Pages;
+
+mod back;
+mod front;
+
+/// The memory of the domains, the back's mappings, and the event channels. Only `new` takes memory.
+#[derive(Drop)]
+pub struct Hypervisor {
+    pages: Pages,
+    grants: Grants,
+    channels: Channels,
+}
+
+impl Model for Hypervisor {
+    ghost use Rattle.hypervisor.specs.Hypervisor.{Hypervisor};
+
+    ghost Value = { Hypervisor };
+
+    ghost view = { λ h. record { pages = h.pages; grants = h.grants; channels = h.channels } };
+}
+
+impl Hypervisor {
+    /// Memory of zeros, and nothing mapped, made or pending. It fails only where there is not enough
+    /// memory.
+    pub fn new(alloc: Global) -> Result<Hypervisor, OutOfMemory>
+        ensures { IfOk result (λ hypervisor. hypervisor ≡ fresh) }
+    {
+        Ok(Hypervisor {
+            pages: Pages::new(alloc)?,
+            grants: Grants::new(alloc)?,
+            channels: Channels::new(),
+        })
+    }
+
+    /// Whether an end has an event to take.
+    pub fn pending(&self, who: End) -> bool
+        ensures { result ≡ is_pending self.now.channels who }
+    {
+        self.channels.pending(who)
+    }
+
+    /// An end sends an event to the other, where a port is bound; it merges with one that is pending.
+    pub fn send(&mut self, who: End)
+        ensures { self.new ≡ record self.old { channels = sent self.old.channels who } }
+    {
+        self.channels.send(who);
+    }
+}
