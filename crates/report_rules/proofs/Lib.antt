@@ -1,0 +1,4 @@
+pub mod Obeys
+pub mod Back
+pub mod Fits
+pub mod Copied

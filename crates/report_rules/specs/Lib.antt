@@ -1,0 +1,14 @@
+pub mod Obeys
+pub mod Standing
+pub mod Value
+pub mod Coherent
+pub mod Mapped
+pub mod Touch
+pub mod Ring
+pub mod Overrun
+pub mod Stretch
+pub mod Work
+pub mod Job
+pub mod Effect
+pub mod Steps
+pub mod Data

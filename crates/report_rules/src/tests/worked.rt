@@ -1,0 +1,284 @@
+// The report of one write of one sector with all moves, by hand: the two ends connect, the front
+// issues the write, the back fetches it, its job does it, and the back replies.
+use blk_base::{BackMover, Move};
+use schedule_text::{Detail, Line, LineList, Recorder, read_line};
+use std::alloc::Global;
+use std::test::Fail;
+
+/// Adds lines by their texts.
+pub fn add(report: &mut LineList, texts: &[&str]) -> Result<(), Fail> {
+    for text in texts {
+        let line = read_line(text.as_bytes())
+            .ok()
+            .ok_or("no line of a report")?;
+        put(report, &line)?;
+    }
+    Ok(())
+}
+
+/// The line of a text.
+pub fn line(text: &str) -> Result<Line, Fail> {
+    let line = read_line(text.as_bytes())
+        .ok()
+        .ok_or("no line of a report")?;
+    Ok(line)
+}
+
+fn put(report: &mut LineList, line: &Line) -> Result<(), Fail> {
+    report.add(line).ok().ok_or("out of memory")?;
+    Ok(())
+}
+
+fn front_write(frame: u32, word: u32, value: u32) -> Line {
+    Line::Move(Move::FrontWrite { frame, word, value })
+}
+
+fn back_read(who: BackMover, mapping: u64, frame: u32, word: u32, value: u32) -> Line {
+    Line::Move(Move::Read {
+        who,
+        mapping,
+        frame,
+        word,
+        value,
+    })
+}
+
+// The back publishes what it has, and both wait for the other's state.
+fn begin(report: &mut LineList) -> Result<(), Fail> {
+    add(
+        report,
+        &[
+            "begin 64 0 0 0 0 rw 8 moves",
+            "m front watch /local/domain/0/backend/vbd/1/51712/state",
+            "m front watched /local/domain/0/backend/vbd/1/51712/state",
+            "m front getkey /local/domain/0/backend/vbd/1/51712/state =1",
+            "m back setkey /local/domain/0/backend/vbd/1/51712/feature-barrier =1",
+            "m back setkey /local/domain/0/backend/vbd/1/51712/feature-flush-cache =1",
+            "m back setkey /local/domain/0/backend/vbd/1/51712/feature-discard =1",
+            "m back setkey /local/domain/0/backend/vbd/1/51712/feature-persistent =0",
+            "m back setkey /local/domain/0/backend/vbd/1/51712/feature-max-indirect-segments =0",
+            "m back setkey /local/domain/0/backend/vbd/1/51712/max-ring-page-order =4",
+            "m back setkey /local/domain/0/backend/vbd/1/51712/state =2",
+            "m back watch /local/domain/1/device/vbd/51712/state",
+            "m back watched /local/domain/1/device/vbd/51712/state",
+            "m back getkey /local/domain/1/device/vbd/51712/state =1",
+            "m front watched /local/domain/0/backend/vbd/1/51712/state",
+            "m front getkey /local/domain/0/backend/vbd/1/51712/state =2",
+            "m front getkey /local/domain/0/backend/vbd/1/51712/feature-barrier =1",
+            "m front getkey /local/domain/0/backend/vbd/1/51712/feature-flush-cache =1",
+            "m front getkey /local/domain/0/backend/vbd/1/51712/feature-discard =1",
+            "m front getkey /local/domain/0/backend/vbd/1/51712/feature-persistent =0",
+            "m front getkey /local/domain/0/backend/vbd/1/51712/feature-max-indirect-segments =0",
+            "m front getkey /local/domain/0/backend/vbd/1/51712/max-ring-page-order =4",
+        ],
+    )
+}
+
+// The front makes the ring in frame 2, grants it as reference 8 and publishes it.
+fn publish(report: &mut LineList) -> Result<(), Fail> {
+    add(
+        report,
+        &[
+            "m front write 2 0 00000000",
+            "m front write 2 1 00000001",
+            "m front write 2 2 00000000",
+            "m front write 2 3 00000001",
+        ],
+    )?;
+    for word in 4..16 {
+        put(report, &front_write(2, word, 0))?;
+    }
+    add(
+        report,
+        &[
+            "m front write 0 17 00000002",
+            "m front fence",
+            "m front write 0 16 00000001",
+            "m front port 1",
+            "m front setkey /local/domain/1/device/vbd/51712/ring-ref =8",
+            "m front setkey /local/domain/1/device/vbd/51712/event-channel =1",
+            "m front setkey /local/domain/1/device/vbd/51712/protocol =x86_64-abi",
+            "m front setkey /local/domain/1/device/vbd/51712/feature-persistent =0",
+            "m front setkey /local/domain/1/device/vbd/51712/state =3",
+        ],
+    )
+}
+
+// The back maps the ring as mapping 1, and both ends fall asleep.
+fn attach(report: &mut LineList) -> Result<(), Fail> {
+    add(
+        report,
+        &[
+            "m back watched /local/domain/1/device/vbd/51712/state",
+            "m back getkey /local/domain/1/device/vbd/51712/state =3",
+            "m back getkey /local/domain/1/device/vbd/51712/ring-page-order",
+            "m back getkey /local/domain/1/device/vbd/51712/ring-ref =8",
+            "m back getkey /local/domain/1/device/vbd/51712/event-channel =1",
+            "m back getkey /local/domain/1/device/vbd/51712/protocol =x86_64-abi",
+            "m back getkey /local/domain/1/device/vbd/51712/feature-persistent =0",
+            "m back map 8 w ok 1 2",
+            "m back bind 1 ok",
+            "m back setkey /local/domain/0/backend/vbd/1/51712/sectors =8",
+            "m back setkey /local/domain/0/backend/vbd/1/51712/sector-size =512",
+            "m back setkey /local/domain/0/backend/vbd/1/51712/info =0",
+            "m back setkey /local/domain/0/backend/vbd/1/51712/state =4",
+            "m back read 1 2 0 00000000",
+            "m back write 1 2 1 00000001",
+            "m back fence",
+            "m back read 1 2 0 00000000",
+            "m front watched /local/domain/0/backend/vbd/1/51712/state",
+            "m front getkey /local/domain/0/backend/vbd/1/51712/state =4",
+            "m front getkey /local/domain/0/backend/vbd/1/51712/sectors =8",
+            "m front getkey /local/domain/0/backend/vbd/1/51712/sector-size =512",
+            "m front getkey /local/domain/0/backend/vbd/1/51712/info =0",
+            "m front setkey /local/domain/1/device/vbd/51712/state =4",
+            "ready",
+            "m front read 2 2 00000000",
+            "m front write 2 3 00000001",
+            "m front fence",
+            "m front read 2 2 00000000",
+            "m back watched /local/domain/1/device/vbd/51712/state",
+            "m back getkey /local/domain/1/device/vbd/51712/state =4",
+            "quiet",
+        ],
+    )
+}
+
+// The words of the entry of a write of sector 0 from reference 24, number 1.
+const ENTRY: [u32; 8] = [0xca00_0101, 0, 1, 0, 0, 0, 0x18, 0];
+
+/// Word `i` of the entry.
+pub fn entry_word(i: u32) -> u32 {
+    if i < 8 { ENTRY[i as usize] } else { 0 }
+}
+
+// The front fills frame 18, grants it as reference 24, and pushes the write's entry.
+fn issue(report: &mut LineList) -> Result<(), Fail> {
+    add(report, &["submit 1 write 0 1 00000007"])?;
+    for word in 0..128 {
+        put(report, &front_write(18, word, 7))?;
+    }
+    add(
+        report,
+        &[
+            "m front write 0 49 00000012",
+            "m front fence",
+            "m front write 0 48 00000005",
+        ],
+    )?;
+    for i in 0..28u32 {
+        put(report, &front_write(2, 16 + i, entry_word(i)))?;
+    }
+    add(
+        report,
+        &[
+            "m front write 2 0 00000001",
+            "m front fence",
+            "m front read 2 1 00000001",
+            "m front send",
+        ],
+    )
+}
+
+/// The back reads word `i` of the first entry.
+pub fn entry_read(report: &mut LineList, i: u32) -> Result<(), Fail> {
+    let word = i.saturating_add(16);
+    put(
+        report,
+        &back_read(BackMover::Back, 1, 2, word, entry_word(i)),
+    )
+}
+
+// The back fetches the entry, and its job does the write.
+fn serve(report: &mut LineList) -> Result<(), Fail> {
+    add(report, &["m back event", "m back read 1 2 0 00000001"])?;
+    for i in 0..28u32 {
+        entry_read(report, i)?;
+    }
+    add(report, &["m job 1 map 24 r ok 2 18"])?;
+    for word in 0..128 {
+        put(report, &back_read(BackMover::Job(1), 2, 18, word, 7))?;
+    }
+    add(
+        report,
+        &["m job 1 dwrite 0", "effect 1 0", "m job 1 unmap 2"],
+    )
+}
+
+// The back replies, the front takes the response and ends the grant.
+fn reply(report: &mut LineList) -> Result<(), Fail> {
+    add(
+        report,
+        &[
+            "m back write 1 2 16 00000001",
+            "m back write 1 2 17 00000000",
+            "m back write 1 2 18 00000001",
+            "m back write 1 2 2 00000001",
+            "reply 1 ok",
+            "m back fence",
+            "m back read 1 2 3 00000001",
+            "m back send",
+            "m back read 1 2 0 00000001",
+            "m back write 1 2 1 00000002",
+            "m back fence",
+            "m back read 1 2 0 00000001",
+            "m front event",
+            "m front read 2 2 00000001",
+            "m front read 2 16 00000001",
+            "m front read 2 17 00000000",
+            "m front read 2 18 00000001",
+            "m front read 0 48 00000005",
+            "m front cas 0 48 00000005 00000000 00000005",
+            "answer 1 ok",
+            "m front read 2 2 00000001",
+            "m front write 2 3 00000002",
+            "m front fence",
+            "m front read 2 2 00000001",
+            "quiet",
+            "end",
+        ],
+    )
+}
+
+/// The lines until both ends are connected and asleep.
+pub fn connected(alloc: Global) -> Result<LineList, Fail> {
+    let mut report = LineList::new(alloc, Detail::Moves);
+    begin(&mut report)?;
+    publish(&mut report)?;
+    attach(&mut report)?;
+    Ok(report)
+}
+
+/// The lines up to the reply.
+pub fn before_reply(alloc: Global) -> Result<LineList, Fail> {
+    let mut report = connected(alloc)?;
+    issue(&mut report)?;
+    serve(&mut report)?;
+    Ok(report)
+}
+
+/// The whole report.
+pub fn one_write(alloc: Global) -> Result<LineList, Fail> {
+    let mut report = before_reply(alloc)?;
+    reply(&mut report)?;
+    Ok(report)
+}
+
+/// Changes the first line of that text.
+pub fn change(report: &mut LineList, old: &str, new: &str) -> Result<(), Fail> {
+    let old = line(old)?;
+    let at = report
+        .lines
+        .iter()
+        .position(|l| *l == old)
+        .ok_or("no such line in the report")?;
+    report.lines[at] = line(new)?;
+    Ok(())
+}
+
+/// The report with the first line of that text changed.
+pub fn with_line(alloc: Global, old: &str, new: &str) -> Result<LineList, Fail> {
+    let mut report = one_write(alloc)?;
+    change(&mut report, old, new)?;
+    Ok(report)
+}
