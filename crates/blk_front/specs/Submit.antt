@@ -22,6 +22,15 @@ is_ready stage.NewPort = false
 is_ready (stage.Broken word) = false
 is_ready s = true
 
+-- the ring and the port of its events are made
+abbrev pub is_connected : Stage → Bool
+is_connected (stage.RingWord k) = false
+is_connected stage.RingFrame = false
+is_connected stage.RingFence = false
+is_connected stage.RingFlags = false
+is_connected stage.NewPort = false
+is_connected s = true
+
 -- a request whose grant is being ended is unfinished still
 abbrev pub ending_of : Stage → ℕ
 ending_of (stage.GrantRead e) = 1

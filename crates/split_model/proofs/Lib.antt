@@ -1,1 +1,11 @@
 pub mod Running
+pub mod Showing
+pub mod Joining
+pub mod Moving
+pub mod SafeHands
+pub mod SafeActs
+pub mod SafeAnswers
+pub mod SafeGrowth
+pub mod SafeFront
+pub mod Safe
+pub mod Echo

@@ -1,12 +1,15 @@
 -- What may happen to the machine, what it makes of it, and the lines that it shows.
-use Rattle.std.specs.Prelude.{ℕ, List, [], ◌∷◌, ◌++◌, Option, Some, None, Result, Ok, Err}
+use Rattle.std.specs.Prelude.{◌≡◌, ℕ, List, [], ◌∷◌, ◌++◌, Option, Some, None, Result, Ok, Err, if◌then◌else◌}
 use Rattle.blk_base.specs.declared.config.Job.{Job}
 use Rattle.blk_base.specs.declared.parts.End.{End}
 use Rattle.blk_base.specs.declared.parts.End.TheVariants as end
 use Rattle.blk_base.specs.declared.moves.BackMover.TheVariants as back_mover
 use Rattle.schedule_text.specs.declared.line.Line.{Line}
-use Rattle.schedule_text.specs.declared.line.Line.TheVariants.{Move, Submit, Refuse}
+use Rattle.schedule_text.specs.declared.line.Line.TheVariants.{Move, Submit, Refuse, Quiet, Busy, Unsettled}
 use Rattle.event_channel.specs.Channels.{sent}
+use Rattle.hypervisor.specs.Hypervisor.{Hypervisor}
+use Rattle.hypervisor.specs.Act.{FrontAct, BackAct, Outcome, Took, front_act, back_act}
+use Rattle.hypervisor.specs.Disk.{DiskDoes}
 use Rattle.blk_front.specs.declared.told.Refusal.{Refusal}
 use Rattle.blk_front.specs.View as front
 use Rattle.blk_front.specs.Ask as front_ask
@@ -15,21 +18,22 @@ use Rattle.blk_front.specs.Submit as front_submit
 use Rattle.blk_back.specs.View as back
 use Rattle.blk_back.specs.Ask as back_ask
 use Rattle.blk_back.specs.Step as back_step
-use Rattle.split_model.specs.World.{World}
-use Rattle.split_model.specs.Act.{FrontAct, BackAct, Outcome, Took, front_act, back_act}
+use Rattle.split_model.specs.World.{World, is_quiet}
 use Rattle.split_model.specs.Shown.{front_lines, back_lines, halt_lines, refusal_word}
 
--- a move of the front, of the back, or of the job of a number with what the disk answers it; a submission; a spurious event at an end's bound port
+-- a move of the front, of the back, or of the job of a number with what the disk answers it; a submission; a spurious event at an end's bound port; a look at whether all is quiet, and one when the rounds are over
 pub data Happening : Type 0 where
   FrontMoves : Happening
   BackMoves : Happening
   JobMoves : (number : ℕ) (outcome : Outcome) → Happening
   Submits : (job : Job) → Happening
   Notifies : (at : End) → Happening
+  Looks : Happening
+  Settles : Happening
 
 abbrev pub front_after : World → Option FrontAct → World
 front_after w None = w
-front_after w (Some a) = record a.world { front = record (front_step.step_of w.front a.answer) { told = None } }
+front_after w (Some a) = record { front = record (front_step.step_of w.front a.answer) { told = None }; back = w.back; under = a.under }
 
 abbrev pub front_shows : World → Option FrontAct → List Line
 front_shows w None = []
@@ -37,7 +41,7 @@ front_shows w (Some a) = Move a.shown ∷ front_lines (let f : front.View = fron
 
 abbrev pub back_after : World → Option BackAct → World
 back_after w None = w
-back_after w (Some a) = record a.world { back = record (back_step.step_of w.back a.answer) { told = None } }
+back_after w (Some a) = record { front = w.front; back = record (back_step.step_of w.back a.answer) { told = None }; under = a.under }
 
 abbrev pub back_shows : World → Option BackAct → List Line
 back_shows w None = []
@@ -47,7 +51,7 @@ back_shows w (Some a) =
 
 abbrev pub job_after : World → ℕ → Option BackAct → World
 job_after w number None = w
-job_after w number (Some a) = record a.world { back = record (back_step.job_step w.back number a.answer) { told = None } }
+job_after w number (Some a) = record { front = w.front; back = record (back_step.job_step w.back number a.answer) { told = None }; under = a.under }
 
 abbrev pub job_shows : World → ℕ → Option BackAct → List Line
 job_shows w number None = []
@@ -57,13 +61,13 @@ job_shows w number (Some a) =
 
 -- the acts of the three movers as the machine stands
 abbrev pub front_turn : World → Option FrontAct
-front_turn w = front_act w (front_ask.ask_of w.front)
+front_turn w = front_act w.under (front_ask.ask_of w.front)
 
-abbrev pub back_turn : World → Option BackAct
-back_turn w = back_act w back_mover.Back (back_ask.ask_of w.back) Took
+abbrev pub back_turn : World → Outcome → Option BackAct
+back_turn w outcome = back_act w.under back_mover.Back (back_ask.ask_of w.back) outcome
 
 abbrev pub job_turn : World → ℕ → Outcome → Option BackAct
-job_turn w number outcome = back_act w (back_mover.Job number) (back_step.job_ask_of w.back number) outcome
+job_turn w number outcome = back_act w.under (back_mover.Job number) (back_step.job_ask_of w.back number) outcome
 
 abbrev pub submit_line : Job → Result ℕ Refusal → Line
 submit_line job (Ok number) = Submit number job
@@ -76,17 +80,26 @@ other_end end.Back = end.Front
 
 abbrev pub happens : World → Happening → World
 happens w FrontMoves = front_after w (front_turn w)
-happens w BackMoves = back_after w (back_turn w)
+happens w BackMoves = back_after w (back_turn w Took)
 happens w (JobMoves number outcome) = job_after w number (job_turn w number outcome)
-happens w (Submits job) = record w { front = (front_submit.submit_of w.front job).1 }
-happens w (Notifies at) = record w { channels = sent w.channels (other_end at) }
+happens w (Submits job) = record { front = (front_submit.submit_of w.front job).1; back = w.back; under = w.under }
+happens w (Notifies at) = record { front = w.front; back = w.back; under = let h : Hypervisor = w.under in record h { channels = sent h.channels (other_end at) } }
+happens w Looks = w
+happens w Settles = w
 
 abbrev pub lines_at : World → Happening → List Line
 lines_at w FrontMoves = front_shows w (front_turn w)
-lines_at w BackMoves = back_shows w (back_turn w)
+lines_at w BackMoves = back_shows w (back_turn w Took)
 lines_at w (JobMoves number outcome) = job_shows w number (job_turn w number outcome)
 lines_at w (Submits job) = submit_line job (front_submit.submit_of w.front job).0 ∷ []
 lines_at w (Notifies at) = []
+lines_at w Looks = (if is_quiet w then Quiet else Busy) ∷ []
+lines_at w Settles = (if is_quiet w then Quiet else Unsettled) ∷ []
+
+-- what it makes of the disk's sectors, where the disk tells
+abbrev pub DiskGoes : World → Happening → (before after : Option (List (List ℕ))) → Type 0
+DiskGoes w (JobMoves number outcome) before after = DiskDoes (back_step.job_ask_of w.back number) outcome before after
+DiskGoes w h before after = after ≡ before
 
 -- the machine after all this
 abbrev pub after : List Happening → World → World
@@ -97,3 +110,9 @@ after (h ∷ hs) w = after hs (happens w h)
 abbrev pub lines_of : List Happening → World → List Line
 lines_of [] w = []
 lines_of (h ∷ hs) w = lines_at w h ++ lines_of hs (happens w h)
+
+-- what all this makes of the disk's sectors
+abbrev pub DiskRuns : List Happening → World → (before after : Option (List (List ℕ))) → Type 0
+DiskRuns [] w before after = after ≡ before
+DiskRuns (h ∷ hs) w before after =
+    (between : Option (List (List ℕ))) × DiskGoes w h before between × DiskRuns hs (happens w h) between after

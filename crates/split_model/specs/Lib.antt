@@ -1,4 +1,6 @@
 pub mod World
-pub mod Act
 pub mod Shown
 pub mod Happening
+pub mod Kind
+pub mod Leads
+pub mod Safe

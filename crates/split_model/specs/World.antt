@@ -1,26 +1,25 @@
--- The machine: two domains with their memory, grants and event channels, and an end in each.
-use Rattle.std.specs.Prelude.{ℕ, List}
+-- The machine: an end in each of two domains, and what lies under both.
+use Rattle.std.specs.Prelude.{Bool, ◌&&◌, not}
 use Rattle.blk_base.specs.Options.{Options}
-use Rattle.xen_pages.specs.Pages.{zero_words}
-use Rattle.grant_table.specs.Table.{GrantTable, fresh_table}
-use Rattle.event_channel.specs.Channels.{ChannelState, fresh_channels}
+use Rattle.blk_base.specs.declared.parts.End.TheVariants as end
+use Rattle.hypervisor.specs.Hypervisor.{Hypervisor, fresh}
+use Rattle.event_channel.specs.Channels.{is_pending}
 use Rattle.blk_front.specs.View as front
+use Rattle.blk_front.specs.Ask as front_ask
+use Rattle.blk_front.specs.Submit.{is_wait}
 use Rattle.blk_back.specs.View as back
+use Rattle.blk_back.specs.Ask.{is_idle}
 
--- the front in domain 1; the back with its jobs in domain 0; the words of memory; the back's mappings; the ports and the ends' pending events
+-- the front in domain 1; the back with its jobs in domain 0; memory, mappings and event channels
 pub record World : Type 0 where
   pub front : front.View
   pub back : back.View
-  pub pages : List ℕ
-  pub grants : GrantTable
-  pub channels : ChannelState
+  pub under : Hypervisor
 
--- the machine at the start: 1088 frames of words of 0, and nothing is mapped, made or pending
+-- the machine at the start: nothing is mapped, made or pending
 abbrev pub start_of : Options → World
-start_of config = record {
-  front = front.start_of config;
-  back = back.start_of config;
-  pages = zero_words 1114112;
-  grants = fresh_table;
-  channels = fresh_channels;
-}
+start_of config = record { front = front.start_of config; back = back.start_of config; under = fresh }
+
+-- quiet: both ends wait, no job is held, and no event is pending
+abbrev pub is_quiet : World → Bool
+is_quiet w = is_wait (front_ask.ask_of w.front) && is_idle w.back && not (is_pending w.under.channels end.Front) && not (is_pending w.under.channels end.Back)

@@ -1,15 +1,47 @@
 //! The machine of both domains as a pure function over what happens to it: moves of an end or of a
-//! job with their answers, submissions and spurious events; and its report, the lines that each
-//! happening shows (`grant_table.h`, `io/ring.h`, `io/blkif.h`). The runner will stand on it.
+//! job with their answers, submissions and spurious events; its report, the lines that each
+//! happening shows (`grant_table.h`, `io/ring.h`, `io/blkif.h`); and the happenings that each event
+//! of a schedule makes. The runner stands on it.
 #![tactic(auto)]
 
-ghost use Rattle.std.specs.Prelude.{◌≡◌, List, ◌++◌};
-ghost use Rattle.split_model.specs.World.{World};
-ghost use Rattle.split_model.specs.Happening.{Happening, after, lines_of};
+ghost use Rattle.std.specs.Prelude.{◌≡◌, ℕ, ◌+◌, ◌^◌, ◌<◌, ◌≤◌, List, ◌++◌, length, Some, filter};
+ghost use Rattle.blk_base.specs.Options.{Options};
+ghost use Rattle.hypervisor.specs.May.{FrontMay, BackMay};
+ghost use Rattle.blk_front.specs.Ask.{ask_of as front_ask, IsWithin as IsFrontWithin};
+ghost use Rattle.back_jobs.specs.Hands.{Names};
+ghost use Rattle.back_jobs.specs.Sound.{IsWithin};
+ghost use Rattle.blk_back.specs.Ask.{ask_of as back_ask};
+ghost use Rattle.blk_back.specs.Step.{job_ask_of};
+ghost use Rattle.blk_back.specs.Hands.{hands_of};
+ghost use Rattle.schedule_text.specs.declared.event.Event.{Event};
+ghost use Rattle.plain_disk.specs.Echo.{AnswersAll, is_echo};
+ghost use Rattle.split_model.specs.Kind.{AreOfAll};
+ghost use Rattle.split_model.specs.World.{World, start_of};
+ghost use Rattle.split_model.specs.Happening.{Happening, happens, after, lines_of};
+ghost use Rattle.split_model.specs.Safe.{IsSafe};
 
 /// Whatever happens and then happens on: the machine goes on from where it stands, and the lines of
 /// the rest come behind the others.
 pub fn a_run_goes_on()
     ensures world { (first rest : List Happening) (w : World) → after (first ++ rest) w ≡ after rest (after first w) }
     ensures lines { (first rest : List Happening) (w : World) → lines_of (first ++ rest) w ≡ lines_of first w ++ lines_of rest (after first w) }
+{}
+
+/// The machine is safe at the start and stays so, whatever happens. While it is, what is asked may
+/// be carried out: by the front, a port, and each word of its memory; by the back and its jobs,
+/// each word through a mapping that they hold, and each sector of the disk as they know it; and a
+/// further mapping while they hold at most 34 and its number is below 2^64.
+pub fn every_ask_may_be_carried_out()
+    ensures start { (o : Options) → IsSafe (start_of o) }
+    ensures kept { (w : World) (h : Happening) → IsSafe w → IsSafe (happens w h) }
+    ensures after { (hs : List Happening) (w : World) → IsSafe w → IsSafe (after hs w) }
+    ensures front { (w : World) → IsSafe w → IsFrontWithin (front_ask w.front) → FrontMay w.under (front_ask w.front) }
+    ensures back { (w : World) → IsSafe w → Names (hands_of w.back) (back_ask w.back) → w.under.grants.made + 1 < 2 ^ 64 → length (hands_of w.back) ≤ 34 → BackMay w.under (Some w.front.sectors) (back_ask w.back) }
+    ensures job { (w : World) (number : ℕ) → IsSafe w → Names (hands_of w.back) (job_ask_of w.back number) → IsWithin w.back.jobs.info.sectors (job_ask_of w.back number) → w.under.grants.made + 1 < 2 ^ 64 → length (hands_of w.back) ≤ 34 → BackMay w.under (Some w.front.sectors) (job_ask_of w.back number) }
+{}
+
+/// What the events of a schedule make happen echoes them: the lines of the kinds that echo are, one
+/// for one and in order, those that answer the events.
+pub fn a_schedule_is_echoed()
+    ensures { (order : ℕ) (events : List Event) (w : World) (history : List Happening) → AreOfAll events w history → AnswersAll order events (filter is_echo (lines_of history w)) }
 {}

@@ -1,7 +1,7 @@
 // What the front is handed, and what it tells.
-ghost use Rattle.std.specs.Prelude.{◌≡◌, None};
+ghost use Rattle.std.specs.Prelude.{◌≡◌, ◌≤◌, None};
 ghost use Rattle.blk_front.specs.Ask.{ask_of};
-ghost use Rattle.blk_front.specs.Submit.{submit_of, submit_one, is_ready, one_sector, unfinished, is_wait};
+ghost use Rattle.blk_front.specs.Submit.{submit_of, submit_one, is_ready, is_connected, one_sector, unfinished, is_wait};
 
 use super::Front;
 use crate::request::Request;
@@ -52,7 +52,8 @@ impl Front {
 
     // How many requests are unfinished.
     fn unfinished(&self) -> u32
-        ensures { result ≡ unfinished self.now }
+        ensures value { result ≡ unfinished self.now }
+        ensures few { result ≤ 32 }
     {
         let ending = match self.stage {
             Stage::GrantRead(_) => 1,
@@ -60,6 +61,20 @@ impl Front {
             _ => 0,
         };
         self.requests.len() as u32 + ending
+    }
+
+    /// Whether its ring and the port of its events are made.
+    pub fn is_connected(&self) -> bool
+        ensures { result ≡ is_connected self.now.stage }
+    {
+        !matches!(
+            self.stage,
+            Stage::RingWord(_)
+                | Stage::RingFrame
+                | Stage::RingFence
+                | Stage::RingFlags
+                | Stage::NewPort
+        )
     }
 
     /// Whether it asks for nothing but an event.
@@ -73,6 +88,7 @@ impl Front {
     pub fn owed(&self) -> (u32, u64)
         ensures requests { result.0 ≡ unfinished self.now }
         ensures sectors { result.1 ≡ unfinished self.now }
+        ensures few { result.0 ≤ 32 }
     {
         let count = self.unfinished();
         (count, u64::from(count))

@@ -1,0 +1,229 @@
+-- What happens echoes the schedule: an event's lines of the kinds that echo are those that answer it.
+use Rattle.std.proofs.Common.{◌≡◌, ℕ, zero, suc, List, [], ◌∷◌, ◌++◌, Option, Some, None, Result, Ok, Err, Bool, true, false, refl, ap, sym, ◌∙◌, subst}
+use Rattle.std.specs.Prelude.{filter, replicate, if◌then◌else◌}
+use Rattle.std.specs.List.{AllByRecursion}
+use Rattle.std.proofs.lemmas.List.Elements.{filter-append}
+use Rattle.blk_front.specs.View as front
+use Rattle.blk_front.specs.Step as front_step
+use Rattle.blk_back.specs.View as back
+use Rattle.blk_back.specs.Step as back_step
+use Rattle.blk_base.specs.declared.config.Job.{Job}
+use Rattle.blk_base.specs.declared.ask.BackAnswer.{BackAnswer}
+use Rattle.blk_base.specs.declared.ask.BackAnswer.TheVariants as answers
+use Rattle.schedule_text.specs.declared.event.Event.{Event}
+use Rattle.schedule_text.specs.declared.event.Event.TheVariants as events
+use Rattle.schedule_text.specs.declared.line.Detail.{Detail}
+use Rattle.schedule_text.specs.declared.line.Detail.TheVariants.{Lines, Moves}
+use Rattle.schedule_text.specs.declared.line.Line.{Line}
+use Rattle.schedule_text.specs.declared.line.Line.TheVariants as lines
+use Rattle.blk_front.specs.declared.told.Told.{Told}
+use Rattle.blk_front.specs.declared.told.Told.TheVariants as front_told
+use Rattle.blk_front.specs.declared.told.Refusal.{Refusal}
+use Rattle.blk_back.specs.declared.told.BackTold.{BackTold}
+use Rattle.blk_back.specs.declared.told.BackTold.TheVariants as back_told
+use Rattle.blk_back.specs.declared.told.Halt.{Halt}
+use Rattle.hypervisor.specs.Act.{FrontAct, BackAct, Took}
+use Rattle.plain_disk.specs.Echo.{is_echo, Answers, AnswersAll, AnswersSubmit, AnswersSettle, AnswersLook}
+use Rattle.blk_front.specs.Submit as front_submit
+use Rattle.split_model.specs.World.{World, is_quiet}
+use Rattle.split_model.specs.Shown.{front_lines, back_lines, halt_lines, effect_line}
+use Rattle.split_model.specs.Happening.{Happening, FrontMoves, BackMoves, JobMoves, Submits, Notifies, Looks, Settles, happens, lines_at, after, lines_of, front_shows, back_shows, job_shows, front_turn, back_turn, job_turn, submit_line}
+use Rattle.split_model.specs.Kind.{AreOf, AreOfAll, connecting, front_move, front_moves, back_moves, AreJobMoves, AreEachJobs, round_start, IsRound, AreRounds, never}
+use Rattle.schedule_text.specs.Recorder.{recorded}
+use Rattle.split_model.specs.Leads.{kept_of}
+use Rattle.split_model.proofs.Running.{lines_of-append}
+
+-- the lines that echo
+abbrev pub echo_of : List Line → List Line
+echo_of report = filter is_echo report
+
+pub echo-append : (a b : List Line) → echo_of (a ++ b) ≡ echo_of a ++ echo_of b
+echo-append a b = filter-append is_echo a b
+
+-- a move of an end or of a job, or a spurious event
+abbrev pub is_move : Happening → Bool
+is_move FrontMoves = true
+is_move BackMoves = true
+is_move (JobMoves number outcome) = true
+is_move (Notifies at) = true
+is_move h = false
+
+front_told_silent : (t : Option Told) → echo_of (front_lines t) ≡ []
+front_told_silent None = refl
+front_told_silent (Some front_told.Ready) = refl
+front_told_silent (Some (front_told.Answer id status)) = refl
+front_told_silent (Some (front_told.Broken word)) = refl
+
+effect_silent : (id index : ℕ) (a : BackAnswer) → is_echo (effect_line id index a) ≡ false
+effect_silent id index answers.Event = refl
+effect_silent id index (answers.Watched path) = refl
+effect_silent id index answers.Done = refl
+effect_silent id index (answers.Word word) = refl
+effect_silent id index (answers.Mapped m) = refl
+effect_silent id index (answers.MapRefused status) = refl
+effect_silent id index answers.BindRefused = refl
+effect_silent id index (answers.Key text) = refl
+effect_silent id index (answers.Sector words) = refl
+effect_silent id index answers.DiskFailed = refl
+
+one_silent : (l : Line) → is_echo l ≡ false → echo_of (l ∷ []) ≡ []
+one_silent l e = simp e
+
+back_told_silent : (t : Option BackTold) (a : BackAnswer) → echo_of (back_lines t a) ≡ []
+back_told_silent None a = refl
+back_told_silent (Some (back_told.Effect id index)) a = one_silent (effect_line id index a) (effect_silent id index a)
+back_told_silent (Some (back_told.Fault id index)) a = refl
+back_told_silent (Some (back_told.Reply id status)) a = refl
+
+halt_silent : (before now : Option Halt) → echo_of (halt_lines before now) ≡ []
+halt_silent None None = refl
+halt_silent None (Some h) = refl
+halt_silent (Some h) None = refl
+halt_silent (Some h) (Some g) = refl
+
+front_silent : (w : World) (act : Option FrontAct) → echo_of (front_shows w act) ≡ []
+front_silent w None = refl
+front_silent w (Some a) = front_told_silent (let f : front.View = front_step.step_of w.front a.answer in f.told)
+
+both_silent : (a b : List Line) → echo_of a ≡ [] → echo_of b ≡ [] → echo_of (a ++ b) ≡ []
+both_silent a b p q = echo-append a b ∙ (ap (λ l. l ++ echo_of b) p ∙ q)
+
+back_silent : (w : World) (act : Option BackAct) → echo_of (back_shows w act) ≡ []
+back_silent w None = refl
+back_silent w (Some a) =
+    let b : back.View = back_step.step_of w.back a.answer in
+    both_silent (back_lines b.told a.answer) (halt_lines w.back.halted b.halted) (back_told_silent b.told a.answer) (halt_silent w.back.halted b.halted)
+
+job_silent : (w : World) (number : ℕ) (act : Option BackAct) → echo_of (job_shows w number act) ≡ []
+job_silent w number None = refl
+job_silent w number (Some a) =
+    let b : back.View = back_step.job_step w.back number a.answer in
+    back_told_silent b.told a.answer
+
+move_silent : (w : World) (h : Happening) → is_move h ≡ true → echo_of (lines_at w h) ≡ []
+move_silent w FrontMoves m = front_silent w (front_turn w)
+move_silent w BackMoves m = back_silent w (back_turn w Took)
+move_silent w (JobMoves number outcome) m = job_silent w number (job_turn w number outcome)
+move_silent w (Notifies at) m = refl
+move_silent w (Submits job) m = absurd (cc)
+move_silent w Looks m = absurd (cc)
+move_silent w Settles m = absurd (cc)
+
+-- moves show no line that echoes
+pub moves_silent : (hs : List Happening) (w : World) → AllByRecursion (λ h. is_move h ≡ true) hs → echo_of (lines_of hs w) ≡ []
+moves_silent [] w m = refl
+moves_silent (h ∷ hs) w m = both_silent (lines_at w h) (lines_of hs (happens w h)) (move_silent w h m.0) (moves_silent hs (happens w h) m.1)
+
+are_moves-append : (a b : List Happening) → AllByRecursion (λ h. is_move h ≡ true) a → AllByRecursion (λ h. is_move h ≡ true) b → AllByRecursion (λ h. is_move h ≡ true) (a ++ b)
+are_moves-append [] b p q = q
+are_moves-append (h ∷ a) b p q = (p.0, are_moves-append a b p.1 q)
+
+repeated : (n : ℕ) (h : Happening) → is_move h ≡ true → AllByRecursion (λ h. is_move h ≡ true) (replicate n h)
+repeated zero h m = tt
+repeated (suc n) h m = (m, repeated n h m)
+
+connecting_moves : AllByRecursion (λ h. is_move h ≡ true) connecting
+connecting_moves = are_moves-append (replicate 20 FrontMoves) (replicate 2 BackMoves) (repeated 20 FrontMoves refl) (repeated 2 BackMoves refl)
+
+turn_moves : (connected : Bool) → AllByRecursion (λ h. is_move h ≡ true) (if connected then FrontMoves ∷ [] else connecting)
+turn_moves true = (refl, tt)
+turn_moves false = connecting_moves
+
+front_are_moves : (w : World) (n : ℕ) → AllByRecursion (λ h. is_move h ≡ true) (front_moves w n)
+front_are_moves w zero = tt
+front_are_moves w (suc n) = are_moves-append (front_move w) (replicate n FrontMoves) (turn_moves (front_submit.is_connected w.front.stage)) (repeated n FrontMoves refl)
+
+back_are_moves : (connected : Bool) (n : ℕ) → AllByRecursion (λ h. is_move h ≡ true) (if connected then replicate n BackMoves else [])
+back_are_moves true n = repeated n BackMoves refl
+back_are_moves false n = tt
+
+job_are_moves : (number : ℕ) (hs : List Happening) → AreJobMoves number hs → AllByRecursion (λ h. is_move h ≡ true) hs
+job_are_moves number [] j = tt
+job_are_moves number (h ∷ hs) j = (ap is_move j.1, job_are_moves number hs j.2)
+
+each_are_moves : (from to : ℕ) (w : World) (hs : List Happening) → AreEachJobs from to w hs → AllByRecursion (λ h. is_move h ≡ true) hs
+each_are_moves from to w [] j = tt
+each_are_moves from to w (h ∷ hs) j = (ap is_move j.2, each_are_moves j.0 to (happens w h) hs j.4)
+
+start_are_moves : (w : World) → AllByRecursion (λ h. is_move h ≡ true) (round_start w)
+start_are_moves w = are_moves-append (front_move w) (BackMoves ∷ []) (turn_moves (front_submit.is_connected w.front.stage)) (refl, tt)
+
+round_are_moves : (w : World) (hs : List Happening) → IsRound w hs → AllByRecursion (λ h. is_move h ≡ true) hs
+round_are_moves w hs r = subst (λ l. AllByRecursion (λ h. is_move h ≡ true) l) (sym r.all) (are_moves-append (round_start w) r.jobs (start_are_moves w) (each_are_moves 0 r.are_jobs.to (after (round_start w) w) r.jobs r.are_jobs.each))
+
+rounds_are_moves : (test : World → Bool) (n : ℕ) (w : World) (hs : List Happening) → AreRounds test n w hs → AllByRecursion (λ h. is_move h ≡ true) hs
+rounds_are_moves test zero w hs r = subst (λ l. AllByRecursion (λ h. is_move h ≡ true) l) (sym r) tt
+rounds_are_moves test (suc n) w hs r =
+    let p = r.1 in
+    subst (λ l. AllByRecursion (λ h. is_move h ≡ true) l) (sym p.2) (are_moves-append p.0 p.1 (round_are_moves w p.0 p.3) (rounds_are_moves test n (after p.0 w) p.1 p.4))
+
+-- an event of which only moves come echoes in nothing
+silent_event : (w : World) (hs : List Happening) → AllByRecursion (λ h. is_move h ≡ true) hs → echo_of (lines_of hs w) ≡ []
+silent_event w hs m = moves_silent hs w m
+
+submit_answers : (w : World) (job : Job) (result : Result ℕ Refusal) → (line : Line) × (echo_of (submit_line job result ∷ []) ≡ line ∷ []) × AnswersSubmit job line
+submit_answers w job (Ok number) = (lines.Submit number job, refl, refl)
+submit_answers w job (Err r) = (submit_line job (Err r), refl, tt)
+
+look_answers : (quiet : Bool) → (line : Line) × (echo_of ((if quiet then lines.Quiet else lines.Busy) ∷ []) ≡ line ∷ []) × AnswersLook line
+look_answers true = (lines.Quiet, refl, tt)
+look_answers false = (lines.Busy, refl, tt)
+
+settle_answers : (quiet : Bool) → (line : Line) × (echo_of ((if quiet then lines.Quiet else lines.Unsettled) ∷ []) ≡ line ∷ []) × AnswersSettle line
+settle_answers true = (lines.Quiet, refl, tt)
+settle_answers false = (lines.Unsettled, refl, tt)
+
+settle_echo : (w : World) (rounds : List Happening) → AllByRecursion (λ h. is_move h ≡ true) rounds → echo_of (lines_of (rounds ++ Settles ∷ []) w) ≡ echo_of ((if is_quiet (after rounds w) then lines.Quiet else lines.Unsettled) ∷ [])
+settle_echo w rounds m =
+    ap echo_of (lines_of-append rounds (Settles ∷ []) w)
+    ∙ (echo-append (lines_of rounds w) (lines_of (Settles ∷ []) (after rounds w))
+    ∙ (ap (λ l. l ++ echo_of (lines_of (Settles ∷ []) (after rounds w))) (moves_silent rounds w m)))
+
+-- the lines of an event that echo are those that answer it
+pub event_echo : (order : ℕ) (e : Event) (w : World) (hs : List Happening) → AreOf e w hs → Answers order e (echo_of (lines_of hs w))
+event_echo order (events.Submit job) w hs k =
+    let a = submit_answers w job (front_submit.submit_of w.front job).0 in
+    (a.0, ap (λ l. echo_of (lines_of l w)) k ∙ a.1, a.2)
+event_echo order (events.Front n) w hs k = ap (λ l. echo_of (lines_of l w)) k ∙ silent_event w (front_moves w n) (front_are_moves w n)
+event_echo order (events.Back n) w hs k = ap (λ l. echo_of (lines_of l w)) k ∙ silent_event w (back_moves w n) (back_are_moves (front_submit.is_connected w.front.stage) n)
+event_echo order (events.Job number n) w hs k = silent_event w hs (job_are_moves number hs k.0)
+event_echo order (events.Turn n) w hs k = silent_event w hs (rounds_are_moves never n w hs k)
+event_echo order events.Settle w hs k =
+    let a = settle_answers (is_quiet (after k.rounds w)) in
+    (a.0, ap (λ l. echo_of (lines_of l w)) k.all ∙ (settle_echo w k.rounds (rounds_are_moves is_quiet k.are_rounds.count w k.rounds k.are_rounds.are_rounds) ∙ a.1), a.2)
+event_echo order events.Look w hs k =
+    let a = look_answers (is_quiet w) in
+    (a.0, ap (λ l. echo_of (lines_of l w)) k ∙ a.1, a.2)
+event_echo order (events.Notify at) w hs k = ap (λ l. echo_of (lines_of l w)) k
+event_echo order events.Suspend w hs k = absurd k
+event_echo order (events.Close at) w hs k = absurd k
+event_echo order (events.Poke frame word value) w hs k = absurd k
+event_echo order (events.Key name text) w hs k = absurd k
+event_echo order events.Dump w hs k = absurd k
+
+-- what the events make happen answers them, one after another
+pub schedule_echo : (order : ℕ) (es : List Event) (w : World) (hs : List Happening) → AreOfAll es w hs → AnswersAll order es (echo_of (lines_of hs w))
+schedule_echo order [] w hs k = ap (λ l. echo_of (lines_of l w)) k
+schedule_echo order (e ∷ es) w hs k = (
+  echo_of (lines_of k.0 w),
+  echo_of (lines_of k.1 (after k.0 w)),
+  ap (λ l. echo_of (lines_of l w)) k.2 ∙ (ap echo_of (lines_of-append k.0 k.1 w) ∙ echo-append (lines_of k.0 w) (lines_of k.1 (after k.0 w))),
+  event_echo order e w k.0 k.3,
+  schedule_echo order es (after k.0 w) k.1 k.4,
+)
+
+kept_echo_one : (d : Detail) (l : Line) → echo_of (recorded d l) ≡ echo_of (l ∷ [])
+kept_echo_one Lines (lines.Begin config other) = refl
+kept_echo_one Lines (lines.Move move) = refl
+kept_echo_one Lines l = refl
+kept_echo_one Moves (lines.Begin config other) = refl
+kept_echo_one Moves (lines.Move move) = refl
+kept_echo_one Moves l = refl
+
+-- a recorder keeps each line that echoes, and no other comes to it
+pub kept_echo : (d : Detail) (report : List Line) → echo_of (kept_of d report) ≡ echo_of report
+kept_echo d [] = refl
+kept_echo d (l ∷ report) =
+    echo-append (recorded d l) (kept_of d report)
+    ∙ (ap (λ x. x ++ echo_of (kept_of d report)) (kept_echo_one d l)
+    ∙ (ap (λ x. echo_of (l ∷ []) ++ x) (kept_echo d report) ∙ sym (echo-append (l ∷ []) report)))

@@ -1,0 +1,235 @@
+-- What is put behind what: moves behind moves, a round behind rounds, and what an event's happenings are then.
+use Rattle.std.proofs.Common.{◌≡◌, ℕ, zero, suc, ◌+◌, ◌-◌, ◌<◌, ◌≤◌, inl, inr, Bool, true, false, if◌then◌else◌, List, [], ◌∷◌, ◌++◌, length, Option, Some, None, Result, Ok, Err, refl, ap, sym, ◌∙◌, subst, append_assoc, length-append, arith}
+use Rattle.std.specs.Prelude.{replicate}
+use Rattle.std.specs.Result.{IsErr}
+use Rattle.std.proofs.lemmas.Bool.{false≢true}
+use Rattle.std.proofs.lemmas.List.{append-nil, replicate_more, replicate-append-replicate}
+use Rattle.schedule_text.specs.declared.line.Detail.{Detail}
+use Rattle.schedule_text.specs.declared.line.Line.{Line}
+use Rattle.hypervisor.specs.Act.{Outcome, BackAct}
+use Rattle.blk_base.specs.declared.ask.BackAnswer.TheVariants as answer
+use Rattle.blk_front.specs.Submit.{is_connected}
+use Rattle.blk_back.specs.View.{View}
+use Rattle.blk_back.specs.Step.{next_job_of}
+use Rattle.split_model.specs.World.{World, is_quiet}
+use Rattle.split_model.specs.Happening.{Happening, FrontMoves, BackMoves, JobMoves, Settles, happens, after, job_after, job_turn, lines_at, DiskGoes}
+use Rattle.split_model.specs.Kind.{front_move, front_moves, back_moves, AreJobMoves, AreSomeJobMoves, AreFewJobMoves, AreEachJobs, AreAllJobs, HasEachJobs, round_start, IsRound, IsBeginning, IsRoundSoFar, AreRounds, AreRoundsSoFar, AreRoundsUntilQuiet, settle_bound, IsSettling, IsSettlingSoFar, IsJobMove}
+use Rattle.split_model.specs.Leads.{Moment, Leads, LeadsToStop, Goes, Is, Shows}
+use Rattle.split_model.specs.Safe.{above}
+use Rattle.split_model.proofs.Running.{after-append, leads_on, stops_on, leads_as, stops_as, leads_one, stops_one}
+use Rattle.split_model.proofs.SafeGrowth.{above_kept, jobs_kept, above_few}
+
+-- What was done, and then more was done.
+pub then_leads : (detail after_it : Detail) (one other both : List Happening → Type 0) (a b c : Moment) → after_it ≡ detail → ((xs ys : List Happening) → one xs → b.world ≡ after xs a.world → other ys → both (xs ++ ys)) → Leads detail one a b → Leads after_it other b c → Leads detail both a c
+then_leads detail after_it one other both a b c same join p q = leads_on detail one other both a b c join p (subst (λ d. Leads d other b c) same q)
+
+-- What was done, and then a call that the recorder stopped.
+pub then_stops : {E : Type 0} → (detail after_it : Detail) (one other any both : List Happening → Type 0) (result : Result (Unit {0}) E) (a b c : Moment) → IsErr result → after_it ≡ detail → ((xs ys : List Happening) → one xs → b.world ≡ after xs a.world → other ys → both (xs ++ ys)) → Leads detail one a b → LeadsToStop after_it other b c → Goes detail any both result a c
+then_stops detail after_it one other any both (Ok done) a b c is same join p q = absurd (false≢true is)
+then_stops detail after_it one other any both (Err stop) a b c is same join p q = stops_on detail one other both a b c join p (subst (λ d. LeadsToStop d other b c) same q)
+
+-- What was done, and then a last call.
+pub then_goes : {E : Type 0} → (detail after_it : Detail) (one other other_far both both_far : List Happening → Type 0) (result : Result (Unit {0}) E) (a b c : Moment) → after_it ≡ detail → ((xs ys : List Happening) → one xs → b.world ≡ after xs a.world → other ys → both (xs ++ ys)) → ((xs ys : List Happening) → one xs → b.world ≡ after xs a.world → other_far ys → both_far (xs ++ ys)) → Leads detail one a b → Goes after_it other other_far result b c → Goes detail both both_far result a c
+then_goes detail after_it one other other_far both both_far (Ok done) a b c same join far p q = then_leads detail after_it one other both a b c same join p q
+then_goes detail after_it one other other_far both both_far (Err stop) a b c same join far p q = then_stops detail after_it one other_far both both_far (Err stop) a b c refl same far p q
+
+-- The first call was stopped.
+pub first_stops : {E : Type 0} → (detail : Detail) (one any other : List Happening → Type 0) (result : Result (Unit {0}) E) (a b : Moment) → IsErr result → ((xs : List Happening) → one xs → other xs) → LeadsToStop detail one a b → Goes detail any other result a b
+first_stops detail one any other (Ok done) a b is into p = absurd (false≢true is)
+first_stops detail one any other (Err stop) a b is into p = stops_as detail one other a b into p
+
+pub goes_as : {E : Type 0} → (detail : Detail) (one one_far other other_far : List Happening → Type 0) (result : Result (Unit {0}) E) (a b : Moment) → ((xs : List Happening) → one xs → other xs) → ((xs : List Happening) → one_far xs → other_far xs) → Goes detail one one_far result a b → Goes detail other other_far result a b
+goes_as detail one one_far other other_far (Ok done) a b into far p = leads_as detail one other a b into p
+goes_as detail one one_far other other_far (Err stop) a b into far p = stops_as detail one_far other_far a b far p
+
+-- it is of another kind too, as the machine then stands
+pub leads_into : (detail : Detail) (one other : List Happening → Type 0) (a b : Moment) → ((xs : List Happening) → one xs → b.world ≡ after xs a.world → other xs) → Leads detail one a b → Leads detail other a b
+leads_into detail one other a b into p = record { history = p.history; is_kind = into p.history p.is_kind p.world; world = p.world; disk = p.disk; report = p.report }
+
+-- a line was said of the machine as it stands
+pub goes_said : {E : Type 0} → (detail : Detail) (h : Happening) (result : Result (Unit {0}) E) (a b : Moment) → b.world ≡ happens a.world h → DiskGoes a.world h a.content b.content → Shows detail (lines_at a.world h) result a.told b.told → Goes detail (Is (h ∷ [])) (Is (h ∷ [])) result a b
+goes_said detail h (Ok done) a b world disk told = leads_one detail h a b world disk told
+goes_said detail h (Err stop) a b world disk told = stops_one detail h a b world disk told
+
+-- the line that a test chooses
+pub chosen_true : (test : Bool) (one other line : Line) → test ≡ true → line ≡ one → line ≡ (if test then one else other)
+chosen_true test one other line e p = p ∙ sym (ap (λ b. if b then one else other) e)
+
+pub chosen_false : (test : Bool) (one other line : Line) → test ≡ false → line ≡ other → line ≡ (if test then one else other)
+chosen_false test one other line e p = p ∙ sym (ap (λ b. if b then one else other) e)
+
+-- these and then those
+pub both_are : (one other : List Happening) (xs ys : List Happening) → xs ≡ one → ys ≡ other → xs ++ ys ≡ one ++ other
+both_are one other xs ys p q = ap (λ l. l ++ ys) p ∙ ap (λ l. one ++ l) q
+
+-- the whole is a beginning too
+pub all_begins : (all xs : List Happening) → xs ≡ all → IsBeginning xs all
+all_begins all xs p = ([], sym p ∙ sym (append-nil xs))
+
+pub begins_before : (one other xs : List Happening) → IsBeginning xs one → IsBeginning xs (one ++ other)
+begins_before one other xs b = (b.0 ++ other, ap (λ l. l ++ other) b.1 ∙ append_assoc xs b.0 other)
+
+pub begins_behind : (one other xs ys : List Happening) → xs ≡ one → IsBeginning ys other → IsBeginning (xs ++ ys) (one ++ other)
+begins_behind one other xs ys p b = (b.0, both_are xs (ys ++ b.0) one other (sym p) b.1 ∙ sym (append_assoc xs ys b.0))
+
+-- one more of the same
+pub once_more : (n : ℕ) (h : Happening) (xs ys : List Happening) → xs ≡ replicate n h → ys ≡ h ∷ [] → xs ++ ys ≡ replicate (n + 1) h
+once_more n h xs ys p q = both_are (replicate n h) (h ∷ []) xs ys p q ∙ replicate_more n h
+
+-- the first of more of the same
+first_of_same : (n count : ℕ) (h : Happening) (xs : List Happening) → n ≤ count → xs ≡ replicate n h → IsBeginning xs (replicate count h)
+first_of_same n count h xs le p =
+    let all : count ≡ n + (count - n) = omega arith in
+    (replicate (count - n) h, ap (λ m. replicate m h) all ∙ (sym (replicate-append-replicate n (count - n) h) ∙ ap (λ l. l ++ replicate (count - n) h) (sym p)))
+
+pub once_more_begins : (n count : ℕ) (h : Happening) (xs ys : List Happening) → n < count → xs ≡ replicate n h → ys ≡ h ∷ [] → IsBeginning (xs ++ ys) (replicate count h)
+once_more_begins n count h xs ys less p q = first_of_same (n + 1) count h (xs ++ ys) (omega arith) (once_more n h xs ys p q)
+
+-- a move of a front that is connected
+pub front_move_connected : (w : World) → is_connected w.front.stage ≡ true → front_move w ≡ FrontMoves ∷ []
+front_move_connected w e = rw e refl
+
+-- moves of the front: the first, and then the others
+front_moves_from : (w : World) (count : ℕ) → 0 < count → front_moves w count ≡ front_move w ++ replicate (count - 1) FrontMoves
+front_moves_from w zero some = absurd (omega arith)
+front_moves_from w (suc n) some = ap (λ m. front_move w ++ replicate m FrontMoves) (omega arith)
+
+pub front_moves_none : (w : World) (count : ℕ) → count ≡ 0 → [] ≡ front_moves w count
+front_moves_none w count none = ap (front_moves w) (sym none)
+
+pub front_moves_first : (w : World) (count : ℕ) (xs : List Happening) → 0 < count → IsBeginning xs (front_move w) → IsBeginning xs (front_moves w count)
+front_moves_first w count xs some b =
+    subst (IsBeginning xs) (sym (front_moves_from w count some)) (begins_before (front_move w) (replicate (count - 1) FrontMoves) xs b)
+
+pub front_moves_all : (w : World) (count : ℕ) (xs ys : List Happening) → 0 < count → xs ≡ front_move w → ys ≡ replicate (count - 1) FrontMoves → xs ++ ys ≡ front_moves w count
+front_moves_all w count xs ys some p q = both_are (front_move w) (replicate (count - 1) FrontMoves) xs ys p q ∙ sym (front_moves_from w count some)
+
+pub front_moves_begin : (w : World) (count : ℕ) (xs ys : List Happening) → 0 < count → xs ≡ front_move w → IsBeginning ys (replicate (count - 1) FrontMoves) → IsBeginning (xs ++ ys) (front_moves w count)
+front_moves_begin w count xs ys some p b =
+    subst (IsBeginning (xs ++ ys)) (sym (front_moves_from w count some)) (begins_behind (front_move w) (replicate (count - 1) FrontMoves) xs ys p b)
+
+-- moves of the back, before it is connected and then
+pub back_moves_none : (w : World) (count : ℕ) → is_connected w.front.stage ≡ false → [] ≡ back_moves w count
+back_moves_none w count e = rw e refl
+
+pub back_moves_all : (w : World) (count : ℕ) → is_connected w.front.stage ≡ true → back_moves w count ≡ replicate count BackMoves
+back_moves_all w count e = rw e refl
+
+-- one more move of a job
+job_moves_behind : (number : ℕ) (outcome : Outcome) (hs : List Happening) → AreJobMoves number hs → AreJobMoves number (hs ++ JobMoves number outcome ∷ [])
+job_moves_behind number outcome [] m = (outcome, refl, tt)
+job_moves_behind number outcome (h ∷ hs) m = (m.0, m.1, job_moves_behind number outcome hs m.2)
+
+pub job_moves_more : (number moved n : ℕ) (xs ys : List Happening) → moved ≡ number → AreSomeJobMoves number n xs → IsJobMove moved ys → AreSomeJobMoves number (n + 1) (xs ++ ys)
+job_moves_more number moved n xs ys same m j =
+    let longer : length (xs ++ ys) ≡ n + 1 = length-append xs ys ∙ (ap (λ l. length xs + length l) j.1 ∙ ap (λ k. k + 1) m.1) in
+    let this : ys ≡ JobMoves number j.0 ∷ [] = j.1 ∙ ap (λ k. JobMoves k j.0 ∷ []) same in
+    (subst (λ l. AreJobMoves number (xs ++ l)) (sym this) (job_moves_behind number j.0 xs m.0), longer)
+
+pub few_job_moves : (number n count : ℕ) (xs : List Happening) → n ≤ count → AreSomeJobMoves number n xs → AreFewJobMoves number count xs
+few_job_moves number n count xs le m =
+    let long : length xs ≡ n = m.1 in
+    (m.0, omega arith)
+
+-- a move of the next job, behind those of the jobs before it
+each_behind : (from mid next : ℕ) (outcome : Outcome) (w : World) (hs : List Happening) → AreEachJobs from mid w hs → next_job_of (let v : World = after hs w in v.back) mid ≡ Some next → AreEachJobs from next w (hs ++ JobMoves next outcome ∷ [])
+each_behind from mid next outcome w [] e n = (next, outcome, refl, subst (λ (m : ℕ). next_job_of w.back m ≡ Some next) e n, refl)
+each_behind from mid next outcome w (h ∷ hs) e n = (e.0, e.1, e.2, e.3, each_behind e.0 mid next outcome (happens w h) hs e.4 n)
+
+pub each_more : (last next : ℕ) (w v : World) (xs ys : List Happening) → next_job_of v.back last ≡ Some next → AreEachJobs 0 last w xs → v ≡ after xs w → IsJobMove next ys → AreEachJobs 0 next w (xs ++ ys)
+each_more last next w v xs ys n e here j =
+    subst (λ l. AreEachJobs 0 next w (xs ++ l)) (sym j.1)
+    (each_behind 0 last next j.0 w xs e (subst (λ (u : World). next_job_of u.back last ≡ Some next) here n))
+
+-- a move of a job leaves as many jobs above each number
+job_above : (last number : ℕ) (w : World) (act : Option BackAct) → above last (let v : World = job_after w number act in v.back) ≡ above last w.back
+job_above last number w None = refl
+job_above last number w (Some a) = above_kept last w.back number a.answer
+
+pub moved_above : (detail : Detail) (last number : ℕ) (a b : Moment) → Leads detail (IsJobMove number) a b → above last b.world.back ≡ above last a.world.back
+moved_above detail last number a b p =
+    let here : b.world ≡ happens a.world (JobMoves number p.is_kind.0) = p.world ∙ ap (λ hs. after hs a.world) p.is_kind.1 in
+    ap (λ (w : World). above last w.back) here ∙ job_above last number a.world (job_turn a.world number p.is_kind.0)
+
+-- above the next job there are fewer
+next_above : (v : View) (last next : ℕ) → next_job_of v last ≡ Some next → above next v < above last v
+next_above v last next n =
+    let less = jobs_kept v last next answer.Done n in
+    let same = above_kept next v next answer.Done in
+    omega arith
+
+pub fewer_above : (detail : Detail) (last next : ℕ) (a b : Moment) → next_job_of a.world.back last ≡ Some next → Leads detail (IsJobMove next) a b → above next b.world.back < above last a.world.back
+fewer_above detail last next a b n p =
+    let less = next_above a.world.back last next n in
+    let same = moved_above detail next next a b p in
+    omega arith
+
+-- a job that is next is one of at most 32, each of which made a map at most
+pub job_left : (v : View) (last next made made_first above_first : ℕ) → next_job_of v last ≡ Some next → length v.jobs.works ≤ 32 → above 0 v ≡ above_first → made + above last v ≤ made_first + above_first → made + 1 ≤ made_first + 32
+job_left v last next made made_first above_first n few same le =
+    let less = next_above v last next n in
+    let within = above_few 0 v in
+    omega arith
+
+pub job_made : (now later : View) (last next made made_then made_first above_first : ℕ) → above next later < above last now → made + above last now ≤ made_first + above_first → made_then ≤ made + 1 → made_then + above next later ≤ made_first + above_first
+job_made now later last next made made_then made_first above_first less le one = omega arith
+
+-- a round of its parts
+pub round_of : (w v : World) (xs ys : List Happening) → xs ≡ round_start w → v ≡ after xs w → AreAllJobs v ys → IsRound w (xs ++ ys)
+round_of w v xs ys p here jobs = record { jobs = ys; all = ap (λ l. l ++ ys) p; are_jobs = subst (λ (u : World). AreAllJobs u ys) (here ∙ ap (λ l. after l w) p) jobs }
+
+pub round_begun : (w v : World) (xs ys : List Happening) → xs ≡ round_start w → v ≡ after xs w → HasEachJobs v ys → IsRoundSoFar w (xs ++ ys)
+round_begun w v xs ys p here jobs = inr (record { jobs = ys; all = ap (λ l. l ++ ys) p; are_jobs = subst (λ (u : World). HasEachJobs u ys) (here ∙ ap (λ l. after l w) p) jobs })
+
+pub round_in_front : (w : World) (xs : List Happening) → IsBeginning xs (front_move w) → IsRoundSoFar w xs
+round_in_front w xs b = inl (begins_before (front_move w) (BackMoves ∷ []) xs b)
+
+pub round_in_back : (w : World) (xs ys : List Happening) → xs ≡ front_move w → ys ≡ BackMoves ∷ [] → IsRoundSoFar w (xs ++ ys)
+round_in_back w xs ys p q = inl (all_begins (round_start w) (xs ++ ys) (both_are (front_move w) (BackMoves ∷ []) xs ys p q))
+
+-- one more round
+rounds_behind : (test : World → Bool) (n : ℕ) (w : World) (hs round : List Happening) → AreRounds test n w hs → test (after hs w) ≡ false → IsRound (after hs w) round → AreRounds test (suc n) w (hs ++ round)
+rounds_behind test zero w hs round are goes is_round =
+    let here : after hs w ≡ w = ap (λ l. after l w) are in
+    (subst (λ u. test u ≡ false) here goes, (round, [], ap (λ l. l ++ round) are ∙ sym (append-nil round), subst (λ u. IsRound u round) here is_round, refl))
+rounds_behind test (suc n) w hs round are goes is_round =
+    let first = are.1.0 in
+    let rest = are.1.1 in
+    let here : after hs w ≡ after rest (after first w) = ap (λ l. after l w) are.1.2 ∙ after-append first rest w in
+    (are.0, (first, rest ++ round, ap (λ l. l ++ round) are.1.2 ∙ append_assoc first rest round, are.1.3, rounds_behind test n (after first w) rest round are.1.4 (subst (λ u. test u ≡ false) here goes) (subst (λ u. IsRound u round) here is_round)))
+
+pub rounds_more : (test : World → Bool) (n : ℕ) (w v : World) (xs ys : List Happening) → test v ≡ false → AreRounds test n w xs → v ≡ after xs w → IsRound v ys → AreRounds test (n + 1) w (xs ++ ys)
+rounds_more test n w v xs ys goes are here is_round =
+    let next : n + 1 ≡ suc n = omega arith in
+    subst (λ m. AreRounds test m w (xs ++ ys)) (sym next)
+    (rounds_behind test n w xs ys are (subst (λ u. test u ≡ false) here goes) (subst (λ u. IsRound u ys) here is_round))
+
+-- rounds, and one that was begun
+pub rounds_begun : (test : World → Bool) (n bound : ℕ) (w v : World) (xs ys : List Happening) → n < bound → test v ≡ false → AreRounds test n w xs → v ≡ after xs w → IsRoundSoFar v ys → AreRoundsSoFar test bound w (xs ++ ys)
+rounds_begun test n bound w v xs ys less goes are here is_round = record {
+  count = n;
+  whole = xs;
+  begun = ys;
+  before = less;
+  are_rounds = are;
+  goes_on = subst (λ u. test u ≡ false) here goes;
+  is_round = subst (λ u. IsRoundSoFar u ys) here is_round;
+  all = refl;
+}
+
+-- rounds until all was quiet, or there were that many
+pub rounds_quiet : (n bound : ℕ) (w v : World) (xs : List Happening) → n ≤ bound → is_quiet v ≡ true → AreRounds is_quiet n w xs → v ≡ after xs w → AreRoundsUntilQuiet bound w xs
+rounds_quiet n bound w v xs le quiet are here = record { count = n; within = le; are_rounds = are; over = inr (subst (λ u. is_quiet u ≡ true) here quiet) }
+
+pub rounds_spent : (n bound : ℕ) (w v : World) (xs : List Happening) → n ≡ bound → AreRounds is_quiet n w xs → v ≡ after xs w → AreRoundsUntilQuiet bound w xs
+rounds_spent n bound w v xs all are here =
+    let le : n ≤ bound = omega arith in
+    record { count = n; within = le; are_rounds = are; over = inl all }
+
+-- settling: rounds, and what was found
+pub settled : (bound : ℕ) (w : World) (xs ys : List Happening) → bound ≡ settle_bound w → AreRoundsUntilQuiet bound w xs → ys ≡ Settles ∷ [] → IsSettling w (xs ++ ys)
+settled bound w xs ys same are p = record { rounds = xs; are_rounds = subst (λ n. AreRoundsUntilQuiet n w xs) same are; all = ap (λ l. xs ++ l) p }
+
+-- settling stopped at a round
+pub settling_begun : (bound : ℕ) (w : World) (xs : List Happening) → bound ≡ settle_bound w → AreRoundsSoFar is_quiet bound w xs → IsSettlingSoFar w xs
+settling_begun bound w xs same b = inl (subst (λ n. AreRoundsSoFar is_quiet n w xs) same b)

@@ -1,0 +1,328 @@
+-- What a move makes happen, by what its calls say.
+use Rattle.std.proofs.Common.{◌≡◌, ℕ, ◌+◌, ◌<◌, ◌≤◌, ◌^◌, length, List, [], ◌∷◌, ◌++◌, Option, Some, None, Result, Ok, Err, refl, ap, sym, ◌∙◌, subst, arith}
+use Rattle.std.proofs.lemmas.List.{append-nil}
+use Rattle.std.proofs.lemmas.Option.{none-some, same_Some}
+use Rattle.blk_base.specs.declared.config.Job.{Job}
+use Rattle.blk_base.specs.declared.ask.FrontAnswer.{FrontAnswer}
+use Rattle.blk_base.specs.declared.ask.BackAnswer.{BackAnswer}
+use Rattle.blk_base.specs.declared.ask.FrontAsk.{FrontAsk}
+use Rattle.blk_base.specs.declared.ask.BackAsk.{BackAsk}
+use Rattle.blk_base.specs.declared.ask.BackAsk.TheVariants as back_ask
+use Rattle.blk_base.specs.declared.moves.BackMover.{BackMover}
+use Rattle.blk_base.specs.declared.moves.Move.{Move as Shown}
+use Rattle.schedule_text.specs.declared.line.Detail.{Detail}
+use Rattle.schedule_text.specs.declared.line.Line.{Line}
+use Rattle.schedule_text.specs.declared.line.Line.TheVariants.{Move}
+use Rattle.schedule_text.specs.Recorder.{Told, gained}
+use Rattle.hypervisor.specs.Hypervisor.{Hypervisor}
+use Rattle.hypervisor.specs.Act.{FrontAct, BackAct, Outcome, Gave, Took, Failed, front_act, front_seen, front_under, back_act, back_seen, back_under, outcome_told}
+use Rattle.hypervisor.specs.Disk.{DiskDoes, NoCall}
+use Rattle.hypervisor.specs.May.{FrontMay, BackMay}
+use Rattle.blk_front.specs.declared.told.Told.{Told as FrontTold}
+use Rattle.blk_front.specs.declared.told.Refusal.{Refusal}
+use Rattle.blk_front.specs.Submit.{submit_of}
+use Rattle.blk_front.specs.View as front
+use Rattle.blk_front.specs.Ask as front_ends
+use Rattle.blk_front.specs.Step as front_step
+use Rattle.blk_back.specs.declared.told.BackTold.{BackTold}
+use Rattle.blk_back.specs.declared.told.Halt.{Halt}
+use Rattle.blk_back.specs.View as back
+use Rattle.blk_back.specs.Ask as back_ends
+use Rattle.blk_back.specs.Step as back_step
+use Rattle.blk_back.specs.Hands.{hands_of}
+use Rattle.back_jobs.specs.Task as task
+use Rattle.back_jobs.specs.Hands.{Names}
+use Rattle.back_jobs.specs.Sound.{IsWithin}
+use Rattle.split_model.specs.World.{World}
+use Rattle.split_model.specs.Shown.{front_lines, back_lines, halt_lines}
+use Rattle.split_model.specs.Happening.{Happening, FrontMoves, BackMoves, JobMoves, Submits, submit_line, happens, lines_at, DiskGoes, front_after, front_shows, back_after, back_shows, job_after, job_shows, front_turn, back_turn, job_turn}
+use Rattle.split_model.specs.Kind.{IsJobMove}
+use Rattle.split_model.specs.Leads.{kept_of, Moment, Leads, Goes, Is, Shows}
+use Rattle.split_model.specs.Safe.{IsSafe}
+use Rattle.split_model.proofs.Running.{leads_one, stops_one, leads_as, stops_as}
+use Rattle.split_model.proofs.Showing.{shows_none}
+use Rattle.split_model.proofs.Safe.{safe_happens, front_may, back_may, job_may}
+use Rattle.split_model.proofs.SafeActs.{made_front, made_back}
+use Rattle.split_model.proofs.SafeFront.{sectors_front, submit_kept}
+use Rattle.split_model.proofs.SafeAnswers.{IsBacks, backs_of, front_answered, back_answered, job_answered}
+
+abbrev at : World → Option (List (List ℕ)) → Told → Moment
+at w content told = record { world = w; content = content; told = told }
+
+-- one thing happened, and its lines were given to the recorder
+pub goes_one : {E : Type 0} → (d : Detail) (h : Happening) (w w' : World) (c c' : Option (List (List ℕ))) (t t' : Told) (result : Result (Unit {0}) E) → w' ≡ happens w h → DiskGoes w h c c' → Shows d (lines_at w h) result t t' → Goes d (Is (h ∷ [])) (Is (h ∷ [])) result (record { world = w; content = c; told = t }) (record { world = w'; content = c'; told = t' })
+goes_one d h w w' c c' t t' (Ok done) world disk shown = leads_one d h (at w c t) (at w' c' t') world disk shown
+goes_one d h w w' c c' t t' (Err stop) world disk shown = stops_one d h (at w c t) (at w' c' t') world disk shown
+
+-- it may be of another kind
+pub goes_as : {E : Type 0} → (d : Detail) (one other : List Happening → Type 0) (a b : Moment) (result : Result (Unit {0}) E) → ((xs : List Happening) → one xs → other xs) → Goes d one one result a b → Goes d other other result a b
+goes_as d one other a b (Ok done) into p = leads_as d one other a b into p
+goes_as d one other a b (Err stop) into p = stops_as d one other a b into p
+
+-- The front. The act that was seen.
+pub record FrontDid (act : Option FrontAct) (seen : FrontAnswer × Shown) : Type 0 where
+  pub act_done : FrontAct
+  pub is : act ≡ Some act_done
+  pub told : seen.0 ≡ act_done.answer
+  pub shown : seen.1 ≡ act_done.shown
+
+front_did_at : (act : Option FrontAct) (seen : FrontAnswer × Shown) → Some seen ≡ front_seen act → FrontDid act seen
+front_did_at None seen e = absurd (none-some seen (sym e))
+front_did_at (Some a) seen e =
+    let same : seen ≡ (a.answer, a.shown) = same_Some seen (a.answer, a.shown) e in
+    record { act_done = a; is = refl; told = ap (λ (s : FrontAnswer × Shown). s.0) same; shown = ap (λ (s : FrontAnswer × Shown). s.1) same }
+
+front_nothing_at : (act : Option FrontAct) → None ≡ front_seen act → act ≡ None
+front_nothing_at None e = refl
+front_nothing_at (Some a) e = absurd (none-some (a.answer, a.shown) e)
+
+front_after_did : (w : World) (act : Option FrontAct) (seen : FrontAnswer × Shown) (f : front.View) (u : Hypervisor) → FrontDid act seen → u ≡ front_under w.under act → f ≡ record (front_step.step_of w.front seen.0) { told = None } → record { front = f; back = w.back; under = u } ≡ front_after w act
+front_after_did w act seen f u did under stepped = rw (did.is, under, stepped) (rw (did.is, did.told) refl)
+
+front_shows_did : (w : World) (act : Option FrontAct) (seen : FrontAnswer × Shown) (more : List Line) → FrontDid act seen → more ≡ front_lines (let f : front.View = front_step.step_of w.front seen.0 in f.told) → Move seen.1 ∷ (more ++ []) ≡ front_shows w act
+front_shows_did w act seen more did said = append-nil (Move seen.1 ∷ more) ∙ rw (did.is, said) (rw (did.told, did.shown) refl)
+
+-- the front's act as it was seen
+pub front_did : (w : World) (seen : FrontAnswer × Shown) → Some seen ≡ front_seen (front_turn w) → FrontDid (front_turn w) seen
+front_did w seen e = front_did_at (front_turn w) seen e
+
+-- its answer is one that its ask allows
+pub front_told : (w : World) (seen : FrontAnswer × Shown) → Some seen ≡ front_seen (front_turn w) → front_ends.IsAnswer (front_ends.ask_of w.front) seen.0
+front_told w seen e =
+    let did = front_did w seen e in
+    subst (front_ends.IsAnswer (front_ends.ask_of w.front)) (sym did.told) (front_answered w.under w.front did.act_done did.is)
+
+-- the machine after it
+pub front_moved : (w : World) (seen : FrontAnswer × Shown) (f : front.View) (u : Hypervisor) → Some seen ≡ front_seen (front_turn w) → u ≡ front_under w.under (front_turn w) → f ≡ record (front_step.step_of w.front seen.0) { told = None } → record { front = f; back = w.back; under = u } ≡ happens w FrontMoves
+front_moved w seen f u e under stepped = front_after_did w (front_turn w) seen f u (front_did w seen e) under stepped
+
+pub front_safe : (w : World) (seen : FrontAnswer × Shown) (f : front.View) (u : Hypervisor) → IsSafe w → Some seen ≡ front_seen (front_turn w) → u ≡ front_under w.under (front_turn w) → f ≡ record (front_step.step_of w.front seen.0) { told = None } → IsSafe (record { front = f; back = w.back; under = u })
+front_safe w seen f u safe e under stepped = subst IsSafe (sym (front_moved w seen f u e under stepped)) (safe_happens w FrontMoves safe)
+
+front_grants_at : (w : World) (act : Option FrontAct) → front_turn w ≡ act → (front_under w.under act).grants ≡ w.under.grants
+front_grants_at w None e = refl
+front_grants_at w (Some a) e = made_front w.under (front_ends.ask_of w.front) a e
+
+-- the front maps nothing
+pub front_grants : (w : World) (u : Hypervisor) → u ≡ front_under w.under (front_turn w) → u.grants ≡ w.under.grants
+front_grants w u under = ap (λ (h : Hypervisor). h.grants) under ∙ front_grants_at w (front_turn w) refl
+
+pub front_sectors : (v f : front.View) (x : FrontAnswer) → f ≡ record (front_step.step_of v x) { told = None } → f.sectors ≡ v.sectors
+front_sectors v f x stepped = ap (λ (g : front.View). g.sectors) stepped ∙ sectors_front v x
+
+-- what happened, and its lines
+pub front_goes : {E : Type 0} → (d : Detail) (w : World) (seen : FrontAnswer × Shown) (f : front.View) (u : Hypervisor) (more : List Line) (c : Option (List (List ℕ))) (t t' : Told) (result : Result (Unit {0}) E) → Some seen ≡ front_seen (front_turn w) → u ≡ front_under w.under (front_turn w) → f ≡ record (front_step.step_of w.front seen.0) { told = None } → more ≡ front_lines (let g : front.View = front_step.step_of w.front seen.0 in g.told) → Shows d (Move seen.1 ∷ (more ++ [])) result t t' → Goes d (Is (FrontMoves ∷ [])) (Is (FrontMoves ∷ [])) result (record { world = w; content = c; told = t }) (record { world = record { front = f; back = w.back; under = u }; content = c; told = t' })
+front_goes d w seen f u more c t t' result e under stepped said shown =
+    goes_one d FrontMoves w (record { front = f; back = w.back; under = u }) c c t t' result (front_moved w seen f u e under stepped) refl
+    (subst (λ (l : List Line). Shows d l result t t') (front_shows_did w (front_turn w) seen more (front_did w seen e) said) shown)
+
+-- it has no move: nothing happened, and nothing is shown
+front_rests_at : (w : World) (act : Option FrontAct) (u : Hypervisor) → act ≡ None → u ≡ front_under w.under act → (record { front = w.front; back = w.back; under = u } ≡ front_after w act) × (front_shows w act ≡ [])
+front_rests_at w None u none under = (rw under refl, refl)
+front_rests_at w (Some a) u none under = absurd (none-some a (sym none))
+
+pub front_rests : (d : Detail) (w : World) (u : Hypervisor) (c : Option (List (List ℕ))) (t : Told) → None ≡ front_seen (front_turn w) → u ≡ front_under w.under (front_turn w) → Leads d (Is (FrontMoves ∷ [])) (record { world = w; content = c; told = t }) (record { world = record { front = w.front; back = w.back; under = u }; content = c; told = t })
+front_rests d w u c t e under =
+    let rests = front_rests_at w (front_turn w) u (front_nothing_at (front_turn w) e) under in
+    leads_one d FrontMoves (at w c t) (at (record { front = w.front; back = w.back; under = u }) c t) rests.0 refl
+    (subst (λ (l : List Line). t ≡ gained t (kept_of d l)) (sym rests.1) (shows_none d t))
+
+-- The back and its jobs. The act that was seen.
+pub record BackDid (act : Option BackAct) (seen : BackAnswer × Shown) : Type 0 where
+  pub act_done : BackAct
+  pub is : act ≡ Some act_done
+  pub told : seen.0 ≡ act_done.answer
+  pub shown : seen.1 ≡ act_done.shown
+
+back_did_at : (act : Option BackAct) (seen : BackAnswer × Shown) → Some seen ≡ back_seen act → BackDid act seen
+back_did_at None seen e = absurd (none-some seen (sym e))
+back_did_at (Some a) seen e =
+    let same : seen ≡ (a.answer, a.shown) = same_Some seen (a.answer, a.shown) e in
+    record { act_done = a; is = refl; told = ap (λ (s : BackAnswer × Shown). s.0) same; shown = ap (λ (s : BackAnswer × Shown). s.1) same }
+
+back_nothing_at : (act : Option BackAct) → None ≡ back_seen act → act ≡ None
+back_nothing_at None e = refl
+back_nothing_at (Some a) e = absurd (none-some (a.answer, a.shown) e)
+
+back_after_did : (w : World) (act : Option BackAct) (seen : BackAnswer × Shown) (b : back.View) (u : Hypervisor) → BackDid act seen → u ≡ back_under w.under act → b ≡ record (back_step.step_of w.back seen.0) { told = None } → record { front = w.front; back = b; under = u } ≡ back_after w act
+back_after_did w act seen b u did under stepped = rw (did.is, under, stepped) (rw (did.is, did.told) refl)
+
+job_after_did : (w : World) (k : ℕ) (act : Option BackAct) (seen : BackAnswer × Shown) (b : back.View) (u : Hypervisor) → BackDid act seen → u ≡ back_under w.under act → b ≡ record (back_step.job_step w.back k seen.0) { told = None } → record { front = w.front; back = b; under = u } ≡ job_after w k act
+job_after_did w k act seen b u did under stepped = rw (did.is, under, stepped) (rw (did.is, did.told) refl)
+
+back_shows_did : (w : World) (act : Option BackAct) (seen : BackAnswer × Shown) (more halts : List Line) → BackDid act seen → more ≡ back_lines (let b : back.View = back_step.step_of w.back seen.0 in b.told) seen.0 → halts ≡ halt_lines w.back.halted (let b : back.View = back_step.step_of w.back seen.0 in b.halted) → Move seen.1 ∷ (more ++ halts) ≡ back_shows w act
+back_shows_did w act seen more halts did said halted = rw (did.is, said, halted) (rw (did.told, did.shown) refl)
+
+job_shows_did : (w : World) (k : ℕ) (act : Option BackAct) (seen : BackAnswer × Shown) (more : List Line) → BackDid act seen → more ≡ back_lines (let b : back.View = back_step.job_step w.back k seen.0 in b.told) seen.0 → Move seen.1 ∷ (more ++ []) ≡ job_shows w k act
+job_shows_did w k act seen more did said = append-nil (Move seen.1 ∷ more) ∙ rw (did.is, said) (rw (did.told, did.shown) refl)
+
+-- no call of the disk: it took what wasn't asked
+no_call : (o : Outcome) → NoCall o → o ≡ Took
+no_call Took n = refl
+no_call (Gave words) n = absurd n
+no_call Failed n = absurd n
+
+no_disk_at : (ask : BackAsk) (o : Outcome) (c c' : Option (List (List ℕ))) → IsBacks ask → DiskDoes ask o c c' → (o ≡ Took) × (c' ≡ c)
+no_disk_at (back_ask.DiskRead sector) o c c' own does = absurd own
+no_disk_at (back_ask.DiskWrite sector words) o c c' own does = absurd own
+no_disk_at back_ask.Flush o c c' own does = absurd own
+no_disk_at (back_ask.Trim sector count) o c c' own does = absurd own
+no_disk_at ask o c c' own does = (no_call o does.0, does.1)
+
+-- the back itself asks nothing of the disk
+pub no_disk : (v : back.View) (o : Outcome) (c c' : Option (List (List ℕ))) → DiskDoes (back_ends.ask_of v) o c c' → (o ≡ Took) × (c' ≡ c)
+no_disk v o c c' does = no_disk_at (back_ends.ask_of v) o c c' (backs_of v) does
+
+-- the back's act as it was seen
+back_did : (w : World) (seen : BackAnswer × Shown) → outcome_told seen.0 ≡ Took → Some seen ≡ back_seen (back_turn w (outcome_told seen.0)) → BackDid (back_turn w Took) seen
+back_did w seen took e = back_did_at (back_turn w Took) seen (subst (λ (o : Outcome). Some seen ≡ back_seen (back_turn w o)) took e)
+
+back_under_took : (w : World) (u : Hypervisor) (o : Outcome) → o ≡ Took → u ≡ back_under w.under (back_turn w o) → u ≡ back_under w.under (back_turn w Took)
+back_under_took w u o took under = subst (λ (x : Outcome). u ≡ back_under w.under (back_turn w x)) took under
+
+-- its answer is one that its ask allows
+pub back_told : (w : World) (seen : BackAnswer × Shown) → Some seen ≡ back_seen (back_turn w (outcome_told seen.0)) → back_ends.IsAnswer (back_ends.ask_of w.back) seen.0
+back_told w seen e =
+    let did = back_did_at (back_turn w (outcome_told seen.0)) seen e in
+    subst (back_ends.IsAnswer (back_ends.ask_of w.back)) (sym did.told) (back_answered w.under w.back (outcome_told seen.0) did.act_done did.is)
+
+pub job_told : (w : World) (k : ℕ) (seen : BackAnswer × Shown) → Some seen ≡ back_seen (job_turn w k (outcome_told seen.0)) → task.IsAnswer (back_step.job_ask_of w.back k) seen.0
+job_told w k seen e =
+    let did = back_did_at (job_turn w k (outcome_told seen.0)) seen e in
+    subst (task.IsAnswer (back_step.job_ask_of w.back k)) (sym did.told) (job_answered w.under w.back k (outcome_told seen.0) did.act_done did.is)
+
+-- the machine after it
+pub back_moved : (w : World) (seen : BackAnswer × Shown) (b : back.View) (u : Hypervisor) (c c' : Option (List (List ℕ))) → Some seen ≡ back_seen (back_turn w (outcome_told seen.0)) → u ≡ back_under w.under (back_turn w (outcome_told seen.0)) → DiskDoes (back_ends.ask_of w.back) (outcome_told seen.0) c c' → b ≡ record (back_step.step_of w.back seen.0) { told = None } → record { front = w.front; back = b; under = u } ≡ happens w BackMoves
+back_moved w seen b u c c' e under does stepped =
+    let took = (no_disk w.back (outcome_told seen.0) c c' does).0 in
+    back_after_did w (back_turn w Took) seen b u (back_did w seen took e) (back_under_took w u (outcome_told seen.0) took under) stepped
+
+pub job_moved : (w : World) (k : ℕ) (seen : BackAnswer × Shown) (b : back.View) (u : Hypervisor) → Some seen ≡ back_seen (job_turn w k (outcome_told seen.0)) → u ≡ back_under w.under (job_turn w k (outcome_told seen.0)) → b ≡ record (back_step.job_step w.back k seen.0) { told = None } → record { front = w.front; back = b; under = u } ≡ happens w (JobMoves k (outcome_told seen.0))
+job_moved w k seen b u e under stepped = job_after_did w k (job_turn w k (outcome_told seen.0)) seen b u (back_did_at (job_turn w k (outcome_told seen.0)) seen e) under stepped
+
+pub back_safe : (w : World) (seen : BackAnswer × Shown) (b : back.View) (u : Hypervisor) (c c' : Option (List (List ℕ))) → IsSafe w → Some seen ≡ back_seen (back_turn w (outcome_told seen.0)) → u ≡ back_under w.under (back_turn w (outcome_told seen.0)) → DiskDoes (back_ends.ask_of w.back) (outcome_told seen.0) c c' → b ≡ record (back_step.step_of w.back seen.0) { told = None } → IsSafe (record { front = w.front; back = b; under = u })
+back_safe w seen b u c c' safe e under does stepped = subst IsSafe (sym (back_moved w seen b u c c' e under does stepped)) (safe_happens w BackMoves safe)
+
+pub job_safe : (w : World) (k : ℕ) (seen : BackAnswer × Shown) (b : back.View) (u : Hypervisor) → IsSafe w → Some seen ≡ back_seen (job_turn w k (outcome_told seen.0)) → u ≡ back_under w.under (job_turn w k (outcome_told seen.0)) → b ≡ record (back_step.job_step w.back k seen.0) { told = None } → IsSafe (record { front = w.front; back = b; under = u })
+job_safe w k seen b u safe e under stepped = subst IsSafe (sym (job_moved w k seen b u e under stepped)) (safe_happens w (JobMoves k (outcome_told seen.0)) safe)
+
+back_made_at : (w : World) (who : BackMover) (ask : BackAsk) (o : Outcome) (act : Option BackAct) → back_act w.under who ask o ≡ act → (back_under w.under act).grants.made ≤ w.under.grants.made + 1
+back_made_at w who ask o None e = omega arith
+back_made_at w who ask o (Some a) e = made_back w.under who ask o a e
+
+-- a move maps at most once
+pub back_made : (w : World) (who : BackMover) (ask : BackAsk) (o : Outcome) (u : Hypervisor) → u ≡ back_under w.under (back_act w.under who ask o) → u.grants.made ≤ w.under.grants.made + 1
+back_made w who ask o u under = rw under (back_made_at w who ask o (back_act w.under who ask o) refl)
+
+-- what happened, and its lines
+pub back_goes : {E : Type 0} → (d : Detail) (w : World) (seen : BackAnswer × Shown) (b : back.View) (u : Hypervisor) (more halts : List Line) (c c' : Option (List (List ℕ))) (t t' : Told) (result : Result (Unit {0}) E) → Some seen ≡ back_seen (back_turn w (outcome_told seen.0)) → u ≡ back_under w.under (back_turn w (outcome_told seen.0)) → DiskDoes (back_ends.ask_of w.back) (outcome_told seen.0) c c' → b ≡ record (back_step.step_of w.back seen.0) { told = None } → more ≡ back_lines (let g : back.View = back_step.step_of w.back seen.0 in g.told) seen.0 → halts ≡ halt_lines w.back.halted (let g : back.View = back_step.step_of w.back seen.0 in g.halted) → Shows d (Move seen.1 ∷ (more ++ halts)) result t t' → Goes d (Is (BackMoves ∷ [])) (Is (BackMoves ∷ [])) result (record { world = w; content = c; told = t }) (record { world = record { front = w.front; back = b; under = u }; content = c'; told = t' })
+back_goes d w seen b u more halts c c' t t' result e under does stepped said halted shown =
+    let none = no_disk w.back (outcome_told seen.0) c c' does in
+    goes_one d BackMoves w (record { front = w.front; back = b; under = u }) c c' t t' result (back_moved w seen b u c c' e under does stepped) none.1
+    (subst (λ (l : List Line). Shows d l result t t') (back_shows_did w (back_turn w Took) seen more halts (back_did w seen none.0 e) said halted) shown)
+
+is_job_move : (k : ℕ) (o : Outcome) (hs : List Happening) → hs ≡ JobMoves k o ∷ [] → IsJobMove k hs
+is_job_move k o hs e = (o, e)
+
+pub job_goes : {E : Type 0} → (d : Detail) (w : World) (k : ℕ) (seen : BackAnswer × Shown) (b : back.View) (u : Hypervisor) (more : List Line) (c c' : Option (List (List ℕ))) (t t' : Told) (result : Result (Unit {0}) E) → Some seen ≡ back_seen (job_turn w k (outcome_told seen.0)) → u ≡ back_under w.under (job_turn w k (outcome_told seen.0)) → DiskDoes (back_step.job_ask_of w.back k) (outcome_told seen.0) c c' → b ≡ record (back_step.job_step w.back k seen.0) { told = None } → more ≡ back_lines (let g : back.View = back_step.job_step w.back k seen.0 in g.told) seen.0 → Shows d (Move seen.1 ∷ (more ++ [])) result t t' → Goes d (IsJobMove k) (IsJobMove k) result (record { world = w; content = c; told = t }) (record { world = record { front = w.front; back = b; under = u }; content = c'; told = t' })
+job_goes d w k seen b u more c c' t t' result e under does stepped said shown =
+    let o = outcome_told seen.0 in
+    let v : World = record { front = w.front; back = b; under = u } in
+    goes_as d (Is (JobMoves k o ∷ [])) (IsJobMove k) (at w c t) (at v c' t') result (is_job_move k o)
+    (goes_one d (JobMoves k o) w v c c' t t' result (job_moved w k seen b u e under stepped) does
+    (subst (λ (l : List Line). Shows d l result t t') (job_shows_did w k (job_turn w k o) seen more (back_did_at (job_turn w k o) seen e) said) shown))
+
+-- the back has no move
+back_rests_at : (w : World) (act : Option BackAct) (u : Hypervisor) → act ≡ None → u ≡ back_under w.under act → (record { front = w.front; back = w.back; under = u } ≡ back_after w act) × (back_shows w act ≡ [])
+back_rests_at w None u none under = (rw under refl, refl)
+back_rests_at w (Some a) u none under = absurd (none-some a (sym none))
+
+job_rests_at : (w : World) (k : ℕ) (act : Option BackAct) (u : Hypervisor) → act ≡ None → u ≡ back_under w.under act → (record { front = w.front; back = w.back; under = u } ≡ job_after w k act) × (job_shows w k act ≡ [])
+job_rests_at w k None u none under = (rw under refl, refl)
+job_rests_at w k (Some a) u none under = absurd (none-some a (sym none))
+
+pub back_rests : (d : Detail) (w : World) (u : Hypervisor) (c c' : Option (List (List ℕ))) (t : Told) → None ≡ back_seen (back_turn w Took) → u ≡ back_under w.under (back_turn w Took) → DiskDoes (back_ends.ask_of w.back) Took c c' → Leads d (Is (BackMoves ∷ [])) (record { world = w; content = c; told = t }) (record { world = record { front = w.front; back = w.back; under = u }; content = c'; told = t })
+back_rests d w u c c' t e under does =
+    let rests = back_rests_at w (back_turn w Took) u (back_nothing_at (back_turn w Took) e) under in
+    leads_one d BackMoves (at w c t) (at (record { front = w.front; back = w.back; under = u }) c' t) rests.0 (no_disk w.back Took c c' does).1
+    (subst (λ (l : List Line). t ≡ gained t (kept_of d l)) (sym rests.1) (shows_none d t))
+
+-- the job has no move
+pub job_rests : (d : Detail) (w : World) (k : ℕ) (u : Hypervisor) (c c' : Option (List (List ℕ))) (t : Told) → None ≡ back_seen (job_turn w k Took) → u ≡ back_under w.under (job_turn w k Took) → DiskDoes (back_step.job_ask_of w.back k) Took c c' → Leads d (IsJobMove k) (record { world = w; content = c; told = t }) (record { world = record { front = w.front; back = w.back; under = u }; content = c'; told = t })
+job_rests d w k u c c' t e under does =
+    let rests = job_rests_at w k (job_turn w k Took) u (back_nothing_at (job_turn w k Took) e) under in
+    let v : World = record { front = w.front; back = w.back; under = u } in
+    leads_as d (Is (JobMoves k Took ∷ [])) (IsJobMove k) (at w c t) (at v c' t) (is_job_move k Took)
+    (leads_one d (JobMoves k Took) (at w c t) (at v c' t) rests.0 does
+    (subst (λ (l : List Line). t ≡ gained t (kept_of d l)) (sym rests.1) (shows_none d t)))
+
+-- What a call says of what was asked before it, and told.
+pub front_asked : (w : World) (ask : FrontAsk) (seen : FrontAnswer × Shown) → ask ≡ front_ends.ask_of w.front → Some seen ≡ front_seen (front_act w.under ask) → Some seen ≡ front_seen (front_turn w)
+front_asked w ask seen same e = subst (λ (x : FrontAsk). Some seen ≡ front_seen (front_act w.under x)) same e
+
+pub front_unasked : (w : World) (ask : FrontAsk) → ask ≡ front_ends.ask_of w.front → None ≡ front_seen (front_act w.under ask) → None ≡ front_seen (front_turn w)
+front_unasked w ask same e = subst (λ (x : FrontAsk). None ≡ front_seen (front_act w.under x)) same e
+
+pub front_left : (w : World) (ask : FrontAsk) (u : Hypervisor) → ask ≡ front_ends.ask_of w.front → u ≡ front_under w.under (front_act w.under ask) → u ≡ front_under w.under (front_turn w)
+front_left w ask u same e = subst (λ (x : FrontAsk). u ≡ front_under w.under (front_act w.under x)) same e
+
+pub front_stepped : (v x f : front.View) (a : FrontAnswer) → x ≡ front_step.step_of v a → f ≡ record x { told = None } → f ≡ record (front_step.step_of v a) { told = None }
+front_stepped v x f a stepped taken = taken ∙ ap (λ (y : front.View). record y { told = None }) stepped
+
+pub front_said : (v x : front.View) (a : FrontAnswer) (told : Option FrontTold) (more : List Line) → x ≡ front_step.step_of v a → told ≡ x.told → more ≡ front_lines told → more ≡ front_lines (let g : front.View = front_step.step_of v a in g.told)
+front_said v x a told more stepped took said = said ∙ ap front_lines (took ∙ ap (λ (y : front.View). y.told) stepped)
+
+pub back_asked : (h : Hypervisor) (who : BackMover) (ask asked : BackAsk) (seen : BackAnswer × Shown) → ask ≡ asked → Some seen ≡ back_seen (back_act h who ask (outcome_told seen.0)) → Some seen ≡ back_seen (back_act h who asked (outcome_told seen.0))
+back_asked h who ask asked seen same e = subst (λ (x : BackAsk). Some seen ≡ back_seen (back_act h who x (outcome_told seen.0))) same e
+
+pub back_unasked : (h : Hypervisor) (who : BackMover) (ask asked : BackAsk) → ask ≡ asked → None ≡ back_seen (back_act h who ask Took) → None ≡ back_seen (back_act h who asked Took)
+back_unasked h who ask asked same e = subst (λ (x : BackAsk). None ≡ back_seen (back_act h who x Took)) same e
+
+pub back_left : (h : Hypervisor) (who : BackMover) (ask asked : BackAsk) (o : Outcome) (u : Hypervisor) → ask ≡ asked → u ≡ back_under h (back_act h who ask o) → u ≡ back_under h (back_act h who asked o)
+back_left h who ask asked o u same e = subst (λ (x : BackAsk). u ≡ back_under h (back_act h who x o)) same e
+
+pub back_did_disk : (ask asked : BackAsk) (o : Outcome) (c c' : Option (List (List ℕ))) → ask ≡ asked → DiskDoes ask o c c' → DiskDoes asked o c c'
+back_did_disk ask asked o c c' same does = subst (λ (x : BackAsk). DiskDoes x o c c') same does
+
+pub back_stepped : (x b y : back.View) → x ≡ y → b ≡ record x { told = None } → b ≡ record y { told = None }
+back_stepped x b y stepped taken = taken ∙ ap (λ (z : back.View). record z { told = None }) stepped
+
+pub back_said : (x y : back.View) (a : BackAnswer) (told : Option BackTold) (more : List Line) → x ≡ y → told ≡ x.told → more ≡ back_lines told a → more ≡ back_lines y.told a
+back_said x y a told more stepped took said = said ∙ ap (λ (t : Option BackTold). back_lines t a) (took ∙ ap (λ (z : back.View). z.told) stepped)
+
+pub back_halts : (v x b y : back.View) (before after : Option Halt) (halts : List Line) → x ≡ y → b ≡ record x { told = None } → before ≡ v.halted → after ≡ b.halted → halts ≡ halt_lines before after → halts ≡ halt_lines v.halted y.halted
+back_halts v x b y before after halts stepped taken was now e = rw (← stepped) (e ∙ (ap (λ (h : Option Halt). halt_lines h after) was ∙ ap (halt_lines v.halted) (now ∙ ap (λ (z : back.View). z.halted) taken)))
+
+-- what was asked may be carried out
+pub front_asked_may : (w : World) (ask : FrontAsk) → IsSafe w → ask ≡ front_ends.ask_of w.front → front_ends.IsWithin ask → FrontMay w.under ask
+front_asked_may w ask safe same within = subst (FrontMay w.under) (sym same) (front_may w safe (subst front_ends.IsWithin same within))
+
+one_left : (w v : World) → w ≡ v → v.under.grants.made + 1 < 2 ^ 64 → w.under.grants.made + 1 < 2 ^ 64
+one_left w v is left = subst (λ (x : World). x.under.grants.made + 1 < 2 ^ 64) (sym is) left
+
+pub back_asked_may : (w v : World) (ask : BackAsk) (attached : Option ℕ) → w ≡ v → IsSafe w → ask ≡ back_ends.ask_of w.back → Names (hands_of w.back) ask → length (hands_of w.back) ≤ 34 → v.under.grants.made + 1 < 2 ^ 64 → BackMay w.under attached ask
+back_asked_may w v ask attached is safe same names few left =
+    subst (BackMay w.under attached) (sym same)
+    (back_may w.under attached (hands_of w.back) w.back safe.held (subst (Names (hands_of w.back)) same names) (one_left w v is left) few)
+
+pub job_asked_may : (w v : World) (k : ℕ) (ask : BackAsk) (attached : Option ℕ) → w ≡ v → IsSafe w → ask ≡ back_step.job_ask_of w.back k → Names (hands_of w.back) ask → IsWithin w.back.jobs.info.sectors ask → length (hands_of w.back) ≤ 34 → attached ≡ Some v.front.sectors → v.under.grants.made + 1 < 2 ^ 64 → BackMay w.under attached ask
+job_asked_may w v k ask attached is safe same names within few disk left =
+    let known : attached ≡ Some w.back.jobs.info.sectors = disk ∙ (sym (ap (λ (x : World). Some x.front.sectors) is) ∙ sym (ap (λ (n : ℕ). Some n) safe.sized)) in
+    subst (BackMay w.under attached) (sym same)
+    (job_may w.under attached w.back.jobs.info.sectors (hands_of w.back) w.back k safe.held (subst (Names (hands_of w.back)) same names) (subst (IsWithin w.back.jobs.info.sectors) same within) known (one_left w v is left) few)
+
+-- A submission.
+pub submitted : (w : World) (job : Job) (f : front.View) → f ≡ (submit_of w.front job).1 → record { front = f; back = w.back; under = w.under } ≡ happens w (Submits job)
+submitted w job f stepped = ap (λ (v : front.View). record { front = v; back = w.back; under = w.under }) stepped
+
+pub submit_safe : (w : World) (job : Job) (f : front.View) → IsSafe w → f ≡ (submit_of w.front job).1 → IsSafe (record { front = f; back = w.back; under = w.under })
+submit_safe w job f safe stepped = subst IsSafe (sym (submitted w job f stepped)) (safe_happens w (Submits job) safe)
+
+pub submit_sectors : (v f : front.View) (job : Job) → f ≡ (submit_of v job).1 → f.sectors ≡ v.sectors
+submit_sectors v f job stepped = ap (λ (x : front.View). x.sectors) stepped ∙ (submit_kept v job).sectors
+
+pub submit_goes : {E : Type 0} → (d : Detail) (w : World) (job : Job) (f : front.View) (answer : Result ℕ Refusal) (line : Line) (c : Option (List (List ℕ))) (t t' : Told) (result : Result (Unit {0}) E) → f ≡ (submit_of w.front job).1 → answer ≡ (submit_of w.front job).0 → line ≡ submit_line job answer → Shows d (line ∷ []) result t t' → Goes d (Is (Submits job ∷ [])) (Is (Submits job ∷ [])) result (record { world = w; content = c; told = t }) (record { world = record { front = f; back = w.back; under = w.under }; content = c; told = t' })
+submit_goes d w job f answer line c t t' result stepped answered said shown =
+    let same : line ≡ submit_line job (submit_of w.front job).0 = said ∙ ap (submit_line job) answered in
+    goes_one d (Submits job) w (record { front = f; back = w.back; under = w.under }) c c t t' result (submitted w job f stepped) refl
+    (subst (λ (l : Line). Shows d (l ∷ []) result t t') same shown)

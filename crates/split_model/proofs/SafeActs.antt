@@ -1,0 +1,134 @@
+-- What an act leaves as it was, and that its answer is one that its ask allows.
+use Rattle.std.proofs.Common.{◌≡◌, ℕ, ◌+◌, ◌≤◌, Bool, true, false, if◌then◌else◌, List, refl, ap, subst, arith}
+use Rattle.std.specs.Prelude.{Some, None, Result, Ok, Err}
+use Rattle.std.proofs.lemmas.Option.{none-some, same_Some}
+use Rattle.blk_base.specs.declared.parts.Mapping.{Mapping}
+use Rattle.blk_base.specs.declared.parts.Mode.{Mode}
+use Rattle.blk_base.specs.declared.parts.End.TheVariants as end
+use Rattle.blk_base.specs.declared.ask.FrontAsk.{FrontAsk}
+use Rattle.blk_base.specs.declared.ask.FrontAsk.TheVariants as front_ask
+use Rattle.blk_base.specs.declared.ask.BackAsk.{BackAsk}
+use Rattle.blk_base.specs.declared.ask.BackAsk.TheVariants as back_ask
+use Rattle.blk_base.specs.declared.moves.BackMover.{BackMover}
+use Rattle.blk_base.specs.declared.moves.BackMover.TheVariants as back_mover
+use Rattle.blk_base.specs.declared.moves.Move.{Move}
+use Rattle.grant_table.specs.declared.entry.MapRefusal.{MapRefusal}
+use Rattle.grant_table.specs.Table.{GrantTable, verdict_at}
+use Rattle.event_channel.specs.declared.channels.PortState.{PortState}
+use Rattle.event_channel.specs.declared.channels.PortState.TheVariants as port
+use Rattle.event_channel.specs.Channels.{state_of, is_pending}
+use Rattle.hypervisor.specs.Hypervisor.{Hypervisor}
+use Rattle.hypervisor.specs.Act.{FrontAct, BackAct, Outcome, Gave, Took, Failed, front_act, back_act, map_act, bind_act, read_act, disk_act, wait_act}
+use Rattle.back_jobs.specs.Hands.{HandsAfter}
+use Rattle.split_model.specs.Safe.{AreHeld}
+use Rattle.split_model.proofs.SafeHands.{held_more, held_less}
+
+-- what holds of an act holds of the act that there is
+pub of_front : (P : FrontAct → Type 0) (x a : FrontAct) → P x → Some x ≡ Some a → P a
+of_front P x a h e = subst P (same_Some x a e) h
+
+pub of_back : (P : BackAct → Type 0) (x a : BackAct) → P x → Some x ≡ Some a → P a
+of_back P x a h e = subst P (same_Some x a e) h
+
+pub front_test : (P : FrontAct → Type 0) (b : Bool) (x a : FrontAct) → P x → (if b then Some x else None) ≡ Some a → P a
+front_test P true x a h e = of_front P x a h e
+front_test P false x a h e = absurd (none-some a e)
+
+pub back_test : (P : BackAct → Type 0) (b : Bool) (x a : BackAct) → P x → (if b then Some x else None) ≡ Some a → P a
+back_test P true x a h e = of_back P x a h e
+back_test P false x a h e = absurd (none-some a e)
+
+-- the front's acts leave the mappings as they are
+abbrev FrontKeeps : GrantTable → FrontAct → Type 0
+FrontKeeps table a = a.under.grants ≡ table
+
+pub made_front : (h : Hypervisor) (ask : FrontAsk) (a : FrontAct) → front_act h ask ≡ Some a → a.under.grants ≡ h.grants
+made_front h front_ask.Wait a e = front_test (FrontKeeps h.grants) (is_pending h.channels end.Front) _ a refl e
+made_front h front_ask.Fence a e = of_front (FrontKeeps h.grants) _ a refl e
+made_front h (front_ask.Read frame word) a e = of_front (FrontKeeps h.grants) _ a refl e
+made_front h (front_ask.Write frame word value) a e = of_front (FrontKeeps h.grants) _ a refl e
+made_front h (front_ask.Cas frame word old new) a e = of_front (FrontKeeps h.grants) _ a refl e
+made_front h front_ask.NewPort a e = of_front (FrontKeeps h.grants) _ a refl e
+made_front h front_ask.Send a e = of_front (FrontKeeps h.grants) _ a refl e
+made_front h front_ask.ClosePort a e = of_front (FrontKeeps h.grants) _ a refl e
+made_front h (front_ask.GetKey path) a e = absurd (none-some a e)
+made_front h (front_ask.SetKey path text) a e = absurd (none-some a e)
+made_front h (front_ask.Watch path) a e = absurd (none-some a e)
+
+-- what holds of every outcome that a call of the disk allows
+pub of_read : (P : BackAct → Type 0) (h : Hypervisor) (shown : Move) (o : Outcome) (a : BackAct) → ((x : BackAct) → x.under ≡ h → P x) → read_act h shown o ≡ Some a → P a
+of_read P h shown (Gave words) a all e = of_back P _ a (all _ refl) e
+of_read P h shown Failed a all e = of_back P _ a (all _ refl) e
+of_read P h shown Took a all e = absurd (none-some a e)
+
+pub of_disk : (P : BackAct → Type 0) (h : Hypervisor) (shown : Move) (o : Outcome) (a : BackAct) → ((x : BackAct) → x.under ≡ h → P x) → disk_act h shown o ≡ Some a → P a
+of_disk P h shown Took a all e = of_back P _ a (all _ refl) e
+of_disk P h shown Failed a all e = of_back P _ a (all _ refl) e
+of_disk P h shown (Gave words) a all e = absurd (none-some a e)
+
+of_wait : (P : BackAct → Type 0) (h : Hypervisor) (who : BackMover) (a : BackAct) → ((x : BackAct) → x.under.grants ≡ h.grants → P x) → wait_act h who ≡ Some a → P a
+of_wait P h back_mover.Back a all e = back_test P (is_pending h.channels end.Back) _ a (all _ refl) e
+of_wait P h (back_mover.Job k) a all e = absurd (none-some a e)
+
+bind_keeps : (h : Hypervisor) (p : ℕ) (state : PortState) → (bind_act h p state).under.grants ≡ h.grants
+bind_keeps h p port.Unbound = refl
+bind_keeps h p port.Closed = refl
+bind_keeps h p port.Bound = refl
+
+-- the mappings that live are those that are held before an act and after it
+abbrev KeepsHands : GrantTable → BackAsk → List Mapping → List Mapping → BackAct → Type 0
+KeepsHands table ask hands hands' a = HandsAfter ask a.answer hands hands' → AreHeld a.under.grants hands'
+
+held_map : (h : Hypervisor) (who : BackMover) (gref : ℕ) (mode : Mode) (hands hands' : List Mapping) → AreHeld h.grants hands → (verdict : Result ℕ MapRefusal) → HandsAfter (back_ask.Map gref mode) (map_act h who gref mode verdict).answer hands hands' → AreHeld (map_act h who gref mode verdict).under.grants hands'
+held_map h who gref mode hands hands' held (Ok frame) after = held_more h.grants (record { number = h.grants.made + 1; gref = gref; mode = mode }) frame hands hands' refl held after
+held_map h who gref mode hands hands' held (Err refusal) after = rw after held
+
+held_same : (table table' : GrantTable) (hands hands' : List Mapping) → AreHeld table hands → table' ≡ table → hands' ≡ hands → AreHeld table' hands'
+held_same table table' hands hands' held e after = rw (e, after) held
+
+pub held_after : (h : Hypervisor) (who : BackMover) (ask : BackAsk) (o : Outcome) (a : BackAct) (hands hands' : List Mapping) → AreHeld h.grants hands → back_act h who ask o ≡ Some a → HandsAfter ask a.answer hands hands' → AreHeld a.under.grants hands'
+held_after h who back_ask.Wait o a hands hands' held e = of_wait (KeepsHands h.grants back_ask.Wait hands hands') h who a (λ x same after. held_same h.grants x.under.grants hands hands' held same after) e
+held_after h who back_ask.Fence o a hands hands' held e = of_back (KeepsHands h.grants back_ask.Fence hands hands') _ a (λ after. rw after held) e
+held_after h who (back_ask.Read m word) o a hands hands' held e = of_back (KeepsHands h.grants (back_ask.Read m word) hands hands') _ a (λ after. rw after held) e
+held_after h who (back_ask.Write m word value) o a hands hands' held e = of_back (KeepsHands h.grants (back_ask.Write m word value) hands hands') _ a (λ after. rw after held) e
+held_after h who (back_ask.Map gref mode) o a hands hands' held e = of_back (KeepsHands h.grants (back_ask.Map gref mode) hands hands') _ a (λ after. held_map h who gref mode hands hands' held (verdict_at h.pages gref mode) after) e
+held_after h who (back_ask.Unmap m) o a hands hands' held e = of_back (KeepsHands h.grants (back_ask.Unmap m) hands hands') _ a (λ after. held_less h.grants m hands hands' held after) e
+held_after h who (back_ask.Bind p) o a hands hands' held e = of_back (KeepsHands h.grants (back_ask.Bind p) hands hands') _ a (λ after. held_same h.grants _ hands hands' held (bind_keeps h p (state_of h.channels p)) after) e
+held_after h who back_ask.Send o a hands hands' held e = of_back (KeepsHands h.grants back_ask.Send hands hands') _ a (λ after. rw after held) e
+held_after h who back_ask.ClosePort o a hands hands' held e = of_back (KeepsHands h.grants back_ask.ClosePort hands hands') _ a (λ after. rw after held) e
+held_after h who (back_ask.GetKey path) o a hands hands' held e = absurd (none-some a e)
+held_after h who (back_ask.SetKey path text) o a hands hands' held e = absurd (none-some a e)
+held_after h who (back_ask.Watch path) o a hands hands' held e = absurd (none-some a e)
+held_after h who (back_ask.DiskRead sector) o a hands hands' held e = of_read (KeepsHands h.grants (back_ask.DiskRead sector) hands hands') h _ o a (λ x same after. held_same h.grants x.under.grants hands hands' held (ap (λ (u : Hypervisor). u.grants) same) after) e
+held_after h who (back_ask.DiskWrite sector words) o a hands hands' held e = of_disk (KeepsHands h.grants (back_ask.DiskWrite sector words) hands hands') h _ o a (λ x same after. held_same h.grants x.under.grants hands hands' held (ap (λ (u : Hypervisor). u.grants) same) after) e
+held_after h who back_ask.Flush o a hands hands' held e = of_disk (KeepsHands h.grants back_ask.Flush hands hands') h _ o a (λ x same after. held_same h.grants x.under.grants hands hands' held (ap (λ (u : Hypervisor). u.grants) same) after) e
+held_after h who (back_ask.Trim sector count) o a hands hands' held e = of_disk (KeepsHands h.grants (back_ask.Trim sector count) hands hands') h _ o a (λ x same after. held_same h.grants x.under.grants hands hands' held (ap (λ (u : Hypervisor). u.grants) same) after) e
+
+-- an act makes at most one mapping
+abbrev MakesFew : GrantTable → BackAct → Type 0
+MakesFew table a = a.under.grants.made ≤ table.made + 1
+
+few_same : (table : GrantTable) (x : BackAct) → x.under.grants ≡ table → MakesFew table x
+few_same table x same = rw same (omega arith)
+
+few_map : (h : Hypervisor) (who : BackMover) (gref : ℕ) (mode : Mode) (verdict : Result ℕ MapRefusal) → (map_act h who gref mode verdict).under.grants.made ≤ h.grants.made + 1
+few_map h who gref mode (Ok frame) = omega arith
+few_map h who gref mode (Err refusal) = omega arith
+
+pub made_back : (h : Hypervisor) (who : BackMover) (ask : BackAsk) (o : Outcome) (a : BackAct) → back_act h who ask o ≡ Some a → a.under.grants.made ≤ h.grants.made + 1
+made_back h who back_ask.Wait o a e = of_wait (MakesFew h.grants) h who a (few_same h.grants) e
+made_back h who back_ask.Fence o a e = of_back (MakesFew h.grants) _ a (omega arith) e
+made_back h who (back_ask.Read m word) o a e = of_back (MakesFew h.grants) _ a (omega arith) e
+made_back h who (back_ask.Write m word value) o a e = of_back (MakesFew h.grants) _ a (omega arith) e
+made_back h who (back_ask.Map gref mode) o a e = of_back (MakesFew h.grants) _ a (few_map h who gref mode (verdict_at h.pages gref mode)) e
+made_back h who (back_ask.Unmap m) o a e = of_back (MakesFew h.grants) _ a (omega arith) e
+made_back h who (back_ask.Bind p) o a e = of_back (MakesFew h.grants) _ a (few_same h.grants (bind_act h p (state_of h.channels p)) (bind_keeps h p (state_of h.channels p))) e
+made_back h who back_ask.Send o a e = of_back (MakesFew h.grants) _ a (omega arith) e
+made_back h who back_ask.ClosePort o a e = of_back (MakesFew h.grants) _ a (omega arith) e
+made_back h who (back_ask.GetKey path) o a e = absurd (none-some a e)
+made_back h who (back_ask.SetKey path text) o a e = absurd (none-some a e)
+made_back h who (back_ask.Watch path) o a e = absurd (none-some a e)
+made_back h who (back_ask.DiskRead sector) o a e = of_read (MakesFew h.grants) h _ o a (λ x same. few_same h.grants x (ap (λ (u : Hypervisor). u.grants) same)) e
+made_back h who (back_ask.DiskWrite sector words) o a e = of_disk (MakesFew h.grants) h _ o a (λ x same. few_same h.grants x (ap (λ (u : Hypervisor). u.grants) same)) e
+made_back h who back_ask.Flush o a e = of_disk (MakesFew h.grants) h _ o a (λ x same. few_same h.grants x (ap (λ (u : Hypervisor). u.grants) same)) e
+made_back h who (back_ask.Trim sector count) o a e = of_disk (MakesFew h.grants) h _ o a (λ x same. few_same h.grants x (ap (λ (u : Hypervisor). u.grants) same)) e

@@ -1,0 +1,140 @@
+-- What a step and a submission leave of the front: its disk, and that it made its port once.
+use Rattle.std.proofs.Common.{◌≡◌, ℕ, ◌+◌, ◌*◌, ◌^◌, Bool, true, false, not, if◌then◌else◌, [], ◌∷◌, refl}
+use Rattle.std.specs.Prelude.{Option, Some, None, Result, Ok, Err, nat_lt, nat_le, ◌==◌}
+use Rattle.blk_base.specs.Distance.{distance_of}
+use Rattle.blk_base.specs.declared.config.Job.{Job}
+use Rattle.blk_base.specs.declared.ask.FrontAnswer.{FrontAnswer}
+use Rattle.blk_base.specs.declared.ask.FrontAnswer.TheVariants as answer
+use Rattle.ring_words.specs.Ring.{responses_of, notifies}
+use Rattle.ring_words.specs.Shape.{entries_of}
+use Rattle.blk_layout.specs.declared.response.Response.{Response}
+use Rattle.blk_layout.specs.Response.{response_of}
+use Rattle.event_channel.specs.Channels.{ChannelState}
+use Rattle.hypervisor.specs.Hypervisor.{Hypervisor}
+use Rattle.hypervisor.specs.Act.{FrontAct, front_act}
+use Rattle.blk_front.specs.declared.stage.Stage.{Stage}
+use Rattle.blk_front.specs.declared.stage.Stage.TheVariants as stage
+use Rattle.blk_front.specs.declared.request.Request.{Request}
+use Rattle.blk_front.specs.declared.told.Refusal.{Refusal}
+use Rattle.blk_front.specs.declared.told.Refusal.TheVariants as refusal
+use Rattle.blk_front.specs.Pool.{lowest_of}
+use Rattle.blk_front.specs.View.{View, next_request, shape}
+use Rattle.blk_front.specs.Ask.{ask_at}
+use Rattle.blk_front.specs.Step.{at, broken, looked, loop_step, issued, response_at, is_mapped, ended, step_at, step_of}
+use Rattle.blk_front.specs.Submit.{is_ready, unfinished, one_sector, submit_with, submit_one, submit_of}
+use Rattle.split_model.specs.Safe.{IsPorted}
+use Rattle.split_model.proofs.SafeActs.{of_front}
+
+-- there is no port yet, but where one is being made or was
+abbrev pub IsUnported : Stage → ChannelState → Type 0
+IsUnported stage.NewPort c = Unit {0}
+IsUnported s c = IsPorted s c
+
+-- before it makes its port the front leaves the channels as they are
+pub channels_front : (s : Stage) (v : View) (h : Hypervisor) (a : FrontAct) → front_act h (ask_at s v) ≡ Some a → IsPorted s h.channels → IsUnported s a.under.channels
+channels_front (stage.RingWord k) v h a e ported = of_front (λ (x : FrontAct). IsPorted stage.NewPort x.under.channels) _ a ported e
+channels_front stage.RingFrame v h a e ported = of_front (λ (x : FrontAct). IsPorted stage.NewPort x.under.channels) _ a ported e
+channels_front stage.RingFence v h a e ported = of_front (λ (x : FrontAct). IsPorted stage.NewPort x.under.channels) _ a ported e
+channels_front stage.RingFlags v h a e ported = of_front (λ (x : FrontAct). IsPorted stage.NewPort x.under.channels) _ a ported e
+channels_front s v h a e ported = tt
+
+-- a front with that disk, whose stage fits the channels
+abbrev pub Fits : ℕ → ChannelState → View → Type 0
+Fits sectors c x = IsPorted x.stage c × (x.sectors ≡ sectors)
+
+either : (b : Bool) (x y : View) (n : ℕ) (c : ChannelState) → Fits n c x → Fits n c y → Fits n c (if b then x else y)
+either true x y n c p q = p
+either false x y n c p q = q
+
+either_stage : (b : Bool) (x y : Stage) (c : ChannelState) → IsPorted x c → IsPorted y c → IsPorted (if b then x else y) c
+either_stage true x y c p q = p
+either_stage false x y c p q = q
+
+stays : (s : Stage) (v : View) (c : ChannelState) → v.stage ≡ s → IsPorted s c → Fits v.sectors c v
+stays s v c here ported = (rw here ported, refl)
+
+looked_fits : (v : View) (word : ℕ) (otherwise : View) (c : ChannelState) → Fits v.sectors c otherwise → Fits v.sectors c (looked v word otherwise)
+looked_fits v word otherwise c h =
+    either (nat_lt (distance_of v.ring.cons v.ring.prod) (distance_of v.ring.cons word)) (broken word v) (if word == v.ring.cons then otherwise else record v { seen = word; stage = stage.Loop }) v.sectors c (tt, refl)
+    (either (word == v.ring.cons) otherwise (record v { seen = word; stage = stage.Loop }) v.sectors c h (tt, refl))
+
+loop_fits : (v : View) (r : Option Request) (x : FrontAnswer) (c : ChannelState) → v.stage ≡ stage.Loop → Fits v.sectors c (loop_step v r x)
+loop_fits v (Some r) x c here = (tt, refl)
+loop_fits v None (answer.Word word) c here =
+    either (responses_of v.ring v.seen == 0) (looked v word (record v { seen = word; stage = stage.StoreEvent })) (at (stage.ResponseHigh word) v) v.sectors c
+    (looked_fits v word (record v { seen = word; stage = stage.StoreEvent }) c (tt, refl)) (tt, refl)
+loop_fits v None answer.Event c here = stays stage.Loop (record v { asleep = false }) c here tt
+loop_fits v None x c here = stays stage.Loop v c here tt
+
+response_fits : (v : View) (response : Result Response ℕ) (low : ℕ) (found : Option (ℕ × Request)) (c : ChannelState) → Fits v.sectors c (response_at v response low found)
+response_fits v response low None c = (tt, refl)
+response_fits v (Err word) low (Some found) c = (tt, refl)
+response_fits v (Ok response) low (Some found) c = (tt, refl)
+
+step_fits_at : (s : Stage) (v : View) (x : FrontAnswer) (c : ChannelState) → v.stage ≡ s → IsUnported s c → Fits v.sectors c (step_at s v x)
+step_fits_at (stage.RingWord k) v x c here p = (either_stage (k == 15) stage.RingFrame (stage.RingWord (k + 1)) c p p, refl)
+step_fits_at stage.RingFrame v x c here p = (p, refl)
+step_fits_at stage.RingFence v x c here p = (p, refl)
+step_fits_at stage.RingFlags v x c here p = (p, refl)
+step_fits_at stage.NewPort v x c here p = (tt, refl)
+step_fits_at stage.Loop v x c here p = loop_fits v (next_request v) x c here
+step_fits_at (stage.Data r k) v x c here p = (either_stage (k == 127) (stage.GrantFrame r) (stage.Data r (k + 1)) c tt tt, refl)
+step_fits_at (stage.GrantFrame r) v x c here p = (tt, refl)
+step_fits_at (stage.GrantFence r) v x c here p = (tt, refl)
+step_fits_at (stage.GrantFlags r) v x c here p = (tt, refl)
+step_fits_at (stage.Slot k) v x c here p = (either_stage (k == 27) stage.Producer (stage.Slot (k + 1)) c tt tt, refl)
+step_fits_at stage.Producer v x c here p = (tt, refl)
+step_fits_at (stage.ProducerFence old) v x c here p = (tt, refl)
+step_fits_at (stage.RequestEvent old) v (answer.Word event) c here p = (either_stage (notifies old v.ring.prod event) stage.Send stage.Loop c tt tt, refl)
+step_fits_at stage.Send v x c here p = (tt, refl)
+step_fits_at (stage.ResponseHigh low) v (answer.Word high) c here p = (tt, refl)
+step_fits_at (stage.ResponseLast low high) v (answer.Word last) c here p = response_fits v (response_of (low ∷ high ∷ last ∷ [])) low (issued v (low + high * 2 ^ 32)) c
+step_fits_at (stage.GrantRead e) v (answer.Word word) c here p = either (is_mapped word) (broken word v) (at (stage.GrantEnd e word) v) v.sectors c (tt, refl) (tt, refl)
+step_fits_at (stage.GrantEnd e before) v (answer.Word word) c here p = either (word == before) (ended v e) (broken word v) v.sectors c (tt, refl) (tt, refl)
+step_fits_at stage.StoreEvent v x c here p = (tt, refl)
+step_fits_at stage.EventFence v x c here p = (tt, refl)
+step_fits_at stage.LookAgain v (answer.Word word) c here p = looked_fits v word (record v { seen = word; stage = stage.Loop; asleep = true }) c (tt, refl)
+step_fits_at s v x c here p = stays s v c here tt
+
+-- a step of the front from a stage that fits the channels
+pub step_fits : (v : View) (x : FrontAnswer) (c : ChannelState) → IsUnported v.stage c → Fits v.sectors c (step_of v x)
+step_fits v x c p = step_fits_at v.stage v x c refl p
+
+-- the disk stays as the front knows it, whatever it is told
+pub sectors_front : (v : View) (x : FrontAnswer) → (step_of v x).sectors ≡ v.sectors
+sectors_front v x = (step_fits v x (record { made = 0; ports = []; front_pending = false; back_pending = false }) (unported v.stage)).1
+  where
+    unported : (s : Stage) → IsUnported s (record { made = 0; ports = []; front_pending = false; back_pending = false })
+    unported (stage.RingWord k) = (refl, refl)
+    unported stage.RingFrame = (refl, refl)
+    unported stage.RingFence = (refl, refl)
+    unported stage.RingFlags = (refl, refl)
+    unported s = tt
+
+-- a submission changes neither what the front does, nor its disk, nor what it is to tell
+pub record IsUndisturbed (v x : View) : Type 0 where
+  pub stage : x.stage ≡ v.stage
+  pub sectors : x.sectors ≡ v.sectors
+  pub told : x.told ≡ v.told
+
+undisturbed : (v : View) → IsUndisturbed v v
+undisturbed v = record { stage = refl; sectors = refl; told = refl }
+
+either_submit : (b : Bool) (v : View) (x y : Result ℕ Refusal × View) → IsUndisturbed v x.1 → IsUndisturbed v y.1 → IsUndisturbed v (if b then x else y).1
+either_submit true v x y p q = p
+either_submit false v x y p q = q
+
+submit_with_frame : (v : View) (what : ℕ × ℕ) (frame : Option ℕ) → IsUndisturbed v (submit_with v what frame).1
+submit_with_frame v what None = undisturbed v
+submit_with_frame v what (Some frame) = record { stage = refl; sectors = refl; told = refl }
+
+submit_sector : (v : View) (what : Option (ℕ × ℕ)) → IsUndisturbed v (submit_one v what).1
+submit_sector v None = undisturbed v
+submit_sector v (Some what) =
+    either_submit (nat_le v.sectors what.0) v (Err refusal.Range, v) (if nat_le (entries_of shape.order) (unfinished v) then (Err refusal.Full, v) else submit_with v what (lowest_of v.pool)) (undisturbed v)
+    (either_submit (nat_le (entries_of shape.order) (unfinished v)) v (Err refusal.Full, v) (submit_with v what (lowest_of v.pool)) (undisturbed v) (submit_with_frame v what (lowest_of v.pool)))
+
+pub submit_kept : (v : View) (job : Job) → IsUndisturbed v (submit_of v job).1
+submit_kept v job =
+    either_submit (v.last == 4294967295) v (Err refusal.Spent, v) (if not (is_ready v.stage) then (Err refusal.NotReady, v) else submit_one v (one_sector job)) (undisturbed v)
+    (either_submit (not (is_ready v.stage)) v (Err refusal.NotReady, v) (submit_one v (one_sector job)) (undisturbed v) (submit_sector v (one_sector job)))

@@ -1,0 +1,113 @@
+-- The jobs keep their numbers, and each is passed once in a round.
+use Rattle.std.proofs.Common.{◌≡◌, ℕ, ◌+◌, ◌<◌, ◌≤◌, Bool, true, false, if◌then◌else◌, cond, List, [], ◌∷◌, ◌++◌, length, refl, sym, ap, ◌∙◌, arith}
+use Rattle.std.specs.Prelude.{Option, Some, None, is_some, find, nat_lt, ◌==◌}
+use Rattle.std.specs.List.{sum_by}
+use Rattle.std.specs.Option.{option_map}
+use Rattle.std.proofs.lemmas.Bool.Decides.{nat_tests}
+use Rattle.std.proofs.lemmas.Option.{none-some, same_Some}
+use Rattle.std.proofs.lemmas.List.Sums.{sum_by-cons, sum_by-append, sum_by-le-sum_by, count_by-le-length}
+use Rattle.blk_base.specs.declared.parts.Mapping.{Mapping}
+use Rattle.blk_base.specs.declared.ask.BackAnswer.{BackAnswer}
+use Rattle.blk_base.specs.declared.ask.BackAnswer.TheVariants as answer
+use Rattle.blk_layout.specs.declared.segment.Segment.{Segment}
+use Rattle.back_jobs.specs.declared.stage.Stage.{Stage as JobStage}
+use Rattle.back_jobs.specs.declared.stage.Stage.TheVariants as job_stage
+use Rattle.back_jobs.specs.Task as task
+use Rattle.back_jobs.specs.Task.{Work}
+use Rattle.back_jobs.specs.Jobs.{place_of, work_at, work_of, told_at, next_after}
+use Rattle.back_jobs.proofs.Hands.{place_among}
+use Rattle.blk_back.specs.View.{View}
+use Rattle.blk_back.specs.Step.{job_step, next_job_of}
+use Rattle.blk_back.proofs.Hands.{next_job_above}
+use Rattle.split_model.specs.Safe.{above}
+
+-- a job keeps its number, whatever it is told
+either_number : (b : Bool) (x y : Work) (n : ℕ) → x.number ≡ n → y.number ≡ n → (if b then x else y).number ≡ n
+either_number true x y n p q = p
+either_number false x y n p q = q
+
+next_sector_number : (t : Work) (m : Mapping) → (task.next_sector t m).number ≡ t.number
+next_sector_number t m = either_number (t.within == task.last_of t.rest) (record t { stage = job_stage.Unmap m }) (record t { within = t.within + 1; stage = task.sector_stage t.writes m }) t.number refl refl
+
+segment_number : (t : Work) (rest : List Segment) → (task.next_segment t rest).number ≡ t.number
+segment_number t [] = refl
+segment_number t (s ∷ rest) = refl
+
+number_at : (s : JobStage) (t : Work) (a : BackAnswer) → (task.step_at s t a).number ≡ t.number
+number_at job_stage.Map t (answer.Mapped m) = refl
+number_at job_stage.Map t (answer.MapRefused status) = refl
+number_at (job_stage.ReadWord m k) t (answer.Word word) = refl
+number_at (job_stage.DiskWrite m) t answer.Done = next_sector_number (task.counted t) m
+number_at (job_stage.DiskWrite m) t answer.DiskFailed = refl
+number_at (job_stage.DiskRead m) t (answer.Sector words) = refl
+number_at (job_stage.DiskRead m) t answer.DiskFailed = refl
+number_at (job_stage.WriteWord m k) t answer.Done = either_number (k == 127) (task.next_sector t m) (record t { stage = job_stage.WriteWord m (k + 1) }) t.number (next_sector_number t m) refl
+number_at (job_stage.Unmap m) t answer.Done = segment_number t (task.rest_of t.rest)
+number_at (job_stage.GiveUp m) t answer.Done = refl
+number_at s t a = refl
+
+-- a job that is counted above a number
+abbrev is_above : ℕ → Work → ℕ
+is_above number t = cond (nat_lt number t.number) 1 0
+
+count_between : (number : ℕ) (front rest : List Work) (t u : Work) → u.number ≡ t.number → sum_by (is_above number) (front ++ u ∷ rest) ≡ sum_by (is_above number) (front ++ t ∷ rest)
+count_between number front rest t u same =
+    let with_u = sum_by-append (is_above number) front (u ∷ rest) in
+    let with_t = sum_by-append (is_above number) front (t ∷ rest) in
+    let one = sum_by-cons (is_above number) u rest in
+    let other = sum_by-cons (is_above number) t rest in
+    let equal : is_above number u ≡ is_above number t = ap (λ n. cond (nat_lt number n) 1 0) same in
+    omega arith
+
+told_above : (number : ℕ) (works : List Work) (place : Option ℕ) (found : Option Work) (a : BackAnswer) → work_at works place ≡ found → sum_by (is_above number) (told_at works place found a) ≡ sum_by (is_above number) works
+told_above number works None found a h = refl
+told_above number works (Some place) None a h = refl
+told_above number works (Some place) (Some t) a h =
+    let r = place_among works place t h in
+    ap (λ (l : List Work). sum_by (is_above number) l) (r.set (task.step_of t a))
+    ∙ (count_between number r.front r.rest t (task.step_of t a) (number_at t.stage t a)
+    ∙ sym (ap (λ (l : List Work). sum_by (is_above number) l) r.is))
+
+-- no more jobs are above a greater number
+above_le : (low high : ℕ) (works : List Work) → low ≤ high → sum_by (is_above high) works ≤ sum_by (is_above low) works
+above_le low high works le = sum_by-le-sum_by (is_above high) (is_above low) works (λ t. grind (arith, nat_tests))
+
+-- of the jobs above a number, the lowest isn't above its own
+above_less : (works : List Work) (last k : ℕ) → last < k → option_map (λ (t : Work). t.number) (find (λ (t : Work). nat_lt last t.number) works) ≡ Some k → sum_by (is_above k) works < sum_by (is_above last) works
+above_less [] last k before found = absurd (none-some k found)
+above_less (t ∷ works) last k before found = by_test (nat_lt last t.number) refl (above_less works last k before) found
+  where
+    by_test : (b : Bool) → nat_lt last t.number ≡ b → (option_map (λ (u : Work). u.number) (find (λ (u : Work). nat_lt last u.number) works) ≡ Some k → sum_by (is_above k) works < sum_by (is_above last) works) → option_map (λ (u : Work). u.number) (cond (nat_lt last t.number) (Some t) (find (λ (u : Work). nat_lt last u.number) works)) ≡ Some k → sum_by (is_above k) (t ∷ works) < sum_by (is_above last) (t ∷ works)
+    by_test true e later here =
+        let same : t.number ≡ k = same_Some t.number k (rw e at here) in
+        let one = sum_by-cons (is_above k) t works in
+        let other = sum_by-cons (is_above last) t works in
+        let fewer = above_le last k works (omega arith) in
+        let counted : is_above last t ≡ 1 = rw e refl in
+        let uncounted : is_above k t ≡ 0 = grind (arith, nat_tests) in
+        omega arith
+    by_test false e later here =
+        let rest = later (rw e at here) in
+        let one = sum_by-cons (is_above k) t works in
+        let other = sum_by-cons (is_above last) t works in
+        let counted : is_above last t ≡ 0 = rw e refl in
+        let uncounted : is_above k t ≡ 0 = grind (arith, nat_tests) in
+        omega arith
+
+-- a move of a job leaves as many jobs above each number
+pub above_kept : (number : ℕ) (v : View) (k : ℕ) (a : BackAnswer) → above number (job_step v k a) ≡ above number v
+above_kept number v k a = told_above number v.jobs.works (place_of v.jobs.works k) (work_of v.jobs.works k) a refl
+
+next_less_at : (halted : Bool) (v : View) (last k : ℕ) → last < k → (if halted then None else next_after v.jobs last) ≡ Some k → above k v < above last v
+next_less_at true v last k before h = absurd (none-some k h)
+next_less_at false v last k before h = above_less v.jobs.works last k before h
+
+-- once the next job moved, fewer jobs are above it than were above the one before it
+pub jobs_kept : (v : View) (last k : ℕ) (a : BackAnswer) → next_job_of v last ≡ Some k → above k (job_step v k a) < above last v
+jobs_kept v last k a h =
+    let kept = above_kept k v k a in
+    let less = next_less_at (is_some v.halted) v last k (next_job_above v last k h) h in
+    omega arith
+
+pub above_few : (last : ℕ) (v : View) → above last v ≤ length v.jobs.works
+above_few last v = count_by-le-length (λ (t : Work). nat_lt last t.number) v.jobs.works

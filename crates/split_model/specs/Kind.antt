@@ -1,0 +1,169 @@
+-- The happenings that an event of a schedule makes.
+use Rattle.std.specs.Prelude.{◌≡◌, ℕ, zero, suc, ◌+◌, ◌*◌, ◌≤◌, ◌<◌, ◌⊎◌, Bool, true, false, ◌&&◌, List, [], ◌∷◌, ◌++◌, replicate, length, Some, None, if◌then◌else◌, ◌==◌}
+use Rattle.blk_base.specs.declared.config.Job.{Job}
+use Rattle.blk_base.specs.declared.config.Job.TheVariants as jobs
+use Rattle.hypervisor.specs.Act.{Outcome}
+use Rattle.schedule_text.specs.Event.{is_number}
+use Rattle.schedule_text.specs.declared.event.Event.{Event}
+use Rattle.schedule_text.specs.declared.event.Event.TheVariants as events
+use Rattle.blk_front.specs.Submit.{unfinished, is_connected}
+use Rattle.blk_back.specs.Step.{next_job_of}
+use Rattle.split_model.specs.World.{World, is_quiet}
+use Rattle.split_model.specs.Happening.{Happening, FrontMoves, BackMoves, JobMoves, Submits, Notifies, Looks, Settles, happens, after}
+
+-- a write of one sector, the only submission that is carried out yet
+abbrev pub is_carried_job : Job → Bool
+is_carried_job (jobs.Write sector count tag) = count == 1
+is_carried_job job = false
+
+-- the events that are carried out yet, with the numbers of the grammar
+abbrev pub is_carried : Event → Bool
+is_carried (events.Submit job) = is_carried_job job
+is_carried (events.Front n) = is_number n
+is_carried (events.Back n) = is_number n
+is_carried (events.Job number n) = is_number number && is_number n
+is_carried (events.Turn n) = is_number n
+is_carried events.Settle = true
+is_carried events.Look = true
+is_carried (events.Notify at) = true
+is_carried event = false
+
+-- the first move of the front connects both ends: it makes its ring and its port, and the back maps the one and binds the other
+abbrev pub connecting : List Happening
+connecting = replicate 20 FrontMoves ++ replicate 2 BackMoves
+
+abbrev pub front_move : World → List Happening
+front_move w = if is_connected w.front.stage then FrontMoves ∷ [] else connecting
+
+-- that many moves of the front; of moves that it doesn't have nothing comes
+abbrev pub front_moves : World → ℕ → List Happening
+front_moves w zero = []
+front_moves w (suc n) = front_move w ++ replicate n FrontMoves
+
+-- that many moves of the back, which has none before it is connected
+abbrev pub back_moves : World → ℕ → List Happening
+back_moves w n = if is_connected w.front.stage then replicate n BackMoves else []
+
+-- moves of one job, each with what the disk answers it
+abbrev pub AreJobMoves : ℕ → List Happening → Type 0
+AreJobMoves number [] = Unit {0}
+AreJobMoves number (h ∷ hs) = (outcome : Outcome) × (h ≡ JobMoves number outcome) × AreJobMoves number hs
+
+-- that many of them, and at most that many
+abbrev pub AreSomeJobMoves : (number count : ℕ) → List Happening → Type 0
+AreSomeJobMoves number count hs = AreJobMoves number hs × (length hs ≡ count)
+
+abbrev pub AreFewJobMoves : (number count : ℕ) → List Happening → Type 0
+AreFewJobMoves number count hs = AreJobMoves number hs × (length hs ≤ count)
+
+-- one move of each job above the number `from`, by number, the last of them that of the number `to`
+abbrev pub AreEachJobs : (from to : ℕ) → World → List Happening → Type 0
+AreEachJobs from to w [] = to ≡ from
+AreEachJobs from to w (h ∷ hs) =
+    (number : ℕ) × (outcome : Outcome) × (h ≡ JobMoves number outcome) × (next_job_of w.back from ≡ Some number) × AreEachJobs number to (happens w h) hs
+
+-- a round: a move of the front, one of the back, then one of each job
+abbrev pub round_start : World → List Happening
+round_start w = front_move w ++ BackMoves ∷ []
+
+-- one move of each job, after which no other is left
+pub record AreAllJobs (w : World) (hs : List Happening) : Type 0 where
+  pub to : ℕ
+  pub each : AreEachJobs 0 to w hs
+  pub last : next_job_of (let v : World = after hs w in v.back) to ≡ None
+
+-- moves of the first of the jobs
+abbrev pub HasEachJobs : World → List Happening → Type 0
+HasEachJobs w hs = (to : ℕ) × AreEachJobs 0 to w hs
+
+pub record IsRound (w : World) (hs : List Happening) : Type 0 where
+  pub jobs : List Happening
+  pub all : hs ≡ round_start w ++ jobs
+  pub are_jobs : AreAllJobs (after (round_start w) w) jobs
+
+-- these are the first of those
+abbrev pub IsBeginning : List Happening → List Happening → Type 0
+IsBeginning hs all = (rest : List Happening) × (all ≡ hs ++ rest)
+
+-- the beginning of a round, and moves of its first jobs
+pub record HasBegunJobs (w : World) (hs : List Happening) : Type 0 where
+  pub jobs : List Happening
+  pub all : hs ≡ round_start w ++ jobs
+  pub are_jobs : HasEachJobs (after (round_start w) w) jobs
+
+-- a round so far
+abbrev pub IsRoundSoFar : World → List Happening → Type 0
+IsRoundSoFar w hs = IsBeginning hs (round_start w) ⊎ HasBegunJobs w hs
+
+-- that many rounds, each of them begun where this test fails
+abbrev pub AreRounds : (World → Bool) → ℕ → World → List Happening → Type 0
+AreRounds test zero w hs = hs ≡ []
+AreRounds test (suc n) w hs =
+    (test w ≡ false)
+    × ((first : List Happening) × (rest : List Happening) × (hs ≡ first ++ rest) × IsRound w first × AreRounds test n (after first w) rest)
+
+abbrev pub never : World → Bool
+never w = false
+
+-- how many rounds `settle` makes at most: 20,000, and for each unfinished request 2,000 and 2,000 for its sector
+abbrev pub settle_bound : World → ℕ
+settle_bound w = 20000 + 4000 * unfinished w.front
+
+-- rounds, each begun where not all is quiet, until all is or there were that many
+pub record AreRoundsUntilQuiet (bound : ℕ) (w : World) (hs : List Happening) : Type 0 where
+  pub count : ℕ
+  pub within : count ≤ bound
+  pub are_rounds : AreRounds is_quiet count w hs
+  pub over : (count ≡ bound) ⊎ (is_quiet (after hs w) ≡ true)
+
+-- rounds until all is quiet, tested before each and after the last, and then what was found
+pub record IsSettling (w : World) (hs : List Happening) : Type 0 where
+  pub rounds : List Happening
+  pub are_rounds : AreRoundsUntilQuiet (settle_bound w) w rounds
+  pub all : hs ≡ rounds ++ Settles ∷ []
+
+-- rounds, the last of them begun
+pub record AreRoundsSoFar (test : World → Bool) (bound : ℕ) (w : World) (hs : List Happening) : Type 0 where
+  pub count : ℕ
+  pub whole : List Happening
+  pub begun : List Happening
+  pub before : count < bound
+  pub are_rounds : AreRounds test count w whole
+  pub goes_on : test (after whole w) ≡ false
+  pub is_round : IsRoundSoFar (after whole w) begun
+  pub all : hs ≡ whole ++ begun
+
+-- settling so far: it stopped in a round, or at what was found
+abbrev pub IsSettlingSoFar : World → List Happening → Type 0
+IsSettlingSoFar w hs = AreRoundsSoFar is_quiet (settle_bound w) w hs ⊎ IsSettling w hs
+
+-- the happenings of an event
+abbrev pub AreOf : Event → World → List Happening → Type 0
+AreOf (events.Submit job) w hs = hs ≡ Submits job ∷ []
+AreOf (events.Front n) w hs = hs ≡ front_moves w n
+AreOf (events.Back n) w hs = hs ≡ back_moves w n
+AreOf (events.Job number n) w hs = AreSomeJobMoves number n hs
+AreOf (events.Turn n) w hs = AreRounds never n w hs
+AreOf events.Settle w hs = IsSettling w hs
+AreOf events.Look w hs = hs ≡ Looks ∷ []
+AreOf (events.Notify at) w hs = hs ≡ Notifies at ∷ []
+AreOf event w hs = ⊥
+
+-- the happenings of an event so far
+abbrev pub AreOfSoFar : Event → World → List Happening → Type 0
+AreOfSoFar (events.Front n) w hs = IsBeginning hs (front_moves w n)
+AreOfSoFar (events.Back n) w hs = IsBeginning hs (back_moves w n)
+AreOfSoFar (events.Job number n) w hs = AreFewJobMoves number n hs
+AreOfSoFar (events.Turn n) w hs = AreRoundsSoFar never n w hs
+AreOfSoFar events.Settle w hs = IsSettlingSoFar w hs
+AreOfSoFar event w hs = AreOf event w hs
+
+-- the happenings of a schedule, event by event
+abbrev pub AreOfAll : List Event → World → List Happening → Type 0
+AreOfAll [] w hs = hs ≡ []
+AreOfAll (e ∷ es) w hs =
+    (first : List Happening) × (rest : List Happening) × (hs ≡ first ++ rest) × AreOf e w first × AreOfAll es (after first w) rest
+
+-- one move of the job of a number
+abbrev pub IsJobMove : ℕ → List Happening → Type 0
+IsJobMove number hs = (outcome : Outcome) × (hs ≡ JobMoves number outcome ∷ [])

@@ -1,0 +1,41 @@
+-- What is true of the machine at every moment, so that each ask of an end may be carried out.
+use Rattle.std.specs.Prelude.{◌≡◌, ℕ, ◌≤◌, ◌==◌, nat_lt, List, [], length, count_by, None, All}
+use Rattle.blk_base.specs.declared.parts.Mapping.{Mapping}
+use Rattle.grant_table.specs.declared.held.Held.{Held}
+use Rattle.grant_table.specs.Table.{GrantTable, IsLive}
+use Rattle.grant_table.specs.Sound.{IsAscending}
+use Rattle.event_channel.specs.Channels.{ChannelState}
+use Rattle.blk_front.specs.declared.stage.Stage.{Stage}
+use Rattle.blk_front.specs.declared.stage.Stage.TheVariants as stage
+use Rattle.back_jobs.specs.Task.{Work}
+use Rattle.blk_back.specs.View.{View}
+use Rattle.blk_back.specs.Hands.{hands_of}
+use Rattle.split_model.specs.World.{World}
+
+-- the mappings that live are those that the back and its jobs hold, each held once
+pub record AreHeld (table : GrantTable) (hands : List Mapping) : Type 0 where
+  pub live : All (IsLive table) hands
+  pub counted : (number : ℕ) → count_by (λ (m : Mapping). m.number == number) hands ≡ count_by (λ (h : Held). h.mapping.number == number) table.live
+  pub as_many : length table.live ≡ length hands
+  pub ascending : IsAscending 0 table.live
+  pub made_before : All (λ (h : Held). h.mapping.number ≤ table.made) table.live
+
+-- before the front made its port there is none
+abbrev pub IsPorted : Stage → ChannelState → Type 0
+IsPorted (stage.RingWord k) c = (c.made ≡ 0) × (c.ports ≡ [])
+IsPorted stage.RingFrame c = (c.made ≡ 0) × (c.ports ≡ [])
+IsPorted stage.RingFence c = (c.made ≡ 0) × (c.ports ≡ [])
+IsPorted stage.RingFlags c = (c.made ≡ 0) × (c.ports ≡ [])
+IsPorted stage.NewPort c = (c.made ≡ 0) × (c.ports ≡ [])
+IsPorted s c = Unit {0}
+
+pub record IsSafe (w : World) : Type 0 where
+  pub ported : IsPorted w.front.stage w.under.channels
+  pub held : AreHeld w.under.grants (hands_of w.back)
+  pub sized : w.back.jobs.info.sectors ≡ w.front.sectors
+  pub front_told : w.front.told ≡ None
+  pub back_told : w.back.told ≡ None
+
+-- how many of the back's jobs have a number above this one
+abbrev pub above : ℕ → View → ℕ
+above number v = count_by (λ (t : Work). nat_lt number t.number) v.jobs.works
