@@ -1,0 +1,217 @@
+-- A job names the mapping in its hand and a word of its page, whatever it is told that its ask allows.
+use Rattle.std.proofs.Common.{◌≡◌, ℕ, ◌+◌, ◌<◌, ◌≤◌, suc, Bool, true, false, cond, if◌then◌else◌, List, [], ◌∷◌, take, refl, ap, ◌∙◌, subst, arith}
+use Rattle.std.specs.Prelude.{All, Option, Some, None, is_some, nat_le, ◌==◌}
+use Rattle.std.specs.List.{AllByRecursion}
+use Rattle.std.proofs.lemmas.Option.{none-some, slice_get_within, get_or_from_slice_get}
+use Rattle.std.proofs.lemmas.List.Elements.{All-nil, All-tail, All-set, All-push, All-append, All-take, All-drop, All-get_or, recursion_from_All}
+use Rattle.std.proofs.lemmas.Bool.Decides.{nat_tests}
+use Rattle.blk_base.specs.declared.parts.Mapping.{Mapping}
+use Rattle.blk_base.specs.declared.operation.Op.TheVariants as op
+use Rattle.blk_base.specs.Operation.{op_code}
+use Rattle.blk_base.specs.declared.operation.Status.TheVariants.{Error}
+use Rattle.blk_base.specs.declared.ask.BackAnswer.{BackAnswer}
+use Rattle.blk_base.specs.declared.ask.BackAnswer.TheVariants as answer
+use Rattle.blk_layout.specs.declared.segment.Segment.{Segment}
+use Rattle.blk_layout.specs.declared.request.RawRequest.{RawRequest}
+use Rattle.blk_layout.specs.declared.request.RawRequest.TheVariants.{Direct, Discard, Indirect}
+use Rattle.segment_list.specs.declared.verdict.DiskInfo.{DiskInfo}
+use Rattle.segment_list.specs.declared.verdict.Kind.{Kind}
+use Rattle.segment_list.specs.declared.verdict.Kind.TheVariants as kind
+use Rattle.segment_list.specs.declared.verdict.Plan.{Plan}
+use Rattle.segment_list.specs.declared.verdict.Verdict.{Verdict}
+use Rattle.segment_list.specs.declared.verdict.Verdict.TheVariants as verdict
+use Rattle.segment_list.specs.declared.verdict.Why.TheVariants as why
+use Rattle.segment_list.specs.Segments.{IsSound}
+use Rattle.segment_list.specs.Verdict.{transfer_verdict, flush_verdict, verdict_of}
+use Rattle.segment_list.proofs.Served.{transfer_served}
+use Rattle.back_jobs.specs.declared.stage.Stage.{Stage}
+use Rattle.back_jobs.specs.declared.stage.Stage.TheVariants as stage
+use Rattle.back_jobs.specs.Task.{Work, ask_of, ask_at, map_ask, mode_of, step_of, step_at, sector_stage, next_sector, next_segment, counted, first_of, rest_of, last_of, begun, served, moving, ended, IsAnswer}
+use Rattle.back_jobs.specs.Jobs.{Held, mapping_at, asked, work_at, told_at, removed_at, behind_mapping, start_job}
+use Rattle.back_jobs.specs.Hands.{hand_of, hands_in, Names}
+use Rattle.back_jobs.proofs.Hands.{hand_at, named_in}
+use Rattle.back_jobs.proofs.Sizes.{only}
+
+-- the sector that a job is at is one of its segment
+abbrev IsInside : Work → Type 0
+IsInside t = t.within ≤ last_of t.rest
+
+-- its mapping was made as its words go
+abbrev Moves : Mapping → Bool → Work → Type 0
+Moves m writes t = (m.mode ≡ mode_of t.writes) × (t.writes ≡ writes)
+
+abbrev pub IsPlaced : Stage → Work → Type 0
+IsPlaced stage.Map t = IsInside t
+IsPlaced (stage.ReadWord m k) t = (k < 128) × IsInside t × Moves m true t
+IsPlaced (stage.DiskWrite m) t = IsInside t × Moves m true t
+IsPlaced (stage.DiskRead m) t = IsInside t × Moves m false t
+IsPlaced (stage.WriteWord m k) t = (k < 128) × IsInside t × Moves m false t
+IsPlaced s t = Unit {0}
+
+pub record IsJob (t : Work) : Type 0 where
+  pub segments : AllByRecursion IsSound t.rest
+  pub placed : IsPlaced t.stage t
+
+last_small : (rest : List Segment) → AllByRecursion IsSound rest → last_of rest ≤ 7
+last_small [] sound = omega arith
+last_small (s ∷ rest) sound = sound.0.inside
+
+first_last : (rest : List Segment) → AllByRecursion IsSound rest → first_of rest ≤ last_of rest
+first_last [] sound = omega arith
+first_last (s ∷ rest) sound = sound.0.nonempty
+
+names_map : (rest : List Segment) (writes : Bool) → Names [] (map_ask rest writes)
+names_map [] writes = tt
+names_map (s ∷ rest) writes = tt
+
+names_at : (s : Stage) (t : Work) → AllByRecursion IsSound t.rest → IsPlaced s t → Names (hand_at s) (ask_at s t)
+names_at stage.Map t sound p = names_map t.rest t.writes
+names_at (stage.ReadWord m k) t sound p =
+    let small = last_small t.rest sound in let word = p.0 in let inside = p.1 in
+    (only m, omega arith)
+names_at (stage.DiskWrite m) t sound p = tt
+names_at (stage.DiskRead m) t sound p = tt
+names_at (stage.WriteWord m k) t sound p =
+    let small = last_small t.rest sound in let word = p.0 in let inside = p.1 in
+    (only m, p.2.0 ∙ ap mode_of p.2.1, omega arith)
+names_at (stage.Unmap m) t sound p = only m
+names_at (stage.GiveUp m) t sound p = only m
+names_at (stage.Done status) t sound p = tt
+
+job_names_hand : (t : Work) → IsJob t → Names (hand_of t) (ask_of t)
+job_names_hand t j = names_at t.stage t j.segments j.placed
+
+either : (b : Bool) (x y : Work) → (b ≡ true → IsJob x) → (b ≡ false → IsJob y) → IsJob (if b then x else y)
+either true x y p q = p refl
+either false x y p q = q refl
+
+-- the next sector of a segment is begun
+sector_placed : (b : Bool) (m : Mapping) (t : Work) → t.writes ≡ b → m.mode ≡ mode_of t.writes → IsInside t → IsPlaced (sector_stage b m) t
+sector_placed true m t is mode inside = (omega arith, inside, (mode, is))
+sector_placed false m t is mode inside = (inside, (mode, is))
+
+next_sector_job : (t : Work) (m : Mapping) → AllByRecursion IsSound t.rest → m.mode ≡ mode_of t.writes → IsInside t → IsJob (next_sector t m)
+next_sector_job t m sound mode inside =
+    either (t.within == last_of t.rest) (record t { stage = stage.Unmap m }) (record t { within = t.within + 1; stage = sector_stage t.writes m })
+    (λ last. record { segments = sound; placed = tt })
+    (λ more. record { segments = sound; placed = sector_placed t.writes m (record t { within = t.within + 1; stage = sector_stage t.writes m }) refl mode (further t.within (last_of t.rest) inside more) })
+  where
+    further : (n last : ℕ) → n ≤ last → (n == last) ≡ false → n + 1 ≤ last
+    further n last le other = grind (arith, nat_tests)
+
+rest_sound : (rest : List Segment) → AllByRecursion IsSound rest → AllByRecursion IsSound (rest_of rest)
+rest_sound [] sound = tt
+rest_sound (s ∷ rest) sound = sound.1
+
+next_segment_job : (t : Work) (rest : List Segment) → AllByRecursion IsSound rest → IsJob (next_segment t rest)
+next_segment_job t [] sound = record { segments = tt; placed = tt }
+next_segment_job t (s ∷ rest) sound = record { segments = sound; placed = sound.0.nonempty }
+
+map_step : (rest : List Segment) (t : Work) (given : BackAnswer) → IsAnswer (map_ask rest t.writes) given → AllByRecursion IsSound t.rest → IsInside t → IsJob (step_at stage.Map t given)
+map_step [] t given h sound inside = absurd h
+map_step (s ∷ rest) t (answer.Mapped m) h sound inside = record { segments = sound; placed = sector_placed t.writes m (record t { stage = sector_stage t.writes m }) refl h.1 inside }
+map_step (s ∷ rest) t (answer.MapRefused status) h sound inside = record { segments = sound; placed = tt }
+map_step (s ∷ rest) t given h sound inside = absurd h
+
+step_job_at : (s : Stage) (t : Work) (given : BackAnswer) → AllByRecursion IsSound t.rest → IsPlaced s t → IsAnswer (ask_at s t) given → IsJob (step_at s t given)
+step_job_at stage.Map t given sound p h = map_step t.rest t given h sound p
+step_job_at (stage.ReadWord m k) t (answer.Word word) sound p h = record { segments = sound; placed = read_placed (k == 127) refl }
+  where
+    read_placed : (b : Bool) → (k == 127) ≡ b → IsPlaced (if b then stage.DiskWrite m else stage.ReadWord m (k + 1)) (step_at (stage.ReadWord m k) t (answer.Word word))
+    read_placed true e = (p.1, p.2)
+    read_placed false e = (further k p.0 e, p.1, p.2)
+      where
+        further : (n : ℕ) → n < 128 → (n == 127) ≡ false → n + 1 < 128
+        further n lt other = grind (arith, nat_tests)
+step_job_at (stage.DiskWrite m) t answer.Done sound p h = next_sector_job (counted t) m sound p.1.0 p.0
+step_job_at (stage.DiskWrite m) t answer.DiskFailed sound p h = record { segments = sound; placed = tt }
+step_job_at (stage.DiskRead m) t (answer.Sector words) sound p h = record { segments = sound; placed = (omega arith, p.0, p.1) }
+step_job_at (stage.DiskRead m) t answer.DiskFailed sound p h = record { segments = sound; placed = tt }
+step_job_at (stage.WriteWord m k) t answer.Done sound p h =
+    either (k == 127) (next_sector t m) (record t { stage = stage.WriteWord m (k + 1) })
+    (λ last. next_sector_job t m sound p.2.0 p.1)
+    (λ more. record { segments = sound; placed = (further k p.0 more, p.1, p.2) })
+  where
+    further : (n : ℕ) → n < 128 → (n == 127) ≡ false → n + 1 < 128
+    further n lt other = grind (arith, nat_tests)
+step_job_at (stage.Unmap m) t answer.Done sound p h = next_segment_job t (rest_of t.rest) (rest_sound t.rest sound)
+step_job_at (stage.GiveUp m) t answer.Done sound p h = record { segments = sound; placed = tt }
+step_job_at s t given sound p h = absurd h
+
+step_job : (t : Work) (given : BackAnswer) → IsAnswer (ask_of t) given → IsJob t → IsJob (step_of t given)
+step_job t given h j = step_job_at t.stage t given j.segments j.placed h
+
+-- a request that is served has sound segments
+transfer_sound : (k : Kind) (count sector : ℕ) (segments : List Segment) (info : DiskInfo) (p : Plan) → transfer_verdict k count sector segments info ≡ verdict.Serve p → AllByRecursion IsSound (take count segments)
+transfer_sound k count sector segments info p h = recursion_from_All IsSound (take count segments) (transfer_served k count sector segments info p h).on_disk.sound
+
+choose : (P : Type 0) (p : Plan) (a b c d : Bool) (A B C D : Verdict) → (A ≡ verdict.Serve p → P) → (B ≡ verdict.Serve p → P) → (C ≡ verdict.Serve p → P) → (d ≡ true → P) → (if a then A else (if b then B else (if c then C else (if d then D else verdict.Error why.Op)))) ≡ verdict.Serve p → P
+choose P p true b c d A B C D at_a at_b at_c at_d h = at_a h
+choose P p false true c d A B C D at_a at_b at_c at_d h = at_b h
+choose P p false false true d A B C D at_a at_b at_c at_d h = at_c h
+choose P p false false false true A B C D at_a at_b at_c at_d h = at_d refl
+choose P p false false false false A B C D at_a at_b at_c at_d h = absurd (cc)
+
+no_flush : (code : ℕ) → nat_le code 1 ≡ true → (code == 3) ≡ true → ⊥
+no_flush code few is = grind (arith, nat_tests)
+
+direct_sound : (code count device id sector : ℕ) (segments : List Segment) (info : DiskInfo) (p : Plan) → nat_le code 1 ≡ true → verdict_of (Direct code count device id sector segments) info ≡ verdict.Serve p → AllByRecursion IsSound (take count segments)
+direct_sound code count device id sector segments info p few h =
+    choose (AllByRecursion IsSound (take count segments)) p
+    (code == op_code op.Read) (code == op_code op.Write) (code == op_code op.Barrier) (code == op_code op.Flush)
+    (transfer_verdict kind.Read count sector segments info) (transfer_verdict kind.Write count sector segments info) (transfer_verdict kind.Barrier count sector segments info) (flush_verdict count sector info)
+    (transfer_sound kind.Read count sector segments info p) (transfer_sound kind.Write count sector segments info p) (transfer_sound kind.Barrier count sector segments info p) (λ is. absurd (no_flush code few is)) h
+
+served_job : (number : ℕ) (request : RawRequest) (size : ℕ) (info : DiskInfo) (p : Plan) → verdict_of request info ≡ verdict.Serve p → IsJob (served number request size)
+served_job number (Direct code count device id sector segments) size info p h =
+    either (nat_le code 1) (moving number (Direct code count device id sector segments) size (code == 1) sector (take count segments)) (ended number (Direct code count device id sector segments) size (stage.Done Error))
+    (λ few. let sound = direct_sound code count device id sector segments info p few h in record { segments = sound; placed = first_last (take count segments) sound })
+    (λ more. record { segments = tt; placed = tt })
+served_job number (Discard flag device id sector count) size info p h = record { segments = tt; placed = tt }
+served_job number (Indirect code count device id sector pages) size info p h = record { segments = tt; placed = tt }
+
+begun_job : (number : ℕ) (request : RawRequest) (size : ℕ) (info : DiskInfo) (v : Verdict) → verdict_of request info ≡ v → IsJob (begun number request size v)
+begun_job number request size info (verdict.Serve plan) e = served_job number request size info plan e
+begun_job number request size info (verdict.Error why) e = record { segments = tt; placed = tt }
+begun_job number request size info verdict.Unsupported e = record { segments = tt; placed = tt }
+
+-- all the jobs that are held
+abbrev pub AreJobs : List Work → Type 0
+AreJobs works = All IsJob works
+
+pub none_jobs : AreJobs []
+none_jobs = All-nil IsJob
+
+pub started_jobs : (h : Held) (number : ℕ) (request : RawRequest) → AreJobs h.works → AreJobs (start_job h number request).works
+started_jobs h number request all = All-push IsJob h.works _ all (begun_job number request h.info.sectors h.info (verdict_of request h.info) refl)
+
+pub told_jobs : (works : List Work) (place : Option ℕ) (found : Option Work) (given : BackAnswer) → work_at works place ≡ found → IsAnswer (asked found) given → AreJobs works → AreJobs (told_at works place found given)
+told_jobs works None found given e h all = all
+told_jobs works (Some place) None given e h all = all
+told_jobs works (Some place) (Some t) given e h all =
+    let within = slice_get_within works place t e in
+    let same = get_or_from_slice_get works place t t e in
+    All-set IsJob works place (step_of t given) (step_job t given h (subst IsJob same (All-get_or IsJob works place t within all))) all
+
+pub removed_jobs : (works : List Work) (place : Option ℕ) → AreJobs works → AreJobs (removed_at works place)
+removed_jobs works None all = all
+removed_jobs works (Some place) all = All-append IsJob _ _ (All-take IsJob place works all) (All-drop IsJob (suc place) works all)
+
+behind_jobs_at : (b : Bool) (works : List Work) → AreJobs works → AreJobs (behind_mapping works) → AreJobs (cond b works (behind_mapping works))
+behind_jobs_at true works all less = all
+behind_jobs_at false works all less = less
+
+pub behind_jobs : (works : List Work) → AreJobs works → AreJobs (behind_mapping works)
+behind_jobs [] all = all
+behind_jobs (t ∷ works) all =
+    let rest = All-tail IsJob t works all in
+    behind_jobs_at (is_some (mapping_at t.stage)) works rest (behind_jobs works rest)
+
+-- what a job asks names what jobs hold
+pub asked_names : (works : List Work) (place : Option ℕ) (found : Option Work) → work_at works place ≡ found → AreJobs works → Names (hands_in works) (asked found)
+asked_names works place None e all = tt
+asked_names works None (Some t) e all = absurd (none-some t e)
+asked_names works (Some place) (Some t) e all =
+    let within = slice_get_within works place t e in
+    let same = get_or_from_slice_get works place t t e in
+    named_in works place t (ask_of t) e (job_names_hand t (subst IsJob same (All-get_or IsJob works place t within all)))

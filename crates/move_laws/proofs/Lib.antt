@@ -1,0 +1,13 @@
+pub mod Memory
+pub mod Standing
+pub mod Follows
+pub mod Tells
+pub mod Still
+pub mod Entries
+pub mod Acts
+pub mod Front
+pub mod Jobs
+pub mod Back
+pub mod Always
+pub mod Runs
+pub mod Recorded

@@ -1,0 +1,142 @@
+-- Whatever happens, the lines obey the rules on memory and mappings, and tell what is there.
+use Rattle.std.proofs.Common.{◌≡◌, ℕ, List, [], ◌∷◌, ◌++◌, Bool, true, false, if◌then◌else◌, refl, sym, subst, append_assoc}
+use Rattle.std.specs.Prelude.{Option, Some, None}
+use Rattle.std.proofs.lemmas.List.{append-nil}
+use Rattle.std.proofs.lemmas.List.Elements.{All-nil}
+use Rattle.blk_base.specs.Options.{Options}
+use Rattle.blk_base.specs.declared.moves.BackMover.TheVariants as back_mover
+use Rattle.blk_base.specs.declared.moves.Move.{Move}
+use Rattle.xen_pages.specs.Pages.{fresh_pages}
+use Rattle.xen_pages.proofs.Words.{length-fresh_pages, word_of-fresh_pages}
+use Rattle.grant_table.specs.Table.{GrantTable, fresh_table}
+use Rattle.grant_table.specs.Sound.{IsGrantable}
+use Rattle.schedule_text.specs.declared.line.Line.{Line}
+use Rattle.schedule_text.specs.declared.line.Line.TheVariants as lines
+use Rattle.schedule_text.specs.declared.line.Detail.{Detail}
+use Rattle.hypervisor.specs.Act.{FrontAct, BackAct, Outcome, Took}
+use Rattle.report_rules.specs.Obeys.{Obeys}
+use Rattle.report_rules.specs.Coherent.{IsCoherent}
+use Rattle.report_rules.specs.Mapped.{AreMapAnswers}
+use Rattle.report_rules.specs.Touch.{AreTouches}
+use Rattle.report_rules.proofs.Obeys.{obeys_none}
+use Rattle.blk_front.specs.Ask as front_ask
+use Rattle.blk_front.specs.Submit as front_submit
+use Rattle.blk_back.specs.Ask as back_ask
+use Rattle.blk_back.specs.Step as back_step
+use Rattle.blk_back.specs.Hands.{hands_of}
+use Rattle.blk_back.specs.View as back
+use Rattle.split_model.specs.World.{World, start_of, is_quiet}
+use Rattle.split_model.specs.Happening.{Happening, FrontMoves, BackMoves, JobMoves, Submits, Notifies, Looks, Settles, happens, lines_at, after, lines_of, front_after, front_shows, back_after, back_shows, job_after, job_shows, front_turn, back_turn, job_turn}
+use Rattle.split_model.specs.Safe.{IsSafe}
+use Rattle.split_model.specs.Shown.{back_lines, halt_lines}
+use Rattle.split_model.proofs.Safe.{safe_start, safe_happens}
+use Rattle.move_laws.specs.Within.{IsWithin, AreWithin}
+use Rattle.move_laws.specs.Grantable.{AreGrantable}
+use Rattle.move_laws.proofs.Always.{always_within}
+use Rattle.move_laws.specs.Tells.{Tells}
+use Rattle.move_laws.proofs.Follows.{IsAllowed, Follows}
+use Rattle.move_laws.specs.Report.{report_of, ended_report_of}
+use Rattle.move_laws.proofs.Still.{ArePlain, IsPlain, still, plain_front, plain_back, plain_halt, plain_submit, plain_quiet, plain_busy, plain_unsettled, follow_one, follow_plain}
+use Rattle.move_laws.proofs.Acts.{IsKept, front_kept, back_kept}
+
+-- the lines so far obey the rules, and tell what lies under the ends
+abbrev pub FollowsTo : List Line → World → Type 0
+FollowsTo before w = Follows before w.under.pages w.under.grants
+
+-- a move's own line, and those behind it
+follow_move : (before more : List Line) (shown : Move) (pages pages' : List ℕ) (table table' : GrantTable) → Follows before pages table → IsKept before shown pages' table' → ArePlain more → Follows (before ++ lines.Move shown ∷ more) pages' table'
+follow_move before more shown pages pages' table table' follows kept plain =
+    let one : Follows (before ++ lines.Move shown ∷ []) pages' table' = follow_one before (lines.Move shown) pages pages' table table' follows kept.allowed kept.tells in
+    subst (λ (ls : List Line). Follows ls pages' table') (append_assoc before (lines.Move shown ∷ []) more) (follow_plain more (before ++ lines.Move shown ∷ []) pages' table' plain one)
+
+plain_both : (a b : List Line) → ArePlain a → ArePlain b → ArePlain (a ++ b)
+plain_both [] b p q = q
+plain_both (line ∷ a) b p q = (p.0, plain_both a b p.1 q)
+
+no_lines : (before : List Line) (w : World) → FollowsTo before w → FollowsTo (before ++ []) w
+no_lines before w follows = subst (λ (ls : List Line). FollowsTo ls w) (sym (append-nil before)) follows
+
+front_follows : (w : World) (before : List Line) (act : Option FrontAct) → IsWithin w FrontMoves → FollowsTo before w → front_turn w ≡ act → FollowsTo (before ++ front_shows w act) (front_after w act)
+front_follows w before None within follows e = no_lines before w follows
+front_follows w before (Some a) within follows e =
+    follow_move before _ a.shown w.under.pages a.under.pages w.under.grants a.under.grants follows (front_kept before w.under (front_ask.ask_of w.front) a follows.tells within e) (plain_front _)
+
+back_follows : (w : World) (before : List Line) (o : Outcome) (act : Option BackAct) → IsSafe w → IsWithin w BackMoves → FollowsTo before w → back_turn w o ≡ act → FollowsTo (before ++ back_shows w act) (back_after w act)
+back_follows w before o None safe within follows e = no_lines before w follows
+back_follows w before o (Some a) safe within follows e =
+    let b : back.View = back_step.step_of w.back a.answer in
+    follow_move before (back_lines b.told a.answer ++ halt_lines w.back.halted b.halted) a.shown w.under.pages a.under.pages w.under.grants a.under.grants follows
+    (back_kept before w.under back_mover.Back (back_ask.ask_of w.back) o a (hands_of w.back) follows.tells safe.held within e)
+    (plain_both (back_lines b.told a.answer) (halt_lines w.back.halted b.halted) (plain_back b.told a.answer) (plain_halt w.back.halted b.halted))
+
+job_follows : (w : World) (before : List Line) (k : ℕ) (o : Outcome) (act : Option BackAct) → IsSafe w → IsWithin w (JobMoves k o) → FollowsTo before w → job_turn w k o ≡ act → FollowsTo (before ++ job_shows w k act) (job_after w k act)
+job_follows w before k o None safe within follows e = no_lines before w follows
+job_follows w before k o (Some a) safe within follows e =
+    let b : back.View = back_step.job_step w.back k a.answer in
+    follow_move before (back_lines b.told a.answer) a.shown w.under.pages a.under.pages w.under.grants a.under.grants follows
+    (back_kept before w.under (back_mover.Job k) (back_step.job_ask_of w.back k) o a (hands_of w.back) follows.tells safe.held within e)
+    (plain_back b.told a.answer)
+
+one_plain : (b : Bool) (x y : Line) → IsPlain x → IsPlain y → IsPlain (if b then x else y)
+one_plain true x y p q = p
+one_plain false x y p q = q
+
+pub follows_happens : (w : World) (h : Happening) (before : List Line) → IsSafe w → IsWithin w h → FollowsTo before w → FollowsTo (before ++ lines_at w h) (happens w h)
+follows_happens w FrontMoves before safe within follows = front_follows w before (front_turn w) within follows refl
+follows_happens w BackMoves before safe within follows = back_follows w before Took (back_turn w Took) safe within follows refl
+follows_happens w (JobMoves number outcome) before safe within follows = job_follows w before number outcome (job_turn w number outcome) safe within follows refl
+follows_happens w (Submits job) before safe within follows = follow_plain (lines_at w (Submits job)) before w.under.pages w.under.grants (plain_submit job (front_submit.submit_of w.front job).0, tt) follows
+follows_happens w (Notifies at) before safe within follows = no_lines before w follows
+follows_happens w Looks before safe within follows = follow_plain (lines_at w Looks) before w.under.pages w.under.grants (one_plain (is_quiet w) lines.Quiet lines.Busy plain_quiet plain_busy, tt) follows
+follows_happens w Settles before safe within follows = follow_plain (lines_at w Settles) before w.under.pages w.under.grants (one_plain (is_quiet w) lines.Quiet lines.Unsettled plain_quiet plain_unsettled, tt) follows
+
+pub follows_after : (hs : List Happening) (w : World) (before : List Line) → IsSafe w → AreWithin hs w → FollowsTo before w → FollowsTo (before ++ lines_of hs w) (after hs w)
+follows_after [] w before safe within follows = no_lines before w follows
+follows_after (h ∷ hs) w before safe within follows =
+    subst (λ (ls : List Line). FollowsTo ls (after hs (happens w h))) (append_assoc before (lines_at w h) (lines_of hs (happens w h)))
+    (follows_after hs (happens w h) (before ++ lines_at w h) (safe_happens w h safe) within.1 (follows_happens w h before safe within.0 follows))
+
+tells_start : Tells [] fresh_pages fresh_table
+tells_start = record { sized = length-fresh_pages; values = λ frame word framed worded. sym (word_of-fresh_pages frame word); standing = refl; made = refl; grantable = All-nil IsGrantable }
+
+pub follows_start : Follows [] fresh_pages fresh_table
+follows_start = record { obeys = obeys_none IsAllowed; tells = tells_start }
+
+plain_begin : (o : Options) (detail : Detail) → IsPlain (lines.Begin o detail)
+plain_begin o detail = record { is_still = still (lines.Begin o detail) refl (λ f w v b. refl) (λ n. refl) refl; free = λ b. record { coherent = tt; answered = tt; touched = tt; grantable = tt } }
+
+plain_end : IsPlain lines.End
+plain_end = record { is_still = still lines.End refl (λ f w v b. refl) (λ n. refl) refl; free = λ b. record { coherent = tt; answered = tt; touched = tt; grantable = tt } }
+
+pub follows_begin : (o : Options) (detail : Detail) → Follows (lines.Begin o detail ∷ []) fresh_pages fresh_table
+follows_begin o detail = follow_plain (lines.Begin o detail ∷ []) [] fresh_pages fresh_table (plain_begin o detail, tt) follows_start
+
+pub follows_end : (before : List Line) (pages : List ℕ) (table : GrantTable) → Follows before pages table → Follows (before ++ lines.End ∷ []) pages table
+follows_end before pages table follows = follow_plain (lines.End ∷ []) before pages table (plain_end, tt) follows
+
+pub coherent_of : (ls : List Line) → Obeys IsAllowed ls → IsCoherent ls
+coherent_of ls obeys before rest line e = (obeys before rest line e).coherent
+
+pub answers_of : (ls : List Line) → Obeys IsAllowed ls → AreMapAnswers ls
+answers_of ls obeys before rest line e = (obeys before rest line e).answered
+
+pub touches_of : (ls : List Line) → Obeys IsAllowed ls → AreTouches ls
+touches_of ls obeys before rest line e = (obeys before rest line e).touched
+
+pub lines_obey : (config : Options) (history : List Happening) → Obeys IsAllowed (lines_of history (start_of config))
+lines_obey config history = (follows_after history (start_of config) [] (safe_start config) (always_within config history) follows_start).obeys
+
+pub report_follows : (config : Options) (detail : Detail) (history : List Happening) → FollowsTo (report_of config detail history) (after history (start_of config))
+report_follows config detail history = follows_after history (start_of config) (lines.Begin config detail ∷ []) (safe_start config) (always_within config history) (follows_begin config detail)
+
+pub report_obeys : (config : Options) (detail : Detail) (history : List Happening) → Obeys IsAllowed (report_of config detail history)
+report_obeys config detail history = (report_follows config detail history).obeys
+
+pub ended_obeys : (config : Options) (detail : Detail) (history : List Happening) → Obeys IsAllowed (ended_report_of config detail history)
+ended_obeys config detail history = (ended (report_of config detail history) (after history (start_of config)) (report_follows config detail history)).obeys
+  where
+    ended : (before : List Line) (w : World) → FollowsTo before w → FollowsTo (before ++ lines.End ∷ []) w
+    ended before w follows = follows_end before w.under.pages w.under.grants follows
+
+pub grantable_of : (ls : List Line) → Obeys IsAllowed ls → AreGrantable ls
+grantable_of ls obeys before rest line e = (obeys before rest line e).grantable

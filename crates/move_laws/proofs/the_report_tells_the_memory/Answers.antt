@@ -1,0 +1,5 @@
+use Rattle.move_laws.proofs.Runs.{report_follows}
+use Rattle.move_laws.proofs.the_report_tells_the_memory.Goals as goal
+
+pub returns : goal.returns
+returns c config detail history = (report_follows config detail history).tells

@@ -1,0 +1,4 @@
+pub mod Within
+pub mod Grantable
+pub mod Tells
+pub mod Report
