@@ -1,0 +1,4 @@
+pub mod Lines
+pub mod Carrying
+pub mod Taking
+pub mod Ending

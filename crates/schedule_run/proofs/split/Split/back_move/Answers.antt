@@ -1,0 +1,50 @@
+use Rattle.std.specs.Prelude.{option_to_list}
+use Rattle.blk_base.specs.declared.moves.BackMover.TheVariants.{Back}
+use Rattle.hypervisor.specs.Act.{outcome_told, Took}
+use Rattle.blk_back.specs.Ask.{ask_of}
+use Rattle.blk_back.specs.Step.{step_of}
+use Rattle.split_model.specs.World.{World}
+use Rattle.split_model.proofs.Moving.{back_asked_may, back_asked, back_unasked, back_left, back_rests, back_did_disk, back_stepped, back_said, back_halts, back_told, back_safe, back_goes, back_made}
+use Rattle.schedule_run.proofs.split.Split.back_move.Goals as goal
+
+pub back-requires : goal.back-requires
+back-requires g c =
+    let w : World = record { front = c.self.inside.front; back = c.self.inside.back; under = c.self.inside.under } in
+    record { may = back_asked_may w c.args.self.now c.ask-ask.result _ c.self.view_is c.self.invariant c.ask-ask.ensures.value c.ask-ask.ensures.names c.ask-ask.ensures.few c.requires.left }
+
+pub returns-in_default-clause-goes : goal.returns-in_default-clause-goes
+returns-in_default-clause-goes g c =
+    let w : World = record { front = c.self.inside.front; back = c.self.inside.back; under = c.self.inside.under } in
+    rw (← c.self.view_is) (back_rests _ w c.back.new.self _ _ _
+    (back_unasked w.under Back c.ask-ask.result (ask_of w.back) c.ask-ask.ensures.value c.in_default.ensures.acted)
+    (back_left w.under Back c.ask-ask.result (ask_of w.back) Took c.back.new.self c.ask-ask.ensures.value c.in_default.ensures.under)
+    (back_did_disk c.ask-ask.result (ask_of w.back) Took _ _ c.ask-ask.ensures.value c.in_default.ensures.disk))
+
+pub tell-requires : goal.tell-requires
+tell-requires g c =
+    let w : World = record { front = c.self.inside.front; back = c.self.inside.back; under = c.self.inside.under } in
+    (back_told w (c.in-Some.answer, c.in-Some.shown) (back_asked w.under Back c.ask-ask.result (ask_of w.back) (c.in-Some.answer, c.in-Some.shown) c.ask-ask.ensures.value c.in-Some.ensures.acted), c.self.invariant.back_told)
+
+pub invariant_of-self-2 : goal.invariant_of-self-2
+invariant_of-self-2 g c =
+    let w : World = record { front = c.self.inside.front; back = c.self.inside.back; under = c.self.inside.under } in
+    back_safe w (c.in-Some.answer, c.in-Some.shown) c.take_told-told.new.self c.back.new.self _ _ c.self.invariant
+    (back_asked w.under Back c.ask-ask.result (ask_of w.back) (c.in-Some.answer, c.in-Some.shown) c.ask-ask.ensures.value c.in-Some.ensures.acted)
+    (back_left w.under Back c.ask-ask.result (ask_of w.back) (outcome_told c.in-Some.answer) c.back.new.self c.ask-ask.ensures.value c.in-Some.ensures.under)
+    (back_did_disk c.ask-ask.result (ask_of w.back) (outcome_told c.in-Some.answer) _ _ c.ask-ask.ensures.value c.in-Some.ensures.disk)
+    (back_stepped c.tell.new.self c.take_told-told.new.self (step_of w.back c.in-Some.answer) c.tell.ensures.told c.take_told-told.ensures.taken)
+
+pub returns-clause-goes : goal.returns-clause-goes
+returns-clause-goes g c =
+    let w : World = record { front = c.self.inside.front; back = c.self.inside.back; under = c.self.inside.under } in
+    rw (← c.self.view_is) (back_goes _ w (c.in-Some.answer, c.in-Some.shown) c.take_told-told.new.self c.back.new.self (option_to_list c.back_line.result) (option_to_list c.halt_line-halt.result) _ _ _ _ c.show.result
+    (back_asked w.under Back c.ask-ask.result (ask_of w.back) (c.in-Some.answer, c.in-Some.shown) c.ask-ask.ensures.value c.in-Some.ensures.acted)
+    (back_left w.under Back c.ask-ask.result (ask_of w.back) (outcome_told c.in-Some.answer) c.back.new.self c.ask-ask.ensures.value c.in-Some.ensures.under)
+    (back_did_disk c.ask-ask.result (ask_of w.back) (outcome_told c.in-Some.answer) _ _ c.ask-ask.ensures.value c.in-Some.ensures.disk)
+    (back_stepped c.tell.new.self c.take_told-told.new.self (step_of w.back c.in-Some.answer) c.tell.ensures.told c.take_told-told.ensures.taken)
+    (back_said c.tell.new.self (step_of w.back c.in-Some.answer) c.in-Some.answer c.take_told-told.result (option_to_list c.back_line.result) c.tell.ensures.told c.take_told-told.ensures.told c.back_line.ensures)
+    (back_halts w.back c.tell.new.self c.take_told-told.new.self (step_of w.back c.in-Some.answer) _ _ (option_to_list c.halt_line-halt.result) c.tell.ensures.told c.take_told-told.ensures.taken c.halted-before.ensures c.halted.ensures c.halt_line-halt.ensures)
+    c.show.ensures.shown)
+
+pub returns-clause-made : goal.returns-clause-made
+returns-clause-made g c = rw (← c.self.view_is) (back_made (record { front = c.self.inside.front; back = c.self.inside.back; under = c.self.inside.under }) Back c.ask-ask.result _ c.back.new.self c.in-Some.ensures.under)

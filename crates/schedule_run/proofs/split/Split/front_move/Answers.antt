@@ -1,0 +1,47 @@
+use Rattle.std.specs.Prelude.{option_to_list}
+use Rattle.split_model.specs.World.{World}
+use Rattle.split_model.proofs.Moving.{front_asked_may, front_asked, front_unasked, front_told, front_left, front_rests, front_stepped, front_said, front_safe, front_goes, front_grants, front_sectors}
+use Rattle.schedule_run.proofs.split.Split.front_move.Goals as goal
+
+pub front-requires : goal.front-requires
+front-requires g c =
+    let w : World = record { front = c.self.inside.front; back = c.self.inside.back; under = c.self.inside.under } in
+    record { may = front_asked_may w c.ask-ask.result c.self.invariant c.ask-ask.ensures.value c.ask-ask.ensures.within }
+
+pub returns-in_default-clause-goes : goal.returns-in_default-clause-goes
+returns-in_default-clause-goes g c =
+    let w : World = record { front = c.self.inside.front; back = c.self.inside.back; under = c.self.inside.under } in
+    rw (← c.self.view_is) (λ content. front_rests _ w c.front.new.self content _
+    (front_unasked w _ c.ask-ask.ensures.value c.in_default.ensures.acted)
+    (front_left w _ _ c.ask-ask.ensures.value c.in_default.ensures.under))
+
+pub tell-requires : goal.tell-requires
+tell-requires g c =
+    let w : World = record { front = c.self.inside.front; back = c.self.inside.back; under = c.self.inside.under } in
+    (front_told w (c.in-Some.answer, c.in-Some.shown) (front_asked w _ _ c.ask-ask.ensures.value c.in-Some.ensures.acted), c.self.invariant.front_told)
+
+pub invariant_of-self-2 : goal.invariant_of-self-2
+invariant_of-self-2 g c =
+    let w : World = record { front = c.self.inside.front; back = c.self.inside.back; under = c.self.inside.under } in
+    front_safe w (c.in-Some.answer, c.in-Some.shown) c.take_told-told.new.self c.front.new.self c.self.invariant
+    (front_asked w _ _ c.ask-ask.ensures.value c.in-Some.ensures.acted)
+    (front_left w _ _ c.ask-ask.ensures.value c.in-Some.ensures.under)
+    (front_stepped c.self.inside.front _ _ c.in-Some.answer c.tell.ensures.told c.take_told-told.ensures.taken)
+
+pub returns-clause-goes : goal.returns-clause-goes
+returns-clause-goes g c =
+    let w : World = record { front = c.self.inside.front; back = c.self.inside.back; under = c.self.inside.under } in
+    rw (← c.self.view_is) (λ content. front_goes _ w (c.in-Some.answer, c.in-Some.shown) c.take_told-told.new.self c.front.new.self (option_to_list c.front_line.result) content _ _ c.show.result
+    (front_asked w _ _ c.ask-ask.ensures.value c.in-Some.ensures.acted)
+    (front_left w _ _ c.ask-ask.ensures.value c.in-Some.ensures.under)
+    (front_stepped c.self.inside.front _ _ c.in-Some.answer c.tell.ensures.told c.take_told-told.ensures.taken)
+    (front_said c.self.inside.front _ c.in-Some.answer _ _ c.tell.ensures.told c.take_told-told.ensures.told c.front_line.ensures)
+    c.show.ensures.shown)
+
+pub returns-clause-made : goal.returns-clause-made
+returns-clause-made g c =
+    let w : World = record { front = c.self.inside.front; back = c.self.inside.back; under = c.self.inside.under } in
+    rw (← c.self.view_is) (front_grants w c.front.new.self (front_left w _ _ c.ask-ask.ensures.value c.in-Some.ensures.under))
+
+pub returns-clause-sectors : goal.returns-clause-sectors
+returns-clause-sectors g c = rw (← c.self.view_is) (front_sectors c.self.inside.front c.take_told-told.new.self c.in-Some.answer (front_stepped c.self.inside.front _ _ c.in-Some.answer c.tell.ensures.told c.take_told-told.ensures.taken))

@@ -1,0 +1,48 @@
+use Rattle.std.specs.Prelude.{option_to_list}
+use Rattle.blk_base.specs.declared.moves.BackMover.TheVariants.{Job}
+use Rattle.hypervisor.specs.Act.{outcome_told, Took}
+use Rattle.blk_back.specs.Step.{job_ask_of, job_step}
+use Rattle.split_model.specs.World.{World}
+use Rattle.split_model.proofs.Moving.{back_asked, back_unasked, back_left, back_did_disk, back_stepped, back_said, job_told, job_safe, job_goes, job_rests, back_made, job_asked_may}
+use Rattle.schedule_run.proofs.split.Split.job_move.Goals as goal
+
+pub back-requires : goal.back-requires
+back-requires g c =
+    let w : World = record { front = c.self.inside.front; back = c.self.inside.back; under = c.self.inside.under } in
+    record { may = job_asked_may w c.args.self.now c.args.number c.job_ask-ask.result _ c.self.view_is c.self.invariant c.job_ask-ask.ensures.value c.job_ask-ask.ensures.names c.job_ask-ask.ensures.within c.job_ask-ask.ensures.few c.requires.attached c.requires.left }
+
+pub returns-in_default-clause-goes : goal.returns-in_default-clause-goes
+returns-in_default-clause-goes g c =
+    let w : World = record { front = c.self.inside.front; back = c.self.inside.back; under = c.self.inside.under } in
+    rw (← c.self.view_is) (job_rests _ w c.args.number c.back.new.self _ _ _
+    (back_unasked w.under (Job c.args.number) c.job_ask-ask.result (job_ask_of w.back c.args.number) c.job_ask-ask.ensures.value c.in_default.ensures.acted)
+    (back_left w.under (Job c.args.number) c.job_ask-ask.result (job_ask_of w.back c.args.number) Took c.back.new.self c.job_ask-ask.ensures.value c.in_default.ensures.under)
+    (back_did_disk c.job_ask-ask.result (job_ask_of w.back c.args.number) Took _ _ c.job_ask-ask.ensures.value c.in_default.ensures.disk))
+
+pub job_tell-requires-clause-answer : goal.job_tell-requires-clause-answer
+job_tell-requires-clause-answer g c =
+    let w : World = record { front = c.self.inside.front; back = c.self.inside.back; under = c.self.inside.under } in
+    job_told w c.args.number (c.in-Some.answer, c.in-Some.shown)
+    (back_asked w.under (Job c.args.number) c.job_ask-ask.result (job_ask_of w.back c.args.number) (c.in-Some.answer, c.in-Some.shown) c.job_ask-ask.ensures.value c.in-Some.ensures.acted)
+
+pub invariant_of-self-2 : goal.invariant_of-self-2
+invariant_of-self-2 g c =
+    let w : World = record { front = c.self.inside.front; back = c.self.inside.back; under = c.self.inside.under } in
+    job_safe w c.args.number (c.in-Some.answer, c.in-Some.shown) c.take_told-told.new.self c.back.new.self c.self.invariant
+    (back_asked w.under (Job c.args.number) c.job_ask-ask.result (job_ask_of w.back c.args.number) (c.in-Some.answer, c.in-Some.shown) c.job_ask-ask.ensures.value c.in-Some.ensures.acted)
+    (back_left w.under (Job c.args.number) c.job_ask-ask.result (job_ask_of w.back c.args.number) (outcome_told c.in-Some.answer) c.back.new.self c.job_ask-ask.ensures.value c.in-Some.ensures.under)
+    (back_stepped c.job_tell.new.self c.take_told-told.new.self (job_step w.back c.args.number c.in-Some.answer) c.job_tell.ensures.stepped c.take_told-told.ensures.taken)
+
+pub returns-clause-goes : goal.returns-clause-goes
+returns-clause-goes g c =
+    let w : World = record { front = c.self.inside.front; back = c.self.inside.back; under = c.self.inside.under } in
+    rw (← c.self.view_is) (job_goes _ w c.args.number (c.in-Some.answer, c.in-Some.shown) c.take_told-told.new.self c.back.new.self (option_to_list c.back_line.result) _ _ _ _ c.show.result
+    (back_asked w.under (Job c.args.number) c.job_ask-ask.result (job_ask_of w.back c.args.number) (c.in-Some.answer, c.in-Some.shown) c.job_ask-ask.ensures.value c.in-Some.ensures.acted)
+    (back_left w.under (Job c.args.number) c.job_ask-ask.result (job_ask_of w.back c.args.number) (outcome_told c.in-Some.answer) c.back.new.self c.job_ask-ask.ensures.value c.in-Some.ensures.under)
+    (back_did_disk c.job_ask-ask.result (job_ask_of w.back c.args.number) (outcome_told c.in-Some.answer) _ _ c.job_ask-ask.ensures.value c.in-Some.ensures.disk)
+    (back_stepped c.job_tell.new.self c.take_told-told.new.self (job_step w.back c.args.number c.in-Some.answer) c.job_tell.ensures.stepped c.take_told-told.ensures.taken)
+    (back_said c.job_tell.new.self (job_step w.back c.args.number c.in-Some.answer) c.in-Some.answer c.take_told-told.result (option_to_list c.back_line.result) c.job_tell.ensures.stepped c.take_told-told.ensures.told c.back_line.ensures)
+    c.show.ensures.shown)
+
+pub returns-clause-made : goal.returns-clause-made
+returns-clause-made g c = rw (← c.self.view_is) (back_made (record { front = c.self.inside.front; back = c.self.inside.back; under = c.self.inside.under }) (Job c.args.number) c.job_ask-ask.result _ c.back.new.self c.in-Some.ensures.under)

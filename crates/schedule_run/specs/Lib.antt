@@ -1,0 +1,4 @@
+pub mod Machine
+pub mod Reading
+pub mod Outcome
+pub mod Carrying

@@ -1,0 +1,14 @@
+//! The runner: both ends of the ring in their machine, moved by the lines of a schedule, one shared
+//! word, hypercall, event or disk call at a time (`io/ring.h`, `io/blkif.h`, `grant_table.h`). The
+//! program stands on it.
+#![tactic(auto)]
+
+mod machine;
+mod schedule;
+mod showing;
+mod split;
+#[cfg(test)]
+mod tests;
+
+pub use machine::{Machine, can_carry_out};
+pub use schedule::{RunStop, run};

@@ -1,0 +1,89 @@
+// A whole schedule.
+ghost use Rattle.std.specs.Prelude.{◌≡◌, ◌≤◌, Some, OnOk, IfErr};
+ghost use Rattle.schedule_run.specs.Outcome.{IsDone, IsStopped, stop_of};
+
+mod reading;
+
+use crate::machine::Machine;
+use crate::showing::say;
+use arrayvec::ArrayVec;
+use blk_base::{Config, OutOfMemory};
+use blk_io::{SectorDisk, Source};
+use reading::Reader;
+use schedule_text::{Line, RecordStop, Recorder};
+use std::alloc::Global;
+
+/// Why a run stopped before the end of its schedule. What was carried out before it stands.
+#[derive(Clone, Copy, Debug, PartialEq, Eq)]
+pub enum RunStop {
+    /// The line of this number, from 1, isn't one that is carried out.
+    BadLine(u64),
+    /// The source failed.
+    Source,
+    /// As many bytes as the limit says were taken, and the source didn't end before.
+    TooLong,
+    /// The recorder failed.
+    Sink,
+    /// There is not enough memory.
+    OutOfMemory,
+}
+
+impl From<OutOfMemory> for RunStop {
+    ghost use Rattle.schedule_run.specs.declared.schedule.RunStop.TheVariants.{OutOfMemory};
+
+    ghost from_gives = { λ _ stop. stop ≡ OutOfMemory };
+
+    fn from(_stop: OutOfMemory) -> RunStop {
+        RunStop::OutOfMemory
+    }
+}
+
+/// Carries out a schedule line by line as its bytes come, and gives the recorder the report: a
+/// `begin` line with the options, what each event makes happen, and an `end` line. Each whole line is
+/// carried out before the source is read again. The disk is attached with the options' number of
+/// sectors, and `bytes_limit` is at most 4294967296.
+pub fn run<S: Source, D: SectorDisk, R: Recorder>(
+    alloc: Global,
+    config: Config,
+    bytes_limit: u64,
+    source: &mut S,
+    disk: &mut D,
+    recorder: &mut R,
+) -> Result<(), RunStop>
+    requires limit { bytes_limit ≤ 4294967296 }
+    requires attached { D.attached disk.old ≡ Some config.sectors }
+    ensures done { OnOk result (IsDone (R.detail recorder.old) config bytes_limit (S.left source.old) (record { content = D.content disk.old; told = R.told recorder.old }) (record { content = D.content disk.new; told = R.told recorder.new })) }
+    ensures stopped { IfErr result (λ stop. IsStopped (R.detail recorder.old) config bytes_limit (S.left source.old) (S.faults source.old) (S.faults source.new) (R.faults recorder.old) (R.faults recorder.new) stop (record { content = D.content disk.old; told = R.told recorder.old }) (record { content = D.content disk.new; told = R.told recorder.new })) }
+    ensures attached { D.attached disk.new ≡ D.attached disk.old }
+    ensures source_later { S.faults source.old ≤ S.faults source.new }
+    ensures disk_later { D.faults disk.old ≤ D.faults disk.new }
+    ensures same_detail { R.detail recorder.new ≡ R.detail recorder.old }
+    ensures same_lender { R.lender recorder.new ≡ R.lender recorder.old }
+    ensures later { R.faults recorder.old ≤ R.faults recorder.new }
+{
+    let machine = Machine::new(alloc, &config)?;
+    let detail = recorder.detail();
+    if let Err(stop) = say(recorder, &Line::Begin { config, detail }) {
+        return Err(stop_of(stop));
+    }
+    let mut reader = Reader {
+        machine,
+        part: ArrayVec::new(),
+        lines: 0,
+    };
+    reader.read_all(bytes_limit, source, disk, recorder)?;
+    match say(recorder, &Line::End) {
+        Ok(()) => Ok(()),
+        Err(stop) => Err(stop_of(stop)),
+    }
+}
+
+// Why the run stopped, where the recorder did.
+fn stop_of(stop: RecordStop) -> RunStop
+    ensures { result ≡ stop_of stop }
+{
+    match stop {
+        RecordStop::Failed => RunStop::Sink,
+        RecordStop::OutOfMemory => RunStop::OutOfMemory,
+    }
+}

@@ -1,0 +1,167 @@
+// Both ends in their machine, and the moves of each.
+ghost use Rattle.std.specs.Prelude.{◌≡◌, ◌+◌, ◌<◌, ◌≤◌, ◌^◌, ◌∷◌, [], List, ℕ, Option, Some, None, Err, IfOk};
+ghost use Rattle.blk_io.specs.Outside.{Rose};
+ghost use Rattle.split_model.specs.World.{start_of, is_quiet};
+ghost use Rattle.split_model.specs.Happening.{FrontMoves, BackMoves, Submits, Notifies, happens};
+ghost use Rattle.split_model.specs.Kind.{IsJobMove};
+ghost use Rattle.split_model.specs.Leads.{Goes, Is};
+ghost use Rattle.schedule_run.specs.Machine.{moment};
+
+use crate::showing::{back_line, front_line, halt_line, say, show, submit_line};
+use blk_back::Back;
+use blk_base::{BackMover, Config, End, Endpoint, Job, OutOfMemory};
+use blk_front::Front;
+use blk_io::SectorDisk;
+use hypervisor::Hypervisor;
+use schedule_text::{Line, RecordStop, Recorder};
+use std::alloc::Global;
+use std::marker::Model;
+
+mod rounds;
+
+/// The front in its domain, the back with its jobs in another, and what lies under both.
+#[derive(Drop)]
+pub struct Split {
+    front: Front,
+    back: Back,
+    under: Hypervisor,
+}
+
+impl Model for Split {
+    ghost use Rattle.split_model.specs.World.{World};
+    ghost use Rattle.split_model.specs.Safe.{IsSafe};
+
+    ghost Value = { World };
+
+    ghost view = { λ s. record { front = s.front; back = s.back; under = s.under } };
+
+    ghost invariant = { λ s. IsSafe (record { front = s.front; back = s.back; under = s.under }) };
+}
+
+impl Split {
+    /// Both ends before they are connected. It fails only where there is not enough memory.
+    pub fn new(alloc: Global, config: &Config) -> Result<Split, OutOfMemory>
+        ensures { IfOk result (λ split. split ≡ start_of config.now) }
+    {
+        Ok(Split {
+            front: Front::new(alloc, config)?,
+            back: Back::new(alloc, config)?,
+            under: Hypervisor::new(alloc)?,
+        })
+    }
+
+    /// A move of the front, if it has one.
+    pub fn front_move<R: Recorder>(&mut self, recorder: &mut R) -> Result<(), RecordStop>
+        ensures goes { (content : Option (List (List ℕ))) → Goes (R.detail recorder.old) (Is (FrontMoves ∷ [])) (Is (FrontMoves ∷ [])) result (moment self.old content (R.told recorder.old)) (moment self.new content (R.told recorder.new)) }
+        ensures made { self.new.under.grants ≡ self.old.under.grants }
+        ensures sectors { self.new.front.sectors ≡ self.old.front.sectors }
+        ensures same_detail { R.detail recorder.new ≡ R.detail recorder.old }
+        ensures same_lender { R.lender recorder.new ≡ R.lender recorder.old }
+        ensures later { R.faults recorder.old ≤ R.faults recorder.new }
+        ensures failed { result ≡ Err RecordStop.Failed → Rose (R.faults recorder.old) (R.faults recorder.new) }
+    {
+        let ask = self.front.ask();
+        let Some((answer, shown)) = self.under.front(ask) else {
+            return Ok(());
+        };
+        // A front takes no memory once it is made.
+        let _ = self.front.tell(answer);
+        let told = self.front.take_told();
+        show(recorder, shown, front_line(told), None)
+    }
+
+    /// A move of the back, if it has one.
+    pub fn back_move<D: SectorDisk, R: Recorder>(
+        &mut self,
+        disk: &mut D,
+        recorder: &mut R,
+    ) -> Result<(), RecordStop>
+        requires attached { D.attached disk.old ≡ Some self.old.front.sectors }
+        requires left { self.old.under.grants.made + 1 < 2 ^ 64 }
+        ensures goes { Goes (R.detail recorder.old) (Is (BackMoves ∷ [])) (Is (BackMoves ∷ [])) result (moment self.old (D.content disk.old) (R.told recorder.old)) (moment self.new (D.content disk.new) (R.told recorder.new)) }
+        ensures made { self.new.under.grants.made ≤ self.old.under.grants.made + 1 }
+        ensures sectors { self.new.front.sectors ≡ self.old.front.sectors }
+        ensures attached { D.attached disk.new ≡ D.attached disk.old }
+        ensures disk_later { D.faults disk.old ≤ D.faults disk.new }
+        ensures same_detail { R.detail recorder.new ≡ R.detail recorder.old }
+        ensures same_lender { R.lender recorder.new ≡ R.lender recorder.old }
+        ensures later { R.faults recorder.old ≤ R.faults recorder.new }
+        ensures failed { result ≡ Err RecordStop.Failed → Rose (R.faults recorder.old) (R.faults recorder.new) }
+    {
+        let ask = self.back.ask();
+        let before = self.back.halted();
+        let Some((answer, shown)) = self.under.back(BackMover::Back, ask, disk) else {
+            return Ok(());
+        };
+        let _ = self.back.tell(answer);
+        let told = self.back.take_told();
+        let halt = halt_line(before, self.back.halted());
+        show(recorder, shown, back_line(told, &answer), halt)
+    }
+
+    /// A move of the job of a number, if it has one.
+    pub fn job_move<D: SectorDisk, R: Recorder>(
+        &mut self,
+        number: u64,
+        disk: &mut D,
+        recorder: &mut R,
+    ) -> Result<(), RecordStop>
+        requires attached { D.attached disk.old ≡ Some self.old.front.sectors }
+        requires left { self.old.under.grants.made + 1 < 2 ^ 64 }
+        ensures goes { Goes (R.detail recorder.old) (IsJobMove number) (IsJobMove number) result (moment self.old (D.content disk.old) (R.told recorder.old)) (moment self.new (D.content disk.new) (R.told recorder.new)) }
+        ensures made { self.new.under.grants.made ≤ self.old.under.grants.made + 1 }
+        ensures sectors { self.new.front.sectors ≡ self.old.front.sectors }
+        ensures attached { D.attached disk.new ≡ D.attached disk.old }
+        ensures disk_later { D.faults disk.old ≤ D.faults disk.new }
+        ensures same_detail { R.detail recorder.new ≡ R.detail recorder.old }
+        ensures same_lender { R.lender recorder.new ≡ R.lender recorder.old }
+        ensures later { R.faults recorder.old ≤ R.faults recorder.new }
+        ensures failed { result ≡ Err RecordStop.Failed → Rose (R.faults recorder.old) (R.faults recorder.new) }
+    {
+        let ask = self.back.job_ask(number);
+        let Some((answer, shown)) = self.under.back(BackMover::Job(number), ask, disk) else {
+            return Ok(());
+        };
+        self.back.job_tell(number, answer);
+        let told = self.back.take_told();
+        show(recorder, shown, back_line(told, &answer), None)
+    }
+
+    /// A request is handed to the front.
+    pub fn submit<R: Recorder>(&mut self, job: Job, recorder: &mut R) -> Result<(), RecordStop>
+        ensures goes { (content : Option (List (List ℕ))) → Goes (R.detail recorder.old) (Is (Submits job ∷ [])) (Is (Submits job ∷ [])) result (moment self.old content (R.told recorder.old)) (moment self.new content (R.told recorder.new)) }
+        ensures made { self.new.under ≡ self.old.under }
+        ensures sectors { self.new.front.sectors ≡ self.old.front.sectors }
+        ensures same_detail { R.detail recorder.new ≡ R.detail recorder.old }
+        ensures same_lender { R.lender recorder.new ≡ R.lender recorder.old }
+        ensures later { R.faults recorder.old ≤ R.faults recorder.new }
+        ensures failed { result ≡ Err RecordStop.Failed → Rose (R.faults recorder.old) (R.faults recorder.new) }
+    {
+        // The job is handed over, and then shown: a reference lets it be read twice.
+        let handed = &job;
+        let answer = self.front.submit(*handed);
+        say(recorder, &submit_line(*handed, answer))
+    }
+
+    /// A spurious event comes at an end's port, where it is bound.
+    pub fn notify(&mut self, at: End)
+        ensures goes { self.new ≡ happens self.old (Notifies at) }
+        ensures made { self.new.under.grants ≡ self.old.under.grants }
+        ensures sectors { self.new.front.sectors ≡ self.old.front.sectors }
+    {
+        match at {
+            End::Front => self.under.send(End::Back),
+            End::Back => self.under.send(End::Front),
+        }
+    }
+
+    /// Whether both ends wait, no job is held and no event is pending.
+    pub fn is_quiet(&self) -> bool
+        ensures { result ≡ is_quiet self.now }
+    {
+        self.front.idle()
+            && self.back.idle()
+            && !self.under.pending(End::Front)
+            && !self.under.pending(End::Back)
+    }
+}
