@@ -5,10 +5,15 @@
 use blk_io::{ReaderSource, WriterSink};
 use commands::{Stop, blkring, give_up};
 use image_disk::FileDisk;
+use std::fs::{OpenFile, OpenOptions};
 use std::process::ExitCode;
+use std::rt::Files;
 use std::{env, io};
 
 fn main(rt: HostRuntime) -> ExitCode {
+    // Where a standard stream is closed, the image would get its number and be read or written in its
+    // place. A folder takes each such number: it can be neither read nor written.
+    let _folders = [folder(&rt), folder(&rt), folder(&rt)];
     let mut err = WriterSink::new(rt.stderr());
     let words = match words(&rt) {
         Ok(words) => words,
@@ -26,6 +31,10 @@ fn main(rt: HostRuntime) -> ExitCode {
         &mut err,
     );
     ExitCode::from(status)
+}
+
+fn folder<R: Files>(files: &R) -> Option<R::File> {
+    OpenOptions::new().read(true).open(files, "/").ok()
 }
 
 // The words after the program's name. Where one of them isn't text they give no command.

@@ -1,62 +1,140 @@
 -- What the program leaves, and what it says, at each of its statuses.
-use Rattle.std.specs.Prelude.{◌≡◌, ◌≢◌, ℕ, ◌⊎◌, List, Option}
+use Rattle.std.specs.Prelude.{◌≡◌, ◌≢◌, ℕ, ◌⊎◌, List, Option, None, false}
+use Rattle.blk_base.specs.Options.{Options}
+use Rattle.blk_base.specs.declared.operation.Abi.TheVariants.{X64}
 use Rattle.blk_io.specs.Outside.{Rose, written, IsPartlyWritten}
+use Rattle.blk_io.specs.Disk.{HasLength}
 use Rattle.ring_inspect.specs.Stop.{bytes_of, IsShown, IsPartlyShown, IsCount}
+use Rattle.schedule_text.specs.declared.line.Detail.{Detail}
+use Rattle.schedule_text.specs.declared.line.Line.{Line}
+use Rattle.schedule_text.specs.Recorder.{report_text}
+use Rattle.schedule_text.specs.declared.event.Event.{Event}
+use Rattle.plain_disk.specs.Echo.{Echoes}
+use Rattle.report_rules.specs.Coherent.{IsCoherent}
+use Rattle.report_rules.specs.Mapped.{AreMapAnswers}
+use Rattle.report_rules.specs.Touch.{AreTouches}
+use Rattle.move_laws.specs.Grantable.{AreGrantable}
+use Rattle.schedule_text.specs.declared.line.Detail.TheVariants.{Moves}
+use Rattle.schedule_run.specs.Outcome.{Outside, IsDone as IsRunDone, IsStopped as IsRunStopped}
+use Rattle.schedule_run.specs.Reading.{IsWholeSchedule, Tells}
+use Rattle.schedule_run.specs.declared.schedule.RunStop.{RunStop}
+use Rattle.schedule_run.specs.declared.schedule.RunStop.TheVariants as run
 use Rattle.commands.specs.declared.words.Command.{Command}
-use Rattle.commands.specs.declared.words.Command.TheVariants.{Inspect}
+use Rattle.commands.specs.declared.words.Command.TheVariants.{Inspect, Run}
 use Rattle.commands.specs.declared.status.Stop.{Stop}
-use Rattle.commands.specs.declared.status.Stop.TheVariants.{Length, Words, Source, Sink, OutOfMemory}
+use Rattle.commands.specs.declared.status.Stop.TheVariants.{Length, Words, BadLine, Source, Sink, OutOfMemory, Image, TooLong}
 use Rattle.commands.specs.Words.{Gives, GivesNone}
-use Rattle.commands.specs.Status.{line_of}
+use Rattle.commands.specs.Status.{status_of, line_of}
 
--- this command, with what the source had left, made of the output what it is
-abbrev pub Makes : Command → Option (List ℕ) → (before after : Option (List ℕ)) → Type 0
-Makes (Inspect abi order) left before after = IsShown left (record { abi = abi; order = order }) before after
+-- what stands outside at a moment: what the disk holds, what was written, where they tell, and how often source, disk and output failed
+pub record Scene : Type 0 where
+  pub content : Option (List (List ℕ))
+  pub out : Option (List ℕ)
+  pub source_faults : ℕ
+  pub disk_faults : ℕ
+  pub out_faults : ℕ
 
--- it made a beginning of that
-abbrev pub MakesPartly : Command → Option (List ℕ) → (before after : Option (List ℕ)) → Type 0
-MakesPartly (Inspect abi order) left before after = IsPartlyShown left (record { abi = abi; order = order }) before after
+-- the options of a run on an image of so many sectors
+abbrev pub options_of : ℕ → Options
+options_of sectors = record { abi = X64; order = 0; persistent = 0; indirect = 0; start = 0; read_only = false; sectors = sectors }
+
+-- a schedule has fewer bytes than this
+abbrev pub bytes_limit : ℕ
+bytes_limit = 4294967296
+
+-- the report goes to the output, line by line
+abbrev pub outside : Scene → Outside
+outside s = record { content = s.content; told = record { lines = None; text = s.out; tally = None } }
+
+-- what a run made of the disk and the output
+abbrev pub IsRun : Detail → Option (List ℕ) → Scene → Scene → Type 0
+IsRun detail left old new =
+    (sectors : ℕ) × HasLength old.content sectors × IsRunDone detail (options_of sectors) bytes_limit left (outside old) (outside new)
+
+-- this command, with what the source had left, made of the outside what it is
+abbrev pub Makes : Command → Option (List ℕ) → Scene → Scene → Type 0
+Makes (Inspect abi order) left old new = IsShown left (record { abi = abi; order = order }) old.out new.out × (new.content ≡ old.content)
+Makes (Run detail) left old new = IsRun detail left old new
+
+-- the command of the words was done
+abbrev pub IsDone : List (List ℕ) → Option (List ℕ) → Scene → Scene → Type 0
+IsDone words left old new = (command : Command) × Gives words command × Makes command left old new
+
+-- what a report says of memory and mappings: each read shows what the lines before it left there; each map is answered as its entry stands by them; each touch of the back or a job is of a word of frames 2 to 1023 through a mapping that stands, and writes only through one for writing
+pub record IsTrueToMemory (report : List Line) : Type 0 where
+  pub coherent : IsCoherent report
+  pub answered : AreMapAnswers report
+  pub touched : AreTouches report
+  pub grantable : AreGrantable report
+
+-- what was written is the text of a report that echoes the whole schedule, and that tells the truth of memory and mappings where it shows the moves
+pub record IsReported (detail : Detail) (left : Option (List ℕ)) (old new : Scene) : Type 0 where
+  pub sectors : ℕ
+  pub events : List Event
+  pub report : List Line
+  pub schedule : Tells (λ bytes. IsWholeSchedule bytes_limit bytes events) left
+  pub echo : Echoes (options_of sectors) detail events report
+  pub text : new.out ≡ written old.out (report_text report)
+  pub moves : detail ≡ Moves → IsTrueToMemory report
 
 -- the source had so many bytes, where one too many stand for more, and not the number that the command asks for
 abbrev pub IsOff : Command → Option (List ℕ) → (count expected : ℕ) → Type 0
 IsOff (Inspect abi order) left count expected = (expected ≡ bytes_of order) × (count ≢ expected) × IsCount left expected count
-
--- the command of the words was done
-abbrev pub IsDone : List (List ℕ) → Option (List ℕ) → (before after : Option (List ℕ)) → Type 0
-IsDone words left before after = (command : Command) × Gives words command × Makes command left before after
-
--- a beginning of what it writes was written
-abbrev pub IsBegun : List (List ℕ) → Option (List ℕ) → (before after : Option (List ℕ)) → Type 0
-IsBegun words left before after = (command : Command) × Gives words command × MakesPartly command left before after
-
--- the source had another length than the command of the words asks for
-abbrev pub IsLengthOff : List (List ℕ) → Option (List ℕ) → (count expected : ℕ) → Type 0
-IsLengthOff words left count expected = (command : Command) × Gives words command × IsOff command left count expected
+IsOff (Run detail) left count expected = ⊥
 
 -- the error output took this line, or failed at it
 abbrev pub IsSaid : List ℕ → (before after : Option (List ℕ)) → (faults faults' : ℕ) → Type 0
 IsSaid line before after faults faults' =
     (after ≡ written before line) ⊎ (IsPartlyWritten before line after × Rose faults faults')
 
--- another length was found, and said
-abbrev pub IsLengthSaid : List (List ℕ) → Option (List ℕ) → (before after : Option (List ℕ)) → (faults faults' : ℕ) → Type 0
-IsLengthSaid words left before after faults faults' =
-    (count : ℕ) × (expected : ℕ) × IsLengthOff words left count expected × IsSaid (line_of (Length count expected)) before after faults faults'
+-- nothing was written, and the disk holds what it held
+abbrev pub IsUntouched : Scene → Scene → Type 0
+IsUntouched old new = (new.out ≡ old.out) × (new.content ≡ old.content)
+
+-- why the showing of a ring stopped, and what it left
+abbrev pub InspectStops : Command → Option (List ℕ) → Scene → Scene → Stop → Type 0
+InspectStops command left old new (Length count expected) = IsOff command left count expected × IsUntouched old new
+InspectStops command left old new Source = Rose old.source_faults new.source_faults × IsUntouched old new
+InspectStops (Inspect abi order) left old new Sink = Rose old.out_faults new.out_faults × IsPartlyShown left (record { abi = abi; order = order }) old.out new.out × (new.content ≡ old.content)
+InspectStops command left old new OutOfMemory = IsUntouched old new
+InspectStops command left old new stop = ⊥
+
+-- a run on an image of some number of sectors stopped so
+abbrev pub HasStopped : Detail → Option (List ℕ) → Scene → Scene → RunStop → Type 0
+HasStopped detail left old new stop =
+    (sectors : ℕ) × HasLength old.content sectors
+    × IsRunStopped detail (options_of sectors) bytes_limit left old.source_faults new.source_faults old.out_faults new.out_faults stop (outside old) (outside new)
+
+-- why a run stopped, and what it left
+abbrev pub RunStops : Detail → Option (List ℕ) → Scene → Scene → Stop → Type 0
+RunStops detail left old new (BadLine number) = HasStopped detail left old new (run.BadLine number)
+RunStops detail left old new Source = HasStopped detail left old new run.Source
+RunStops detail left old new Sink = HasStopped detail left old new run.Sink
+RunStops detail left old new OutOfMemory = IsUntouched old new ⊎ HasStopped detail left old new run.OutOfMemory
+RunStops detail left old new Image = Rose old.disk_faults new.disk_faults × IsUntouched old new
+RunStops detail left old new TooLong = HasStopped detail left old new run.TooLong
+RunStops detail left old new stop = ⊥
 
 -- why a command stopped, and what it left
-abbrev pub Stops : Command → Option (List ℕ) → (source source' sink sink' : ℕ) → (before after : Option (List ℕ)) → Stop → Type 0
-Stops command left source source' sink sink' before after (Length count expected) = IsOff command left count expected × (after ≡ before)
-Stops command left source source' sink sink' before after Words = ⊥
-Stops command left source source' sink sink' before after Source = Rose source source' × (after ≡ before)
-Stops command left source source' sink sink' before after Sink = Rose sink sink' × MakesPartly command left before after
-Stops command left source source' sink sink' before after OutOfMemory = after ≡ before
+abbrev pub Stops : Command → Option (List ℕ) → Scene → Scene → Stop → Type 0
+Stops (Inspect abi order) left old new stop = InspectStops (Inspect abi order) left old new stop
+Stops (Run detail) left old new stop = RunStops detail left old new stop
 
 -- why the program stopped, and what it left
-abbrev pub IsStopped : List (List ℕ) → Option (List ℕ) → (source source' sink sink' : ℕ) → (before after : Option (List ℕ)) → Stop → Type 0
-IsStopped words left source source' sink sink' before after stop =
-    ((stop ≡ Words) × GivesNone words × (after ≡ before))
-    ⊎ ((command : Command) × Gives words command × Stops command left source source' sink sink' before after stop)
+abbrev pub IsStopped : List (List ℕ) → Option (List ℕ) → Scene → Scene → Stop → Type 0
+IsStopped words left old new stop =
+    ((stop ≡ Words) × GivesNone words × IsUntouched old new)
+    ⊎ ((command : Command) × Gives words command × Stops command left old new stop)
 
--- one of the program's statuses
-abbrev pub IsStatus : ℕ → Type 0
-IsStatus status = (status ≡ 0) ⊎ (status ≡ 1) ⊎ (status ≡ 2) ⊎ (status ≡ 4) ⊎ (status ≡ 5) ⊎ (status ≡ 6)
+-- it stopped, with the status and the line of the reason
+abbrev pub HasEnded : List (List ℕ) → Option (List ℕ) → Scene → Scene → (status : ℕ) → (before after : Option (List ℕ)) → (faults faults' : ℕ) → Type 0
+HasEnded words left old new status before after faults faults' =
+    (stop : Stop) × (status ≡ status_of stop) × IsStopped words left old new stop × IsSaid (line_of stop) before after faults faults'
+
+-- why the program stops where the run did
+abbrev pub run_stop : RunStop → Stop
+run_stop (run.BadLine number) = BadLine number
+run_stop run.Source = Source
+run_stop run.TooLong = TooLong
+run_stop run.Sink = Sink
+run_stop run.OutOfMemory = OutOfMemory

@@ -1,10 +1,12 @@
 -- How the words of the command line are read, option by option; `Words` says what they give.
-use Rattle.std.specs.Prelude.{ℕ, List, [], ◌∷◌, Option, Some, None, codes, option_map, if◌then◌else◌}
+use Rattle.std.specs.Prelude.{ℕ, List, [], ◌∷◌, Option, Some, None, codes, option_map, if◌then◌else◌, ◌&&◌}
 use Rattle.std.specs.Str.{bytes_eq}
 use Rattle.blk_base.specs.declared.operation.Abi.{Abi}
 use Rattle.blk_base.specs.declared.operation.Abi.TheVariants.{X64, X32}
 use Rattle.commands.specs.declared.words.Command.{Command}
-use Rattle.commands.specs.declared.words.Command.TheVariants.{Inspect}
+use Rattle.commands.specs.declared.words.Command.TheVariants.{Inspect, Run}
+use Rattle.schedule_text.specs.declared.line.Detail.TheVariants.{Lines, Moves}
+use Rattle.commands.specs.Words.{is_name}
 use Rattle.commands.specs.declared.words.InspectOption.{InspectOption}
 use Rattle.commands.specs.declared.words.InspectOption.TheVariants.{Layout, Order}
 
@@ -53,6 +55,15 @@ options_in (name ∷ value ∷ other ∷ []) = None
 options_in (name ∷ value ∷ other ∷ its ∷ []) = of_two (option_in name value) (option_in other its)
 options_in (name ∷ value ∷ other ∷ its ∷ more ∷ rest) = None
 
+abbrev pub run_in : List (List ℕ) → Option Command
+run_in [] = None
+run_in (image ∷ []) = if is_name image then Some (Run Lines) else None
+run_in (image ∷ moves ∷ []) = if is_name image && bytes_eq moves (codes "--moves") then Some (Run Moves) else None
+run_in (image ∷ moves ∷ more ∷ rest) = None
+
 abbrev pub command_in : List (List ℕ) → Option Command
 command_in [] = None
-command_in (word ∷ options) = if bytes_eq word (codes "inspect") then options_in options else None
+command_in (word ∷ options) =
+    if bytes_eq word (codes "inspect") then options_in options
+    else (if bytes_eq word (codes "run") then run_in options
+    else None)

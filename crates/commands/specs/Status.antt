@@ -1,14 +1,17 @@
 -- The exit status and the line of the error output, for each reason why the program stops.
 use Rattle.std.specs.Prelude.{ℕ, List, [], ◌∷◌, ◌++◌, codes, decimal}
 use Rattle.commands.specs.declared.status.Stop.{Stop}
-use Rattle.commands.specs.declared.status.Stop.TheVariants.{Length, Words, Source, Sink, OutOfMemory}
+use Rattle.commands.specs.declared.status.Stop.TheVariants.{Length, Words, BadLine, Source, Sink, OutOfMemory, Image, TooLong}
 
 abbrev pub status_of : Stop → ℕ
 status_of (Length count expected) = 1
 status_of Words = 2
+status_of (BadLine number) = 3
 status_of Source = 4
 status_of Sink = 5
 status_of OutOfMemory = 6
+status_of Image = 7
+status_of TooLong = 8
 
 -- a line of the error output
 abbrev pub error_line : List ℕ → List ℕ
@@ -17,6 +20,9 @@ error_line reason = codes "blkring: " ++ reason ++ 10 ∷ []
 abbrev pub line_of : Stop → List ℕ
 line_of (Length count expected) = error_line (decimal count ++ codes " bytes, expected " ++ decimal expected)
 line_of Words = error_line (codes "bad command line")
+line_of (BadLine number) = error_line (codes "line " ++ decimal number ++ codes ": not in the grammar")
 line_of Source = error_line (codes "the input failed")
 line_of Sink = error_line (codes "the output failed")
 line_of OutOfMemory = error_line (codes "out of memory")
+line_of Image = error_line (codes "the image failed")
+line_of TooLong = error_line (codes "the input is too long")

@@ -17,12 +17,18 @@ pub enum Stop {
     Length { count: u64, expected: u64 },
     /// The words of the command line give no command.
     Words,
+    /// The schedule's line of this number isn't one that is carried out.
+    BadLine(u64),
     /// The input failed.
     Source,
     /// The output failed.
     Sink,
     /// There was no memory.
     OutOfMemory,
+    /// The image failed where it was attached.
+    Image,
+    /// 4294967296 bytes of the schedule were taken, and the input didn't end before.
+    TooLong,
 }
 
 impl From<AllocError> for Stop {
@@ -43,9 +49,12 @@ impl Stop {
         match self {
             Stop::Length { .. } => 1,
             Stop::Words => 2,
+            Stop::BadLine(_) => 3,
             Stop::Source => 4,
             Stop::Sink => 5,
             Stop::OutOfMemory => 6,
+            Stop::Image => 7,
+            Stop::TooLong => 8,
         }
     }
 
@@ -56,9 +65,12 @@ impl Stop {
         match self {
             Stop::Length { count, expected } => length_line(count, expected),
             Stop::Words => plain_line("bad command line"),
+            Stop::BadLine(number) => bad_line(number),
             Stop::Source => plain_line("the input failed"),
             Stop::Sink => plain_line("the output failed"),
             Stop::OutOfMemory => plain_line("out of memory"),
+            Stop::Image => plain_line("the image failed"),
+            Stop::TooLong => plain_line("the input is too long"),
         }
     }
 }
@@ -82,6 +94,17 @@ fn length_line(count: u64, expected: u64) -> ErrorLine
     put(&mut line, count);
     line.push_str(" bytes, expected ");
     put(&mut line, expected);
+    line.push_str("\n");
+    line
+}
+
+fn bad_line(number: u64) -> ErrorLine
+    ensures { result.bytes ≡ line_of (Stop.BadLine number) }
+{
+    let mut line = ErrorLine::new();
+    line.push_str("blkring: line ");
+    put(&mut line, number);
+    line.push_str(": not in the grammar");
     line.push_str("\n");
     line
 }

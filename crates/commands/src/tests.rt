@@ -3,7 +3,8 @@
 use crate::{Command, blkring, read_command};
 use blk_base::Abi;
 use blk_io::{FailsAt, MemorySink, MemorySource};
-use image_disk::MemoryDisk;
+use image_disk::{FailsAtCalls, ListedCalls, MemoryDisk};
+use schedule_text::Detail;
 use std::alloc::{AllocError, Global};
 use std::test::Fail;
 
@@ -44,6 +45,28 @@ fn the_options_of_inspect_come_once_each_in_either_order(rt: HostRuntime) -> Res
         "inspect --order 04",
         "inspect --abi 64 --abi 64",
         "inspect --abi 32 --order 1 --order 1",
+    ] {
+        assert_eq!(rt; read(alloc, line)?, None);
+    }
+    Ok(())
+}
+
+#[test]
+fn run_takes_an_image_and_moves(rt: HostRuntime) -> Result<(), Fail> {
+    let alloc = rt.alloc();
+    let detail = Detail::Lines;
+    assert_eq!(rt; read(alloc, "run disk")?, Some(Command::Run { detail }));
+    let detail = Detail::Moves;
+    assert_eq!(rt;
+        read(alloc, "run disk --moves")?,
+        Some(Command::Run { detail })
+    );
+    for line in [
+        "run",
+        "run -",
+        "run --moves",
+        "run disk moves",
+        "run disk --moves --moves",
     ] {
         assert_eq!(rt; read(alloc, line)?, None);
     }
@@ -96,6 +119,58 @@ fn a_ring_is_shown_and_a_wrong_one_is_said(rt: HostRuntime) -> Result<(), Fail> 
     let left = run(alloc, "fly", 4096)?;
     assert_eq!(rt; left.status, 2);
     assert_eq!(rt; left.err.bytes(), b"blkring: bad command line\n".as_slice());
+    Ok(())
+}
+
+// Runs a schedule on an image of 8 zero sectors that fails at these attaches.
+fn run_schedule(alloc: Global, line: &str, schedule: &str, attaches: &[u64]) -> Result<Left, Fail> {
+    let words = words(alloc, line)?;
+    let mut src = MemorySource::new(schedule.as_bytes().to_vec(alloc)?);
+    let zeros = MemoryDisk::new(alloc, vec![in alloc; [0; 128]; 8]?)?;
+    let listed = ListedCalls {
+        attaches: attaches.to_vec(alloc)?,
+        reads: Vec::new(alloc),
+        writes: Vec::new(alloc),
+        flushes: Vec::new(alloc),
+        trims: Vec::new(alloc),
+    };
+    let mut disk = FailsAtCalls::new(zeros, listed);
+    let mut out = MemorySink::with_room(alloc, 4096)?;
+    let mut err = MemorySink::with_room(alloc, 4096)?;
+    let status = blkring(
+        alloc,
+        words.as_slice(),
+        &mut src,
+        &mut disk,
+        &mut out,
+        &mut err,
+    );
+    Ok(Left { status, out, err })
+}
+
+#[test]
+fn a_schedule_is_run_and_reported(rt: HostRuntime) -> Result<(), Fail> {
+    let alloc = rt.alloc();
+    let left = run_schedule(alloc, "run disk", "settle\nsubmit wri\n", &[])?;
+    assert_eq!(rt; left.status, 3);
+    assert_eq!(rt;
+        left.out.bytes(),
+        b"begin 64 0 0 0 0 rw 8 lines\nready\nquiet\n".as_slice()
+    );
+    assert_eq!(rt;
+        left.err.bytes(),
+        b"blkring: line 2: not in the grammar\n".as_slice()
+    );
+    let left = run_schedule(alloc, "run disk --moves", "", &[])?;
+    assert_eq!(rt; left.status, 0);
+    assert_eq!(rt;
+        left.out.bytes(),
+        b"begin 64 0 0 0 0 rw 8 moves\nend\n".as_slice()
+    );
+    let left = run_schedule(alloc, "run disk", "settle\n", &[1])?;
+    assert_eq!(rt; left.status, 7);
+    assert_eq!(rt; left.out.bytes(), b"".as_slice());
+    assert_eq!(rt; left.err.bytes(), b"blkring: the image failed\n".as_slice());
     Ok(())
 }
 

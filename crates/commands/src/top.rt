@@ -1,27 +1,33 @@
 // The program over its outside.
-ghost use Rattle.std.specs.Prelude.{◌≡◌, ◌≤◌, ◌↔◌, map, OnOk, IfErr};
+ghost use Rattle.std.specs.Prelude.{◌≡◌, ◌≢◌, ◌≤◌, ◌↔◌, map, OnOk, IfErr};
 ghost use Rattle.std.specs.String.{string_bytes};
-ghost use Rattle.blk_io.specs.Outside.{Rose, written};
-ghost use Rattle.commands.specs.Words.{GivesNone};
+ghost use Rattle.commands.specs.Words.{Gives, GivesNone};
 ghost use Rattle.commands.specs.Status.{status_of, line_of};
-ghost use Rattle.commands.specs.Ending.{IsDone, IsBegun, IsSaid, IsLengthSaid, IsStopped, Stops, IsStatus, Makes};
+ghost use Rattle.commands.specs.Ending.{IsDone, IsReported, IsSaid, IsStopped, Stops, Makes, HasEnded, run_stop};
 
 use crate::status::Stop;
 use crate::words::{Command, read_command};
-use blk_base::Abi;
-use blk_io::{SectorDisk, Sink, Source};
+use blk_base::{Abi, Config};
+use blk_io::{AttachStop, SectorDisk, Sink, Source};
 use ring_inspect::{InspectStop, inspect};
+use schedule_run::{RunStop, run};
+use schedule_text::{Detail, LineSink};
 use std::alloc::Global;
 
 /// Carries out the command that the words after the program's name give, and answers the exit
 /// status; whatever isn't 0 is also said in a line on `err`, whose failing changes no status.
 ///
-/// - 0: it is done, and nothing was said.
+/// - 0: it is done, and nothing was said. For `run` the output is the text of a report that echoes
+///   the whole schedule.
 /// - 1: `inspect` found another number of bytes than the ring's. Nothing was written.
 /// - 2: the words give no command. Nothing was read or written.
-/// - 4: the source failed. Nothing was written.
+/// - 3: a line of the schedule isn't carried out. Those before it were, and are reported.
+/// - 4: the source failed. What was carried out before is reported.
 /// - 5: the output failed. A beginning of the text may have been written.
-/// - 6: there was no memory. Nothing was written.
+/// - 6: there was no memory. What was carried out before is reported.
+/// - 7: the image failed where it was attached. Nothing was read or written.
+/// - 8: 4294967296 bytes of the schedule were taken, and the source didn't end before. Their whole
+///   lines were carried out, and are reported.
 pub fn blkring<S: Source, D: SectorDisk, O: Sink, E: Sink>(
     alloc: Global,
     words: &[String],
@@ -30,20 +36,21 @@ pub fn blkring<S: Source, D: SectorDisk, O: Sink, E: Sink>(
     out: &mut O,
     err: &mut E,
 ) -> u8
-    ensures statuses { IsStatus result }
-    ensures done { result ≡ 0 → IsDone (map string_bytes words.now) (S.left src.old) (O.held out.old) (O.held out.new) × (E.held err.new ≡ E.held err.old) }
-    ensures another_length { result ≡ 1 → IsLengthSaid (map string_bytes words.now) (S.left src.old) (E.held err.old) (E.held err.new) (E.faults err.old) (E.faults err.new) × (O.held out.new ≡ O.held out.old) }
+    // Done: the command of the words made of the outside what it is.
+    ensures done { result ≡ 0 → IsDone (map string_bytes words.now) (S.left src.old) (record { content = D.content disk.old; out = O.held out.old; source_faults = S.faults src.old; disk_faults = D.faults disk.old; out_faults = O.faults out.old }) (record { content = D.content disk.new; out = O.held out.new; source_faults = S.faults src.new; disk_faults = D.faults disk.new; out_faults = O.faults out.new }) × (E.held err.new ≡ E.held err.old) }
+    // A run that is done wrote the text of a report that echoes the whole schedule; where it shows the
+    // moves, they are true to memory and mappings.
+    ensures reported { (detail : Detail) → Gives (map string_bytes words.now) (Command.Run detail) → result ≡ 0 → IsReported detail (S.left src.old) (record { content = D.content disk.old; out = O.held out.old; source_faults = S.faults src.old; disk_faults = D.faults disk.old; out_faults = O.faults out.old }) (record { content = D.content disk.new; out = O.held out.new; source_faults = S.faults src.new; disk_faults = D.faults disk.new; out_faults = O.faults out.new }) }
+    // Any other status is that of a reason, which says what came before, and was said.
+    ensures stopped { result ≢ 0 → HasEnded (map string_bytes words.now) (S.left src.old) (record { content = D.content disk.old; out = O.held out.old; source_faults = S.faults src.old; disk_faults = D.faults disk.old; out_faults = O.faults out.old }) (record { content = D.content disk.new; out = O.held out.new; source_faults = S.faults src.new; disk_faults = D.faults disk.new; out_faults = O.faults out.new }) result (E.held err.old) (E.held err.new) (E.faults err.old) (E.faults err.new) }
     ensures bad_words { (result ≡ 2) ↔ GivesNone (map string_bytes words.now) }
-    ensures nothing_done { result ≡ 2 → (src.new ≡ src.old) × (out.new ≡ out.old) × IsSaid (line_of Stop.Words) (E.held err.old) (E.held err.new) (E.faults err.old) (E.faults err.new) }
-    ensures source_failed { result ≡ 4 → Rose (S.faults src.old) (S.faults src.new) × (O.held out.new ≡ O.held out.old) × IsSaid (line_of Stop.Source) (E.held err.old) (E.held err.new) (E.faults err.old) (E.faults err.new) }
-    ensures output_failed { result ≡ 5 → Rose (O.faults out.old) (O.faults out.new) × IsBegun (map string_bytes words.now) (S.left src.old) (O.held out.old) (O.held out.new) × IsSaid (line_of Stop.Sink) (E.held err.old) (E.held err.new) (E.faults err.old) (E.faults err.new) }
-    ensures no_memory { result ≡ 6 → (O.held out.new ≡ O.held out.old) × IsSaid (line_of Stop.OutOfMemory) (E.held err.old) (E.held err.new) (E.faults err.old) (E.faults err.new) }
-    ensures disk { disk.new ≡ disk.old }
+    ensures nothing_done { result ≡ 2 → (src.new ≡ src.old) × (out.new ≡ out.old) × (disk.new ≡ disk.old) }
     ensures source_later { S.faults src.old ≤ S.faults src.new }
+    ensures disk_later { D.faults disk.old ≤ D.faults disk.new }
     ensures output_later { O.faults out.old ≤ O.faults out.new }
     ensures error_later { E.faults err.old ≤ E.faults err.new }
 {
-    match carry_out(alloc, words, src, out) {
+    match carry_out(alloc, words, src, disk, out) {
         Ok(()) => 0,
         Err(stop) => give_up(err, stop),
     }
@@ -61,35 +68,50 @@ pub fn give_up<E: Sink>(err: &mut E, stop: Stop) -> u8
 }
 
 // Does what the words say.
-fn carry_out<S: Source, O: Sink>(
+fn carry_out<S: Source, D: SectorDisk, O: Sink>(
     alloc: Global,
     words: &[String],
     src: &mut S,
+    disk: &mut D,
     out: &mut O,
 ) -> Result<(), Stop>
-    ensures done { OnOk result (IsDone (map string_bytes words.now) (S.left src.old) (O.held out.old) (O.held out.new)) }
-    ensures stopped { IfErr result (IsStopped (map string_bytes words.now) (S.left src.old) (S.faults src.old) (S.faults src.new) (O.faults out.old) (O.faults out.new) (O.held out.old) (O.held out.new)) }
-    ensures unread { IfErr result (λ stop. stop ≡ Stop.Words → (src.new ≡ src.old) × (out.new ≡ out.old)) }
+    ensures done { OnOk result (IsDone (map string_bytes words.now) (S.left src.old) (record { content = D.content disk.old; out = O.held out.old; source_faults = S.faults src.old; disk_faults = D.faults disk.old; out_faults = O.faults out.old }) (record { content = D.content disk.new; out = O.held out.new; source_faults = S.faults src.new; disk_faults = D.faults disk.new; out_faults = O.faults out.new })) }
+    ensures stopped { IfErr result (IsStopped (map string_bytes words.now) (S.left src.old) (record { content = D.content disk.old; out = O.held out.old; source_faults = S.faults src.old; disk_faults = D.faults disk.old; out_faults = O.faults out.old }) (record { content = D.content disk.new; out = O.held out.new; source_faults = S.faults src.new; disk_faults = D.faults disk.new; out_faults = O.faults out.new })) }
+    ensures unread { IfErr result (λ stop. stop ≡ Stop.Words → (src.new ≡ src.old) × (out.new ≡ out.old) × (disk.new ≡ disk.old)) }
     ensures source_later { S.faults src.old ≤ S.faults src.new }
+    ensures disk_later { D.faults disk.old ≤ D.faults disk.new }
     ensures output_later { O.faults out.old ≤ O.faults out.new }
 {
     match read_command(words) {
-        Some(Command::Inspect { abi, order }) => show_ring(alloc, src, abi, order, out),
+        Some(Command::Inspect { abi, order }) => show_ring(alloc, src, abi, order, disk, out),
+        Some(Command::Run { detail }) => {
+            run_schedule(alloc, image_name(words), detail, src, disk, out)
+        }
         None => Err(Stop::Words),
     }
 }
 
-// Shows a ring of that layout and order.
-fn show_ring<S: Source, O: Sink>(
+// The word behind the command's.
+fn image_name(words: &[String]) -> &str {
+    match words {
+        [_, image, ..] => image.as_str(),
+        _ => "",
+    }
+}
+
+// Shows a ring of that layout and order. The disk isn't touched.
+fn show_ring<S: Source, D: SectorDisk, O: Sink>(
     alloc: Global,
     src: &mut S,
     abi: Abi,
     order: u32,
+    disk: &mut D,
     out: &mut O,
 ) -> Result<(), Stop>
     requires { order ≤ 4 }
-    ensures done { OnOk result (Makes (Command.Inspect abi order) (S.left src.old) (O.held out.old) (O.held out.new)) }
-    ensures stopped { IfErr result (Stops (Command.Inspect abi order) (S.left src.old) (S.faults src.old) (S.faults src.new) (O.faults out.old) (O.faults out.new) (O.held out.old) (O.held out.new)) }
+    ensures done { OnOk result (Makes (Command.Inspect abi order) (S.left src.old) (record { content = D.content disk.old; out = O.held out.old; source_faults = S.faults src.old; disk_faults = D.faults disk.old; out_faults = O.faults out.old }) (record { content = D.content disk.new; out = O.held out.new; source_faults = S.faults src.new; disk_faults = D.faults disk.new; out_faults = O.faults out.new })) }
+    ensures stopped { IfErr result (Stops (Command.Inspect abi order) (S.left src.old) (record { content = D.content disk.old; out = O.held out.old; source_faults = S.faults src.old; disk_faults = D.faults disk.old; out_faults = O.faults out.old }) (record { content = D.content disk.new; out = O.held out.new; source_faults = S.faults src.new; disk_faults = D.faults disk.new; out_faults = O.faults out.new })) }
+    ensures disk { disk.new ≡ disk.old }
     ensures source_later { S.faults src.old ≤ S.faults src.new }
     ensures output_later { O.faults out.old ≤ O.faults out.new }
 {
@@ -102,5 +124,54 @@ fn show_ring<S: Source, O: Sink>(
         Err(InspectStop::Source) => Err(Stop::Source),
         Err(InspectStop::Sink) => Err(Stop::Sink),
         Err(InspectStop::OutOfMemory) => Err(Stop::OutOfMemory),
+    }
+}
+
+// Runs the schedule that the source holds on the image of that name.
+fn run_schedule<S: Source, D: SectorDisk, O: Sink>(
+    alloc: Global,
+    image: &str,
+    detail: Detail,
+    src: &mut S,
+    disk: &mut D,
+    out: &mut O,
+) -> Result<(), Stop>
+    ensures done { OnOk result (Makes (Command.Run detail) (S.left src.old) (record { content = D.content disk.old; out = O.held out.old; source_faults = S.faults src.old; disk_faults = D.faults disk.old; out_faults = O.faults out.old }) (record { content = D.content disk.new; out = O.held out.new; source_faults = S.faults src.new; disk_faults = D.faults disk.new; out_faults = O.faults out.new })) }
+    ensures stopped { IfErr result (Stops (Command.Run detail) (S.left src.old) (record { content = D.content disk.old; out = O.held out.old; source_faults = S.faults src.old; disk_faults = D.faults disk.old; out_faults = O.faults out.old }) (record { content = D.content disk.new; out = O.held out.new; source_faults = S.faults src.new; disk_faults = D.faults disk.new; out_faults = O.faults out.new })) }
+    ensures source_later { S.faults src.old ≤ S.faults src.new }
+    ensures disk_later { D.faults disk.old ≤ D.faults disk.new }
+    ensures output_later { O.faults out.old ≤ O.faults out.new }
+{
+    let sectors = match disk.attach(image, true) {
+        Ok(sectors) => sectors,
+        Err(AttachStop::Failed) => return Err(Stop::Image),
+        Err(AttachStop::OutOfMemory) => return Err(Stop::OutOfMemory),
+    };
+    let config = Config {
+        abi: Abi::X64,
+        order: 0,
+        persistent: 0,
+        indirect: 0,
+        start: 0,
+        read_only: false,
+        sectors,
+    };
+    let mut report = LineSink { sink: out, detail };
+    match run(alloc, config, 4_294_967_296, src, disk, &mut report) {
+        Ok(()) => Ok(()),
+        Err(stop) => Err(run_stop(stop)),
+    }
+}
+
+// Why the program stops where the run did.
+fn run_stop(stop: RunStop) -> Stop
+    ensures { result ≡ run_stop stop }
+{
+    match stop {
+        RunStop::BadLine(number) => Stop::BadLine(number),
+        RunStop::Source => Stop::Source,
+        RunStop::TooLong => Stop::TooLong,
+        RunStop::Sink => Stop::Sink,
+        RunStop::OutOfMemory => Stop::OutOfMemory,
     }
 }
