@@ -20,44 +20,57 @@ use Rattle.back_jobs.specs.Sound.{AreSized, IsPlaced, IsWithin}
 use Rattle.back_jobs.specs.Hands.{hand_of, Names}
 use Rattle.back_jobs.proofs.Hands.{hand_at}
 
-either_size : (b : Bool) (x y : Work) (size : ℕ) → x.size ≡ size → y.size ≡ size → (if b then x else y).size ≡ size
-either_size true x y size p q = p
-either_size false x y size p q = q
+-- the number and the disk's size that a job has
+abbrev Has : ℕ → ℕ → Work → Type 0
+Has number size t = (t.number ≡ number) × (t.size ≡ size)
 
-next_sector_size : (t : Work) (m : Mapping) → (next_sector t m).size ≡ t.size
-next_sector_size t m = either_size (t.within == last_of t.rest) (record t { stage = stage.Unmap m }) (record t { within = t.within + 1; stage = sector_stage t.writes m }) t.size refl refl
+either_has : (b : Bool) (x y : Work) (number size : ℕ) → Has number size x → Has number size y → Has number size (if b then x else y)
+either_has true x y number size p q = p
+either_has false x y number size p q = q
 
-next_segment_size : (t : Work) (rest : List Segment) → (next_segment t rest).size ≡ t.size
-next_segment_size t [] = refl
-next_segment_size t (s ∷ rest) = refl
+next_sector_has : (t : Work) (m : Mapping) → Has t.number t.size (next_sector t m)
+next_sector_has t m = either_has (t.within == last_of t.rest) (record t { stage = stage.Unmap m }) (record t { within = t.within + 1; stage = sector_stage t.writes m }) t.number t.size (refl, refl) (refl, refl)
 
-step_size_at : (s : Stage) (t : Work) (given : BackAnswer) → (step_at s t given).size ≡ t.size
-step_size_at stage.Map t (answer.Mapped m) = refl
-step_size_at stage.Map t (answer.MapRefused status) = refl
-step_size_at (stage.ReadWord m k) t (answer.Word word) = refl
-step_size_at (stage.DiskWrite m) t answer.Done = next_sector_size (counted t) m
-step_size_at (stage.DiskWrite m) t answer.DiskFailed = refl
-step_size_at (stage.DiskRead m) t (answer.Sector words) = refl
-step_size_at (stage.DiskRead m) t answer.DiskFailed = refl
-step_size_at (stage.WriteWord m k) t answer.Done = either_size (k == 127) (next_sector t m) (record t { stage = stage.WriteWord m (k + 1) }) t.size (next_sector_size t m) refl
-step_size_at (stage.Unmap m) t answer.Done = next_segment_size t (rest_of t.rest)
-step_size_at (stage.GiveUp m) t answer.Done = refl
-step_size_at s t given = refl
+next_segment_has : (t : Work) (rest : List Segment) → Has t.number t.size (next_segment t rest)
+next_segment_has t [] = (refl, refl)
+next_segment_has t (s ∷ rest) = (refl, refl)
 
--- an answer leaves a job the disk's size
+step_has : (s : Stage) (t : Work) (given : BackAnswer) → Has t.number t.size (step_at s t given)
+step_has stage.Map t (answer.Mapped m) = (refl, refl)
+step_has stage.Map t (answer.MapRefused status) = (refl, refl)
+step_has (stage.ReadWord m k) t (answer.Word word) = (refl, refl)
+step_has (stage.DiskWrite m) t answer.Done = next_sector_has (counted t) m
+step_has (stage.DiskWrite m) t answer.DiskFailed = (refl, refl)
+step_has (stage.DiskRead m) t (answer.Sector words) = (refl, refl)
+step_has (stage.DiskRead m) t answer.DiskFailed = (refl, refl)
+step_has (stage.WriteWord m k) t answer.Done = either_has (k == 127) (next_sector t m) (record t { stage = stage.WriteWord m (k + 1) }) t.number t.size (next_sector_has t m) (refl, refl)
+step_has (stage.Unmap m) t answer.Done = next_segment_has t (rest_of t.rest)
+step_has (stage.GiveUp m) t answer.Done = (refl, refl)
+step_has s t given = (refl, refl)
+
+-- an answer leaves a job its number and the disk's size
+pub step_number : (t : Work) (given : BackAnswer) → (step_of t given).number ≡ t.number
+step_number t given = (step_has t.stage t given).0
+
 pub step_size : (t : Work) (given : BackAnswer) → (step_of t given).size ≡ t.size
-step_size t given = step_size_at t.stage t given
+step_size t given = (step_has t.stage t given).1
 
-served_size : (number : ℕ) (request : RawRequest) (size : ℕ) → (served number request size).size ≡ size
-served_size number (Direct op count device id sector segments) size = either_size (nat_le op 1) (moving number (Direct op count device id sector segments) size (op == 1) sector (take count segments)) (ended number (Direct op count device id sector segments) size (stage.Done Error)) size refl refl
-served_size number (Discard flag device id sector count) size = refl
-served_size number (Indirect op count device id sector pages) size = refl
+served_has : (number : ℕ) (request : RawRequest) (size : ℕ) → Has number size (served number request size)
+served_has number (Direct op count device id sector segments) size = either_has (nat_le op 1) (moving number (Direct op count device id sector segments) size (op == 1) sector (take count segments)) (ended number (Direct op count device id sector segments) size (stage.Done Error)) number size (refl, refl) (refl, refl)
+served_has number (Discard flag device id sector count) size = (refl, refl)
+served_has number (Indirect op count device id sector pages) size = (refl, refl)
 
--- a job begins with the disk's size
+-- a job begins with its number and the disk's size
+begun_has : (number : ℕ) (request : RawRequest) (size : ℕ) (v : Verdict) → Has number size (begun number request size v)
+begun_has number request size (verdict.Serve plan) = served_has number request size
+begun_has number request size (verdict.Error why) = (refl, refl)
+begun_has number request size verdict.Unsupported = (refl, refl)
+
+pub begun_number : (number : ℕ) (request : RawRequest) (size : ℕ) (v : Verdict) → (begun number request size v).number ≡ number
+begun_number number request size v = (begun_has number request size v).0
+
 pub begun_size : (number : ℕ) (request : RawRequest) (size : ℕ) (v : Verdict) → (begun number request size v).size ≡ size
-begun_size number request size (verdict.Serve plan) = served_size number request size
-begun_size number request size (verdict.Error why) = refl
-begun_size number request size verdict.Unsupported = refl
+begun_size number request size v = (begun_has number request size v).1
 
 abbrev Sized : ℕ → Work → Type 0
 Sized size t = t.size ≡ size

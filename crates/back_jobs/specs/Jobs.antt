@@ -86,8 +86,11 @@ abbrev pub without_done : Held → Held
 without_done h = record h { works = removed_at h.works (position (λ (t : Work). is_done t) h.works) }
 
 -- the lowest number above this one
+abbrev pub next_in : List Work → ℕ → Option ℕ
+next_in works number = option_map (λ (t : Work). t.number) (find (λ (t : Work). nat_lt number t.number) works)
+
 abbrev pub next_after : Held → ℕ → Option ℕ
-next_after h number = option_map (λ (t : Work). t.number) (find (λ (t : Work). nat_lt number t.number) h.works)
+next_after h number = next_in h.works number
 
 -- the mapping in a job's hand
 abbrev pub mapping_at : Stage → Option Mapping

@@ -1,4 +1,5 @@
 pub mod Task
 pub mod Sound
 pub mod Jobs
+pub mod Order
 pub mod Hands

@@ -1,6 +1,6 @@
 -- What is true of a job at every moment.
-use Rattle.std.specs.Prelude.{◌≡◌, ℕ, ◌+◌, ◌-◌, ◌<◌, ◌≤◌, true, false, List, [], ◌∷◌, All}
-use Rattle.std.specs.List.{AllByRecursion}
+use Rattle.std.specs.Prelude.{◌≡◌, ℕ, ◌+◌, ◌-◌, ◌<◌, ◌≤◌, Bool, true, false, List, [], ◌∷◌, All}
+use Rattle.std.specs.List.{AllByRecursion, position_or_len}
 use Rattle.blk_base.specs.declared.parts.Mapping.{Mapping}
 use Rattle.blk_base.specs.declared.ask.BackAsk.{BackAsk}
 use Rattle.blk_base.specs.declared.ask.BackAsk.TheVariants as ask
@@ -9,6 +9,7 @@ use Rattle.segment_list.specs.Segments.{IsSound, sectors_of}
 use Rattle.back_jobs.specs.declared.stage.Stage.{Stage}
 use Rattle.back_jobs.specs.declared.stage.Stage.TheVariants as stage
 use Rattle.back_jobs.specs.Task.{Work, mode_of}
+use Rattle.back_jobs.specs.Jobs.{is_done}
 
 -- the present segment has come as far as `within`; after `ahead` more sectors of it, those of the others lie on the disk
 abbrev pub IsUnderWay : Work → ℕ → List Segment → Type 0
@@ -38,6 +39,22 @@ IsPlaced (stage.Done status) t = Unit {0}
 -- every job knows the disk's size
 abbrev pub AreSized : ℕ → List Work → Type 0
 AreSized size works = All (λ (t : Work). t.size ≡ size) works
+
+-- each number is above those before it
+abbrev pub AreAscending : List Work → Type 0
+AreAscending [] = Unit {0}
+AreAscending (t ∷ works) = AllByRecursion (λ (u : Work). t.number < u.number) works × AreAscending works
+
+-- the place of the lowest job that is done; how many there are where none is
+abbrev pub done_place : List Work → ℕ
+done_place works = position_or_len (λ (t : Work). is_done t) works
+
+-- the jobs, with what is known of them: where their numbers are said to ascend they do, and the lowest that is done stands at this place
+pub record IsKept (ascending : Bool) (done room capacity size : ℕ) (works : List Work) : Type 0 where
+  pub has_room : room ≤ capacity
+  pub sized : AreSized size works
+  pub in_order : ascending ≡ true → AreAscending works
+  pub is_done : done ≡ done_place works
 
 -- segments that a job may begin with: there is one, each has a sector and none beyond its frame, and all lie on the disk
 abbrev pub AreMovable : ℕ → ℕ → List Segment → Type 0

@@ -1,11 +1,12 @@
 // All jobs of the back.
 ghost use Rattle.std.specs.Prelude.{◌≡◌, ◌<◌, ◌≤◌, ◌+◌, ◌↔◌, IfOk, IfSome, IsSome, IsTrue, length, vec_capacity};
 ghost use Rattle.std.specs.Option.{option_map};
-ghost use Rattle.std.specs.Prelude.{option_and_then, position};
+ghost use Rattle.std.specs.Prelude.{◌&&◌, option_and_then, position};
+ghost use Rattle.back_jobs.specs.Order.{IsFirstFrom, IsNumberAt, number_at, is_above, done_with, done_after};
 ghost use Rattle.back_jobs.specs.Task.{IsAnswer, step_of};
-ghost use Rattle.back_jobs.specs.Sound.{IsWithin};
+ghost use Rattle.back_jobs.specs.Sound.{IsWithin, AreAscending, done_place};
 ghost use Rattle.back_jobs.specs.Hands.{hands_in, Names};
-ghost use Rattle.back_jobs.specs.Jobs.{none_held, place_of, work_of, ask_job, tell_job, start_job, without_done, first_mapping, behind_mapping, effect_of, done_of, is_done, response_of, next_after};
+ghost use Rattle.back_jobs.specs.Jobs.{none_held, place_of, work_of, ask_job, tell_job, start_job, without_done, first_mapping, behind_mapping, effect_of, done_of, is_done, response_of, next_in, next_after};
 ghost use Rattle.back_jobs.specs.Task.{Work};
 ghost use Rattle.ring_words.specs.Shape.{entries_of};
 
@@ -25,18 +26,23 @@ pub struct Jobs {
     tasks: Vec<Task>,
     room: u32,
     info: DiskInfo,
+    // Whether the numbers ascend, as they do where each was above those that were held. Jobs are then
+    // found without a walk.
+    ascending: bool,
+    // The place of the lowest job that is done; how many are held where none is.
+    done: usize,
 }
 
 impl Model for Jobs {
     ghost use Rattle.std.specs.Prelude.{◌≤◌, vec_capacity};
     ghost use Rattle.back_jobs.specs.Jobs.{Held};
-    ghost use Rattle.back_jobs.specs.Sound.{AreSized};
+    ghost use Rattle.back_jobs.specs.Sound.{IsKept};
 
     ghost Value = { Held };
 
     ghost view = { λ j. record { works = j.tasks.items; room = j.room; info = j.info } };
 
-    ghost invariant = { λ j. (j.room ≤ vec_capacity j.tasks) × AreSized j.info.sectors j.tasks.items };
+    ghost invariant = { λ j. IsKept j.ascending j.done j.room (vec_capacity j.tasks) j.info.sectors j.tasks.items };
 }
 
 impl Jobs {
@@ -47,7 +53,13 @@ impl Jobs {
     {
         let room = shape.entries();
         let tasks = Vec::with_capacity(alloc, room as usize)?;
-        Ok(Jobs { tasks, room, info })
+        Ok(Jobs {
+            tasks,
+            room,
+            info,
+            ascending: true,
+            done: 0,
+        })
     }
 
     // Where the job of a number stands.
@@ -55,7 +67,15 @@ impl Jobs {
         ensures place { result ≡ place_of self.now.works number }
         ensures within { IfSome result (λ place. place < length self.now.works) }
     {
-        place_in(self.tasks.as_slice(), number)
+        let tasks = self.tasks.as_slice();
+        if !self.ascending {
+            return place_in(tasks, number);
+        }
+        let place = first_from(tasks, number);
+        match number_at(tasks, place) {
+            Some(found) if found == number => Some(place),
+            _ => None,
+        }
     }
 
     /// Begins a request that was fetched as the `number`-th: by the verdict on it its job moves its
@@ -65,11 +85,13 @@ impl Jobs {
         ensures { self.new ≡ start_job self.old number request.now }
     {
         let task = Task::begin(number, request, &self.info);
+        self.done = done_with(self.done, self.tasks.len(), task.is_done());
+        self.ascending = goes_on_ascending(self.ascending, self.tasks.as_slice(), number);
         let _ = self.tasks.push(task);
     }
 
     /// What the job of a number asks next; `Wait` also where none has it.
-    pub fn ask(&self, number: u64) -> BackAsk
+    pub fn ask(&self, number: u64) -> BackAsk<'_>
         ensures value { result ≡ ask_job self.now number }
         ensures within { IsWithin self.now.info.sectors result }
         ensures names { Names (hands_in self.now.works) result }
@@ -80,26 +102,19 @@ impl Jobs {
         }
     }
 
-    /// Tells the job of a number the answer to what it asks.
-    pub fn tell(&mut self, number: u64, answer: BackAnswer)
-        requires { IsAnswer (ask_job self.old number) answer }
-        ensures { self.new ≡ tell_job self.old number answer }
+    /// Tells the job of a number the answer to what it asks, and gives what that does to its request;
+    /// `None` also where none has that number.
+    pub fn tell(&mut self, number: u64, answer: &BackAnswer) -> Option<Effect>
+        requires { IsAnswer (ask_job self.old number) answer.now }
+        ensures told { self.new ≡ tell_job self.old number answer.now }
+        ensures effect { result ≡ effect_of (work_of self.old.works number) answer.now }
     {
-        if let Some(place) = self.place(number) {
-            let task = &mut self.tasks[place];
-            task.tell(answer);
-        }
-    }
-
-    /// What the answer to the ask of the job of a number does to its request; `None` also where none
-    /// has that number.
-    pub fn effect(&self, number: u64, answer: &BackAnswer) -> Option<Effect>
-        ensures { result ≡ effect_of (work_of self.now.works number) answer.now }
-    {
-        match self.place(number) {
-            None => None,
-            Some(place) => self.tasks[place].effect(answer),
-        }
+        let place = self.place(number)?;
+        let task = &mut self.tasks[place];
+        let effect = task.effect(answer);
+        task.tell(answer);
+        self.done = done_after(self.done, place, task.is_done());
+        effect
     }
 
     /// The id and the place of the next sector of the job of a number: how many of its sectors were
@@ -117,19 +132,20 @@ impl Jobs {
     pub fn next_after(&self, number: u64) -> Option<u64>
         ensures { result ≡ next_after self.now number }
     {
-        match self.tasks.iter().find(|t| number < t.number()) {
-            None => None,
-            Some(task) => Some(task.number()),
+        let tasks = self.tasks.as_slice();
+        if !self.ascending {
+            return next_in(tasks, number);
         }
+        number_at(tasks, first_above(tasks, number))
     }
 
     /// Number, id, operation and status of the lowest job that is done; `None` exactly where none is.
     pub fn done(&self) -> Option<(u64, u64, u8, Status)>
         ensures { result ≡ option_and_then response_of (done_of self.now) }
     {
-        match done_place(self.tasks.as_slice()) {
+        match self.tasks.get(self.done) {
             None => None,
-            Some(place) => self.tasks[place].response(),
+            Some(task) => task.response(),
         }
     }
 
@@ -140,14 +156,12 @@ impl Jobs {
         ensures rest { self.new ≡ without_done self.old }
         ensures one_less { IsSome result → length self.new.works + 1 ≡ length self.old.works }
     {
-        match done_place(self.tasks.as_slice()) {
-            None => None,
-            Some(place) => {
-                let response = self.tasks[place].response();
-                self.tasks.remove(place);
-                response
-            }
+        if self.done >= self.tasks.len() {
+            return None;
         }
+        let task = self.tasks.remove(self.done);
+        self.done = first_done(self.tasks.as_slice());
+        task.response()
     }
 
     /// Whether another job may be started: fewer are held than there is room for.
@@ -171,7 +185,9 @@ impl Jobs {
         ensures rest { self.new ≡ record self.old { works = behind_mapping self.old.works } }
         ensures no_more { length self.new.works ≤ length self.old.works }
     {
-        give_up_first(&mut self.tasks)
+        let mapping = give_up_first(&mut self.tasks);
+        self.done = first_done(self.tasks.as_slice());
+        mapping
     }
 }
 
@@ -198,10 +214,110 @@ fn place_in(tasks: &[Task], number: u64) -> Option<usize>
     tasks.iter().position(|t| t.number() == number)
 }
 
+// The least number above this one.
+fn next_in(tasks: &[Task], number: u64) -> Option<u64>
+    ensures { result ≡ next_in tasks.now number }
+{
+    match tasks.iter().find(|t| number < t.number()) {
+        None => None,
+        Some(task) => Some(task.number()),
+    }
+}
+
+// The number of the job at a place.
+fn number_at(tasks: &[Task], place: usize) -> Option<u64>
+    ensures { result ≡ number_at tasks.now place }
+{
+    if place < tasks.len() {
+        Some(tasks[place].number())
+    } else {
+        None
+    }
+}
+
+// The place of the first job whose number isn't below this one, among jobs whose numbers ascend; how
+// many there are where there is none.
+fn first_from(tasks: &[Task], number: u64) -> usize
+    requires { AreAscending tasks.now }
+    ensures { IsFirstFrom number tasks.now result }
+{
+    if let Some(place) = guess(tasks, number) {
+        return place;
+    }
+    tasks.partition_point(|t| t.number() < number)
+}
+
+// The place of the first job whose number is above this one, in the same way.
+fn first_above(tasks: &[Task], number: u64) -> usize
+    requires { AreAscending tasks.now }
+    ensures { IsFirstFrom (number + 1) tasks.now result }
+{
+    if let Some(place) = guess(tasks, number) {
+        return place + 1;
+    }
+    tasks.partition_point(|t| t.number() <= number)
+}
+
+// The place of the job of a number where all jobs from the first one's number to it are held, as they
+// mostly are.
+fn guess(tasks: &[Task], number: u64) -> Option<usize>
+    ensures { IfSome result (λ place. IsNumberAt number tasks.now place) }
+{
+    let first = tasks.first()?.number();
+    if number < first || number - first >= tasks.len() as u64 {
+        return None;
+    }
+    let place = (number - first) as usize;
+    match number_at(tasks, place) {
+        Some(found) if found == number => Some(place),
+        _ => None,
+    }
+}
+
+// Whether numbers that ascended, or not, ascend with this one behind them.
+fn goes_on_ascending(ascending: bool, tasks: &[Task], number: u64) -> bool
+    ensures { result ≡ (ascending && is_above tasks.now number) }
+{
+    match tasks.last() {
+        None => ascending,
+        Some(task) => ascending && task.number() < number,
+    }
+}
+
+// The place of the lowest job that is done; how many there are where none is.
+fn first_done(tasks: &[Task]) -> usize
+    ensures { result ≡ done_place tasks.now }
+{
+    match done_in(tasks) {
+        None => tasks.len(),
+        Some(place) => place,
+    }
+}
+
 // Where the lowest job that is done stands.
-fn done_place(tasks: &[Task]) -> Option<usize>
-    ensures place { result ≡ position (λ (t : Work). is_done t) tasks.now }
-    ensures within { IfSome result (λ place. place < length tasks.now) }
+fn done_in(tasks: &[Task]) -> Option<usize>
+    ensures { result ≡ position (λ (t : Work). is_done t) tasks.now }
 {
     tasks.iter().position(|t| t.is_done())
+}
+
+// The place of the lowest job that is done after one more was begun, which is done at once or not.
+fn done_with(done: usize, count: usize, is_done: bool) -> usize
+    requires { count < 4294967296 }
+    ensures { result ≡ done_with done count is_done }
+{
+    if done != count {
+        done
+    } else if is_done {
+        count
+    } else {
+        count + 1
+    }
+}
+
+// The place of the lowest job that is done after one that wasn't was told an answer, and is now or not.
+fn done_after(done: usize, place: usize, is_done: bool) -> usize
+    ensures { result ≡ done_after done place is_done }
+{
+    if is_done { done.min(place) } else { done }
 }

@@ -13,7 +13,7 @@ ghost use Rattle.blk_base.specs.declared.ask.BackAnswer.TheVariants.{Word, Done}
 use crate::effect::Effect;
 use crate::stage::Stage;
 use arrayvec::ArrayVec;
-use blk_base::{BackAnswer, BackAsk, Mapping, Mode, SectorWords, Status};
+use blk_base::{BackAnswer, BackAsk, Lent, Mapping, Mode, SectorWords, Status};
 use blk_layout::{RawRequest, Segment};
 use segment_list::{DiskInfo, Verdict, check};
 use std::marker::Model;
@@ -137,7 +137,7 @@ impl Task {
     }
 
     /// What the job asks next.
-    pub fn ask(&self) -> BackAsk
+    pub fn ask(&self) -> BackAsk<'_>
         ensures value { result ≡ ask_of self.now }
         ensures within { IsWithin self.now.size result }
         ensures names { Names (hand_of self.now) result }
@@ -148,7 +148,7 @@ impl Task {
                 mapping,
                 word: self.within * 128 + k,
             },
-            Stage::DiskWrite(_) => BackAsk::DiskWrite(self.disk, self.words),
+            Stage::DiskWrite(_) => BackAsk::DiskWrite(self.disk, Lent::at(&self.words)),
             Stage::DiskRead(_) => BackAsk::DiskRead(self.disk),
             Stage::WriteWord(mapping, k) => BackAsk::Write {
                 mapping,
@@ -162,7 +162,8 @@ impl Task {
     }
 
     // Maps the frame of the present segment.
-    fn map(&self) -> BackAsk
+    #[inline(never)]
+    fn map(&self) -> BackAsk<'_>
         ensures value { result ≡ map_ask self.now.rest self.now.writes }
         ensures within { IsWithin self.now.size result }
     {
@@ -181,22 +182,23 @@ impl Task {
     }
 
     /// Tells the job the answer to what it asks.
-    pub fn tell(&mut self, answer: BackAnswer)
-        requires { IsAnswer (ask_of self.old) answer }
-        ensures { self.new ≡ step_of self.old answer }
+    pub fn tell(&mut self, answer: &BackAnswer)
+        requires { IsAnswer (ask_of self.old) answer.now }
+        ensures { self.new ≡ step_of self.old answer.now }
     {
         match (self.stage, answer) {
-            (Stage::Map, BackAnswer::Mapped(mapping)) => self.begin_sector(mapping),
+            (Stage::Map, BackAnswer::Mapped(mapping)) => self.begin_sector(*mapping),
             (Stage::Map, BackAnswer::MapRefused(_)) => self.stage = Stage::Done(Status::Error),
             (Stage::ReadWord(mapping, k), BackAnswer::Word(word)) => self.read_word(
-                mapping, k, word,
+                mapping, k, *word,
             ),
             (Stage::DiskWrite(mapping), BackAnswer::Done) => self.wrote_sector(mapping),
             (Stage::DiskWrite(mapping), BackAnswer::DiskFailed) => self.stage = Stage::GiveUp(
                 mapping,
             ),
             (Stage::DiskRead(mapping), BackAnswer::Sector(words)) => self.got_sector(
-                mapping, words,
+                mapping,
+                words.get(),
             ),
             (Stage::DiskRead(mapping), BackAnswer::DiskFailed) => self.stage = Stage::GiveUp(
                 mapping,
@@ -251,13 +253,13 @@ impl Task {
         }
     }
 
-    fn got_sector(&mut self, mapping: Mapping, words: SectorWords)
+    fn got_sector(&mut self, mapping: Mapping, words: &SectorWords)
         requires { self.old.stage ≡ stage.DiskRead mapping }
-        ensures { self.new ≡ record (counted self.old) { words = words; stage = stage.WriteWord mapping 0 } }
+        ensures { self.new ≡ record (counted self.old) { words = words.now; stage = stage.WriteWord mapping 0 } }
     {
         self.disk += 1;
         self.moved = self.moved.wrapping_add(1);
-        self.words = words;
+        self.words = *words;
         self.stage = Stage::WriteWord(mapping, 0);
     }
 

@@ -1,5 +1,5 @@
 use crate::{Effect, Jobs};
-use blk_base::{Abi, BackAnswer, BackAsk, Mapping, Mode, OutOfMemory, Status};
+use blk_base::{Abi, BackAnswer, BackAsk, Lent, Mapping, Mode, OutOfMemory, Status};
 use blk_layout::{RawRequest, Segment};
 use ring_words::RingShape;
 use segment_list::DiskInfo;
@@ -40,24 +40,19 @@ fn request(op: u8, sector: u64) -> RawRequest {
 
 // Tells job 1 an answer, if it is one of the kind that it asks for.
 fn answer(jobs: &mut Jobs, given: BackAnswer) -> Option<Effect> {
-    let effect = jobs.effect(1, &given);
-    match (jobs.ask(1), given) {
-        (BackAsk::Map { gref, mode }, BackAnswer::Mapped(m)) => {
-            if m.gref == gref && m.mode == mode {
-                jobs.tell(1, given);
-            }
-        }
-        (BackAsk::Map { .. }, BackAnswer::MapRefused(_)) => jobs.tell(1, given),
-        (BackAsk::Read { .. }, BackAnswer::Word(_)) => jobs.tell(1, given),
-        (BackAsk::Write { .. }, BackAnswer::Done) => jobs.tell(1, given),
-        (BackAsk::Unmap(_), BackAnswer::Done) => jobs.tell(1, given),
-        (BackAsk::DiskRead(_), BackAnswer::Sector(_)) => jobs.tell(1, given),
-        (BackAsk::DiskRead(_), BackAnswer::DiskFailed) => jobs.tell(1, given),
-        (BackAsk::DiskWrite(_, _), BackAnswer::Done) => jobs.tell(1, given),
-        (BackAsk::DiskWrite(_, _), BackAnswer::DiskFailed) => jobs.tell(1, given),
-        _ => {}
-    }
-    effect
+    let allowed = match (jobs.ask(1), &given) {
+        (BackAsk::Map { gref, mode }, BackAnswer::Mapped(m)) => m.gref == gref && m.mode == mode,
+        (BackAsk::Map { .. }, BackAnswer::MapRefused(_)) => true,
+        (BackAsk::Read { .. }, BackAnswer::Word(_)) => true,
+        (BackAsk::Write { .. }, BackAnswer::Done) => true,
+        (BackAsk::Unmap(_), BackAnswer::Done) => true,
+        (BackAsk::DiskRead(_), BackAnswer::Sector(_)) => true,
+        (BackAsk::DiskRead(_), BackAnswer::DiskFailed) => true,
+        (BackAsk::DiskWrite(_, _), BackAnswer::Done) => true,
+        (BackAsk::DiskWrite(_, _), BackAnswer::DiskFailed) => true,
+        _ => false,
+    };
+    if allowed { jobs.tell(1, &given) } else { None }
 }
 
 fn mapping(mode: Mode) -> Mapping {
@@ -126,7 +121,7 @@ fn a_read_writes_its_sectors_to_the_frame(rt: HostRuntime) -> Result<(), Fail> {
     let _ = answer(&mut jobs, BackAnswer::Mapped(mapping));
     for sector in 2..4u32 {
         assert!(rt; matches!(jobs.ask(1), BackAsk::DiskRead(_)));
-        let _ = answer(&mut jobs, BackAnswer::Sector([9; 128]));
+        let _ = answer(&mut jobs, BackAnswer::Sector(Lent::at(&[9; 128])));
         for k in 0..128u32 {
             let word = sector.wrapping_mul(128).wrapping_add(k);
             assert_eq!(rt;

@@ -4,6 +4,7 @@ ghost use Rattle.blk_back.specs.View.{start_of, slot_word};
 ghost use Rattle.blk_back.specs.Ask.{ask_of, loop_ask, reply_ask, next_reply, response_word, IsAnswer, IsWithin};
 ghost use Rattle.blk_back.specs.Step.{step_of, step_at, job_step};
 ghost use Rattle.blk_back.specs.Hands.{hands_of};
+ghost use Rattle.blk_base.specs.declared.parts.Mode.TheVariants.{ReadWrite};
 ghost use Rattle.back_jobs.specs.Hands.{Names, HandsAfter};
 ghost use Rattle.back_jobs.specs.Jobs.{ask_job, next_after};
 ghost use Rattle.back_jobs.specs.Task.{IsAnswer as IsJobAnswer};
@@ -91,7 +92,7 @@ impl Back {
     }
 
     // What is asked where nothing was begun.
-    fn ask_in_loop(&self) -> BackAsk
+    fn ask_in_loop(&self) -> BackAsk<'_>
         ensures value { result ≡ loop_ask self.now (next_reply self.now) }
         ensures within { IsWithin result }
     {
@@ -108,7 +109,7 @@ impl Back {
     }
 
     // Reads a word of the ring's page.
-    fn read(&self, word: u32) -> BackAsk
+    fn read(&self, word: u32) -> BackAsk<'_>
         requires { word < 1024 }
         ensures value { result ≡ BackAsk.Read self.now.page word }
         ensures within { IsWithin result }
@@ -120,7 +121,7 @@ impl Back {
     }
 
     // Writes a word of the ring's page.
-    fn write(&self, word: u32, value: u32) -> BackAsk
+    fn write(&self, word: u32, value: u32) -> BackAsk<'_>
         requires { word < 1024 }
         ensures value { result ≡ BackAsk.Write self.now.page word value }
         ensures within { IsWithin result }
@@ -133,7 +134,7 @@ impl Back {
     }
 
     // Reads a word of the next entry.
-    fn read_entry(&self, word: u32) -> BackAsk
+    fn read_entry(&self, word: u32) -> BackAsk<'_>
         requires { word < 28 }
         ensures value { result ≡ BackAsk.Read self.now.page (slot_word self.now.ring.cons word) }
         ensures within { IsWithin result }
@@ -142,7 +143,7 @@ impl Back {
     }
 
     // Writes a word of the next response.
-    fn write_reply(&self, r: &Reply, word: u32) -> BackAsk
+    fn write_reply(&self, r: &Reply, word: u32) -> BackAsk<'_>
         requires { word < 3 }
         ensures value { result ≡ reply_ask self.now r.now word }
         ensures within { IsWithin result }
@@ -156,6 +157,17 @@ impl Back {
     }
 }
 
+// Maps the ring's page.
+#[inline(never)]
+fn map_ring<'a>() -> BackAsk<'a>
+    ensures { result ≡ BackAsk.Map 8 ReadWrite }
+{
+    BackAsk::Map {
+        gref: 8,
+        mode: Mode::ReadWrite,
+    }
+}
+
 // The word of the ring's page that a word of the entry of an index is.
 fn place(index: u32, word: u32) -> u32
     requires { word < 28 }
@@ -166,19 +178,20 @@ fn place(index: u32, word: u32) -> u32
     place
 }
 
-impl Endpoint for Back {
+impl<'a> Endpoint<'a> for Back {
     ghost use Rattle.std.specs.Prelude.{None};
     ghost use Rattle.blk_back.specs.Ask.{ask_of, IsAnswer};
 
-    type Ask = BackAsk;
+    type Ask = BackAsk<'a>;
 
-    type Answer = BackAnswer;
+    type Answer = BackAnswer<'a>;
 
     ghost asked = { ask_of };
 
     ghost MayBeTold = { λ back answer. IsAnswer (ask_of back) answer × (back.told ≡ None) };
 
-    fn ask(&self) -> BackAsk
+    #[inline(always)]
+    fn ask(&'a self) -> BackAsk<'a>
         ensures value { result ≡ ask_of self.now }
         ensures within { IsWithin result }
         ensures names { Names (hands_of self.now) result }
@@ -189,11 +202,12 @@ impl Endpoint for Back {
         self.next_ask()
     }
 
-    fn tell(&mut self, answer: BackAnswer) -> Result<(), OutOfMemory>
-        requires { IsAnswer (ask_of self.old) answer × (self.old.told ≡ None) }
-        ensures told { self.new ≡ step_of self.old answer }
-        ensures hands { HandsAfter (ask_of self.old) answer (hands_of self.old) (hands_of self.new) }
+    fn tell(&mut self, answer: &BackAnswer<'a>) -> Result<(), OutOfMemory>
+        requires { IsAnswer (ask_of self.old) answer.now × (self.old.told ≡ None) }
+        ensures told { self.new ≡ step_of self.old answer.now }
+        ensures hands { HandsAfter (ask_of self.old) answer.now (hands_of self.old) (hands_of self.new) }
         ensures takes_no_memory { IsOk result }
+        ensures unchanged { OnErr result (self.new ≡ self.old) }
     {
         self.step(answer);
         Ok(())
@@ -202,15 +216,13 @@ impl Endpoint for Back {
 
 impl Back {
     // What is asked at each stage.
-    fn next_ask(&self) -> BackAsk
+    #[inline(always)]
+    fn next_ask(&self) -> BackAsk<'_>
         ensures value { result ≡ ask_of self.now }
         ensures within { IsWithin result }
     {
         match self.stage {
-            Stage::MapRing => BackAsk::Map {
-                gref: 8,
-                mode: Mode::ReadWrite,
-            },
+            Stage::MapRing => map_ring(),
             Stage::Bind => BackAsk::Bind(1),
             Stage::Loop => self.ask_in_loop(),
             Stage::Fetch(word) => self.read_entry(word),
@@ -232,26 +244,26 @@ impl Back {
     }
 
     // What an answer makes of it at each stage.
-    fn step(&mut self, answer: BackAnswer)
-        requires { IsAnswer (ask_of self.old) answer }
-        ensures { self.new ≡ step_of self.old answer }
+    fn step(&mut self, answer: &BackAnswer)
+        requires { IsAnswer (ask_of self.old) answer.now }
+        ensures { self.new ≡ step_of self.old answer.now }
     {
         match (self.stage, answer) {
-            (Stage::MapRing, BackAnswer::Mapped(mapping)) => self.mapped(mapping),
-            (Stage::MapRing, BackAnswer::MapRefused(status)) => self.refused(status),
+            (Stage::MapRing, BackAnswer::Mapped(mapping)) => self.mapped(*mapping),
+            (Stage::MapRing, BackAnswer::MapRefused(status)) => self.refused(*status),
             (Stage::Bind, BackAnswer::Done) => self.stage = Stage::Loop,
             (Stage::Bind, BackAnswer::BindRefused) => self.unbound(),
             (Stage::Loop, answer) => self.begin(answer),
-            (Stage::Fetch(k), BackAnswer::Word(word)) => self.fetch(k, word),
+            (Stage::Fetch(k), BackAnswer::Word(word)) => self.fetch(k, *word),
             (Stage::ReplyHigh(r), _) => self.stage = Stage::ReplyLast(r),
             (Stage::ReplyLast(r), _) => self.stage = Stage::Producer(r),
             (Stage::Producer(r), _) => self.replied(r),
             (Stage::ProducerFence(old), _) => self.stage = Stage::ResponseEvent(old),
-            (Stage::ResponseEvent(old), BackAnswer::Word(event)) => self.notify(old, event),
+            (Stage::ResponseEvent(old), BackAnswer::Word(event)) => self.notify(old, *event),
             (Stage::Send, _) => self.stage = Stage::Loop,
             (Stage::StoreEvent, _) => self.stage = Stage::EventFence,
             (Stage::EventFence, _) => self.stage = Stage::LookAgain,
-            (Stage::LookAgain, BackAnswer::Word(word)) => self.look_again(word),
+            (Stage::LookAgain, BackAnswer::Word(word)) => self.look_again(*word),
             (Stage::GiveUp(_), _) => self.give_up(),
             (Stage::UnmapRing, _) => self.stage = Stage::ClosePort,
             (Stage::ClosePort, _) => self.stage = Stage::Halted,

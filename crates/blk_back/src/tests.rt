@@ -27,23 +27,22 @@ fn back(alloc: Global) -> Result<Back, OutOfMemory> {
 // Tells the back an answer, if it is of the kind that it asks for, and takes what it tells.
 fn tell(back: &mut Back, given: BackAnswer) -> Result<Option<BackTold>, OutOfMemory> {
     let _ = back.take_told();
-    match (back.ask(), given) {
-        (BackAsk::Wait, BackAnswer::Event) => back.tell(given)?,
-        (BackAsk::Fence, BackAnswer::Done) => back.tell(given)?,
-        (BackAsk::Read { .. }, BackAnswer::Word(_)) => back.tell(given)?,
-        (BackAsk::Write { .. }, BackAnswer::Done) => back.tell(given)?,
-        (BackAsk::Map { gref, mode }, BackAnswer::Mapped(m)) => {
-            if m.gref == gref && m.mode == mode {
-                back.tell(given)?;
-            }
-        }
-        (BackAsk::Map { .. }, BackAnswer::MapRefused(_)) => back.tell(given)?,
-        (BackAsk::Unmap(_), BackAnswer::Done) => back.tell(given)?,
-        (BackAsk::Bind(_), BackAnswer::Done) => back.tell(given)?,
-        (BackAsk::Bind(_), BackAnswer::BindRefused) => back.tell(given)?,
-        (BackAsk::Send, BackAnswer::Done) => back.tell(given)?,
-        (BackAsk::ClosePort, BackAnswer::Done) => back.tell(given)?,
-        _ => {}
+    let allowed = match (back.ask(), &given) {
+        (BackAsk::Wait, BackAnswer::Event) => true,
+        (BackAsk::Fence, BackAnswer::Done) => true,
+        (BackAsk::Read { .. }, BackAnswer::Word(_)) => true,
+        (BackAsk::Write { .. }, BackAnswer::Done) => true,
+        (BackAsk::Map { gref, mode }, BackAnswer::Mapped(m)) => m.gref == gref && m.mode == mode,
+        (BackAsk::Map { .. }, BackAnswer::MapRefused(_)) => true,
+        (BackAsk::Unmap(_), BackAnswer::Done) => true,
+        (BackAsk::Bind(_), BackAnswer::Done) => true,
+        (BackAsk::Bind(_), BackAnswer::BindRefused) => true,
+        (BackAsk::Send, BackAnswer::Done) => true,
+        (BackAsk::ClosePort, BackAnswer::Done) => true,
+        _ => false,
+    };
+    if allowed {
+        back.tell(&given)?;
     }
     Ok(back.take_told())
 }

@@ -1,3 +1,4 @@
 pub mod Distance
+pub mod Moves
 pub mod Operation
 pub mod Options

@@ -1,4 +1,6 @@
-// What each end asks of the machine, one thing at a time, and what it is answered.
+// What each end asks of the machine, one thing at a time, and what it is answered. What has more than
+// a few words is lent: an ask and an answer are made and handed over at each move.
+use crate::lent::Lent;
 use crate::parts::{Mapping, Mode, SectorWords};
 use arrayvec::ArrayString;
 
@@ -10,8 +12,8 @@ pub type Text = ArrayString<64>;
 
 /// What the front asks: one word of its own memory, one hypercall, one key or one event.
 /// Frames and words are numbers below 1088 and 1024.
-#[derive(Clone, Copy, Debug, PartialEq, Eq)]
-pub enum FrontAsk {
+#[derive(Debug, Drop, PartialEq)]
+pub enum FrontAsk<'a> {
     /// Answered by `Event` or `Watched`.
     Wait,
     /// A full memory barrier, answered by `Done`.
@@ -41,28 +43,28 @@ pub enum FrontAsk {
     /// Answered by `Done`.
     ClosePort,
     /// Answered by `Key`.
-    GetKey(Path),
+    GetKey(Lent<'a, Path>),
     /// Answered by `Done`.
-    SetKey(Path, Text),
+    SetKey(Lent<'a, Path>, Lent<'a, Text>),
     /// Answered by `Done`.
-    Watch(Path),
+    Watch(Lent<'a, Path>),
 }
 
 /// What the front is answered.
-#[derive(Clone, Copy, Debug, PartialEq, Eq)]
-pub enum FrontAnswer {
+#[derive(Debug, Drop, PartialEq)]
+pub enum FrontAnswer<'a> {
     Event,
-    Watched(Path),
+    Watched(Lent<'a, Path>),
     Done,
     Word(u32),
     Port(u32),
-    Key(Option<Text>),
+    Key(Option<Lent<'a, Text>>),
 }
 
 /// What the back or one of its jobs asks: one word through a mapping, one hypercall, one key, one
 /// event or one call of the disk. Words are numbers below 1024.
-#[derive(Clone, Copy, Debug, PartialEq, Eq)]
-pub enum BackAsk {
+#[derive(Debug, Drop, PartialEq)]
+pub enum BackAsk<'a> {
     /// Answered by `Event` or `Watched`; a job's has no answer.
     Wait,
     /// A full memory barrier, answered by `Done`.
@@ -92,15 +94,15 @@ pub enum BackAsk {
     /// Answered by `Done`.
     ClosePort,
     /// Answered by `Key`.
-    GetKey(Path),
+    GetKey(Lent<'a, Path>),
     /// Answered by `Done`.
-    SetKey(Path, Text),
+    SetKey(Lent<'a, Path>, Lent<'a, Text>),
     /// Answered by `Done`.
-    Watch(Path),
+    Watch(Lent<'a, Path>),
     /// Answered by `Sector` or `DiskFailed`.
     DiskRead(u64),
     /// Answered by `Done` or `DiskFailed`.
-    DiskWrite(u64, SectorWords),
+    DiskWrite(u64, Lent<'a, SectorWords>),
     /// Answered by `Done` or `DiskFailed`.
     Flush,
     /// The first sector and how many, answered by `Done` or `DiskFailed`.
@@ -108,17 +110,17 @@ pub enum BackAsk {
 }
 
 /// What the back or one of its jobs is answered.
-#[derive(Clone, Copy, Debug, PartialEq, Eq)]
-pub enum BackAnswer {
+#[derive(Debug, Drop, PartialEq)]
+pub enum BackAnswer<'a> {
     Event,
-    Watched(Path),
+    Watched(Lent<'a, Path>),
     Done,
     Word(u32),
     Mapped(Mapping),
     /// The status of the refused map (`GNTST_*` of `grant_table.h`).
     MapRefused(i32),
     BindRefused,
-    Key(Option<Text>),
-    Sector(SectorWords),
+    Key(Option<Lent<'a, Text>>),
+    Sector(Lent<'a, SectorWords>),
     DiskFailed,
 }

@@ -30,8 +30,8 @@ impl<T: Drop> From<AllocFailed<T>> for OutOfMemory {
 }
 
 /// An end of a ring, moved one step at a time: it asks for one thing (a shared word, a hypercall, a
-/// key, an event or a call of the disk), and is told the answer.
-pub trait Endpoint {
+/// key, an event or a call of the disk), and is told the answer. What it asks may borrow from it.
+pub trait Endpoint<'a> {
     type Ask;
 
     type Answer;
@@ -43,11 +43,11 @@ pub trait Endpoint {
     ghost MayBeTold: { Self → Self.Answer → Type 0 };
 
     /// What the end asks next. It changes nothing.
-    fn ask(&self) -> Self::Ask
+    fn ask(&'a self) -> Self::Ask
         ensures { result ≡ asked self.now };
 
     /// Tells the end the answer to what it asks. After an `Err` it is as before.
-    fn tell(&mut self, answer: Self::Answer) -> Result<(), OutOfMemory>
-        requires { MayBeTold self.old answer }
+    fn tell(&mut self, answer: &Self::Answer) -> Result<(), OutOfMemory>
+        requires { MayBeTold self.old answer.now }
         ensures unchanged { OnErr result (self.new ≡ self.old) };
 }

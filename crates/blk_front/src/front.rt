@@ -1,5 +1,5 @@
 // The front end.
-ghost use Rattle.std.specs.Prelude.{◌≡◌, ◌<◌, ◌+◌, None, IfOk, IsOk, slice_index};
+ghost use Rattle.std.specs.Prelude.{◌≡◌, ◌<◌, ◌+◌, None, IfOk, IsOk, OnErr, slice_index};
 ghost use Rattle.blk_base.specs.declared.ask.FrontAsk.TheVariants.{Wait};
 ghost use Rattle.blk_front.specs.View.{start_of, next_request, slot_frame, slot_word, entry_frame, entry_word};
 ghost use Rattle.blk_front.specs.Ask.{ask_of, loop_ask, IsAnswer, IsPlace, IsWithin};
@@ -86,7 +86,7 @@ impl Front {
     }
 
     // What is asked where nothing was begun.
-    fn ask_in_loop(&self) -> FrontAsk
+    fn ask_in_loop(&self) -> FrontAsk<'_>
         ensures value { result ≡ loop_ask self.now (next_request self.now) }
         ensures within { IsWithin result }
     {
@@ -107,7 +107,7 @@ impl Front {
     }
 
     // Reads a word of the next response.
-    fn read_response(&self, word: u32) -> FrontAsk
+    fn read_response(&self, word: u32) -> FrontAsk<'_>
         requires { word < 28 }
         ensures value { result ≡ FrontAsk.Read (slot_frame self.now.ring.cons word) (slot_word self.now.ring.cons word) }
         ensures within { IsWithin result }
@@ -117,7 +117,7 @@ impl Front {
     }
 
     // Writes a word of the next request's entry.
-    fn write_slot(&self, word: u32) -> FrontAsk
+    fn write_slot(&self, word: u32) -> FrontAsk<'_>
         requires { word < 28 }
         ensures value { result ≡ FrontAsk.Write (slot_frame self.now.ring.prod word) (slot_word self.now.ring.prod word) (slice_index self.now.entry word) }
         ensures within { IsWithin result }
@@ -134,7 +134,7 @@ impl Front {
 }
 
 // One word of memory is read.
-fn read(frame: u32, word: u32) -> FrontAsk
+fn read<'a>(frame: u32, word: u32) -> FrontAsk<'a>
     requires { IsPlace frame word }
     ensures value { result ≡ FrontAsk.Read frame word }
     ensures within { IsWithin result }
@@ -143,7 +143,7 @@ fn read(frame: u32, word: u32) -> FrontAsk
 }
 
 // One word of memory is written.
-fn write(frame: u32, word: u32, value: u32) -> FrontAsk
+fn write<'a>(frame: u32, word: u32, value: u32) -> FrontAsk<'a>
     requires { IsPlace frame word }
     ensures value { result ≡ FrontAsk.Write frame word value }
     ensures within { IsWithin result }
@@ -152,7 +152,7 @@ fn write(frame: u32, word: u32, value: u32) -> FrontAsk
 }
 
 // The first word of a frame's grant entry is written.
-fn write_flags(frame: &PoolFrame, flags: u32) -> FrontAsk
+fn write_flags<'a>(frame: &PoolFrame, flags: u32) -> FrontAsk<'a>
     ensures value { result ≡ FrontAsk.Write (entry_frame frame.now) (entry_word frame.now) flags }
     ensures within { IsWithin result }
 {
@@ -161,7 +161,7 @@ fn write_flags(frame: &PoolFrame, flags: u32) -> FrontAsk
 }
 
 // The second word of a frame's grant entry is written.
-fn write_frame(frame: &PoolFrame) -> FrontAsk
+fn write_frame<'a>(frame: &PoolFrame) -> FrontAsk<'a>
     ensures value { result ≡ FrontAsk.Write (entry_frame frame.now) (entry_word frame.now + 1) frame.now }
     ensures within { IsWithin result }
 {
@@ -170,7 +170,7 @@ fn write_frame(frame: &PoolFrame) -> FrontAsk
 }
 
 // The first word of a frame's grant entry is read.
-fn read_flags(frame: &PoolFrame) -> FrontAsk
+fn read_flags<'a>(frame: &PoolFrame) -> FrontAsk<'a>
     ensures value { result ≡ FrontAsk.Read (entry_frame frame.now) (entry_word frame.now) }
     ensures within { IsWithin result }
 {
@@ -179,7 +179,7 @@ fn read_flags(frame: &PoolFrame) -> FrontAsk
 }
 
 // The first word of a frame's grant entry becomes 0 if it is still this one.
-fn end_grant(frame: &PoolFrame, old: u32) -> FrontAsk
+fn end_grant<'a>(frame: &PoolFrame, old: u32) -> FrontAsk<'a>
     ensures value { result ≡ FrontAsk.Cas (entry_frame frame.now) (entry_word frame.now) old 0 }
     ensures within { IsWithin result }
 {
@@ -192,19 +192,20 @@ fn end_grant(frame: &PoolFrame, old: u32) -> FrontAsk
     }
 }
 
-impl Endpoint for Front {
+impl<'a> Endpoint<'a> for Front {
     ghost use Rattle.std.specs.Prelude.{None};
     ghost use Rattle.blk_front.specs.Ask.{ask_of, IsAnswer};
 
-    type Ask = FrontAsk;
+    type Ask = FrontAsk<'a>;
 
-    type Answer = FrontAnswer;
+    type Answer = FrontAnswer<'a>;
 
     ghost asked = { ask_of };
 
     ghost MayBeTold = { λ front answer. IsAnswer (ask_of front) answer × (front.told ≡ None) };
 
-    fn ask(&self) -> FrontAsk
+    #[inline(always)]
+    fn ask(&'a self) -> FrontAsk<'a>
         ensures value { result ≡ ask_of self.now }
         ensures within { IsWithin result }
     {
@@ -235,10 +236,11 @@ impl Endpoint for Front {
         }
     }
 
-    fn tell(&mut self, answer: FrontAnswer) -> Result<(), OutOfMemory>
-        requires { IsAnswer (ask_of self.old) answer × (self.old.told ≡ None) }
-        ensures told { self.new ≡ step_of self.old answer }
+    fn tell(&mut self, answer: &FrontAnswer<'a>) -> Result<(), OutOfMemory>
+        requires { IsAnswer (ask_of self.old) answer.now × (self.old.told ≡ None) }
+        ensures told { self.new ≡ step_of self.old answer.now }
         ensures takes_no_memory { IsOk result }
+        ensures unchanged { OnErr result (self.new ≡ self.old) }
     {
         match (self.stage, answer) {
             (Stage::RingWord(word), _) => self.wrote_ring_word(word),
@@ -254,21 +256,21 @@ impl Endpoint for Front {
             (Stage::Slot(word), _) => self.wrote_slot(word),
             (Stage::Producer, _) => self.pushed(),
             (Stage::ProducerFence(old), _) => self.stage = Stage::RequestEvent(old),
-            (Stage::RequestEvent(old), FrontAnswer::Word(event)) => self.notify(old, event),
+            (Stage::RequestEvent(old), FrontAnswer::Word(event)) => self.notify(old, *event),
             (Stage::Send, _) => self.stage = Stage::Loop,
             (Stage::ResponseHigh(low), FrontAnswer::Word(high)) => {
-                self.stage = Stage::ResponseLast(low, high);
+                self.stage = Stage::ResponseLast(low, *high);
             }
             (Stage::ResponseLast(low, high), FrontAnswer::Word(last)) => {
-                self.take_response(low, high, last);
+                self.take_response(low, high, *last);
             }
-            (Stage::GrantRead(ending), FrontAnswer::Word(word)) => self.end_grant(ending, word),
+            (Stage::GrantRead(ending), FrontAnswer::Word(word)) => self.end_grant(ending, *word),
             (Stage::GrantEnd(ending, before), FrontAnswer::Word(word)) => {
-                self.ended_grant(ending, before, word);
+                self.ended_grant(ending, before, *word);
             }
             (Stage::StoreEvent, _) => self.stage = Stage::EventFence,
             (Stage::EventFence, _) => self.stage = Stage::LookAgain,
-            (Stage::LookAgain, FrontAnswer::Word(word)) => self.look_again(word),
+            (Stage::LookAgain, FrontAnswer::Word(word)) => self.look_again(*word),
             _ => {}
         }
         Ok(())

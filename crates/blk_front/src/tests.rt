@@ -55,23 +55,31 @@ fn the_start_writes_a_fresh_ring_and_grants_it_by_reference_8(rt: HostRuntime) -
     Ok(())
 }
 
+// The responses' producer is read.
+fn look() -> FrontAsk<'static> {
+    FrontAsk::Read { frame: 2, word: 2 }
+}
+
+// An event is asked for at the first response.
+fn event() -> FrontAsk<'static> {
+    FrontAsk::Write {
+        frame: 2,
+        word: 3,
+        value: 1,
+    }
+}
+
 #[test]
 fn it_sleeps_after_the_second_look_and_an_event_wakes_it(rt: HostRuntime) -> Result<(), Fail> {
     let mut memory = Memory::new(rt.alloc())?;
     let mut front = connected(&rt, rt.alloc(), &mut memory, 0)?;
-    let look = FrontAsk::Read { frame: 2, word: 2 };
-    let event = FrontAsk::Write {
-        frame: 2,
-        word: 3,
-        value: 1,
-    };
     for _ in 0..2 {
         assert!(rt; !front.idle());
         asks(
             &rt,
             &mut front,
             &mut memory,
-            &[look, event, FrontAsk::Fence, look],
+            &[look(), event(), FrontAsk::Fence, look()],
         )?;
         assert!(rt; front.idle());
         asks(&rt, &mut front, &mut memory, &[FrontAsk::Wait])?;
@@ -84,14 +92,14 @@ fn it_sleeps_after_the_second_look_and_an_event_wakes_it(rt: HostRuntime) -> Res
         &rt,
         &mut front,
         &mut memory,
-        &[look, event, FrontAsk::Fence],
+        &[look(), event(), FrontAsk::Fence],
     )?;
     memory.respond(0, [1, 0, 1]);
     asks(
         &rt,
         &mut front,
         &mut memory,
-        &[look, FrontAsk::Read { frame: 2, word: 16 }],
+        &[look(), FrontAsk::Read { frame: 2, word: 16 }],
     )?;
     Ok(())
 }

@@ -74,6 +74,8 @@ impl<S: Sink> Sink for FailsAt<S> {
 
     ghost faults = { λ f. f.faults };
 
+    ghost kept_back = { λ f. S.kept_back f.inside };
+
     // A listed call fails and leaves what stands inside as it was.
     fn write(&mut self, piece: &[u8]) -> Result<(), Failed>
         ensures ok { OnOk result (S.held self.new.inside ≡ written (S.held self.old.inside) piece.now) }
@@ -87,6 +89,27 @@ impl<S: Sink> Sink for FailsAt<S> {
             return Err(Failed);
         }
         match self.inside.write(piece) {
+            Ok(()) => Ok(()),
+            Err(Failed) => {
+                self.faults = self.faults.saturating_add(1);
+                Err(Failed)
+            }
+        }
+    }
+
+    // A listed call fails and leaves what stands inside as it was.
+    fn flush(&mut self) -> Result<(), Failed>
+        ensures held { S.held self.new.inside ≡ S.held self.old.inside }
+        ensures handed_on { OnOk result (S.kept_back self.new.inside ≡ 0) }
+        ensures later { self.old.faults ≤ self.new.faults }
+        ensures failed { OnErr result (Rose self.old.faults self.new.faults) }
+        ensures listed { Contains self.old.listed.items ((self.old.calls + 1) % 2 ^ 64) → IsErr result × (self.new.inside ≡ self.old.inside) }
+    {
+        if self.is_listed() {
+            self.faults = self.faults.saturating_add(1);
+            return Err(Failed);
+        }
+        match self.inside.flush() {
             Ok(()) => Ok(()),
             Err(Failed) => {
                 self.faults = self.faults.saturating_add(1);

@@ -17,7 +17,7 @@ pub use failing::FailsAt;
 pub use memory::{MemorySink, MemorySource};
 pub use sink::Sink;
 pub use source::Source;
-pub use standard::{ReaderSource, WriterSink};
+pub use standard::{BufferedSink, ReaderSource, WriterSink};
 
 #[cfg(test)]
 mod tests;

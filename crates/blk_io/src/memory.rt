@@ -106,4 +106,9 @@ impl Sink for MemorySink {
         let _ = self.bytes.extend_from_slice(piece);
         Ok(())
     }
+
+    // It keeps nothing back.
+    fn flush(&mut self) -> Result<(), Failed> {
+        Ok(())
+    }
 }

@@ -1,4 +1,6 @@
-use crate::{Failed, FailsAt, MemorySink, MemorySource, ReaderSource, Sink, Source, WriterSink};
+use crate::{
+    BufferedSink, Failed, FailsAt, MemorySink, MemorySource, ReaderSource, Sink, Source, WriterSink,
+};
 use std::test::Fail;
 
 // Reads once, into a buffer of four bytes.
@@ -57,5 +59,17 @@ fn real_streams_pass_their_bytes_on(rt: HostRuntime) -> Result<(), Fail> {
     let held: Vec<u8> = Vec::new(rt.alloc());
     let mut sink = WriterSink::new(held);
     pour(&mut sink)?;
+    Ok(())
+}
+
+#[test]
+fn what_was_kept_back_is_handed_on_at_a_flush(rt: HostRuntime) -> Result<(), Fail> {
+    let shelf = MemorySink::with_room(rt.alloc(), 90)?;
+    let mut sink = BufferedSink::new(FailsAt::new(shelf, [2].to_vec(rt.alloc())?));
+    // a flush that goes well makes two calls of the sink inside
+    assert_eq!(rt; sink.write(b"two"), Ok(()));
+    assert_eq!(rt; sink.flush(), Err(Failed));
+    assert_eq!(rt; sink.write(b"more"), Ok(()));
+    assert_eq!(rt; sink.flush(), Ok(()));
     Ok(())
 }

@@ -41,3 +41,11 @@ BackMay h attached (back_ask.DiskWrite sector words) = IsIn attached sector
 BackMay h attached back_ask.Flush = IsIn attached 0
 BackMay h attached (back_ask.Trim sector count) = AreIn attached sector count
 BackMay h attached ask = Unit {0}
+
+-- an ask that is neither a word, a fence nor a wait
+abbrev pub IsCall : BackAsk → Type 0
+IsCall back_ask.Wait = ⊥
+IsCall back_ask.Fence = ⊥
+IsCall (back_ask.Read m word) = ⊥
+IsCall (back_ask.Write m word value) = ⊥
+IsCall ask = Unit {0}

@@ -4,6 +4,7 @@ ghost use Rattle.schedule_text.specs.Recorder.{Told, gained, recorded, StopsWith
 ghost use Rattle.blk_io.specs.Outside.{Rose};
 
 use crate::line::{Detail, Line};
+use blk_io::Failed;
 
 /// Why a line wasn't added.
 #[derive(Clone, Copy, Debug, PartialEq, Eq)]
@@ -48,6 +49,9 @@ pub trait Recorder {
     /// How often it failed.
     ghost faults: { Self → ℕ };
 
+    /// How many bytes a sink under it keeps back.
+    ghost kept_back: { Self → ℕ } = { λ _. 0 };
+
     /// The reference to a sink that it holds, if it holds one; it stays the same, so that what the
     /// recorder tells in the end is what its sink then holds.
     ghost lender: { Self → Option GName };
@@ -64,4 +68,13 @@ pub trait Recorder {
         ensures same_lender { lender self.new ≡ lender self.old }
         ensures later { faults self.old ≤ faults self.new }
         ensures failed { result ≡ Err RecordStop.Failed → Rose (faults self.old) (faults self.new) };
+
+    /// Hands on what a sink under it keeps back.
+    fn flush(&mut self) -> Result<(), Failed>
+        ensures told { told self.new ≡ told self.old }
+        ensures handed_on { OnOk result (kept_back self.new ≡ 0) }
+        ensures same_detail { detail self.new ≡ detail self.old }
+        ensures same_lender { lender self.new ≡ lender self.old }
+        ensures later { faults self.old ≤ faults self.new }
+        ensures failed { OnErr result (Rose (faults self.old) (faults self.new)) };
 }

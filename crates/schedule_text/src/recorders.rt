@@ -1,11 +1,13 @@
 // Three recorders: one keeps the lines, one writes their text to a sink, one counts.
-ghost use Rattle.std.specs.Prelude.{◌≡◌, ◌≢◌, ◌++◌, ◌∷◌, Err, [], List, Some, None, OnOk, OnErr, OnSome};
+ghost use Rattle.std.specs.Prelude.{◌≡◌, ◌≢◌, ◌≤◌, ◌++◌, ◌∷◌, Err, [], List, Some, None, OnOk, OnErr, OnSome};
+ghost use Rattle.blk_io.specs.Outside.{written, IsPartlyWritten, Rose};
 ghost use Rattle.std.specs.Option.{option_to_list};
 ghost use Rattle.schedule_text.specs.Recorder.{recorded, counted, line_bytes};
 
 use crate::line::{Detail, Line};
 use crate::recorder::{RecordStop, Recorder, Tally, Verdict};
 use crate::writing::write_line;
+use blk_base::Config;
 use blk_io::{Failed, Sink};
 use line_text::LineText;
 use std::alloc::Global;
@@ -50,6 +52,10 @@ impl Recorder for LineList {
             Some(line) => push(&mut self.lines, line),
             None => Ok(()),
         }
+    }
+
+    fn flush(&mut self) -> Result<(), Failed> {
+        Ok(())
     }
 }
 
@@ -97,6 +103,8 @@ impl<'a, S: Sink> Recorder for LineSink<'a, S> {
 
     ghost faults = { λ r. S.faults r.sink.now };
 
+    ghost kept_back = { λ r. S.kept_back r.sink.now };
+
     ghost lender = { λ r. Some r.sink.ghost_name };
 
     fn detail(&self) -> Detail {
@@ -104,17 +112,52 @@ impl<'a, S: Sink> Recorder for LineSink<'a, S> {
     }
 
     fn add(&mut self, line: &Line) -> Result<(), RecordStop> {
-        let Some(line) = kept(self.detail, line) else {
-            return Ok(());
-        };
-        let mut text = LineText::new();
-        write_line(&line, &mut text);
-        text.push_str("\n");
-        match self.sink.write(text.as_str().as_bytes()) {
-            Ok(()) => Ok(()),
-            Err(Failed) => Err(RecordStop::Failed),
+        match line {
+            Line::Begin { config, .. } => write_begin(self.sink, config, self.detail),
+            Line::Move(_) => match self.detail {
+                Detail::Lines => Ok(()),
+                Detail::Moves => write(self.sink, line),
+            },
+            _ => write(self.sink, line),
         }
     }
+
+    fn flush(&mut self) -> Result<(), Failed> {
+        self.sink.flush()
+    }
+}
+
+// Writes a line and its line feed.
+fn write<S: Sink>(sink: &mut S, line: &Line) -> Result<(), RecordStop>
+    ensures ok { OnOk result (S.held sink.new ≡ written (S.held sink.old) (line_bytes line.now)) }
+    ensures err { OnErr result (IsPartlyWritten (S.held sink.old) (line_bytes line.now) (S.held sink.new)) }
+    ensures later { S.faults sink.old ≤ S.faults sink.new }
+    ensures failed { OnErr result (Rose (S.faults sink.old) (S.faults sink.new)) }
+{
+    let mut text = LineText::new();
+    write_line(line, &mut text);
+    text.push_str("\n");
+    match sink.write(text.as_str().as_bytes()) {
+        Ok(()) => Ok(()),
+        Err(Failed) => Err(RecordStop::Failed),
+    }
+}
+
+// A begin line says the word of the recorder that writes it.
+#[inline(never)]
+fn write_begin<S: Sink>(sink: &mut S, config: &Config, detail: Detail) -> Result<(), RecordStop>
+    ensures ok { OnOk result (S.held sink.new ≡ written (S.held sink.old) (line_bytes (Line.Begin config.now detail))) }
+    ensures err { OnErr result (IsPartlyWritten (S.held sink.old) (line_bytes (Line.Begin config.now detail)) (S.held sink.new)) }
+    ensures later { S.faults sink.old ≤ S.faults sink.new }
+    ensures failed { OnErr result (Rose (S.faults sink.old) (S.faults sink.new)) }
+{
+    write(
+        sink,
+        &Line::Begin {
+            config: *config,
+            detail,
+        },
+    )
 }
 
 /// A recorder that counts the lines of requests and keeps nothing else. It never fails.
@@ -158,6 +201,10 @@ impl Recorder for LineTally {
 
     fn add(&mut self, line: &Line) -> Result<(), RecordStop> {
         self.tally.count(line);
+        Ok(())
+    }
+
+    fn flush(&mut self) -> Result<(), Failed> {
         Ok(())
     }
 }

@@ -15,7 +15,7 @@ use blk_base::{BackAnswer, BackAsk, Endpoint};
 impl Back {
     /// What the job of the `number`-th request that was fetched in this epoch asks next; `Wait` also
     /// where there is none, and for every job after a halt.
-    pub fn job_ask(&self, number: u64) -> BackAsk
+    pub fn job_ask(&self, number: u64) -> BackAsk<'_>
         ensures value { result ≡ job_ask_of self.now number }
         ensures within { IsWithin self.now.jobs.info.sectors result }
         ensures names { Names (hands_of self.now) result }
@@ -28,18 +28,17 @@ impl Back {
     }
 
     /// Tells the job of a number the answer to what it asks.
-    pub fn job_tell(&mut self, number: u64, answer: BackAnswer)
-        requires answer { IsAnswer (job_ask_of self.old number) answer }
+    pub fn job_tell(&mut self, number: u64, answer: &BackAnswer)
+        requires answer { IsAnswer (job_ask_of self.old number) answer.now }
         requires told { self.old.told ≡ None }
-        ensures stepped { self.new ≡ job_step self.old number answer }
-        ensures hands { HandsAfter (job_ask_of self.old number) answer (hands_of self.old) (hands_of self.new) }
+        ensures stepped { self.new ≡ job_step self.old number answer.now }
+        ensures hands { HandsAfter (job_ask_of self.old number) answer.now (hands_of self.old) (hands_of self.new) }
     {
         // After a halt jobs ask for nothing, so there is no answer to tell.
         if let Some(_) = self.halted {
             unreachable!();
         }
-        self.told = told_effect(self.jobs.effect(number, &answer));
-        self.jobs.tell(number, answer);
+        self.told = told_effect(self.jobs.tell(number, answer));
     }
 
     /// The least number above this one of a job that is held; `None` exactly where there is none, and

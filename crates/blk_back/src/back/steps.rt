@@ -41,19 +41,20 @@ impl Back {
     }
 
     /// Begins the next step of the loop.
-    pub(super) fn begin(&mut self, answer: BackAnswer)
+    pub(super) fn begin(&mut self, answer: &BackAnswer)
         requires stage { self.old.stage ≡ stage.Loop }
-        requires kind { IsAnswer (loop_ask self.old (next_reply self.old)) answer }
-        ensures { self.new ≡ loop_step self.old (next_reply self.old) answer }
+        requires kind { IsAnswer (loop_ask self.old (next_reply self.old)) answer.now }
+        ensures { self.new ≡ loop_step self.old (next_reply self.old) answer.now }
     {
         match (self.next_reply(), answer) {
             (Some(r), _) => self.begin_reply(r),
-            (None, BackAnswer::Word(word)) => self.read_in_loop(word),
+            (None, BackAnswer::Word(word)) => self.read_in_loop(*word),
             (None, _) => self.asleep = false,
         }
     }
 
     // The first word of a reply was written: its job is held no longer.
+    #[inline(never)]
     fn begin_reply(&mut self, r: Reply)
         requires stage { self.old.stage ≡ stage.Loop }
         requires reply { next_reply self.old ≡ Some r }
@@ -95,6 +96,7 @@ impl Back {
     }
 
     /// The requests' producer was read again, after the event word was stored.
+    #[inline(never)]
     pub(super) fn look_again(&mut self, word: u32)
         requires { self.old.stage ≡ stage.LookAgain }
         ensures { self.new ≡ step_at stage.LookAgain self.old (Word word) }
@@ -111,6 +113,7 @@ impl Back {
     }
 
     // The requests' producer overran the ring.
+    #[inline(never)]
     fn overrun(&mut self, word: u32)
         requires { self.old.page.mode ≡ ReadWrite }
         ensures { self.new ≡ overrun self.old word }
@@ -123,6 +126,7 @@ impl Back {
     }
 
     /// Gives up the jobs as far as the next mapping in a job's hand.
+    #[inline(never)]
     pub(super) fn give_up(&mut self)
         requires { self.old.page.mode ≡ ReadWrite }
         ensures { self.new ≡ give_up self.old }
@@ -148,6 +152,7 @@ impl Back {
     }
 
     // The last word of an entry was read: its job begins.
+    #[inline(never)]
     fn fetched(&mut self, word: u32)
         requires { self.old.stage ≡ stage.Fetch 27 }
         ensures { self.new ≡ fetched self.old (self.old.entry ++ word ∷ []) }
@@ -160,6 +165,7 @@ impl Back {
         self.stage = Stage::Loop;
     }
 
+    #[inline(never)]
     pub(super) fn replied(&mut self, r: Reply)
         requires { self.old.stage ≡ stage.Producer r }
         ensures { self.new ≡ replied self.old r }

@@ -38,14 +38,14 @@ impl Front {
     }
 
     /// Begins the next step of the loop.
-    pub(super) fn begin(&mut self, answer: FrontAnswer)
+    pub(super) fn begin(&mut self, answer: &FrontAnswer)
         requires stage { self.old.stage ≡ stage.Loop }
-        requires kind { IsAnswer (loop_ask self.old (next_request self.old)) answer }
-        ensures { self.new ≡ loop_step self.old (next_request self.old) answer }
+        requires kind { IsAnswer (loop_ask self.old (next_request self.old)) answer.now }
+        ensures { self.new ≡ loop_step self.old (next_request self.old) answer.now }
     {
         match (self.next_request(), answer) {
             (Some(r), _) => self.stage = Stage::Data(r, 1),
-            (None, FrontAnswer::Word(word)) => self.read_in_loop(word),
+            (None, FrontAnswer::Word(word)) => self.read_in_loop(*word),
             (None, FrontAnswer::Event) => self.asleep = false,
             _ => {}
         }
@@ -81,6 +81,7 @@ impl Front {
     }
 
     /// The responses' producer was read again, after the event word was stored.
+    #[inline(never)]
     pub(super) fn look_again(&mut self, word: u32)
         requires { self.old.stage ≡ stage.LookAgain }
         ensures { self.new ≡ step_at stage.LookAgain self.old (Word word) }
@@ -116,6 +117,7 @@ impl Front {
         }
     }
 
+    #[inline(never)]
     pub(super) fn granted(&mut self, r: Request)
         requires { self.old.stage ≡ stage.GrantFlags r }
         ensures { self.new ≡ step_at (stage.GrantFlags r) self.old Done }
@@ -168,6 +170,7 @@ impl Front {
     }
 
     /// A response was read whole.
+    #[inline(never)]
     pub(super) fn take_response(&mut self, low: u32, high: u32, last: u32)
         requires { self.old.stage ≡ stage.ResponseLast low high }
         ensures { self.new ≡ response_step self.old low high last }
@@ -196,6 +199,7 @@ impl Front {
     }
 
     /// The flags of a grant's entry were read.
+    #[inline(never)]
     pub(super) fn end_grant(&mut self, ending: Ending, word: u32)
         requires { self.old.stage ≡ stage.GrantRead ending }
         ensures { self.new ≡ end_step self.old ending word }
@@ -208,6 +212,7 @@ impl Front {
     }
 
     /// A grant's entry was exchanged for 0 if it was still the word read.
+    #[inline(never)]
     pub(super) fn ended_grant(&mut self, ending: Ending, before: u32, word: u32)
         requires { self.old.stage ≡ stage.GrantEnd ending before }
         ensures { self.new ≡ exchanged self.old ending before word }

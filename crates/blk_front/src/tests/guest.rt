@@ -42,7 +42,7 @@ impl Memory {
     }
 
     // Does what is asked; `None` for what this front never asks.
-    fn answer(&mut self, ask: &FrontAsk) -> Option<FrontAnswer>
+    fn answer(&mut self, ask: &FrontAsk) -> Option<FrontAnswer<'static>>
         ensures { IfSome result (λ answer. IsAnswer ask.now answer) }
     {
         match *ask {
@@ -72,17 +72,42 @@ impl Memory {
     }
 }
 
+// What was asked, to be kept beyond the end; `None` for what this front never asks.
+fn kept(ask: &FrontAsk) -> Option<FrontAsk<'static>> {
+    match *ask {
+        FrontAsk::Wait => Some(FrontAsk::Wait),
+        FrontAsk::Fence => Some(FrontAsk::Fence),
+        FrontAsk::Read { frame, word } => Some(FrontAsk::Read { frame, word }),
+        FrontAsk::Write { frame, word, value } => Some(FrontAsk::Write { frame, word, value }),
+        FrontAsk::Cas {
+            frame,
+            word,
+            old,
+            new,
+        } => Some(FrontAsk::Cas {
+            frame,
+            word,
+            old,
+            new,
+        }),
+        FrontAsk::NewPort => Some(FrontAsk::NewPort),
+        FrontAsk::Send => Some(FrontAsk::Send),
+        _ => None,
+    }
+}
+
 /// The next move: what was asked, and what the front tells then. A `Wait` is answered by an event.
 pub fn one_move(
     rt: &impl Abort,
     front: &mut Front,
     memory: &mut Memory,
-) -> Result<(FrontAsk, Option<Told>), Fail> {
+) -> Result<(FrontAsk<'static>, Option<Told>), Fail> {
     assert_eq!(rt; front.take_told(), None);
     let ask = front.ask();
     let answer = memory.answer(&ask).ok_or("never asked")?;
-    front.tell(answer)?;
-    Ok((ask, front.take_told()))
+    let asked = kept(&ask).ok_or("never asked")?;
+    front.tell(&answer)?;
+    Ok((asked, front.take_told()))
 }
 
 /// That many moves, of which none tells anything.
@@ -121,7 +146,8 @@ pub fn asks(
 ) -> Result<(), Fail> {
     for ask in wanted {
         let (asked, told) = one_move(rt, front, memory)?;
-        assert_eq!(rt; (asked, told), (*ask, None));
+        assert_eq!(rt; asked, *ask);
+        assert_eq!(rt; told, None);
     }
     Ok(())
 }

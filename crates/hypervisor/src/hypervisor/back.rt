@@ -1,16 +1,20 @@
 // What is done at an ask of the back or of one of its jobs.
 ghost use Rattle.std.specs.Prelude.{◌≡◌, ◌<◌, ◌≤◌, Some};
 ghost use Rattle.blk_base.specs.declared.parts.Mode.TheVariants.{ReadWrite};
+ghost use Rattle.blk_base.specs.declared.moves.Move.TheVariants as moves;
 ghost use Rattle.blk_io.specs.Disk.{IsIn, AreIn};
 ghost use Rattle.grant_table.specs.Table.{IsLive};
 ghost use Rattle.hypervisor.specs.Hypervisor.{Hypervisor};
 ghost use Rattle.hypervisor.specs.Act.{back_act, back_seen, back_under, outcome_of, outcome_told, read_act, disk_act, wait_act, mover_of, job_of};
 ghost use Rattle.hypervisor.specs.Act.Outcome.{Took};
-ghost use Rattle.hypervisor.specs.May.{BackMay, HasMappingLeft};
+ghost use Rattle.hypervisor.specs.May.{BackMay, IsCall, HasMappingLeft};
 ghost use Rattle.hypervisor.specs.Disk.{DiskDoes, DiskReads, DiskWrites, DiskFlushes, DiskTrims};
 
 use super::Hypervisor;
-use blk_base::{BackAnswer, BackAsk, BackMover, End, Mapping, Mode, Move, Mover, SectorWords};
+use blk_base::{
+    BackAnswer, BackAsk, BackMover, End, KeylessMove, Lent, Mapping, Mode, Mover, SectorWords,
+    SmallMove,
+};
 use blk_io::{Failed, SectorDisk};
 use event_channel::Port;
 
@@ -18,43 +22,73 @@ impl Hypervisor {
     /// Does what the back or a job asks, with the disk behind the back, and gives the answer and the
     /// move as a report shows it; `None`, with nothing done, exactly where the back waits and no
     /// event is pending, a job waits, or a key is asked for.
-    pub fn back<D: SectorDisk>(
+    #[inline(always)]
+    pub fn back<'a, D: SectorDisk>(
         &mut self,
         who: BackMover,
-        ask: BackAsk,
+        ask: &BackAsk,
         disk: &mut D,
-    ) -> Option<(BackAnswer, Move)>
-        requires may { BackMay self.old (D.attached disk.old) ask }
-        ensures acted { result ≡ back_seen (back_act self.old who ask (outcome_of result)) }
-        ensures under { self.new ≡ back_under self.old (back_act self.old who ask (outcome_of result)) }
-        ensures disk { DiskDoes ask (outcome_of result) (D.content disk.old) (D.content disk.new) }
+        room: &'a mut SectorWords,
+    ) -> Option<(BackAnswer<'a>, SmallMove)>
+        requires may { BackMay self.old (D.attached disk.old) ask.now }
+        ensures acted { result ≡ back_seen (back_act self.old who ask.now (outcome_of result)) }
+        ensures under { self.new ≡ back_under self.old (back_act self.old who ask.now (outcome_of result)) }
+        ensures disk { DiskDoes ask.now (outcome_of result) (D.content disk.old) (D.content disk.new) }
         ensures attached { D.attached disk.new ≡ D.attached disk.old }
         ensures later { D.faults disk.old ≤ D.faults disk.new }
     {
         match ask {
             BackAsk::Wait => self.event(who),
-            BackAsk::Fence => Some((BackAnswer::Done, Move::Fence(mover(who)))),
-            BackAsk::Read { mapping, word } => Some(self.read(who, mapping, word)),
+            BackAsk::Fence => Some((
+                BackAnswer::Done,
+                SmallMove::of(KeylessMove::Fence(mover(who))),
+            )),
+            BackAsk::Read { mapping, word } => Some(self.read(who, *mapping, *word)),
             BackAsk::Write {
                 mapping,
                 word,
                 value,
-            } => Some(self.write(who, mapping, word, value)),
-            BackAsk::Map { gref, mode } => Some(self.map(who, gref, mode)),
-            BackAsk::Unmap(mapping) => Some(self.unmap(who, mapping)),
-            BackAsk::Bind(port) => Some(self.bind(port)),
+            } => Some(self.write(who, *mapping, *word, *value)),
+            _ => self.call(who, ask, disk, room),
+        }
+    }
+
+    // Does a call: what is asked that is neither a word, a fence nor a wait.
+    #[inline(never)]
+    fn call<'a, D: SectorDisk>(
+        &mut self,
+        who: BackMover,
+        ask: &BackAsk,
+        disk: &mut D,
+        room: &'a mut SectorWords,
+    ) -> Option<(BackAnswer<'a>, SmallMove)>
+        requires may { BackMay self.old (D.attached disk.old) ask.now }
+        requires call { IsCall ask.now }
+        ensures acted { result ≡ back_seen (back_act self.old who ask.now (outcome_of result)) }
+        ensures under { self.new ≡ back_under self.old (back_act self.old who ask.now (outcome_of result)) }
+        ensures disk { DiskDoes ask.now (outcome_of result) (D.content disk.old) (D.content disk.new) }
+        ensures attached { D.attached disk.new ≡ D.attached disk.old }
+        ensures later { D.faults disk.old ≤ D.faults disk.new }
+    {
+        match ask {
+            BackAsk::Map { gref, mode } => Some(self.map(who, *gref, *mode)),
+            BackAsk::Unmap(mapping) => Some(self.unmap(who, *mapping)),
+            BackAsk::Bind(port) => Some(self.bind(*port)),
             BackAsk::Send => Some(self.send_back(who)),
             BackAsk::ClosePort => Some(self.close_back(who)),
-            BackAsk::DiskRead(sector) => Some(read_disk(job(who), sector, disk)),
-            BackAsk::DiskWrite(sector, words) => Some(write_disk(job(who), sector, &words, disk)),
+            BackAsk::DiskRead(sector) => Some(read_disk(job(who), *sector, disk, room)),
+            BackAsk::DiskWrite(sector, words) => {
+                Some(write_disk(job(who), *sector, words.get(), disk))
+            }
             BackAsk::Flush => Some(flush_disk(job(who), disk)),
-            BackAsk::Trim(sector, count) => Some(trim_disk(job(who), sector, count, disk)),
-            BackAsk::GetKey(_) | BackAsk::SetKey(_, _) | BackAsk::Watch(_) => None,
+            BackAsk::Trim(sector, count) => Some(trim_disk(job(who), *sector, *count, disk)),
+            _ => None,
         }
     }
 
     // The back takes its event, if there is one.
-    fn event(&mut self, who: BackMover) -> Option<(BackAnswer, Move)>
+    #[inline(always)]
+    fn event(&mut self, who: BackMover) -> Option<(BackAnswer<'static>, SmallMove)>
         ensures acted { result ≡ back_seen (wait_act self.old who) }
         ensures under { self.new ≡ back_under self.old (wait_act self.old who) }
         ensures no_call { outcome_of result ≡ Took }
@@ -66,12 +100,16 @@ impl Hypervisor {
                     return None;
                 }
                 self.channels.take(End::Back);
-                Some((BackAnswer::Event, Move::Event(Mover::Back)))
+                Some((
+                    BackAnswer::Event,
+                    SmallMove::of(KeylessMove::Event(Mover::Back)),
+                ))
             }
         }
     }
 
-    fn read(&self, who: BackMover, mapping: Mapping, word: u32) -> (BackAnswer, Move)
+    #[inline(always)]
+    fn read(&self, who: BackMover, mapping: Mapping, word: u32) -> (BackAnswer<'static>, SmallMove)
         requires live { IsLive self.now.grants mapping }
         requires word_in { word < 1024 }
         ensures acted { Some result ≡ back_seen (back_act self.now who (BackAsk.Read mapping word) Took) }
@@ -81,23 +119,24 @@ impl Hypervisor {
         let value = self.grants.read(&self.pages, mapping, word);
         (
             BackAnswer::Word(value),
-            Move::Read {
+            SmallMove::of(KeylessMove::Read {
                 who,
                 mapping: mapping.number,
                 frame,
                 word,
                 value,
-            },
+            }),
         )
     }
 
+    #[inline(always)]
     fn write(
         &mut self,
         who: BackMover,
         mapping: Mapping,
         word: u32,
         value: u32,
-    ) -> (BackAnswer, Move)
+    ) -> (BackAnswer<'static>, SmallMove)
         requires live { IsLive self.old.grants mapping }
         requires writable { mapping.mode ≡ ReadWrite }
         requires word_in { word < 1024 }
@@ -109,17 +148,17 @@ impl Hypervisor {
         self.grants.write(&mut self.pages, mapping, word, value);
         (
             BackAnswer::Done,
-            Move::Write {
+            SmallMove::of(KeylessMove::Write {
                 who,
                 mapping: mapping.number,
                 frame,
                 word,
                 value,
-            },
+            }),
         )
     }
 
-    fn map(&mut self, who: BackMover, gref: u32, mode: Mode) -> (BackAnswer, Move)
+    fn map(&mut self, who: BackMover, gref: u32, mode: Mode) -> (BackAnswer<'static>, SmallMove)
         requires left { HasMappingLeft self.old.grants }
         ensures acted { Some result ≡ back_seen (back_act self.old who (BackAsk.Map gref mode) Took) }
         ensures under { self.new ≡ back_under self.old (back_act self.old who (BackAsk.Map gref mode) Took) }
@@ -130,31 +169,31 @@ impl Hypervisor {
                 let frame = self.grants.frame_of(mapping);
                 (
                     BackAnswer::Mapped(mapping),
-                    Move::Map {
+                    SmallMove::of(KeylessMove::Map {
                         who,
                         gref,
                         mode,
                         mapping: mapping.number,
                         frame,
-                    },
+                    }),
                 )
             }
             Err(refusal) => {
                 let status = refusal.status();
                 (
                     BackAnswer::MapRefused(status),
-                    Move::MapRefused {
+                    SmallMove::of(KeylessMove::MapRefused {
                         who,
                         gref,
                         mode,
                         status,
-                    },
+                    }),
                 )
             }
         }
     }
 
-    fn unmap(&mut self, who: BackMover, mapping: Mapping) -> (BackAnswer, Move)
+    fn unmap(&mut self, who: BackMover, mapping: Mapping) -> (BackAnswer<'static>, SmallMove)
         requires live { IsLive self.old.grants mapping }
         ensures acted { Some result ≡ back_seen (back_act self.old who (BackAsk.Unmap mapping) Took) }
         ensures under { self.new ≡ back_under self.old (back_act self.old who (BackAsk.Unmap mapping) Took) }
@@ -163,59 +202,72 @@ impl Hypervisor {
         self.grants.unmap(&mut self.pages, mapping);
         (
             BackAnswer::Done,
-            Move::Unmap {
+            SmallMove::of(KeylessMove::Unmap {
                 who,
                 mapping: mapping.number,
-            },
+            }),
         )
     }
 
-    fn bind(&mut self, port: u32) -> (BackAnswer, Move)
+    fn bind(&mut self, port: u32) -> (BackAnswer<'static>, SmallMove)
         ensures acted { Some result ≡ back_seen (back_act self.old BackMover.Back (BackAsk.Bind port) Took) }
         ensures under { self.new ≡ back_under self.old (back_act self.old BackMover.Back (BackAsk.Bind port) Took) }
         ensures no_call { outcome_told result.0 ≡ Took }
     {
         match self.channels.bind(Port(port)) {
-            Ok(_) => (BackAnswer::Done, Move::Bind { port }),
-            Err(_) => (BackAnswer::BindRefused, Move::BindRefused { port }),
+            Ok(_) => (BackAnswer::Done, SmallMove::of(KeylessMove::Bind { port })),
+            Err(_) => (
+                BackAnswer::BindRefused,
+                SmallMove::of(KeylessMove::BindRefused { port }),
+            ),
         }
     }
 
-    fn send_back(&mut self, who: BackMover) -> (BackAnswer, Move)
+    fn send_back(&mut self, who: BackMover) -> (BackAnswer<'static>, SmallMove)
         ensures acted { Some result ≡ back_seen (back_act self.old who BackAsk.Send Took) }
         ensures under { self.new ≡ back_under self.old (back_act self.old who BackAsk.Send Took) }
         ensures no_call { outcome_told result.0 ≡ Took }
     {
         self.channels.send(End::Back);
-        (BackAnswer::Done, Move::Send(mover(who)))
+        (
+            BackAnswer::Done,
+            SmallMove::of(KeylessMove::Send(mover(who))),
+        )
     }
 
-    fn close_back(&mut self, who: BackMover) -> (BackAnswer, Move)
+    fn close_back(&mut self, who: BackMover) -> (BackAnswer<'static>, SmallMove)
         ensures acted { Some result ≡ back_seen (back_act self.old who BackAsk.ClosePort Took) }
         ensures under { self.new ≡ back_under self.old (back_act self.old who BackAsk.ClosePort Took) }
         ensures no_call { outcome_told result.0 ≡ Took }
     {
         self.channels.close(End::Back);
-        (BackAnswer::Done, Move::ClosePort(mover(who)))
+        (
+            BackAnswer::Done,
+            SmallMove::of(KeylessMove::ClosePort(mover(who))),
+        )
     }
 }
 
 // A sector is read from the disk.
-fn read_disk<D: SectorDisk>(job: u64, sector: u64, disk: &mut D) -> (BackAnswer, Move)
+fn read_disk<'a, D: SectorDisk>(
+    job: u64,
+    sector: u64,
+    disk: &mut D,
+    room: &'a mut SectorWords,
+) -> (BackAnswer<'a>, SmallMove)
     requires { IsIn (D.attached disk.old) sector }
-    ensures acted { (under : Hypervisor) → Some result ≡ back_seen (read_act under (Move.DiskRead job sector) (outcome_told result.0)) }
-    ensures under { (under : Hypervisor) → back_under under (read_act under (Move.DiskRead job sector) (outcome_told result.0)) ≡ under }
+    ensures acted { (under : Hypervisor) → Some result ≡ back_seen (read_act under (moves.DiskRead job sector) (outcome_told result.0)) }
+    ensures under { (under : Hypervisor) → back_under under (read_act under (moves.DiskRead job sector) (outcome_told result.0)) ≡ under }
     ensures read { DiskReads sector (outcome_told result.0) (D.content disk.old) }
     ensures content { D.content disk.new ≡ D.content disk.old }
     ensures attached { D.attached disk.new ≡ D.attached disk.old }
     ensures later { D.faults disk.old ≤ D.faults disk.new }
 {
-    let mut words: SectorWords = [0; 128];
-    let answer = match disk.read(sector, &mut words) {
-        Ok(()) => BackAnswer::Sector(words),
+    let answer = match disk.read(sector, room) {
+        Ok(()) => BackAnswer::Sector(Lent::at(room)),
         Err(Failed) => BackAnswer::DiskFailed,
     };
-    (answer, Move::DiskRead { job, sector })
+    (answer, SmallMove::of(KeylessMove::DiskRead { job, sector }))
 }
 
 // A sector is written to the disk.
@@ -224,10 +276,10 @@ fn write_disk<D: SectorDisk>(
     sector: u64,
     words: &SectorWords,
     disk: &mut D,
-) -> (BackAnswer, Move)
+) -> (BackAnswer<'static>, SmallMove)
     requires { IsIn (D.attached disk.old) sector }
-    ensures acted { (under : Hypervisor) → Some result ≡ back_seen (disk_act under (Move.DiskWrite job sector) (outcome_told result.0)) }
-    ensures under { (under : Hypervisor) → back_under under (disk_act under (Move.DiskWrite job sector) (outcome_told result.0)) ≡ under }
+    ensures acted { (under : Hypervisor) → Some result ≡ back_seen (disk_act under (moves.DiskWrite job sector) (outcome_told result.0)) }
+    ensures under { (under : Hypervisor) → back_under under (disk_act under (moves.DiskWrite job sector) (outcome_told result.0)) ≡ under }
     ensures written { DiskWrites sector words.now (outcome_told result.0) (D.content disk.old) (D.content disk.new) }
     ensures attached { D.attached disk.new ≡ D.attached disk.old }
     ensures later { D.faults disk.old ≤ D.faults disk.new }
@@ -236,14 +288,17 @@ fn write_disk<D: SectorDisk>(
         Ok(()) => BackAnswer::Done,
         Err(Failed) => BackAnswer::DiskFailed,
     };
-    (answer, Move::DiskWrite { job, sector })
+    (
+        answer,
+        SmallMove::of(KeylessMove::DiskWrite { job, sector }),
+    )
 }
 
 // What was written so far is made stable.
-fn flush_disk<D: SectorDisk>(job: u64, disk: &mut D) -> (BackAnswer, Move)
+fn flush_disk<D: SectorDisk>(job: u64, disk: &mut D) -> (BackAnswer<'static>, SmallMove)
     requires { IsIn (D.attached disk.old) 0 }
-    ensures acted { (under : Hypervisor) → Some result ≡ back_seen (disk_act under (Move.DiskFlush job) (outcome_told result.0)) }
-    ensures under { (under : Hypervisor) → back_under under (disk_act under (Move.DiskFlush job) (outcome_told result.0)) ≡ under }
+    ensures acted { (under : Hypervisor) → Some result ≡ back_seen (disk_act under (moves.DiskFlush job) (outcome_told result.0)) }
+    ensures under { (under : Hypervisor) → back_under under (disk_act under (moves.DiskFlush job) (outcome_told result.0)) ≡ under }
     ensures flushed { DiskFlushes (outcome_told result.0) }
     ensures content { D.content disk.new ≡ D.content disk.old }
     ensures attached { D.attached disk.new ≡ D.attached disk.old }
@@ -253,14 +308,19 @@ fn flush_disk<D: SectorDisk>(job: u64, disk: &mut D) -> (BackAnswer, Move)
         Ok(()) => BackAnswer::Done,
         Err(Failed) => BackAnswer::DiskFailed,
     };
-    (answer, Move::DiskFlush { job })
+    (answer, SmallMove::of(KeylessMove::DiskFlush { job }))
 }
 
 // Sectors are discarded.
-fn trim_disk<D: SectorDisk>(job: u64, sector: u64, count: u64, disk: &mut D) -> (BackAnswer, Move)
+fn trim_disk<D: SectorDisk>(
+    job: u64,
+    sector: u64,
+    count: u64,
+    disk: &mut D,
+) -> (BackAnswer<'static>, SmallMove)
     requires { AreIn (D.attached disk.old) sector count }
-    ensures acted { (under : Hypervisor) → Some result ≡ back_seen (disk_act under (Move.DiskTrim job sector count) (outcome_told result.0)) }
-    ensures under { (under : Hypervisor) → back_under under (disk_act under (Move.DiskTrim job sector count) (outcome_told result.0)) ≡ under }
+    ensures acted { (under : Hypervisor) → Some result ≡ back_seen (disk_act under (moves.DiskTrim job sector count) (outcome_told result.0)) }
+    ensures under { (under : Hypervisor) → back_under under (disk_act under (moves.DiskTrim job sector count) (outcome_told result.0)) ≡ under }
     ensures trimmed { DiskTrims sector count (outcome_told result.0) (D.content disk.old) (D.content disk.new) }
     ensures attached { D.attached disk.new ≡ D.attached disk.old }
     ensures later { D.faults disk.old ≤ D.faults disk.new }
@@ -269,7 +329,10 @@ fn trim_disk<D: SectorDisk>(job: u64, sector: u64, count: u64, disk: &mut D) -> 
         Ok(()) => BackAnswer::Done,
         Err(Failed) => BackAnswer::DiskFailed,
     };
-    (answer, Move::DiskTrim { job, sector, count })
+    (
+        answer,
+        SmallMove::of(KeylessMove::DiskTrim { job, sector, count }),
+    )
 }
 
 // Who moves, as other moves show it.

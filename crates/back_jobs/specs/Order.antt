@@ -1,0 +1,35 @@
+-- Finding jobs whose numbers ascend, and the lowest that is done.
+use Rattle.std.specs.Prelude.{◌≡◌, ℕ, ◌+◌, ◌-◌, ◌<◌, ◌≤◌, Bool, true, false, List, length, Option, Some, None, slice_get, slice_index_or, nat_lt, ◌==◌, min, if◌then◌else◌}
+use Rattle.std.specs.List.{AllWithin}
+use Rattle.std.specs.Option.{option_map}
+use Rattle.back_jobs.specs.Task.{Work}
+
+-- the place of the first job whose number isn't below this one; how many there are where there is none
+abbrev pub IsFirstFrom : ℕ → List Work → ℕ → Type 0
+IsFirstFrom number works place =
+    (place ≤ length works) × AllWithin (λ (t : Work). t.number < number) works 0 place × AllWithin (λ (t : Work). number ≤ t.number) works place (length works)
+
+-- the number of the job at a place
+abbrev pub number_at : List Work → ℕ → Option ℕ
+number_at works place = option_map (λ (t : Work). t.number) (slice_get works place)
+
+-- the job of a number stands at this place
+abbrev pub IsNumberAt : ℕ → List Work → ℕ → Type 0
+IsNumberAt number works place = (place < length works) × ((d : Work) → (slice_index_or works place d).number ≡ number)
+
+-- whether a number is above that of the last job
+abbrev pub is_above_last : Option Work → ℕ → Bool
+is_above_last None number = true
+is_above_last (Some t) number = nat_lt t.number number
+
+abbrev pub is_above : List Work → ℕ → Bool
+is_above works number = is_above_last (slice_get works (length works - 1)) number
+
+-- the place of the lowest job that is done, once one more is held
+abbrev pub done_with : ℕ → ℕ → Bool → ℕ
+done_with done count is_done = if done == count then (if is_done then count else count + 1) else done
+
+-- and once the job at this place is done, or not yet
+abbrev pub done_after : ℕ → ℕ → Bool → ℕ
+done_after done place true = min done place
+done_after done place false = done
