@@ -12,3 +12,6 @@ pub mod Job
 pub mod Effect
 pub mod Steps
 pub mod Data
+pub mod Unmap
+pub mod Reply
+pub mod Own

@@ -36,8 +36,8 @@ fn entry_value(before: &[Line], line: &Line) -> Option<u32>
     }
 }
 
-// The words of entries that the back read in this epoch.
-fn entry_values(alloc: Global, before: &[Line]) -> Result<Vec<u32>, OutOfMemory>
+/// The words of entries that the back read in this epoch.
+pub fn entry_values(alloc: Global, before: &[Line]) -> Result<Vec<u32>, OutOfMemory>
     ensures { IfOk result (λ values. values.items ≡ entry_values before.now) }
 {
     let mut values = Vec::new(alloc);

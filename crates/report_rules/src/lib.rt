@@ -10,11 +10,14 @@ mod effect;
 mod job;
 mod mapped;
 mod overrun;
+mod own;
+mod reply;
 mod ring;
 mod standing;
 mod step;
 mod stretch;
 mod touch;
+mod unmap;
 mod value;
 mod work;
 
@@ -23,10 +26,13 @@ pub use data::are_data;
 pub use effect::are_effects;
 pub use mapped::are_map_answers;
 pub use overrun::is_overrun_rule;
+pub use own::are_own;
+pub use reply::are_replies;
 pub use standing::Standing;
 pub use step::are_steps;
 pub use stretch::are_stretches;
 pub use touch::are_touches;
+pub use unmap::are_unmaps;
 pub use value::value_before;
 pub use work::{Task, status_by, work_response, work_tasks, work_verdict};
 

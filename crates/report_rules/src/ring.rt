@@ -180,8 +180,8 @@ fn produced_after(before: &[Line], produced: u32, line: &Line) -> u32
     produced_shown(before, line).unwrap_or(produced)
 }
 
-// The place of a mapping among the pages that these lines made.
-fn page_in(lines: &[Line], number: u64) -> Option<usize>
+/// The place of a mapping among the pages that these lines made.
+pub fn page_in(lines: &[Line], number: u64) -> Option<usize>
     ensures { result ≡ page_from 0 number (filter_map page_made lines.now) }
 {
     let mut place = 0usize;

@@ -73,7 +73,8 @@ fn is_unmap_of(number: u64, line: &Line) -> bool
     }
 }
 
-fn is_unmapped(number: u64, later: &[Line]) -> bool
+/// Whether one of these lines unmaps that number.
+pub fn is_unmapped(number: u64, later: &[Line]) -> bool
     ensures { result ≡ list_any (is_unmap_of number) later.now }
 {
     later.iter().any(|line| is_unmap_of(number, line))

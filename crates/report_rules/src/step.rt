@@ -2,16 +2,18 @@
 ghost use Rattle.std.specs.Prelude.{◌≡◌, ℕ, ◌==◌, ◌+◌, ◌*◌, ◌/◌, ◌%◌, ◌-◌, ◌≤◌, ◌<◌, ◌^◌, IfSome, IsSomeAnd, IfOk, Some, None, fold, slice_get, option_and_then, length};
 ghost use Rattle.std.specs.Bool.{Decides};
 ghost use Rattle.std.specs.List.{filter_map, list_all};
+ghost use Rattle.blk_base.specs.declared.moves.Mover.TheVariants as mover;
+ghost use Rattle.blk_base.specs.declared.moves.Move.TheVariants as moves;
 ghost use Rattle.schedule_text.specs.declared.line.Line.TheVariants as lines;
 ghost use Rattle.report_rules.specs.Standing.{standing_behind, numbered};
 ghost use Rattle.report_rules.specs.Job.{request_of_job, disk_mover, is_job};
 ghost use Rattle.report_rules.specs.declared.step.Step.TheVariants as steps;
-ghost use Rattle.report_rules.specs.Steps.{store_step, load_step, step_at, is_mode, is_step, is_step_at, may_be_kept, gref_of, spot, is_refusal, spot_behind, spot_in, advanced, job_of, job_in, stepper, move_in, job_step, walked, walk_of, value_read, values_read, info_of, info_told, disk_of, is_one, says_one, keeping_after, is_persistent, spot_after, touched_by, is_fault, begins_with_fault, failed_in, IsStepOf, IsStepAt, AreSteps};
+ghost use Rattle.report_rules.specs.Steps.{store_step, load_step, step_at, is_mode, is_step, is_step_at, may_be_kept, gref_of, spot, is_refusal, spot_behind, spot_in, advanced, job_of, job_in, stepper, move_in, job_step, walked, walk_of, value_read, values_read, info_of, info_told, no_disk, is_offer, serving_after, served_by, disk_with, disk_of, is_one, says_one, keeping_after, is_persistent, spot_after, touched_by, is_fault, begins_with_fault, failed_in, IsStepOf, IsStepAt, AreSteps};
 
 use crate::job::{is_disk_move_of, request_of_job};
 use crate::standing::{numbered_behind, this_epoch};
 use crate::work::{Task, work_tasks};
-use blk_base::{BackMover, Config, Mode, Move, Mover, OutOfMemory, Text};
+use blk_base::{BackMover, Config, Mode, Move, Mover, OutOfMemory, Path, Text};
 use blk_layout::RawRequest;
 use schedule_text::Line;
 use segment_list::DiskInfo;
@@ -29,13 +31,14 @@ enum Step {
     Trim { sector: u64, count: u64 },
 }
 
-// How far a job came.
+/// How far a job came: so many tasks are done, and the next step is at that place of the next one.
+/// `refused` says that a map of it was, and `gref` which reference its last step touched.
 #[derive(Clone, Copy)]
-struct Spot {
-    done: usize,
-    place: u64,
-    refused: bool,
-    gref: u32,
+pub struct Spot {
+    pub done: usize,
+    pub place: u64,
+    pub refused: bool,
+    pub gref: u32,
 }
 
 // Whether both ends published persistent grants.
@@ -43,6 +46,15 @@ struct Spot {
 struct Keeping {
     offered: bool,
     asked: bool,
+}
+
+// What the back published that it serves beside reads and writes.
+#[derive(Clone, Copy)]
+struct Serving {
+    barrier: bool,
+    flush: bool,
+    discard: bool,
+    indirect: bool,
 }
 
 fn store_step(sector: u64, first: u8, count: u32, k: u64, j: u64) -> Option<Step>
@@ -257,7 +269,8 @@ fn advanced(persistent: bool, work: &[Task], made: &Move, s: Spot) -> Option<Spo
     }
 }
 
-fn job_of(who: BackMover) -> Option<u64>
+/// The job that makes a move of the back.
+pub fn job_of(who: BackMover) -> Option<u64>
     ensures { result ≡ job_of who }
 {
     match who {
@@ -331,8 +344,8 @@ fn walked(persistent: bool, work: &[Task], k: u64, line: &Line, s: Option<Spot>)
     }
 }
 
-// How far a job came by these lines.
-fn walk_of(persistent: bool, work: &[Task], k: u64, epoch: &[Line]) -> Option<Spot>
+/// How far a job came by these lines.
+pub fn walk_of(persistent: bool, work: &[Task], k: u64, epoch: &[Line]) -> Option<Spot>
     ensures { result ≡ walk_of persistent work.now k epoch.now }
 {
     let mut s = Some(Spot {
@@ -362,8 +375,8 @@ fn value_read(k: u64, line: &Line) -> Option<u32>
     }
 }
 
-// The words that a job read in this epoch.
-fn values_read(alloc: Global, before: &[Line], k: u64) -> Result<Vec<u32>, OutOfMemory>
+/// The words that a job read in this epoch.
+pub fn values_read(alloc: Global, before: &[Line], k: u64) -> Result<Vec<u32>, OutOfMemory>
     ensures { IfOk result (λ values. values.items ≡ values_read before.now k) }
 {
     let mut values = Vec::new(alloc);
@@ -398,8 +411,8 @@ fn info_told(info: DiskInfo, line: &Line) -> DiskInfo
 }
 
 // The disk that the options let the back publish.
-fn disk_of(before: &[Line]) -> DiskInfo
-    ensures { result ≡ disk_of before.now }
+fn disk_told(before: &[Line]) -> DiskInfo
+    ensures { result ≡ fold info_told no_disk before.now }
 {
     let mut info = DiskInfo {
         sectors: 0,
@@ -413,6 +426,80 @@ fn disk_of(before: &[Line]) -> DiskInfo
         info = info_told(info, line);
     }
     info
+}
+
+// Whether the key of a feature offers it.
+fn is_offer(digits: &[u8]) -> bool
+    ensures { result ≡ is_offer digits.now }
+{
+    !are_zeros(digits)
+}
+
+fn serving_after(s: Serving, line: &Line) -> Serving
+    ensures { result ≡ serving_after s line.now }
+{
+    match line {
+        Line::Move(Move::SetKey(Mover::Back, path, text)) => serving_by(s, path, text),
+        _ => s,
+    }
+}
+
+fn serving_by(s: Serving, path: &Path, text: &Text) -> Serving
+    ensures { result ≡ serving_after s (lines.Move (moves.SetKey mover.Back path.now text.now)) }
+{
+    let offer = is_offer(text.as_bytes());
+    let key = path.as_str();
+    if key == "/local/domain/0/backend/vbd/1/51712/feature-barrier" {
+        Serving {
+            barrier: offer,
+            ..s
+        }
+    } else if key == "/local/domain/0/backend/vbd/1/51712/feature-flush-cache" {
+        Serving { flush: offer, ..s }
+    } else if key == "/local/domain/0/backend/vbd/1/51712/feature-discard" {
+        Serving {
+            discard: offer,
+            ..s
+        }
+    } else if key == "/local/domain/0/backend/vbd/1/51712/feature-max-indirect-segments" {
+        Serving {
+            indirect: offer,
+            ..s
+        }
+    } else {
+        s
+    }
+}
+
+fn served_by(before: &[Line]) -> Serving
+    ensures { result ≡ served_by before.now }
+{
+    let mut s = Serving {
+        barrier: false,
+        flush: false,
+        discard: false,
+        indirect: false,
+    };
+    for line in this_epoch(before) {
+        s = serving_after(s, line);
+    }
+    s
+}
+
+/// The disk as the options give it, with what the back published of it.
+pub fn disk_of(before: &[Line]) -> DiskInfo
+    ensures { result ≡ disk_of before.now }
+{
+    let s = served_by(before);
+    let info = disk_told(before);
+    DiskInfo {
+        sectors: info.sectors,
+        read_only: info.read_only,
+        barrier: s.barrier,
+        flush: s.flush,
+        discard: s.discard,
+        max_indirect: if s.indirect { info.max_indirect } else { 0 },
+    }
 }
 
 fn are_zeros(digits: &[u8]) -> bool
@@ -464,8 +551,8 @@ fn keeping_after(s: Keeping, line: &Line) -> Keeping
     }
 }
 
-// Whether grants are persistent in this epoch.
-fn is_persistent(before: &[Line]) -> bool
+/// Whether grants are persistent in this epoch.
+pub fn is_persistent(before: &[Line]) -> bool
     ensures { result ≡ is_persistent before.now }
 {
     let mut s = Keeping {
@@ -529,8 +616,8 @@ fn begins_with_fault(lines: &[Line]) -> bool
     }
 }
 
-// Whether the disk failed at a move of a job.
-fn failed_in(k: u64, lines: &[Line]) -> bool
+/// Whether the disk failed at a move of a job.
+pub fn failed_in(k: u64, lines: &[Line]) -> bool
     ensures { result ≡ failed_in k lines.now }
 {
     for i in 0..lines.len() {

@@ -145,7 +145,8 @@ fn is_of_back_move(step: &Move) -> bool
     }
 }
 
-fn is_of_back(line: &Line) -> bool
+/// Whether a line is one of the back's own.
+pub fn is_of_back(line: &Line) -> bool
     ensures { result ≡ is_of_back line.now }
 {
     match line {

@@ -1,3 +1,4 @@
+mod reply;
 mod work;
 mod worked;
 

@@ -1,6 +1,6 @@
 use Rattle.std.proofs.Common.{◌≡◌, fold, take}
 use Rattle.report_rules.specs.Steps.{info_told, no_disk}
-use Rattle.report_rules.proofs.step.disk_of.Given as goal
+use Rattle.report_rules.proofs.step.disk_told.Given as goal
 
 -- the disk that the lines so far tell
 abbrev pub invariant-loop-line : goal.invariant-loop-line
