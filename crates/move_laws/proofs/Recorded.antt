@@ -26,7 +26,7 @@ use Rattle.split_model.specs.Shown.{front_lines, back_lines, halt_lines, effect_
 use Rattle.split_model.specs.Happening.{Happening, FrontMoves, BackMoves, JobMoves, Submits, Notifies, Looks, Settles, happens, lines_at, lines_of, front_shows, back_shows, job_shows, front_turn, back_turn, job_turn, submit_line}
 use Rattle.split_model.specs.Leads.{kept_of}
 use Rattle.split_model.proofs.Running.{kept_of-append}
-use Rattle.move_laws.specs.Report.{report_of, ended_report_of}
+use Rattle.split_model.specs.Report.{report_of, ended_report_of}
 
 abbrev AreKept : List Line → Type 0
 AreKept ls = kept_of Moves ls ≡ ls

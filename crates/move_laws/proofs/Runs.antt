@@ -35,7 +35,7 @@ use Rattle.move_laws.specs.Grantable.{AreGrantable}
 use Rattle.move_laws.proofs.Always.{always_within}
 use Rattle.move_laws.specs.Tells.{Tells}
 use Rattle.move_laws.proofs.Follows.{IsAllowed, Follows}
-use Rattle.move_laws.specs.Report.{report_of, ended_report_of}
+use Rattle.split_model.specs.Report.{report_of, ended_report_of}
 use Rattle.move_laws.proofs.Still.{ArePlain, IsPlain, still, plain_front, plain_back, plain_halt, plain_submit, plain_quiet, plain_busy, plain_unsettled, follow_one, follow_plain}
 use Rattle.move_laws.proofs.Acts.{IsKept, front_kept, back_kept}
 

@@ -1,4 +1,3 @@
 pub mod Within
 pub mod Grantable
 pub mod Tells
-pub mod Report

@@ -18,7 +18,7 @@ ghost use Rattle.split_model.specs.Leads.{kept_of};
 ghost use Rattle.move_laws.specs.Within.{AreWithin};
 ghost use Rattle.move_laws.specs.Grantable.{AreGrantable};
 ghost use Rattle.move_laws.specs.Tells.{Tells};
-ghost use Rattle.move_laws.specs.Report.{report_of, ended_report_of};
+ghost use Rattle.split_model.specs.Report.{report_of, ended_report_of};
 
 /// Each ask of the front touches a word of the frames that both ends share; each of the back or a
 /// job a word of a page whose mapping they hold, and writes only where that is for writing.

@@ -114,7 +114,7 @@ pub moves_silent : (hs : List Happening) (w : World) → AllByRecursion (λ h. i
 moves_silent [] w m = refl
 moves_silent (h ∷ hs) w m = both_silent (lines_at w h) (lines_of hs (happens w h)) (move_silent w h m.0) (moves_silent hs (happens w h) m.1)
 
-are_moves-append : (a b : List Happening) → AllByRecursion (λ h. is_move h ≡ true) a → AllByRecursion (λ h. is_move h ≡ true) b → AllByRecursion (λ h. is_move h ≡ true) (a ++ b)
+pub are_moves-append : (a b : List Happening) → AllByRecursion (λ h. is_move h ≡ true) a → AllByRecursion (λ h. is_move h ≡ true) b → AllByRecursion (λ h. is_move h ≡ true) (a ++ b)
 are_moves-append [] b p q = q
 are_moves-append (h ∷ a) b p q = (p.0, are_moves-append a b p.1 q)
 
@@ -129,29 +129,29 @@ turn_moves : (connected : Bool) → AllByRecursion (λ h. is_move h ≡ true) (i
 turn_moves true = (refl, tt)
 turn_moves false = connecting_moves
 
-front_are_moves : (w : World) (n : ℕ) → AllByRecursion (λ h. is_move h ≡ true) (front_moves w n)
+pub front_are_moves : (w : World) (n : ℕ) → AllByRecursion (λ h. is_move h ≡ true) (front_moves w n)
 front_are_moves w zero = tt
 front_are_moves w (suc n) = are_moves-append (front_move w) (replicate n FrontMoves) (turn_moves (front_submit.is_connected w.front.stage)) (repeated n FrontMoves refl)
 
-back_are_moves : (connected : Bool) (n : ℕ) → AllByRecursion (λ h. is_move h ≡ true) (if connected then replicate n BackMoves else [])
+pub back_are_moves : (connected : Bool) (n : ℕ) → AllByRecursion (λ h. is_move h ≡ true) (if connected then replicate n BackMoves else [])
 back_are_moves true n = repeated n BackMoves refl
 back_are_moves false n = tt
 
-job_are_moves : (number : ℕ) (hs : List Happening) → AreJobMoves number hs → AllByRecursion (λ h. is_move h ≡ true) hs
+pub job_are_moves : (number : ℕ) (hs : List Happening) → AreJobMoves number hs → AllByRecursion (λ h. is_move h ≡ true) hs
 job_are_moves number [] j = tt
 job_are_moves number (h ∷ hs) j = (ap is_move j.1, job_are_moves number hs j.2)
 
-each_are_moves : (from to : ℕ) (w : World) (hs : List Happening) → AreEachJobs from to w hs → AllByRecursion (λ h. is_move h ≡ true) hs
+pub each_are_moves : (from to : ℕ) (w : World) (hs : List Happening) → AreEachJobs from to w hs → AllByRecursion (λ h. is_move h ≡ true) hs
 each_are_moves from to w [] j = tt
 each_are_moves from to w (h ∷ hs) j = (ap is_move j.2, each_are_moves j.0 to (happens w h) hs j.4)
 
-start_are_moves : (w : World) → AllByRecursion (λ h. is_move h ≡ true) (round_start w)
+pub start_are_moves : (w : World) → AllByRecursion (λ h. is_move h ≡ true) (round_start w)
 start_are_moves w = are_moves-append (front_move w) (BackMoves ∷ []) (turn_moves (front_submit.is_connected w.front.stage)) (refl, tt)
 
-round_are_moves : (w : World) (hs : List Happening) → IsRound w hs → AllByRecursion (λ h. is_move h ≡ true) hs
+pub round_are_moves : (w : World) (hs : List Happening) → IsRound w hs → AllByRecursion (λ h. is_move h ≡ true) hs
 round_are_moves w hs r = subst (λ l. AllByRecursion (λ h. is_move h ≡ true) l) (sym r.all) (are_moves-append (round_start w) r.jobs (start_are_moves w) (each_are_moves 0 r.are_jobs.to (after (round_start w) w) r.jobs r.are_jobs.each))
 
-rounds_are_moves : (test : World → Bool) (n : ℕ) (w : World) (hs : List Happening) → AreRounds test n w hs → AllByRecursion (λ h. is_move h ≡ true) hs
+pub rounds_are_moves : (test : World → Bool) (n : ℕ) (w : World) (hs : List Happening) → AreRounds test n w hs → AllByRecursion (λ h. is_move h ≡ true) hs
 rounds_are_moves test zero w hs r = subst (λ l. AllByRecursion (λ h. is_move h ≡ true) l) (sym r) tt
 rounds_are_moves test (suc n) w hs r =
     let p = r.1 in
@@ -183,7 +183,7 @@ settle_echo w rounds m =
 pub event_echo : (order : ℕ) (e : Event) (w : World) (hs : List Happening) → AreOf e w hs → Answers order e (echo_of (lines_of hs w))
 event_echo order (events.Submit job) w hs k =
     let a = submit_answers w job (front_submit.submit_of w.front job).0 in
-    (a.0, ap (λ l. echo_of (lines_of l w)) k ∙ a.1, a.2)
+    (a.0, ap (λ l. echo_of (lines_of l w)) k.0 ∙ a.1, a.2)
 event_echo order (events.Front n) w hs k = ap (λ l. echo_of (lines_of l w)) k ∙ silent_event w (front_moves w n) (front_are_moves w n)
 event_echo order (events.Back n) w hs k = ap (λ l. echo_of (lines_of l w)) k ∙ silent_event w (back_moves w n) (back_are_moves (front_submit.is_connected w.front.stage) n)
 event_echo order (events.Job number n) w hs k = silent_event w hs (job_are_moves number hs k.0)

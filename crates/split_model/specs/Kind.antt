@@ -4,6 +4,7 @@ use Rattle.blk_base.specs.declared.config.Job.{Job}
 use Rattle.blk_base.specs.declared.config.Job.TheVariants as jobs
 use Rattle.hypervisor.specs.Act.{Outcome}
 use Rattle.schedule_text.specs.Event.{is_number}
+use Rattle.schedule_text.specs.Range.{JobHasWidths}
 use Rattle.schedule_text.specs.declared.event.Event.{Event}
 use Rattle.schedule_text.specs.declared.event.Event.TheVariants as events
 use Rattle.blk_front.specs.Submit.{unfinished, is_connected}
@@ -139,7 +140,7 @@ IsSettlingSoFar w hs = AreRoundsSoFar is_quiet (settle_bound w) w hs ⊎ IsSettl
 
 -- the happenings of an event
 abbrev pub AreOf : Event → World → List Happening → Type 0
-AreOf (events.Submit job) w hs = hs ≡ Submits job ∷ []
+AreOf (events.Submit job) w hs = (hs ≡ Submits job ∷ []) × JobHasWidths job × (is_carried_job job ≡ true)
 AreOf (events.Front n) w hs = hs ≡ front_moves w n
 AreOf (events.Back n) w hs = hs ≡ back_moves w n
 AreOf (events.Job number n) w hs = AreSomeJobMoves number n hs

@@ -4,3 +4,4 @@ pub mod Happening
 pub mod Kind
 pub mod Leads
 pub mod Safe
+pub mod Report
