@@ -1,0 +1,185 @@
+-- What a move of the back makes of the jobs, and what it shows.
+use Rattle.std.proofs.Common.{◌≡◌, ℕ, ◌+◌, ◌≤◌, ◌==◌, Bool, true, false, if◌then◌else◌, [], ◌∷◌, ◌++◌, length, refl, arith}
+use Rattle.std.specs.Prelude.{Option, Some, None, is_some, position, Result, Ok, Err}
+use Rattle.std.proofs.lemmas.Option.{none-some}
+use Rattle.blk_base.specs.declared.operation.Abi.TheVariants.{X64}
+use Rattle.blk_base.specs.declared.parts.Mode.{Mode}
+use Rattle.blk_base.specs.declared.parts.End.TheVariants as end
+use Rattle.blk_base.specs.declared.ask.FrontAsk.{FrontAsk}
+use Rattle.blk_base.specs.declared.ask.FrontAsk.TheVariants as front_ask
+use Rattle.blk_base.specs.declared.ask.BackAsk.{BackAsk}
+use Rattle.blk_base.specs.declared.ask.BackAsk.TheVariants as ask
+use Rattle.blk_base.specs.declared.ask.BackAnswer.{BackAnswer}
+use Rattle.blk_base.specs.declared.ask.BackAnswer.TheVariants as answers
+use Rattle.blk_base.specs.declared.moves.BackMover.TheVariants as back
+use Rattle.grant_table.specs.declared.entry.MapRefusal.{MapRefusal}
+use Rattle.grant_table.specs.Table.{verdict_at}
+use Rattle.event_channel.specs.declared.channels.PortState.{PortState}
+use Rattle.event_channel.specs.declared.channels.PortState.TheVariants as port
+use Rattle.event_channel.specs.Channels.{state_of, is_pending}
+use Rattle.hypervisor.specs.Hypervisor.{Hypervisor}
+use Rattle.hypervisor.specs.Act.{FrontAct, BackAct, Outcome, front_act, back_act, map_act, bind_act}
+use Rattle.ring_words.specs.Ring.{requests_of, overruns, notifies}
+use Rattle.schedule_text.specs.declared.line.Line.{Line}
+use Rattle.schedule_text.specs.declared.line.Line.TheVariants as lines
+use Rattle.blk_layout.specs.Entry.{request_of}
+use Rattle.back_jobs.specs.Task.{Work}
+use Rattle.back_jobs.specs.Jobs.{removed_at, is_done, start_job}
+use Rattle.blk_front.specs.declared.told.Told.{Told}
+use Rattle.blk_front.specs.declared.told.Told.TheVariants as front_told
+use Rattle.blk_back.specs.declared.told.BackTold.{BackTold}
+use Rattle.blk_back.specs.declared.told.BackTold.TheVariants as told
+use Rattle.blk_back.specs.declared.told.Halt.{Halt}
+use Rattle.blk_back.specs.declared.stage.Reply.{Reply}
+use Rattle.blk_back.specs.declared.stage.Stage.{Stage}
+use Rattle.blk_back.specs.declared.stage.Stage.TheVariants as stage
+use Rattle.blk_back.specs.View.{View}
+use Rattle.blk_back.specs.Ask.{next_reply}
+use Rattle.blk_back.specs.Step.{at, overrun, looked, loop_step, fetched, fetch_step, next_number, replied, step_at}
+use Rattle.split_model.specs.Shown.{front_lines, back_lines, halt_lines}
+use Rattle.split_model.proofs.SafeActs.{of_front, of_back, front_test, back_test}
+use Rattle.split_model.proofs.SafeAnswers.{IsBacks}
+use Rattle.ring_laws.proofs.Shows.{Sight}
+use Rattle.ring_laws.proofs.Knows.{Serves, KnowsAt}
+use Rattle.ring_laws.proofs.Bystanders.{IsBystander, AreBystanders}
+
+-- the back's jobs and how many it fetched, before and after a move; so many words of entries were read before
+pub data Change (words : ℕ) (old new : View) : Type 0 where
+  kept : new.jobs.works ≡ old.jobs.works → new.fetched ≡ old.fetched → Change words old new
+  replies : new.jobs.works ≡ removed_at old.jobs.works (position (λ (t : Work). is_done t) old.jobs.works) → new.fetched ≡ old.fetched → Change words old new
+  halts : is_some new.halted ≡ true → new.fetched ≡ old.fetched → Change words old new
+  fetches : (let h = start_job old.jobs (next_number old) (request_of X64 new.entry) in new.jobs.works ≡ h.works) → new.fetched ≡ next_number old → new.stage ≡ stage.Loop → 1 ≤ words → Change words old new
+
+-- the back tells of replies alone
+abbrev pub IsBackTold : Option BackTold → Type 0
+IsBackTold None = Unit {0}
+IsBackTold (Some (told.Reply id status)) = Unit {0}
+IsBackTold t = ⊥
+
+pub record Changed (words : ℕ) (old new : View) : Type 0 where
+  pub change : Change words old new
+  pub info : new.jobs.info ≡ old.jobs.info
+  pub tells : IsBackTold new.told
+  pub running : is_some new.halted ≡ false → is_some old.halted ≡ false
+
+changed : (words : ℕ) (old new : View) → new.jobs.works ≡ old.jobs.works → new.fetched ≡ old.fetched → new.jobs.info ≡ old.jobs.info → IsBackTold new.told → (is_some new.halted ≡ false → is_some old.halted ≡ false) → Changed words old new
+changed words old new w f i t r = record { change = kept w f; info = i; tells = t; running = r }
+
+either : (words : ℕ) (old : View) (b : Bool) (x y : View) → Changed words old x → Changed words old y → Changed words old (if b then x else y)
+either words old true x y p q = p
+either words old false x y p q = q
+
+either_stage : (words : ℕ) (old : View) (b : Bool) (p q : Stage) → IsBackTold old.told → Changed words old (at (if b then p else q) old)
+either_stage words old b p q t = changed words old (at (if b then p else q) old) refl refl refl t (λ r. r)
+
+looked_change : (words : ℕ) (v : View) (word : ℕ) (otherwise : View) → IsBackTold v.told → Changed words v otherwise → Changed words v (looked v word otherwise)
+looked_change words v word otherwise t c =
+    either words v (overruns v.ring word) (overrun v word) (if word == v.ring.cons then otherwise else record v { seen = word; stage = stage.Loop })
+    (record { change = halts refl refl; info = refl; tells = t; running = λ r. absurd (cc) })
+    (either words v (word == v.ring.cons) otherwise (record v { seen = word; stage = stage.Loop }) c (changed words v (record v { seen = word; stage = stage.Loop }) refl refl refl t (λ r. r)))
+
+loop_change : (words : ℕ) (v : View) (r : Option Reply) (a : BackAnswer) → IsBackTold v.told → Changed words v (loop_step v r a)
+loop_change words v (Some r) a t = record { change = replies refl refl; info = refl; tells = t; running = λ r. r }
+loop_change words v None (answers.Word word) t =
+    either words v (requests_of v.ring v.seen == 0) (looked v word (record v { seen = word; stage = stage.StoreEvent })) (record v { entry = word ∷ []; stage = stage.Fetch 1 })
+    (looked_change words v word (record v { seen = word; stage = stage.StoreEvent }) t (changed words v (record v { seen = word; stage = stage.StoreEvent }) refl refl refl t (λ r. r)))
+    (changed words v (record v { entry = word ∷ []; stage = stage.Fetch 1 }) refl refl refl t (λ r. r))
+loop_change words v None a t = changed words v (record v { asleep = false }) refl refl refl t (λ r. r)
+
+fetch_change : (words : ℕ) (v : View) (k word : ℕ) → 1 ≤ words → IsBackTold v.told → Changed words v (fetch_step v k word)
+fetch_change words v k word some t =
+    either words v (k == 27) (fetched v (v.entry ++ word ∷ [])) (record v { entry = v.entry ++ word ∷ []; stage = stage.Fetch (k + 1) })
+    (record { change = fetches refl refl refl some; info = refl; tells = t; running = λ r. r })
+    (changed words v (record v { entry = v.entry ++ word ∷ []; stage = stage.Fetch (k + 1) }) refl refl refl t (λ r. r))
+
+begun_words : (k : ℕ) (x : Sight) (v : View) → 1 ≤ k → Serves k x v.ring v.page v.seen v.halted v.entry v.fetched → 1 ≤ length x.values
+begun_words k x v some s = let long = s.long in let words = s.words in omega arith
+
+pub change_at : (s : Stage) (v : View) (x : Sight) (a : BackAnswer) → KnowsAt s x v.ring v.page v.seen v.halted v.entry v.fetched → IsBackTold v.told → Changed (length x.values) v (step_at s v a)
+change_at stage.MapRing v x (answers.Mapped m) k t = changed (length x.values) v (record v { page = m; stage = stage.Bind }) refl refl refl t (λ r. r)
+change_at stage.MapRing v x (answers.MapRefused status) k t = changed (length x.values) v _ refl refl refl t (λ r. absurd (cc))
+change_at stage.Bind v x answers.Done k t = changed (length x.values) v (at stage.Loop v) refl refl refl t (λ r. r)
+change_at stage.Bind v x answers.BindRefused k t = changed (length x.values) v _ refl refl refl t (λ r. absurd (cc))
+change_at stage.Loop v x a k t = loop_change (length x.values) v (next_reply v) a t
+change_at (stage.Fetch n) v x (answers.Word word) k t = fetch_change (length x.values) v n word (begun_words n x v k.0 k.1) t
+change_at (stage.ReplyHigh r) v x a k t = changed (length x.values) v (at (stage.ReplyLast r) v) refl refl refl t (λ r. r)
+change_at (stage.ReplyLast r) v x a k t = changed (length x.values) v (at (stage.Producer r) v) refl refl refl t (λ r. r)
+change_at (stage.Producer r) v x a k t = changed (length x.values) v (replied v r) refl refl refl tt (λ r. r)
+change_at (stage.ProducerFence old) v x a k t = changed (length x.values) v (at (stage.ResponseEvent old) v) refl refl refl t (λ r. r)
+change_at (stage.ResponseEvent old) v x (answers.Word event) k t = either_stage (length x.values) v (notifies old v.ring.prod event) stage.Send stage.Loop t
+change_at stage.Send v x a k t = changed (length x.values) v (at stage.Loop v) refl refl refl t (λ r. r)
+change_at stage.StoreEvent v x a k t = changed (length x.values) v (at stage.EventFence v) refl refl refl t (λ r. r)
+change_at stage.EventFence v x a k t = changed (length x.values) v (at stage.LookAgain v) refl refl refl t (λ r. r)
+change_at stage.LookAgain v x (answers.Word word) k t = looked_change (length x.values) v word (record v { seen = word; stage = stage.Loop; asleep = true }) t (changed (length x.values) v (record v { seen = word; stage = stage.Loop; asleep = true }) refl refl refl t (λ r. r))
+change_at (stage.GiveUp m) v x a k t = record { change = halts k.over refl; info = refl; tells = t; running = λ r. r }
+change_at stage.UnmapRing v x a k t = changed (length x.values) v (at stage.ClosePort v) refl refl refl t (λ r. r)
+change_at stage.ClosePort v x a k t = changed (length x.values) v (at stage.Halted v) refl refl refl t (λ r. r)
+change_at stage.UnmapUnbound v x a k t = changed (length x.values) v (at stage.Halted v) refl refl refl t (λ r. r)
+change_at s v x a k t = changed (length x.values) v v refl refl refl t (λ r. r)
+
+-- the lines of the back and of the front are no job's
+pub bystander : (line : Line) → IsBystander line → AreBystanders (line ∷ [])
+bystander line b = (b, tt)
+
+abbrev BackBy : BackAct → Type 0
+BackBy a = IsBystander (lines.Move a.shown)
+
+map_by : (h : Hypervisor) (gref : ℕ) (mode : Mode) (verdict : Result ℕ MapRefusal) → BackBy (map_act h back.Back gref mode verdict)
+map_by h gref mode (Ok frame) = record { plain = refl; unstepped = refl }
+map_by h gref mode (Err refusal) = record { plain = refl; unstepped = refl }
+
+bind_by : (h : Hypervisor) (p : ℕ) (state : PortState) → BackBy (bind_act h p state)
+bind_by h p port.Unbound = record { plain = refl; unstepped = refl }
+bind_by h p port.Closed = record { plain = refl; unstepped = refl }
+bind_by h p port.Bound = record { plain = refl; unstepped = refl }
+
+pub back_by : (h : Hypervisor) (a' : BackAsk) (o : Outcome) (a : BackAct) → IsBacks a' → back_act h back.Back a' o ≡ Some a → BackBy a
+back_by h ask.Wait o a own e = back_test BackBy (is_pending h.channels end.Back) _ a (record { plain = refl; unstepped = refl }) e
+back_by h ask.Fence o a own e = of_back BackBy _ a (record { plain = refl; unstepped = refl }) e
+back_by h (ask.Read m word) o a own e = of_back BackBy _ a (record { plain = refl; unstepped = refl }) e
+back_by h (ask.Write m word value) o a own e = of_back BackBy _ a (record { plain = refl; unstepped = refl }) e
+back_by h (ask.Map gref mode) o a own e = of_back BackBy _ a (map_by h gref mode (verdict_at h.pages gref mode)) e
+back_by h (ask.Unmap m) o a own e = of_back BackBy _ a (record { plain = refl; unstepped = refl }) e
+back_by h (ask.Bind p) o a own e = of_back BackBy _ a (bind_by h p (state_of h.channels p)) e
+back_by h ask.Send o a own e = of_back BackBy _ a (record { plain = refl; unstepped = refl }) e
+back_by h ask.ClosePort o a own e = of_back BackBy _ a (record { plain = refl; unstepped = refl }) e
+back_by h (ask.GetKey path) o a own e = absurd own
+back_by h (ask.SetKey path text) o a own e = absurd own
+back_by h (ask.Watch path) o a own e = absurd own
+back_by h (ask.DiskRead sector) o a own e = absurd own
+back_by h (ask.DiskWrite sector words) o a own e = absurd own
+back_by h ask.Flush o a own e = absurd own
+back_by h (ask.Trim sector count) o a own e = absurd own
+
+halt_by : (old new : Option Halt) → AreBystanders (halt_lines old new)
+halt_by None None = tt
+halt_by None (Some h) = (record { plain = refl; unstepped = refl }, tt)
+halt_by (Some g) new = tt
+
+pub told_by : (t : Option BackTold) (a : BackAnswer) (old new : Option Halt) → IsBackTold t → AreBystanders (back_lines t a ++ halt_lines old new)
+told_by None a old new is = halt_by old new
+told_by (Some (told.Reply id status)) a old new is = (record { plain = refl; unstepped = refl }, halt_by old new)
+told_by (Some (told.Effect id index)) a old new is = absurd is
+told_by (Some (told.Fault id index)) a old new is = absurd is
+
+abbrev FrontBy : FrontAct → Type 0
+FrontBy a = IsBystander (lines.Move a.shown)
+
+pub front_by : (h : Hypervisor) (a' : FrontAsk) (a : FrontAct) → front_act h a' ≡ Some a → FrontBy a
+front_by h front_ask.Wait a e = front_test FrontBy (is_pending h.channels end.Front) _ a (record { plain = refl; unstepped = refl }) e
+front_by h front_ask.Fence a e = of_front FrontBy _ a (record { plain = refl; unstepped = refl }) e
+front_by h (front_ask.Read frame word) a e = of_front FrontBy _ a (record { plain = refl; unstepped = refl }) e
+front_by h (front_ask.Write frame word value) a e = of_front FrontBy _ a (record { plain = refl; unstepped = refl }) e
+front_by h (front_ask.Cas frame word old new) a e = of_front FrontBy _ a (record { plain = refl; unstepped = refl }) e
+front_by h front_ask.NewPort a e = of_front FrontBy _ a (record { plain = refl; unstepped = refl }) e
+front_by h front_ask.Send a e = of_front FrontBy _ a (record { plain = refl; unstepped = refl }) e
+front_by h front_ask.ClosePort a e = of_front FrontBy _ a (record { plain = refl; unstepped = refl }) e
+front_by h (front_ask.GetKey path) a e = absurd (none-some a e)
+front_by h (front_ask.SetKey path text) a e = absurd (none-some a e)
+front_by h (front_ask.Watch path) a e = absurd (none-some a e)
+
+pub front_told_by : (t : Option Told) → AreBystanders (front_lines t)
+front_told_by None = tt
+front_told_by (Some front_told.Ready) = (record { plain = refl; unstepped = refl }, tt)
+front_told_by (Some (front_told.Answer id status)) = (record { plain = refl; unstepped = refl }, tt)
+front_told_by (Some (front_told.Broken word)) = (record { plain = refl; unstepped = refl }, tt)

@@ -1,0 +1,173 @@
+-- The rules on jobs of the lines so far, and of lines more that are no job's steps.
+use Rattle.std.proofs.Common.{◌≡◌, ℕ, ◌||◌, Bool, true, false, List, [], ◌∷◌, ◌++◌, refl, ap, sym, ◌∙◌, subst, append_assoc, append-nil}
+use Rattle.std.specs.Prelude.{fold, Option, Some, None, IfSome, IsSomeAnd}
+use Rattle.std.specs.List.{AllByRecursion, list_any}
+use Rattle.std.proofs.lemmas.List.{reverse-append}
+use Rattle.std.proofs.lemmas.List.Sums.{fold-append}
+use Rattle.blk_base.specs.Options.{Options}
+use Rattle.blk_base.specs.declared.moves.BackMover.TheVariants as back
+use Rattle.blk_base.specs.declared.moves.Move.TheVariants as moves
+use Rattle.segment_list.specs.declared.verdict.DiskInfo.{DiskInfo}
+use Rattle.schedule_text.specs.declared.line.Line.{Line}
+use Rattle.schedule_text.specs.declared.line.Line.TheVariants as lines
+use Rattle.report_rules.specs.Obeys.{Obeys}
+use Rattle.report_rules.specs.Standing.{is_epoch, this_epoch}
+use Rattle.report_rules.specs.Job.{is_job}
+use Rattle.report_rules.specs.Steps.{stepper, is_fault, info_of, no_disk, info_told, serving, serving_after, disk_with, disk_of, kept_by, keeping_after, is_kept, is_persistent, IsStepAt}
+use Rattle.report_rules.specs.Data.{words_in, IsDataAt}
+use Rattle.report_rules.specs.Effect.{disk_move_of, disk_move_shown, outcome_of, IsEffectAt}
+use Rattle.report_rules.proofs.Obeys.{obeys_more}
+use Rattle.blk_back.specs.View.{info_of as back_info}
+use Rattle.ring_laws.proofs.Shows.{epoch_longer}
+use Rattle.ring_laws.proofs.JobLines.{is_of, IsAside}
+
+-- the rules on steps, data and effects
+pub record IsRule (before : List Line) (line : Line) : Type 0 where
+  pub step : IsStepAt before line
+  pub moved : IsDataAt before line
+  pub effect : IsEffectAt before line
+
+-- the lines obey them; grants are not persistent, and the disk is that of the options, of which reads and writes are served
+pub record Tale (config : Options) (before : List Line) : Type 0 where
+  pub obeys : Obeys IsRule before
+  pub keeping : fold keeping_after (kept_by false false) (this_epoch before) ≡ kept_by false false
+  pub serves : fold serving_after (serving false false false false) (this_epoch before) ≡ (serving false false false false)
+  pub told : fold info_told no_disk before ≡ info_of config
+
+pub shown_last : (before : List Line) (line : Line) → disk_move_shown (before ++ line ∷ []) ≡ disk_move_of line
+shown_last before line = rw (reverse-append before (line ∷ [])) refl
+
+pub tale_more : (config : Options) (before : List Line) (line : Line) → Tale config before → is_epoch line ≡ false → keeping_after (kept_by false false) line ≡ kept_by false false → serving_after (serving false false false false) line ≡ (serving false false false false) → info_told (info_of config) line ≡ info_of config → IsRule before line → Tale config (before ++ line ∷ [])
+tale_more config before line t same keeps serves tells rule = record {
+  obeys = obeys_more IsRule before line t.obeys rule;
+  keeping = ap (λ (ls : List Line). fold keeping_after (kept_by false false) ls) (epoch_longer before line same)
+      ∙ (fold-append keeping_after (kept_by false false) (this_epoch before) (line ∷ []) ∙ (ap (λ s. keeping_after s line) t.keeping ∙ keeps));
+  serves = ap (λ (ls : List Line). fold serving_after (serving false false false false) ls) (epoch_longer before line same)
+      ∙ (fold-append serving_after (serving false false false false) (this_epoch before) (line ∷ []) ∙ (ap (λ s. serving_after s line) t.serves ∙ serves));
+  told = fold-append info_told no_disk before (line ∷ []) ∙ (ap (λ (i : DiskInfo). info_told i line) t.told ∙ tells);
+}
+
+pub disk_is : (config : Options) (before : List Line) → Tale config before → disk_of before ≡ back_info config
+disk_is config before t = ap (λ s. disk_with s (fold info_told no_disk before)) t.serves ∙ ap (λ (i : DiskInfo). disk_with (serving false false false false) i) t.told
+
+pub not_persistent : (config : Options) (before : List Line) → Tale config before → is_persistent before ≡ false
+not_persistent config before t = ap is_kept t.keeping
+
+-- a line that says nothing of epochs, options, keys or effects
+abbrev pub is_plain : Line → Bool
+is_plain (lines.Begin config detail) = false
+is_plain lines.Epoch = false
+is_plain (lines.Effect id index) = false
+is_plain (lines.EffectRead id index words) = false
+is_plain (lines.Flushed id) = false
+is_plain (lines.Trimmed id) = false
+is_plain (lines.Fault id index) = false
+is_plain (lines.Move (moves.GetKey who path text)) = false
+is_plain (lines.Move (moves.SetKey who path text)) = false
+is_plain line = true
+
+pub plain_epoch : (line : Line) → is_plain line ≡ true → is_epoch line ≡ false
+plain_epoch lines.Epoch e = absurd (cc)
+plain_epoch line e = refl
+
+pub plain_keeps : (line : Line) → is_plain line ≡ true → keeping_after (kept_by false false) line ≡ kept_by false false
+plain_keeps (lines.Move (moves.GetKey who path text)) e = absurd (cc)
+plain_keeps (lines.Move (moves.SetKey who path text)) e = absurd (cc)
+plain_keeps line e = refl
+
+pub plain_serves : (line : Line) → is_plain line ≡ true → serving_after (serving false false false false) line ≡ (serving false false false false)
+plain_serves (lines.Move (moves.SetKey who path text)) e = absurd (cc)
+plain_serves line e = refl
+
+pub plain_tells : (info : DiskInfo) (line : Line) → is_plain line ≡ true → info_told info line ≡ info
+plain_tells info (lines.Begin config detail) e = absurd (cc)
+plain_tells info line e = refl
+
+pub plain_outcome : (line : Line) → is_plain line ≡ true → outcome_of line ≡ None
+plain_outcome (lines.Effect id index) e = absurd (cc)
+plain_outcome (lines.EffectRead id index words) e = absurd (cc)
+plain_outcome (lines.Flushed id) e = absurd (cc)
+plain_outcome (lines.Trimmed id) e = absurd (cc)
+plain_outcome (lines.Fault id index) e = absurd (cc)
+plain_outcome line e = refl
+
+plain_fault : (line : Line) → is_plain line ≡ true → is_fault line ≡ false
+plain_fault (lines.Fault id index) e = absurd (cc)
+plain_fault line e = refl
+
+plain_words : (line : Line) → is_plain line ≡ true → words_in line ≡ None
+plain_words (lines.EffectRead id index words) e = absurd (cc)
+plain_words line e = refl
+
+-- and that is no step of a job
+pub record IsBystander (line : Line) : Type 0 where
+  pub plain : is_plain line ≡ true
+  pub unstepped : stepper line ≡ None
+
+abbrev pub AreBystanders : List Line → Type 0
+AreBystanders ls = AllByRecursion IsBystander ls
+
+pub if_none : {X : Type 0} (P : X → Type 0) {o : Option X} → o ≡ None → IfSome o P
+if_none {X} P {o} e = subst (λ (x : Option X). IfSome x P) (sym e) tt
+
+pub if_some : {X : Type 0} (P : X → Type 0) {o : Option X} {x : X} → o ≡ Some x → P x → IfSome o P
+if_some {X} P {o} {x} e p = subst (λ (y : Option X). IfSome y P) (sym e) p
+
+pub some_and : {X : Type 0} (P : X → Type 0) {o : Option X} {x : X} → o ≡ Some x → P x → IsSomeAnd o P
+some_and {X} P {o} {x} e p = subst (λ (y : Option X). IsSomeAnd y P) (sym e) p
+
+step_of : (before : List Line) (line : Line) → stepper line ≡ None → IsStepAt before line
+step_of before (lines.Move move) e = if_none _ e
+step_of before line e = tt
+
+data_of : (before : List Line) (line : Line) → stepper line ≡ None → IsDataAt before line
+data_of before (lines.Move (moves.Write (back.Job k) number frame word value)) e = absurd (cc)
+data_of before line e = tt
+
+still_disk : (line : Line) → stepper line ≡ None → disk_move_of line ≡ None
+still_disk (lines.Move (moves.DiskRead k sector)) e = absurd (cc)
+still_disk (lines.Move (moves.DiskWrite k sector)) e = absurd (cc)
+still_disk (lines.Move (moves.DiskFlush k)) e = absurd (cc)
+still_disk (lines.Move (moves.DiskTrim k sector count)) e = absurd (cc)
+still_disk line e = refl
+
+-- behind no move of the disk, a line that tells of none
+pub no_effect : (before : List Line) (line : Line) → disk_move_shown before ≡ None → outcome_of line ≡ None → IsEffectAt before line
+no_effect before line quiet none = record { told = if_none _ quiet; only = λ some. absurd (some none) }
+
+pub bystander_rule : (before : List Line) (line : Line) → disk_move_shown before ≡ None → IsBystander line → IsRule before line
+bystander_rule before line quiet b = record { step = step_of before line b.unstepped; moved = data_of before line b.unstepped; effect = no_effect before line quiet (plain_outcome line b.plain) }
+
+-- lines of no job
+pub record Aside (config : Options) (before : List Line) (ys : List Line) : Type 0 where
+  pub tale : Tale config (before ++ ys)
+  pub quiet : disk_move_shown (before ++ ys) ≡ None
+  pub epoch : this_epoch (before ++ ys) ≡ this_epoch before ++ ys
+
+pub bystanders_go : (config : Options) (ys before : List Line) → AreBystanders ys → Tale config before → disk_move_shown before ≡ None → Aside config before ys
+bystanders_go config [] before all t quiet = record {
+  tale = subst (λ (ls : List Line). Tale config ls) (sym (append-nil before)) t;
+  quiet = ap disk_move_shown (append-nil before) ∙ quiet;
+  epoch = ap this_epoch (append-nil before) ∙ sym (append-nil (this_epoch before));
+}
+bystanders_go config (y ∷ ys) before all t quiet =
+    let b : IsBystander y = all.0 in
+    let one : Tale config (before ++ y ∷ []) = tale_more config before y t (plain_epoch y b.plain) (plain_keeps y b.plain) (plain_serves y b.plain) (plain_tells (info_of config) y b.plain) (bystander_rule before y quiet b) in
+    let rest : Aside config (before ++ y ∷ []) ys = bystanders_go config ys (before ++ y ∷ []) all.1 one (shown_last before y ∙ still_disk y b.unstepped) in
+    record {
+      tale = subst (λ (ls : List Line). Tale config ls) (append_assoc before (y ∷ []) ys) rest.tale;
+      quiet = ap disk_move_shown (sym (append_assoc before (y ∷ []) ys)) ∙ rest.quiet;
+      epoch = ap this_epoch (sym (append_assoc before (y ∷ []) ys)) ∙ (rest.epoch ∙ (ap (λ (ls : List Line). ls ++ ys) (epoch_longer before y (plain_epoch y b.plain)) ∙ append_assoc (this_epoch before) (y ∷ []) ys));
+    }
+
+none_of : (k : ℕ) (ys : List Line) → AreBystanders ys → list_any (is_of k) ys ≡ false
+none_of k [] all = refl
+none_of k (y ∷ ys) all =
+    let b : IsBystander y = all.0 in
+    ap (λ (o : Option ℕ). is_job k o || list_any (is_of k) ys) b.unstepped ∙ none_of k ys all.1
+
+pub bystanders_aside : (k : ℕ) (ys : List Line) → AreBystanders ys → IsAside k ys
+bystanders_aside k [] all = record { none = refl; calm = refl; silent = refl }
+bystanders_aside k (y ∷ ys) all =
+    let b : IsBystander y = all.0 in
+    record { none = none_of k (y ∷ ys) all; calm = plain_fault y b.plain; silent = plain_words y b.plain }

@@ -1,0 +1,163 @@
+-- Lines of others than the back, and those that say what a job did: the rules of the ring pass over them.
+use Rattle.std.proofs.Common.{◌≡◌, ℕ, Bool, true, false, List, [], ◌∷◌, ◌++◌, refl, sym, subst, append_assoc}
+use Rattle.std.specs.Prelude.{Option, Some, None, is_some, Result, Ok, Err, if◌then◌else◌}
+use Rattle.std.specs.List.{AllByRecursion}
+use Rattle.std.proofs.lemmas.Option.{none-some}
+use Rattle.std.proofs.lemmas.List.{append-nil}
+use Rattle.blk_base.specs.declared.config.Job.{Job}
+use Rattle.blk_base.specs.declared.parts.Mode.{Mode}
+use Rattle.blk_base.specs.declared.parts.End.TheVariants as end
+use Rattle.blk_base.specs.declared.ask.FrontAsk.{FrontAsk}
+use Rattle.blk_base.specs.declared.ask.FrontAsk.TheVariants as front_ask
+use Rattle.blk_base.specs.declared.ask.BackAsk.{BackAsk}
+use Rattle.blk_base.specs.declared.ask.BackAsk.TheVariants as back_ask
+use Rattle.blk_base.specs.declared.ask.BackAnswer.{BackAnswer}
+use Rattle.blk_base.specs.declared.ask.BackAnswer.TheVariants as answers
+use Rattle.blk_base.specs.declared.moves.BackMover.TheVariants as back
+use Rattle.blk_base.specs.declared.moves.Move.{Move}
+use Rattle.blk_base.specs.declared.moves.Move.TheVariants as moves
+use Rattle.grant_table.specs.declared.entry.MapRefusal.{MapRefusal}
+use Rattle.grant_table.specs.Table.{verdict_at}
+use Rattle.event_channel.specs.Channels.{is_pending}
+use Rattle.hypervisor.specs.Hypervisor.{Hypervisor}
+use Rattle.hypervisor.specs.Act.{FrontAct, BackAct, Outcome, Gave, Took, Failed, front_act, back_act, map_act, read_act, disk_act}
+use Rattle.schedule_text.specs.declared.line.Line.{Line}
+use Rattle.schedule_text.specs.declared.line.Line.TheVariants as lines
+use Rattle.report_rules.specs.Overrun.{is_service}
+use Rattle.report_rules.specs.Stretch.{is_of_back}
+use Rattle.blk_front.specs.declared.told.Told.{Told}
+use Rattle.blk_front.specs.declared.told.Told.TheVariants as front_told
+use Rattle.blk_front.specs.declared.told.Refusal.{Refusal}
+use Rattle.blk_back.specs.declared.told.BackTold.{BackTold}
+use Rattle.blk_back.specs.declared.told.BackTold.TheVariants as back_told
+use Rattle.blk_back.specs.View.{View}
+use Rattle.split_model.specs.Shown.{front_lines, back_lines, effect_line}
+use Rattle.split_model.specs.Happening.{submit_line}
+use Rattle.split_model.proofs.SafeActs.{of_front, of_back, front_test}
+use Rattle.split_model.proofs.SafeAnswers.{IsJobs}
+use Rattle.ring_laws.proofs.Sight.{is_other, other_epoch, other_touch, untouched_produced, untouched_word}
+use Rattle.ring_laws.proofs.Shows.{shows_other}
+use Rattle.ring_laws.proofs.Stands.{is_overrun, stands_more, shows_none, foreign_stretch}
+use Rattle.ring_laws.proofs.Knows.{Follows}
+
+-- a line that no rule of the ring stops, where the back has halted or not
+pub record IsFree (over : Bool) (line : Line) : Type 0 where
+  pub other : is_other line ≡ true
+  pub foreign : is_of_back line ≡ false
+  pub idle : over ≡ true → is_service line ≡ false
+  pub plain : is_overrun line ≡ false
+
+abbrev pub AreFree : Bool → List Line → Type 0
+AreFree over ls = AllByRecursion (IsFree over) ls
+
+pub follow_free : (start : ℕ) (values : List ℕ) (before : List Line) (line : Line) (v : View) → IsFree (is_some v.halted) line → Follows start values before v → Follows start values (before ++ line ∷ []) v
+follow_free start values before line v free f =
+    let still = other_touch line free.other in
+    record {
+      sight = f.sight;
+      begun = f.begun;
+      more = f.more;
+      grown = f.grown;
+      shows = shows_other before line f.sight free.other f.shows;
+      knows = f.knows;
+      stands = stands_more before line f.sight.start (is_some v.halted) f.stands (other_epoch line free.other) (shows_none before line (untouched_produced before line still)) free.idle free.plain (λ small. foreign_stretch before line free.foreign (untouched_word before line still));
+    }
+
+pub follow_all : (start : ℕ) (values : List ℕ) (more before : List Line) (v : View) → AreFree (is_some v.halted) more → Follows start values before v → Follows start values (before ++ more) v
+follow_all start values [] before v free f = subst (λ (ls : List Line). Follows start values ls v) (sym (append-nil before)) f
+follow_all start values (line ∷ more) before v free f =
+    subst (λ (ls : List Line). Follows start values ls v) (append_assoc before (line ∷ []) more) (follow_all start values more (before ++ line ∷ []) v free.1 (follow_free start values before line v free.0 f))
+
+free : (over : Bool) (line : Line) → is_other line ≡ true → is_of_back line ≡ false → is_service line ≡ false → is_overrun line ≡ false → IsFree over line
+free over line o f s p = record { other = o; foreign = f; idle = λ e. s; plain = p }
+
+-- one of a job, which the back has not given up
+busy : (over : Bool) (line : Line) → over ≡ false → is_other line ≡ true → is_of_back line ≡ false → is_overrun line ≡ false → IsFree over line
+busy over line running o f p = record { other = o; foreign = f; idle = λ e. absurd (cc); plain = p }
+
+abbrev FrontFree : Bool → FrontAct → Type 0
+FrontFree over a = IsFree over (lines.Move a.shown)
+
+pub front_free : (over : Bool) (h : Hypervisor) (ask : FrontAsk) (a : FrontAct) → front_act h ask ≡ Some a → FrontFree over a
+front_free over h front_ask.Wait a e = front_test (FrontFree over) (is_pending h.channels end.Front) _ a (free over _ refl refl refl refl) e
+front_free over h front_ask.Fence a e = of_front (FrontFree over) _ a (free over _ refl refl refl refl) e
+front_free over h (front_ask.Read frame word) a e = of_front (FrontFree over) _ a (free over _ refl refl refl refl) e
+front_free over h (front_ask.Write frame word value) a e = of_front (FrontFree over) _ a (free over _ refl refl refl refl) e
+front_free over h (front_ask.Cas frame word old new) a e = of_front (FrontFree over) _ a (free over _ refl refl refl refl) e
+front_free over h front_ask.NewPort a e = of_front (FrontFree over) _ a (free over _ refl refl refl refl) e
+front_free over h front_ask.Send a e = of_front (FrontFree over) _ a (free over _ refl refl refl refl) e
+front_free over h front_ask.ClosePort a e = of_front (FrontFree over) _ a (free over _ refl refl refl refl) e
+front_free over h (front_ask.GetKey path) a e = absurd (none-some a e)
+front_free over h (front_ask.SetKey path text) a e = absurd (none-some a e)
+front_free over h (front_ask.Watch path) a e = absurd (none-some a e)
+
+abbrev JobFree : Bool → BackAct → Type 0
+JobFree over a = IsFree over (lines.Move a.shown)
+
+map_free : (over : Bool) (h : Hypervisor) (k gref : ℕ) (mode : Mode) (verdict : Result ℕ MapRefusal) → over ≡ false → JobFree over (map_act h (back.Job k) gref mode verdict)
+map_free over h k gref mode (Ok frame) running = busy over _ running refl refl refl
+map_free over h k gref mode (Err refusal) running = busy over _ running refl refl refl
+
+read_free : (over : Bool) (h : Hypervisor) (shown : Move) (o : Outcome) (a : BackAct) → IsFree over (lines.Move shown) → read_act h shown o ≡ Some a → JobFree over a
+read_free over h shown (Gave words) a f e = of_back (JobFree over) _ a f e
+read_free over h shown Failed a f e = of_back (JobFree over) _ a f e
+read_free over h shown Took a f e = absurd (none-some a e)
+
+call_free : (over : Bool) (h : Hypervisor) (shown : Move) (o : Outcome) (a : BackAct) → IsFree over (lines.Move shown) → disk_act h shown o ≡ Some a → JobFree over a
+call_free over h shown Took a f e = of_back (JobFree over) _ a f e
+call_free over h shown Failed a f e = of_back (JobFree over) _ a f e
+call_free over h shown (Gave words) a f e = absurd (none-some a e)
+
+pub job_free : (over : Bool) (h : Hypervisor) (k : ℕ) (ask : BackAsk) (o : Outcome) (a : BackAct) → over ≡ false → IsJobs ask → back_act h (back.Job k) ask o ≡ Some a → JobFree over a
+job_free over h k back_ask.Wait o a running own e = absurd (none-some a e)
+job_free over h k back_ask.Fence o a running own e = absurd own
+job_free over h k (back_ask.Read m word) o a running own e = of_back (JobFree over) _ a (busy over _ running refl refl refl) e
+job_free over h k (back_ask.Write m word value) o a running own e = of_back (JobFree over) _ a (busy over _ running refl refl refl) e
+job_free over h k (back_ask.Map gref mode) o a running own e = of_back (JobFree over) _ a (map_free over h k gref mode (verdict_at h.pages gref mode) running) e
+job_free over h k (back_ask.Unmap m) o a running own e = of_back (JobFree over) _ a (busy over _ running refl refl refl) e
+job_free over h k (back_ask.Bind p) o a running own e = absurd own
+job_free over h k back_ask.Send o a running own e = absurd own
+job_free over h k back_ask.ClosePort o a running own e = absurd own
+job_free over h k (back_ask.GetKey path) o a running own e = absurd own
+job_free over h k (back_ask.SetKey path text) o a running own e = absurd own
+job_free over h k (back_ask.Watch path) o a running own e = absurd own
+job_free over h k (back_ask.DiskRead sector) o a running own e = read_free over h (moves.DiskRead k sector) o a (busy over _ running refl refl refl) e
+job_free over h k (back_ask.DiskWrite sector words) o a running own e = call_free over h (moves.DiskWrite k sector) o a (busy over _ running refl refl refl) e
+job_free over h k back_ask.Flush o a running own e = absurd own
+job_free over h k (back_ask.Trim sector count) o a running own e = absurd own
+
+-- after a halt no job moves
+pub job_running : (over : Bool) (h : Hypervisor) (k : ℕ) (ask : BackAsk) (o : Outcome) (a : BackAct) → back_act h (back.Job k) (if over then back_ask.Wait else ask) o ≡ Some a → over ≡ false
+job_running true h k ask o a e = absurd (none-some a e)
+job_running false h k ask o a e = refl
+
+pub free_front : (over : Bool) (t : Option Told) → AreFree over (front_lines t)
+free_front over None = tt
+free_front over (Some front_told.Ready) = (free over lines.Ready refl refl refl refl, tt)
+free_front over (Some (front_told.Answer id status)) = (free over (lines.Answer id status) refl refl refl refl, tt)
+free_front over (Some (front_told.Broken word)) = (free over (lines.Broken word) refl refl refl refl, tt)
+
+free_effect : (over : Bool) (id index : ℕ) (a : BackAnswer) → over ≡ false → IsFree over (effect_line id index a)
+free_effect over id index (answers.Sector words) running = busy over (lines.EffectRead id index words) running refl refl refl
+free_effect over id index a running = busy over (lines.Effect id index) running refl refl refl
+
+pub free_told : (over : Bool) (t : Option BackTold) (a : BackAnswer) → over ≡ false → AreFree over (back_lines t a)
+free_told over None a running = tt
+free_told over (Some (back_told.Effect id index)) a running = (free_effect over id index a running, tt)
+free_told over (Some (back_told.Fault id index)) a running = (busy over (lines.Fault id index) running refl refl refl, tt)
+free_told over (Some (back_told.Reply id status)) a running = (busy over (lines.Reply id status) running refl refl refl, tt)
+
+pub free_submit : (over : Bool) (job : Job) (r : Result ℕ Refusal) → IsFree over (submit_line job r)
+free_submit over job (Ok number) = free over (lines.Submit number job) refl refl refl refl
+free_submit over job (Err r) = free over _ refl refl refl refl
+
+pub free_look : (over quiet : Bool) → IsFree over (if quiet then lines.Quiet else lines.Busy)
+free_look over true = free over lines.Quiet refl refl refl refl
+free_look over false = free over lines.Busy refl refl refl refl
+
+pub free_settle : (over quiet : Bool) → IsFree over (if quiet then lines.Quiet else lines.Unsettled)
+free_settle over true = free over lines.Quiet refl refl refl refl
+free_settle over false = free over lines.Unsettled refl refl refl refl
+
+pub free_end : (over : Bool) → IsFree over lines.End
+free_end over = free over lines.End refl refl refl refl

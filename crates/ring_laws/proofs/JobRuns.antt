@@ -1,0 +1,165 @@
+-- Whatever happens from the start, the lines keep the rules on jobs.
+use Rattle.std.proofs.Common.{◌≡◌, ℕ, ◌<◌, ◌^◌, Bool, true, false, if◌then◌else◌, List, [], ◌∷◌, ◌++◌, length, refl, ap, sym, ◌∙◌, subst, append_assoc, append-nil, length-append, arith}
+use Rattle.std.specs.Prelude.{Option, Some, None, is_some, Result, Ok, Err}
+use Rattle.blk_base.specs.Options.{Options}
+use Rattle.blk_base.specs.declared.config.Job.{Job}
+use Rattle.schedule_text.specs.declared.line.Line.{Line}
+use Rattle.schedule_text.specs.declared.line.Line.TheVariants as lines
+use Rattle.schedule_text.specs.declared.line.Detail.{Detail}
+use Rattle.blk_base.specs.declared.ask.BackAsk.TheVariants as ask
+use Rattle.blk_base.specs.declared.moves.BackMover.TheVariants as mover
+use Rattle.hypervisor.specs.Act.{FrontAct, BackAct, Outcome, Took, back_act}
+use Rattle.report_rules.specs.Obeys.{Obeys}
+use Rattle.report_rules.specs.Steps.{AreSteps}
+use Rattle.report_rules.specs.Data.{AreData}
+use Rattle.report_rules.specs.Effect.{AreEffects}
+use Rattle.report_rules.specs.Job.{entry_values}
+use Rattle.report_rules.proofs.Obeys.{obeys_none, obeys_more}
+use Rattle.back_jobs.specs.Jobs.{ask_job, place_of, work_of}
+use Rattle.blk_front.specs.declared.told.Refusal.{Refusal}
+use Rattle.blk_front.specs.Ask as front_ask
+use Rattle.blk_front.specs.Step as front_step
+use Rattle.blk_front.specs.Submit as front_submit
+use Rattle.blk_front.specs.View as front
+use Rattle.blk_back.specs.View as back
+use Rattle.blk_back.specs.Step as back_step
+use Rattle.split_model.specs.World.{World, start_of, is_quiet}
+use Rattle.split_model.specs.Happening.{Happening, FrontMoves, BackMoves, JobMoves, Submits, Notifies, Looks, Settles, happens, lines_at, after, lines_of, front_after, front_shows, back_after, back_shows, job_after, job_shows, front_turn, back_turn, job_turn, submit_line}
+use Rattle.split_model.specs.Safe.{IsSafe}
+use Rattle.split_model.proofs.Safe.{safe_start, safe_happens}
+use Rattle.split_model.proofs.SafeAnswers.{jobs_of}
+use Rattle.split_model.specs.Report.{report_of, ended_report_of}
+use Rattle.move_laws.specs.Within.{IsWithin, AreWithin}
+use Rattle.move_laws.proofs.Always.{always_within}
+use Rattle.move_laws.proofs.Runs as memory
+use Rattle.ring_laws.proofs.Shows.{Sight, Shows}
+use Rattle.ring_laws.proofs.Knows.{Follows}
+use Rattle.ring_laws.proofs.Free.{AreFree, front_free, job_free, job_running, free_front, free_told, free_submit, free_look, free_settle}
+use Rattle.ring_laws.proofs.Runs.{FollowsTo, follows_happens, follows_begin}
+use Rattle.ring_laws.proofs.Works.{no_jobs}
+use Rattle.ring_laws.proofs.Bystanders.{IsRule, IsBystander, AreBystanders, no_effect}
+use Rattle.ring_laws.proofs.BackChange.{front_by, front_told_by}
+use Rattle.ring_laws.proofs.Tells.{Tells, tells_aside, shows_free}
+use Rattle.ring_laws.proofs.BackTells.{back_tells}
+use Rattle.ring_laws.proofs.JobTells.{JobTells, job_tells}
+use Rattle.ring_laws.proofs.JobTurn.{After}
+
+-- all that the lines so far tell, side by side with the machine
+pub record Stand (config : Options) (before : List Line) (w : World) : Type 0 where
+  pub ring : FollowsTo config.start before w
+  pub memory : memory.FollowsTo before w
+  pub safe : IsSafe w
+  pub tells : Tells config before w.back
+
+same_values : (over : Bool) (before ys : List Line) (x : Sight) → AreFree over ys → Shows before x → entry_values (before ++ ys) ≡ entry_values before
+same_values over before ys x free shows = let longer : Shows (before ++ ys) x = shows_free over ys before x free shows in longer.values ∙ sym shows.values
+
+aside : (config : Options) (start : ℕ) (before ys : List Line) (v : back.View) → Follows start [] before v → AreFree (is_some v.halted) ys → AreBystanders ys → Tells config before v → Tells config (before ++ ys) v
+aside config start before ys v f free all t = tells_aside config before ys v all (same_values (is_some v.halted) before ys f.sight free f.shows) t
+
+no_lines : (config : Options) (before : List Line) (v : back.View) → Tells config before v → Tells config (before ++ []) v
+no_lines config before v t = subst (λ (ls : List Line). Tells config ls v) (sym (append-nil before)) t
+
+retold : (config : Options) (before : List Line) (v : back.View) → Tells config before v → Tells config before (record v { told = None })
+retold config before v t = record { tale = t.tale; quiet = t.quiet; info = t.info; jobs = t.jobs; unseen = t.unseen }
+
+front_tells : (config : Options) (w : World) (before : List Line) (act : Option FrontAct) → FollowsTo config.start before w → Tells config before w.back → front_turn w ≡ act → Tells config (before ++ front_shows w act) w.back
+front_tells config w before None f t e = no_lines config before w.back t
+front_tells config w before (Some a) f t e =
+    let g : front.View = front_step.step_of w.front a.answer in
+    aside config config.start before (front_shows w (Some a)) w.back f.follows (front_free (is_some w.back.halted) w.under (front_ask.ask_of w.front) a e, free_front (is_some w.back.halted) g.told) (front_by w.under (front_ask.ask_of w.front) a e, front_told_by g.told) t
+
+front_after_tells : (config : Options) (w : World) (before : List Line) (act : Option FrontAct) → Tells config before w.back → (let n : World = front_after w act in Tells config before n.back)
+front_after_tells config w before None t = t
+front_after_tells config w before (Some a) t = t
+
+back_goes_on : (config : Options) (w : World) (before : List Line) (o : Outcome) (act : Option BackAct) → FollowsTo config.start before w → Tells config before w.back → back_turn w o ≡ act → length (before ++ back_shows w act) < 2 ^ 64 → (let n : World = back_after w act in Tells config (before ++ back_shows w act) n.back)
+back_goes_on config w before o None f t e few = no_lines config before w.back t
+back_goes_on config w before o (Some a) f t e few = retold config (before ++ back_shows w (Some a)) (back_step.step_of w.back a.answer) (back_tells config config.start before w.under w.back o a f.follows f.told t e few)
+
+job_goes_on : (config : Options) (w : World) (before : List Line) (k : ℕ) (o : Outcome) (act : Option BackAct) → Stand config before w → job_turn w k o ≡ act → (let n : World = job_after w k act in Tells config (before ++ job_shows w k act) n.back)
+job_goes_on config w before k o None s e = no_lines config before w.back s.tells
+job_goes_on config w before k o (Some a) s e =
+    let t : Tells config before w.back = s.tells in
+    let running : is_some w.back.halted ≡ false = job_running (is_some w.back.halted) w.under k (ask_job w.back.jobs k) o a e in
+    let asks = ap (λ (b : Bool). back_act w.under (mover.Job k) (if b then ask.Wait else ask_job w.back.jobs k) o) (sym running) ∙ e in
+    let free : AreFree (is_some w.back.halted) (job_shows w k (Some a)) = (job_free (is_some w.back.halted) w.under k (back_step.job_ask_of w.back k) o a running (jobs_of w.back k) e, free_told (is_some w.back.halted) _ a.answer running) in
+    let told : JobTells config before (job_shows w k (Some a)) w.back _ = job_tells config config.start before w.under.pages w.under.grants w.under w.back k o a (place_of w.back.jobs.works k) (work_of w.back.jobs.works k) refl refl running s.ring.follows s.memory.tells s.safe.held free s.tells asks in
+    let behind : After config before (job_shows w k (Some a)) = told.after in
+    record { tale = behind.tale; quiet = behind.quiet; info = t.info; jobs = λ r. told.jobs; unseen = told.unseen }
+
+submit_by : (job : Job) (r : Result ℕ Refusal) → IsBystander (submit_line job r)
+submit_by job (Ok number) = record { plain = refl; unstepped = refl }
+submit_by job (Err r) = record { plain = refl; unstepped = refl }
+
+look_by : (quiet : Bool) → IsBystander (if quiet then lines.Quiet else lines.Busy)
+look_by true = record { plain = refl; unstepped = refl }
+look_by false = record { plain = refl; unstepped = refl }
+
+settle_by : (quiet : Bool) → IsBystander (if quiet then lines.Quiet else lines.Unsettled)
+settle_by true = record { plain = refl; unstepped = refl }
+settle_by false = record { plain = refl; unstepped = refl }
+
+tells_happens : (config : Options) (w : World) (h : Happening) (before : List Line) → Stand config before w → length (before ++ lines_at w h) < 2 ^ 64 → (let n : World = happens w h in Tells config (before ++ lines_at w h) n.back)
+tells_happens config w FrontMoves before s few = front_after_tells config w (before ++ front_shows w (front_turn w)) (front_turn w) (front_tells config w before (front_turn w) s.ring s.tells refl)
+tells_happens config w BackMoves before s few = back_goes_on config w before Took (back_turn w Took) s.ring s.tells refl few
+tells_happens config w (JobMoves number outcome) before s few = job_goes_on config w before number outcome (job_turn w number outcome) s refl
+tells_happens config w (Submits job) before s few = aside config config.start before (lines_at w (Submits job)) w.back s.ring.follows (free_submit (is_some w.back.halted) job (front_submit.submit_of w.front job).0, tt) (submit_by job (front_submit.submit_of w.front job).0, tt) s.tells
+tells_happens config w (Notifies at) before s few = no_lines config before w.back s.tells
+tells_happens config w Looks before s few = aside config config.start before (lines_at w Looks) w.back s.ring.follows (free_look (is_some w.back.halted) (is_quiet w), tt) (look_by (is_quiet w), tt) s.tells
+tells_happens config w Settles before s few = aside config config.start before (lines_at w Settles) w.back s.ring.follows (free_settle (is_some w.back.halted) (is_quiet w), tt) (settle_by (is_quiet w), tt) s.tells
+
+pub stand_happens : (config : Options) (w : World) (h : Happening) (before : List Line) → IsWithin w h → Stand config before w → length (before ++ lines_at w h) < 2 ^ 64 → Stand config (before ++ lines_at w h) (happens w h)
+stand_happens config w h before within s few = record {
+  ring = follows_happens config.start w h before s.ring;
+  memory = memory.follows_happens w h before s.safe within s.memory;
+  safe = safe_happens w h s.safe;
+  tells = tells_happens config w h before s few;
+}
+
+stand_after : (config : Options) (hs : List Happening) (w : World) (before : List Line) → AreWithin hs w → Stand config before w → length (before ++ lines_of hs w) < 2 ^ 64 → Stand config (before ++ lines_of hs w) (after hs w)
+stand_after config [] w before within s few = subst (λ (ls : List Line). Stand config ls w) (sym (append-nil before)) s
+stand_after config (h ∷ hs) w before within s few =
+    let joined : (before ++ lines_at w h) ++ lines_of hs (happens w h) ≡ before ++ (lines_at w h ++ lines_of hs (happens w h)) = append_assoc before (lines_at w h) (lines_of hs (happens w h)) in
+    let all : length ((before ++ lines_at w h) ++ lines_of hs (happens w h)) < 2 ^ 64 = subst (λ (ls : List Line). length ls < 2 ^ 64) (sym joined) few in
+    let long = length-append (before ++ lines_at w h) (lines_of hs (happens w h)) in
+    let some : length (before ++ lines_at w h) < 2 ^ 64 = omega arith in
+    subst (λ (ls : List Line). Stand config ls (after hs (happens w h))) joined
+    (stand_after config hs (happens w h) (before ++ lines_at w h) within.1 (stand_happens config w h before within.0 s some) all)
+
+begin_rule : (config : Options) (detail : Detail) → IsRule [] (lines.Begin config detail)
+begin_rule config detail = record { step = tt; moved = tt; effect = no_effect [] (lines.Begin config detail) refl refl }
+
+pub stand_start : (config : Options) (detail : Detail) → Stand config (lines.Begin config detail ∷ []) (start_of config)
+stand_start config detail = record {
+  ring = record { follows = follows_begin config detail; told = refl };
+  memory = memory.follows_begin config detail;
+  safe = safe_start config;
+  tells = record {
+    tale = record { obeys = obeys_more IsRule [] (lines.Begin config detail) (obeys_none IsRule) (begin_rule config detail); keeping = refl; serves = refl; told = refl };
+    quiet = refl;
+    info = refl;
+    jobs = λ running. no_jobs config [] (lines.Begin config detail ∷ []) 0;
+    unseen = λ k above. refl;
+  };
+}
+
+report_stands : (config : Options) (detail : Detail) (history : List Happening) → length (report_of config detail history) < 2 ^ 64 → Stand config (report_of config detail history) (after history (start_of config))
+report_stands config detail history few = stand_after config history (start_of config) (lines.Begin config detail ∷ []) (always_within config history) (stand_start config detail) few
+
+pub report_rules : (config : Options) (detail : Detail) (history : List Happening) → length (report_of config detail history) < 2 ^ 64 → Obeys IsRule (report_of config detail history)
+report_rules config detail history few = (report_stands config detail history few).tells.tale.obeys
+
+pub ended_rules : (config : Options) (detail : Detail) (history : List Happening) → length (report_of config detail history) < 2 ^ 64 → Obeys IsRule (ended_report_of config detail history)
+ended_rules config detail history few =
+    let t : Tells config (report_of config detail history) (let w : World = after history (start_of config) in w.back) = (report_stands config detail history few).tells in
+    obeys_more IsRule (report_of config detail history) lines.End t.tale.obeys (record { step = tt; moved = tt; effect = no_effect (report_of config detail history) lines.End t.quiet refl })
+
+pub steps_of : (ls : List Line) → Obeys IsRule ls → AreSteps ls
+steps_of ls obeys before rest line e = (obeys before rest line e).step
+
+pub data_of : (ls : List Line) → Obeys IsRule ls → AreData ls
+data_of ls obeys before rest line e = (obeys before rest line e).moved
+
+pub effects_of : (ls : List Line) → Obeys IsRule ls → AreEffects ls
+effects_of ls obeys before rest line e = (obeys before rest line e).effect

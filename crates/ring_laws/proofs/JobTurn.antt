@@ -1,0 +1,221 @@
+-- A move of a job: its lines obey the rules on jobs, and the jobs are as their entries say.
+use Rattle.std.proofs.Common.{◌≡◌, ◌≢◌, ℕ, ◌+◌, ◌*◌, ◌≤◌, ◌==◌, ◌||◌, ◌&&◌, Bool, true, false, if◌then◌else◌, List, [], ◌∷◌, ◌++◌, length, count_by, refl, ap, sym, ◌∙◌, subst, append_assoc, arith}
+use Rattle.std.specs.Prelude.{Option, Some, None, IsSomeAnd, slice_get, nat_lt, nat_le, Result, Ok, Err}
+use Rattle.std.proofs.lemmas.Option.{none-some}
+use Rattle.std.proofs.lemmas.Bool.Decides.{nat_tests}
+use Rattle.blk_base.specs.Options.{Options}
+use Rattle.blk_base.specs.declared.operation.Abi.TheVariants.{X64}
+use Rattle.blk_base.specs.declared.parts.Mapping.{Mapping}
+use Rattle.blk_base.specs.declared.ask.BackAnswer.{BackAnswer}
+use Rattle.blk_base.specs.declared.ask.BackAnswer.TheVariants as answers
+use Rattle.blk_base.specs.declared.moves.BackMover.TheVariants as back
+use Rattle.blk_base.specs.declared.moves.Move.{Move}
+use Rattle.grant_table.specs.declared.entry.MapRefusal.{MapRefusal}
+use Rattle.grant_table.specs.Table.{verdict_at}
+use Rattle.hypervisor.specs.Hypervisor.{Hypervisor}
+use Rattle.hypervisor.specs.Act.{BackAct, Outcome, Gave, Took, Failed, back_act, map_act}
+use Rattle.schedule_text.specs.declared.line.Line.{Line}
+use Rattle.schedule_text.specs.declared.line.Line.TheVariants as lines
+use Rattle.blk_layout.specs.declared.segment.Segment.{Segment}
+use Rattle.ring_words.specs.Shape.{Shape}
+use Rattle.report_rules.specs.declared.standing.Standing.{Standing}
+use Rattle.report_rules.specs.declared.work.Task.{Task}
+use Rattle.report_rules.specs.Standing.{this_epoch, standing_behind, numbered}
+use Rattle.report_rules.specs.Job.{is_job, is_fetched, entry_values, request_in, request_of_job, id_of}
+use Rattle.report_rules.specs.Steps.{info_of}
+use Rattle.report_rules.specs.Effect.{disk_move_shown}
+use Rattle.blk_back.specs.View.{info_of as back_info}
+use Rattle.back_jobs.specs.declared.stage.Stage.{Stage}
+use Rattle.back_jobs.specs.declared.stage.Stage.TheVariants as stage
+use Rattle.back_jobs.specs.Task.{Work, IsDone, ask_at, step_at, map_ask, mode_of, last_of, rest_of, next_sector, next_segment, counted, sector_stage}
+use Rattle.back_jobs.specs.Jobs.{mapping_at, asked, told_at as told_works}
+use Rattle.split_model.proofs.SafeActs.{of_back}
+use Rattle.ring_laws.proofs.Shows.{Sight, Shows, shows_other, epoch_longer}
+use Rattle.ring_laws.proofs.Sight.{is_other}
+use Rattle.ring_laws.proofs.Touches.{IsPage}
+use Rattle.ring_laws.proofs.Entry.{one_shape}
+use Rattle.ring_laws.proofs.JobLines.{is_of, is_disk_of, IsAside, moves_own}
+use Rattle.ring_laws.proofs.Places.{Within, IsAt}
+use Rattle.ring_laws.proofs.JobMoves.{itself}
+use Rattle.ring_laws.proofs.JobSteps.{StepsBy, takes, rests, JobGoes, told_at}
+use Rattle.ring_laws.proofs.JobStages.{job_goes}
+use Rattle.ring_laws.proofs.Began.{IsPlan, serves, over, IsJobOf, request_at}
+use Rattle.ring_laws.proofs.Works.{AreJobs, jobs_told, job_found}
+use Rattle.ring_laws.proofs.Bystanders.{IsRule, Tale, shown_last, tale_more, is_plain, plain_keeps, plain_serves, plain_tells, bystander_rule, some_and}
+use Rattle.ring_laws.proofs.JobRule.{own_rule, ToldBy, nothing, one, effect_done, effect_given, write_failed, read_failed}
+
+-- what a job's move shows, and the lines behind it
+pub record IsSpoken (epoch : List Line) (k : ℕ) (s : Stage) (t : Work) (a : BackAct) : Type 0 where
+  pub plain : is_plain (lines.Move a.shown) ≡ true
+  pub told : ToldBy epoch a.shown k t.id t.moved (told_at s t a.answer)
+
+map_tells : (epoch : List Line) (h : Hypervisor) (k : ℕ) (t : Work) (s : Segment) (verdict : Result ℕ MapRefusal) → IsSpoken epoch k stage.Map t (map_act h (back.Job k) s.gref (mode_of t.writes) verdict)
+map_tells epoch h k t s (Ok frame) = record { plain = refl; told = nothing refl refl }
+map_tells epoch h k t s (Err refusal) = record { plain = refl; told = nothing refl refl }
+
+map_asked : (epoch : List Line) (h : Hypervisor) (k : ℕ) (t : Work) (o : Outcome) (a : BackAct) (rest : List Segment) → back_act h (back.Job k) (map_ask rest t.writes) o ≡ Some a → IsSpoken epoch k stage.Map t a
+map_asked epoch h k t o a [] e = absurd (none-some a e)
+map_asked epoch h k t o a (s ∷ more) e = of_back (IsSpoken epoch k stage.Map t) _ a (map_tells epoch h k t s (verdict_at h.pages s.gref (mode_of t.writes))) e
+
+job_tells : (work : List Task) (epoch : List Line) (h : Hypervisor) (k : ℕ) (s : Stage) (t : Work) (o : Outcome) (a : BackAct) → IsAt work k epoch s t → back_act h (back.Job k) (ask_at s t) o ≡ Some a → IsSpoken epoch k s t a
+job_tells work epoch h k stage.Map t o a at e = map_asked epoch h k t o a t.rest e
+job_tells work epoch h k (stage.ReadWord m j) t o a at e = of_back (IsSpoken epoch k (stage.ReadWord m j) t) _ a (record { plain = refl; told = nothing refl refl }) e
+job_tells work epoch h k (stage.DiskWrite m) t Took a at e =
+    let w : Within work k epoch t.rest t.within t.disk t.moved t.writes 128 1 m = at.0 in
+    of_back (IsSpoken epoch k (stage.DiskWrite m) t) _ a (record { plain = refl; told = one _ refl (effect_done _ k t.disk t.id t.moved refl) (itself k) w.counted }) e
+job_tells work epoch h k (stage.DiskWrite m) t Failed a at e =
+    let w : Within work k epoch t.rest t.within t.disk t.moved t.writes 128 1 m = at.0 in
+    of_back (IsSpoken epoch k (stage.DiskWrite m) t) _ a (record { plain = refl; told = one _ refl (write_failed _ k t.disk t.id t.moved refl) (itself k) w.counted }) e
+job_tells work epoch h k (stage.DiskWrite m) t (Gave words) a at e = absurd (none-some a e)
+job_tells work epoch h k (stage.DiskRead m) t (Gave words) a at e =
+    let w : Within work k epoch t.rest t.within t.disk t.moved t.writes 0 1 m = at.0 in
+    of_back (IsSpoken epoch k (stage.DiskRead m) t) _ a (record { plain = refl; told = one _ refl (effect_given _ k t.disk t.id t.moved words refl) (itself k) w.counted }) e
+job_tells work epoch h k (stage.DiskRead m) t Failed a at e =
+    let w : Within work k epoch t.rest t.within t.disk t.moved t.writes 0 1 m = at.0 in
+    of_back (IsSpoken epoch k (stage.DiskRead m) t) _ a (record { plain = refl; told = one _ refl (read_failed _ k t.disk t.id t.moved refl) (itself k) w.counted }) e
+job_tells work epoch h k (stage.DiskRead m) t Took a at e = absurd (none-some a e)
+job_tells work epoch h k (stage.WriteWord m j) t o a at e = of_back (IsSpoken epoch k (stage.WriteWord m j) t) _ a (record { plain = refl; told = nothing refl refl }) e
+job_tells work epoch h k (stage.Unmap m) t o a at e = of_back (IsSpoken epoch k (stage.Unmap m) t) _ a (record { plain = refl; told = nothing refl refl }) e
+job_tells work epoch h k (stage.GiveUp m) t o a at e = of_back (IsSpoken epoch k (stage.GiveUp m) t) _ a (record { plain = refl; told = nothing refl refl }) e
+job_tells work epoch h k (stage.Done status) t o a at e = absurd (none-some a e)
+
+-- the request of a job, wherever the lines show these words of entries
+pub asked_for : (before : List Line) (x : Sight) (number k : ℕ) → Shows before x → IsPage number x.pages → 1 ≤ k → 28 * k ≤ length x.values → request_of_job before k ≡ Some (request_at x.values k)
+asked_for before x number k shows is first read =
+    let whole : is_fetched x.values 28 k ≡ true = fetched_test (length x.values) first read in
+    ap (λ (s : Option Shape). request_in (entry_values before) k s) (one_shape before x number shows is)
+    ∙ (ap (λ (vs : List ℕ). request_in vs k (Some (record { abi = X64; order = 0 }))) shows.values
+    ∙ ap (λ (b : Bool). if b then Some (request_at x.values k) else None) whole)
+  where
+    fetched_test : (n : ℕ) → 1 ≤ k → 28 * k ≤ n → (nat_lt 0 k && nat_le (k * 28) n) ≡ true
+    fetched_test n some enough = grind (arith, nat_tests)
+
+-- the lines behind a job's own
+pub record After (config : Options) (before ys : List Line) : Type 0 where
+  pub tale : Tale config (before ++ ys)
+  pub quiet : disk_move_shown (before ++ ys) ≡ None
+  pub epoch : this_epoch (before ++ ys) ≡ this_epoch before ++ ys
+
+after_told : (config : Options) (before : List Line) (k id index : ℕ) (shown : Move) (told : List Line) → Tale config (before ++ lines.Move shown ∷ []) → ToldBy (this_epoch before) shown k id index told
+    → IsSomeAnd (request_of_job (before ++ lines.Move shown ∷ []) k) (λ r. id_of r ≡ id) → After config before (lines.Move shown ∷ told)
+after_told config before k id index shown told tale (nothing no_disk none) asked =
+    subst (λ (ls : List Line). After config before (lines.Move shown ∷ ls)) (sym none)
+    (record { tale = tale; quiet = shown_last before (lines.Move shown) ∙ no_disk; epoch = epoch_longer before (lines.Move shown) refl })
+after_told config before k id index shown told tale (one line is l disk counted) asked =
+    let longer : List Line = before ++ lines.Move shown ∷ [] in
+    let epoch : this_epoch longer ≡ this_epoch before ++ lines.Move shown ∷ [] = epoch_longer before (lines.Move shown) refl in
+    let moved : count_by (is_disk_of k) (this_epoch longer) ≡ index + 1 = ap (λ (ls : List Line). count_by (is_disk_of k) ls) epoch ∙ (moves_own k (this_epoch before) [] (lines.Move shown) disk refl ∙ ap (λ (n : ℕ). n + 1) counted) in
+    let rule : IsRule longer line = record { step = l.step longer; moved = l.moved longer; effect = l.effect longer (shown_last before (lines.Move shown)) asked (sym moved) } in
+    let more : Tale config (longer ++ line ∷ []) = tale_more config longer line tale l.same_epoch l.keeps l.serves (l.tells (info_of config)) rule in
+    let joined : longer ++ line ∷ [] ≡ before ++ lines.Move shown ∷ line ∷ [] = append_assoc before (lines.Move shown ∷ []) (line ∷ []) in
+    subst (λ (ls : List Line). After config before (lines.Move shown ∷ ls)) (sym is)
+    (record {
+      tale = subst (λ (ls : List Line). Tale config ls) joined more;
+      quiet = ap disk_move_shown (sym joined) ∙ (shown_last longer line ∙ l.still);
+      epoch = ap this_epoch (sym joined) ∙ (epoch_longer longer line l.same_epoch ∙ (ap (λ (ls : List Line). ls ++ line ∷ []) epoch ∙ append_assoc (this_epoch before) (lines.Move shown ∷ []) (line ∷ [])));
+    })
+
+other_number : (j k : ℕ) → j ≢ k → (k == j) ≡ false
+other_number j k other = grind (arith, nat_tests)
+
+-- no line of the group is of another job
+told_aside : (epoch : List Line) (j k id index : ℕ) (shown : Move) (told : List Line) → is_of j (lines.Move shown) ≡ false → ToldBy epoch shown k id index told → IsAside j (lines.Move shown ∷ told)
+told_aside epoch j k id index shown told aside (nothing no_disk none) = subst (λ (ls : List Line). IsAside j (lines.Move shown ∷ ls)) (sym none) (record { none = ap (λ (b : Bool). b || false) aside; calm = refl; silent = refl })
+told_aside epoch j k id index shown told aside (one line is l disk counted) =
+    subst (λ (ls : List Line). IsAside j (lines.Move shown ∷ ls)) (sym is)
+    (record { none = ap (λ (b : Bool). b || (is_of j line || false)) aside ∙ ap (λ (o : Option ℕ). is_job j o || false) l.unstepped; calm = refl; silent = refl })
+
+mover_aside : (work : List Task) (k j : ℕ) (epoch : List Line) (standing : List Standing) (shown : Move) → j ≢ k → StepsBy work k epoch standing shown → is_of j (lines.Move shown) ≡ false
+mover_aside work k j epoch standing shown other (takes own s) = ap (λ (o : Option ℕ). is_job j o) own ∙ other_number j k other
+mover_aside work k j epoch standing shown other (rests none) = ap (λ (o : Option ℕ). is_job j o) none
+
+own_line : (config : Options) (before : List Line) (k : ℕ) (shown : Move) (work : List Task) (x : Sight) (s : Stage) → Tale config before → disk_move_shown before ≡ None → request_of_job before k ≡ Some (request_at x.values k) → IsPlan (request_at x.values k) (back_info config) work s → (IsDone s → ⊥)
+    → is_plain (lines.Move shown) ≡ true → StepsBy work k (this_epoch before) (standing_behind before) shown → IsRule before (lines.Move shown)
+own_line config before k shown work x s tale quiet asked (serves plan) busy plain (takes own steps) = own_rule config before k shown (request_at x.values k) work tale quiet asked plan plain own steps
+own_line config before k shown work x s tale quiet asked (over done) busy plain (takes own steps) = absurd (busy done)
+own_line config before k shown work x s tale quiet asked plan busy plain (rests none) = bystander_rule before (lines.Move shown) quiet (record { plain = plain; unstepped = none })
+
+done_waits : (h : Hypervisor) (k : ℕ) (s : Stage) (t : Work) (o : Outcome) (a : BackAct) → back_act h (back.Job k) (ask_at s t) o ≡ Some a → IsDone s → ⊥
+done_waits h k (stage.Done status) t o a e done = none-some a e
+done_waits h k s t o a e done = done
+
+still_plan : (config : Options) (values : List ℕ) (k : ℕ) (work : List Task) (s now : Stage) → (IsDone s → ⊥) → IsPlan (request_at values k) (back_info config) work s → IsPlan (request_at values k) (back_info config) work now
+still_plan config values k work s now busy (serves plan) = serves plan
+still_plan config values k work s now busy (over done) = absurd (busy done)
+
+-- a job keeps its number and its id
+pub record IsSame (old new : Work) : Type 0 where
+  pub number : new.number ≡ old.number
+  pub id : new.id ≡ old.id
+
+either_same : (old : Work) (b : Bool) (x y : Work) → IsSame old x → IsSame old y → IsSame old (if b then x else y)
+either_same old true x y p q = p
+either_same old false x y p q = q
+
+sector_same : (old t : Work) (m : Mapping) → IsSame old t → IsSame old (next_sector t m)
+sector_same old t m s = either_same old (t.within == last_of t.rest) (record t { stage = stage.Unmap m }) (record t { within = t.within + 1; stage = sector_stage t.writes m }) (record { number = s.number; id = s.id }) (record { number = s.number; id = s.id })
+
+segment_same : (t : Work) (rest : List Segment) → IsSame t (next_segment t rest)
+segment_same t [] = record { number = refl; id = refl }
+segment_same t (s ∷ rest) = record { number = refl; id = refl }
+
+pub step_same : (s : Stage) (t : Work) (a : BackAnswer) → IsSame t (step_at s t a)
+step_same stage.Map t (answers.Mapped m) = record { number = refl; id = refl }
+step_same stage.Map t (answers.MapRefused status) = record { number = refl; id = refl }
+step_same (stage.ReadWord m k) t (answers.Word word) = record { number = refl; id = refl }
+step_same (stage.DiskWrite m) t answers.Done = sector_same t (counted t) m (record { number = refl; id = refl })
+step_same (stage.DiskWrite m) t answers.DiskFailed = record { number = refl; id = refl }
+step_same (stage.DiskRead m) t (answers.Sector words) = record { number = refl; id = refl }
+step_same (stage.DiskRead m) t answers.DiskFailed = record { number = refl; id = refl }
+step_same (stage.WriteWord m k) t answers.Done = either_same t (k == 127) (next_sector t m) (record t { stage = stage.WriteWord m (k + 1) }) (sector_same t t m (record { number = refl; id = refl })) (record { number = refl; id = refl })
+step_same (stage.Unmap m) t answers.Done = segment_same t (rest_of t.rest)
+step_same (stage.GiveUp m) t answers.Done = record { number = refl; id = refl }
+step_same s t a = record { number = refl; id = refl }
+
+-- a job under its number
+pub record IsNumbered (config : Options) (values : List ℕ) (epoch : List Line) (t : Work) (k : ℕ) : Type 0 where
+  pub work : List Task
+  pub first : 1 ≤ k
+  pub read : 28 * k ≤ length values
+  pub id : id_of (request_at values k) ≡ t.id
+  pub plan : IsPlan (request_at values k) (back_info config) work t.stage
+  pub at : IsAt work k epoch t.stage t
+
+renumbered : (config : Options) (values : List ℕ) (epoch : List Line) (t : Work) (k : ℕ) → k ≡ t.number → IsNumbered config values epoch t k → IsJobOf config values epoch t
+renumbered config values epoch t k is n =
+    let m : IsNumbered config values epoch t t.number = subst (λ (j : ℕ). IsNumbered config values epoch t j) is n in
+    record { work = m.work; first = m.first; read = m.read; id = m.id; plan = m.plan; at = m.at }
+
+-- the lines and the jobs behind a move of a job
+pub record Turned (config : Options) (before : List Line) (values : List ℕ) (fetched k : ℕ) (ys : List Line) (works : List Work) : Type 0 where
+  pub after : After config before ys
+  pub jobs : AreJobs config values (this_epoch before ++ ys) fetched works
+  pub aside : (j : ℕ) → j ≢ k → IsAside j ys
+
+pub found_turn : (config : Options) (before : List Line) (x : Sight) (number fetched k : ℕ) (works : List Work) (h : Hypervisor) (o : Outcome) (a : BackAct) (place : ℕ) (t : Work) → slice_get works place ≡ Some t → t.number ≡ k
+    → Shows before x → IsPage number x.pages → is_other (lines.Move a.shown) ≡ true → Tale config before → disk_move_shown before ≡ None → AreJobs config x.values (this_epoch before) fetched works
+    → ((m : Mapping) → mapping_at t.stage ≡ Some m → IsSomeAnd (numbered m.number (standing_behind before)) (λ (y : Standing). y.gref ≡ m.gref))
+    → back_act h (back.Job k) (ask_at t.stage t) o ≡ Some a
+    → Turned config before x.values fetched k (lines.Move a.shown ∷ told_at t.stage t a.answer) (told_works works (Some place) (Some t) a.answer)
+found_turn config before x number fetched k works h o a place t found is shows page other tale quiet jobs stands e = subst (λ (n : ℕ). back_act h (back.Job n) (ask_at t.stage t) o ≡ Some a → Turned config before x.values fetched n (lines.Move a.shown ∷ told_at t.stage t a.answer) (told_works works (Some place) (Some t) a.answer)) is go e
+  where
+    go : back_act h (back.Job t.number) (ask_at t.stage t) o ≡ Some a → Turned config before x.values fetched t.number (lines.Move a.shown ∷ told_at t.stage t a.answer) (told_works works (Some place) (Some t) a.answer)
+    go act =
+        let j : IsJobOf config x.values (this_epoch before) t = job_found config x.values (this_epoch before) fetched works place t found jobs in
+        let busy = done_waits h t.number t.stage t o a act in
+        let goes : JobGoes j.work t.number (this_epoch before) (standing_behind before) a.shown (told_at t.stage t a.answer) (step_at t.stage t a.answer) = job_goes j.work t.number (this_epoch before) (standing_behind before) h t.stage t o a stands j.at act in
+        let tells : IsSpoken (this_epoch before) t.number t.stage t a = job_tells j.work (this_epoch before) h t.number t.stage t o a j.at act in
+        let asked : request_of_job before t.number ≡ Some (request_at x.values t.number) = asked_for before x number t.number shows page j.first j.read in
+        let rule : IsRule before (lines.Move a.shown) = own_line config before t.number a.shown j.work x t.stage tale quiet asked j.plan busy tells.plain goes.steps in
+        let longer : Tale config (before ++ lines.Move a.shown ∷ []) = tale_more config before (lines.Move a.shown) tale refl (plain_keeps (lines.Move a.shown) tells.plain) (plain_serves (lines.Move a.shown) tells.plain) (plain_tells (info_of config) (lines.Move a.shown) tells.plain) rule in
+        let asked_then : request_of_job (before ++ lines.Move a.shown ∷ []) t.number ≡ Some (request_at x.values t.number) = asked_for (before ++ lines.Move a.shown ∷ []) x number t.number (shows_other before (lines.Move a.shown) x other shows) page j.first j.read in
+        let same : IsSame t (step_at t.stage t a.answer) = step_same t.stage t a.answer in
+        let aside : (n : ℕ) → n ≢ t.number → IsAside n (lines.Move a.shown ∷ told_at t.stage t a.answer) = λ n apart. told_aside (this_epoch before) n t.number t.id t.moved a.shown (told_at t.stage t a.answer) (mover_aside j.work t.number n (this_epoch before) (standing_behind before) a.shown apart goes.steps) tells.told in
+        let now : List Line = this_epoch before ++ lines.Move a.shown ∷ told_at t.stage t a.answer in
+        let new : Work = step_at t.stage t a.answer in
+        let fresh : IsJobOf config x.values (this_epoch before ++ lines.Move a.shown ∷ told_at t.stage t a.answer) (step_at t.stage t a.answer) = renumbered config x.values now new t.number (sym same.number) (record { work = j.work; first = j.first; read = j.read; id = j.id ∙ sym same.id; plan = still_plan config x.values t.number j.work t.stage new.stage busy j.plan; at = goes.at }) in
+        record {
+          after = after_told config before t.number t.id t.moved a.shown (told_at t.stage t a.answer) longer tells.told (some_and _ asked_then j.id);
+          jobs = jobs_told config x.values (this_epoch before) (lines.Move a.shown ∷ told_at t.stage t a.answer) fetched works place t new found same.number aside fresh jobs;
+          aside = aside;
+        }

@@ -1,0 +1,123 @@
+-- Whatever happens from the start, jobs unmap only what they made.
+use Rattle.std.proofs.Common.{◌≡◌, ℕ, ◌<◌, ◌^◌, Bool, false, if◌then◌else◌, List, [], ◌∷◌, ◌++◌, length, refl, ap, sym, ◌∙◌, subst, append_assoc, append-nil, length-append, arith}
+use Rattle.std.specs.Prelude.{Option, Some, None, is_some}
+use Rattle.std.specs.List.{AllByRecursion}
+use Rattle.blk_base.specs.Options.{Options}
+use Rattle.blk_base.specs.declared.moves.BackMover.TheVariants as mover
+use Rattle.blk_base.specs.declared.ask.BackAsk.TheVariants as ask
+use Rattle.hypervisor.specs.Act.{FrontAct, BackAct, Outcome, Took, back_act}
+use Rattle.schedule_text.specs.declared.line.Line.{Line}
+use Rattle.schedule_text.specs.declared.line.Line.TheVariants as lines
+use Rattle.schedule_text.specs.declared.line.Detail.{Detail}
+use Rattle.report_rules.specs.Obeys.{Obeys}
+use Rattle.report_rules.specs.Standing.{this_epoch}
+use Rattle.report_rules.specs.Unmap.{AreUnmaps}
+use Rattle.report_rules.specs.Own.{AreOwn}
+use Rattle.report_rules.proofs.Obeys.{obeys_none, obeys_more}
+use Rattle.back_jobs.specs.Jobs.{ask_job, place_of, work_of}
+use Rattle.blk_front.specs.Ask as front_ask
+use Rattle.blk_front.specs.Step as front_step
+use Rattle.blk_front.specs.Submit as front_submit
+use Rattle.blk_front.specs.View as front
+use Rattle.blk_back.specs.Ask.{ask_of}
+use Rattle.blk_back.specs.View as back
+use Rattle.blk_back.specs.Step as back_step
+use Rattle.split_model.specs.World.{World, start_of, is_quiet}
+use Rattle.split_model.specs.Happening.{Happening, FrontMoves, BackMoves, JobMoves, Submits, Notifies, Looks, Settles, happens, lines_at, after, lines_of, front_after, front_shows, back_after, back_shows, job_after, job_shows, front_turn, back_turn, job_turn}
+use Rattle.split_model.specs.Report.{report_of, ended_report_of}
+use Rattle.split_model.specs.Shown.{back_lines, halt_lines}
+use Rattle.split_model.proofs.SafeAnswers.{backs_of}
+use Rattle.move_laws.specs.Within.{AreWithin}
+use Rattle.move_laws.proofs.Always.{always_within}
+use Rattle.ring_laws.proofs.Knows.{Follows}
+use Rattle.ring_laws.proofs.Free.{job_running}
+use Rattle.ring_laws.proofs.BackChange.{Changed, change_at}
+use Rattle.ring_laws.proofs.BackTells.{told_none}
+use Rattle.ring_laws.proofs.Standings.{in_hand}
+use Rattle.ring_laws.proofs.Runs.{FollowsTo}
+use Rattle.ring_laws.proofs.JobRuns.{Stand, stand_start, stand_happens}
+use Rattle.ring_laws.proofs.Makers.{IsMine, open_more}
+use Rattle.ring_laws.proofs.MakerLines.{calm_quiet, calm_open, front_lines_calm, submit_calm, look_calm, settle_calm, told_calm, Does, back_does, serving_asks}
+use Rattle.ring_laws.proofs.MakerTurns.{Made, made_aside, quiet_hands, changed_hands, Stands, Turned, job_turned, all_by_place}
+
+no_lines : (before : List Line) (v : back.View) → Made before v → Made (before ++ []) v
+no_lines before v m = subst (λ (ls : List Line). Made ls v) (sym (append-nil before)) m
+
+front_made : (w : World) (before : List Line) (act : Option FrontAct) → front_turn w ≡ act → Made before w.back → (let n : World = front_after w act in Made (before ++ front_shows w act) n.back)
+front_made w before None e m = no_lines before w.back m
+front_made w before (Some a) e m = let g : front.View = front_step.step_of w.front a.answer in made_aside before (front_shows w (Some a)) w.back (front_lines_calm w.under (front_ask.ask_of w.front) a g.told e) m
+
+back_made : (config : Options) (w : World) (before : List Line) (o : Outcome) (act : Option BackAct) → FollowsTo config.start before w → back_turn w o ≡ act → Made before w.back → (let n : World = back_after w act in Made (before ++ back_shows w act) n.back)
+back_made config w before o None f e m = no_lines before w.back m
+back_made config w before o (Some a) f e m =
+    let v : back.View = w.back in
+    let new : back.View = back_step.step_of w.back a.answer in
+    let g : Follows config.start [] before w.back = f.follows in
+    let c : Changed (length g.sight.values) w.back (back_step.step_of w.back a.answer) = change_at v.stage v g.sight a.answer g.knows (told_none v.told f.told) in
+    let d : Does (ask_of w.back) a = back_does w.under (ask_of w.back) o a (backs_of w.back) e in
+    let rest = told_calm new.told a.answer v.halted new.halted in
+    let made : Made (before ++ back_shows w (Some a)) (back_step.step_of w.back a.answer) = record {
+      obeys = open_more before (back_shows w (Some a)) (d.allowed, calm_open (back_lines new.told a.answer ++ halt_lines v.halted new.halted) rest) m.obeys;
+      hands = λ runs.
+          changed_hands (length g.sight.values) (this_epoch (before ++ back_shows w (Some a))) v new c.change runs
+          (quiet_hands before (back_shows w (Some a)) v.jobs.works (d.quiet (serving_asks v.stage v g.sight g.knows (c.running runs)), calm_quiet (back_lines new.told a.answer ++ halt_lines v.halted new.halted) rest) (m.hands (c.running runs)));
+    } in
+    record { obeys = made.obeys; hands = made.hands }
+
+job_made : (config : Options) (w : World) (before : List Line) (k : ℕ) (o : Outcome) (act : Option BackAct) → job_turn w k o ≡ act → Stand config (before ++ job_shows w k act) (job_after w k act) → Made before w.back → (let n : World = job_after w k act in Made (before ++ job_shows w k act) n.back)
+job_made config w before k o None e s m = no_lines before w.back m
+job_made config w before k o (Some a) e s m =
+    let v : back.View = w.back in
+    let n : World = job_after w k (Some a) in
+    let running : is_some v.halted ≡ false = job_running (is_some v.halted) w.under k (ask_job v.jobs k) o a e in
+    let asks = ap (λ (b : Bool). back_act w.under (mover.Job k) (if b then ask.Wait else ask_job v.jobs k) o) (sym running) ∙ e in
+    let stands : AllByRecursion (Stands (before ++ job_shows w k (Some a))) n.back.jobs.works = all_by_place (Stands (before ++ job_shows w k (Some a))) n.back.jobs.works
+    (λ i t found x is. in_hand (before ++ job_shows w k (Some a)) n.under.pages n.under.grants n.back i t x s.memory.tells s.safe.held found is) in
+    let turned : Turned before (job_shows w k (Some a)) n.back.jobs.works = job_turned before w.under v.jobs.works k o a (place_of v.jobs.works k) (work_of v.jobs.works k) refl refl asks m.obeys (m.hands running) stands in
+    record { obeys = turned.obeys; hands = λ runs. turned.hands }
+
+made_happens : (config : Options) (w : World) (h : Happening) (before : List Line) → Stand config before w → Stand config (before ++ lines_at w h) (happens w h) → Made before w.back → (let n : World = happens w h in Made (before ++ lines_at w h) n.back)
+made_happens config w FrontMoves before s t m = front_made w before (front_turn w) refl m
+made_happens config w BackMoves before s t m = back_made config w before Took (back_turn w Took) s.ring refl m
+made_happens config w (JobMoves number outcome) before s t m = job_made config w before number outcome (job_turn w number outcome) refl t m
+made_happens config w (Submits job) before s t m = made_aside before (lines_at w (Submits job)) w.back (submit_calm job (front_submit.submit_of w.front job).0, tt) m
+made_happens config w (Notifies at) before s t m = no_lines before w.back m
+made_happens config w Looks before s t m = made_aside before (lines_at w Looks) w.back (look_calm (is_quiet w), tt) m
+made_happens config w Settles before s t m = made_aside before (lines_at w Settles) w.back (settle_calm (is_quiet w), tt) m
+
+made_after : (config : Options) (hs : List Happening) (w : World) (before : List Line) → AreWithin hs w → Stand config before w → Made before w.back → length (before ++ lines_of hs w) < 2 ^ 64 → (let n : World = after hs w in Made (before ++ lines_of hs w) n.back)
+made_after config [] w before within s m few = no_lines before w.back m
+made_after config (h ∷ hs) w before within s m few =
+    let joined : (before ++ lines_at w h) ++ lines_of hs (happens w h) ≡ before ++ (lines_at w h ++ lines_of hs (happens w h)) = append_assoc before (lines_at w h) (lines_of hs (happens w h)) in
+    let all : length ((before ++ lines_at w h) ++ lines_of hs (happens w h)) < 2 ^ 64 = subst (λ (ls : List Line). length ls < 2 ^ 64) (sym joined) few in
+    let long = length-append (before ++ lines_at w h) (lines_of hs (happens w h)) in
+    let some : length (before ++ lines_at w h) < 2 ^ 64 = omega arith in
+    let t : Stand config (before ++ lines_at w h) (happens w h) = stand_happens config w h before within.0 s some in
+    let n : World = after hs (happens w h) in
+    subst (λ (ls : List Line). Made ls n.back) joined (made_after config hs (happens w h) (before ++ lines_at w h) within.1 t (made_happens config w h before s t m) all)
+
+report_made : (config : Options) (detail : Detail) (history : List Happening) → length (report_of config detail history) < 2 ^ 64 → Obeys IsMine (report_of config detail history)
+report_made config detail history few =
+    (made_after config history (start_of config) (lines.Begin config detail ∷ []) (always_within config history) (stand_start config detail)
+    (record { obeys = obeys_more IsMine [] (lines.Begin config detail) (obeys_none IsMine) (record { unmap = tt; touch = tt }); hands = λ runs. tt }) few).obeys
+
+ended_made : (config : Options) (detail : Detail) (history : List Happening) → length (report_of config detail history) < 2 ^ 64 → Obeys IsMine (ended_report_of config detail history)
+ended_made config detail history few = obeys_more IsMine (report_of config detail history) lines.End (report_made config detail history few) (record { unmap = tt; touch = tt })
+
+unmaps_of : (ls : List Line) → Obeys IsMine ls → AreUnmaps ls
+unmaps_of ls obeys before rest line e = (obeys before rest line e).unmap
+
+own_of : (ls : List Line) → Obeys IsMine ls → AreOwn ls
+own_of ls obeys before rest line e = (obeys before rest line e).touch
+
+pub report_unmaps : (config : Options) (detail : Detail) (history : List Happening) → length (report_of config detail history) < 2 ^ 64 → AreUnmaps (report_of config detail history)
+report_unmaps config detail history few = unmaps_of _ (report_made config detail history few)
+
+pub ended_unmaps : (config : Options) (detail : Detail) (history : List Happening) → length (report_of config detail history) < 2 ^ 64 → AreUnmaps (ended_report_of config detail history)
+ended_unmaps config detail history few = unmaps_of _ (ended_made config detail history few)
+
+pub report_own : (config : Options) (detail : Detail) (history : List Happening) → length (report_of config detail history) < 2 ^ 64 → AreOwn (report_of config detail history)
+report_own config detail history few = own_of _ (report_made config detail history few)
+
+pub ended_own : (config : Options) (detail : Detail) (history : List Happening) → length (report_of config detail history) < 2 ^ 64 → AreOwn (ended_report_of config detail history)
+ended_own config detail history few = own_of _ (ended_made config detail history few)

@@ -1,0 +1,155 @@
+-- What each job has in its hand it made itself, and it stands: so a job unmaps only what is its own.
+use Rattle.std.proofs.Common.{◌≡◌, ℕ, zero, suc, ◌+◌, ◌%◌, ◌^◌, ◌==◌, ◌||◌, Bool, true, false, if◌then◌else◌, List, [], ◌∷◌, ◌++◌, remove, refl, ap, sym, ◌∙◌, subst, append_assoc}
+use Rattle.std.specs.Prelude.{Option, Some, None, is_some, IsSomeAnd, slice_get, nat_le, take}
+use Rattle.std.specs.List.{AllByRecursion, list_any}
+use Rattle.std.proofs.lemmas.Option.{none-some}
+use Rattle.blk_base.specs.declared.operation.Abi.TheVariants.{X64}
+use Rattle.blk_base.specs.declared.operation.Status.TheVariants.{Error}
+use Rattle.blk_base.specs.declared.parts.Mapping.{Mapping}
+use Rattle.blk_base.specs.declared.moves.BackMover.TheVariants as mover
+use Rattle.blk_base.specs.declared.moves.Move.TheVariants as moves
+use Rattle.hypervisor.specs.Hypervisor.{Hypervisor}
+use Rattle.hypervisor.specs.Act.{BackAct, Outcome, back_act}
+use Rattle.schedule_text.specs.declared.line.Line.{Line}
+use Rattle.schedule_text.specs.declared.line.Line.TheVariants as lines
+use Rattle.blk_layout.specs.Entry.{request_of}
+use Rattle.blk_layout.specs.declared.request.RawRequest.{RawRequest}
+use Rattle.blk_layout.specs.declared.request.RawRequest.TheVariants.{Direct, Discard, Indirect}
+use Rattle.segment_list.specs.declared.verdict.Verdict.{Verdict}
+use Rattle.segment_list.specs.declared.verdict.Verdict.TheVariants as verdict
+use Rattle.segment_list.specs.Verdict.{verdict_of}
+use Rattle.report_rules.specs.declared.standing.Standing.{Standing}
+use Rattle.report_rules.specs.Obeys.{Obeys}
+use Rattle.report_rules.specs.Standing.{this_epoch, is_unmap_of, standing_behind, numbered}
+use Rattle.report_rules.proofs.Obeys.{obeys_more}
+use Rattle.back_jobs.specs.declared.stage.Stage.{Stage}
+use Rattle.back_jobs.specs.declared.stage.Stage.TheVariants as stage
+use Rattle.back_jobs.specs.Task.{Work, step_of, begun, served, moving, ended}
+use Rattle.back_jobs.specs.Jobs.{place_of, work_at, asked, told_at as told_works, effect_at, mapping_at, removed_at}
+use Rattle.back_jobs.proofs.Hands.{IsAmong, place_among}
+use Rattle.blk_back.specs.View.{View}
+use Rattle.blk_back.specs.Step.{told_effect}
+use Rattle.ring_laws.proofs.Shows.{epoch_longer}
+use Rattle.ring_laws.proofs.BackChange.{Change, kept, replies, halts, fetches}
+use Rattle.ring_laws.proofs.Works.{all_first, all_second, all_both, all_more, all_pairs}
+use Rattle.ring_laws.proofs.JobSteps.{told_at}
+use Rattle.ring_laws.proofs.JobTurn.{IsSame, step_same}
+use Rattle.ring_laws.proofs.JobTells.{lines_of_job, found_number}
+use Rattle.ring_laws.proofs.Makers as makers
+use Rattle.ring_laws.proofs.Makers.{has, AreQuiet, quiet_none, quiet_epoch, IsMine, IsOpen, open_more, unmapped_other}
+use Rattle.ring_laws.proofs.MakerLines.{AreCalm, calm_quiet, calm_open, back_calm}
+use Rattle.ring_laws.proofs.MakerJob.{Way, quietly, gives, Makes, job_makes}
+
+abbrev pub IsMadeBy : List Line → Work → Type 0
+IsMadeBy epoch t = (m : Mapping) → mapping_at t.stage ≡ Some m → has m.number t.number epoch ≡ true
+
+-- the lines keep the rules on what jobs unmap and touch, and the jobs of a back that serves made what they have in their hands
+pub record Made (before : List Line) (v : View) : Type 0 where
+  pub obeys : Obeys IsMine before
+  pub hands : is_some v.halted ≡ false → AllByRecursion (IsMadeBy (this_epoch before)) v.jobs.works
+
+-- lines that unmap nothing
+pub quiet_hands : (before ys : List Line) (works : List Work) → AreQuiet ys → AllByRecursion (IsMadeBy (this_epoch before)) works → AllByRecursion (IsMadeBy (this_epoch (before ++ ys))) works
+quiet_hands before ys works quiet all =
+    subst (λ (ls : List Line). AllByRecursion (IsMadeBy ls) works) (sym (quiet_epoch before ys quiet))
+    (all_more (IsMadeBy (this_epoch before)) (IsMadeBy (this_epoch before ++ ys)) works (λ t made m e. makers.kept m.number t.number ys (this_epoch before) (quiet_none m.number ys quiet) (made m e)) all)
+
+pub made_aside : (before ys : List Line) (v : View) → AreCalm ys → Made before v → Made (before ++ ys) v
+made_aside before ys v calm m = record { obeys = open_more before ys (calm_open ys calm) m.obeys; hands = λ runs. quiet_hands before ys v.jobs.works (calm_quiet ys calm) (m.hands runs) }
+
+-- a job that begins has nothing in its hand
+abbrev hand : Work → Option Mapping
+hand t = mapping_at t.stage
+
+either_hand : (b : Bool) (x y : Work) → hand x ≡ None → hand y ≡ None → hand (if b then x else y) ≡ None
+either_hand true x y p q = p
+either_hand false x y p q = q
+
+served_hand : (k : ℕ) (request : RawRequest) (size : ℕ) → hand (served k request size) ≡ None
+served_hand k (Direct op count device id sector segments) size = either_hand (nat_le op 1) (moving k (Direct op count device id sector segments) size (op == 1) sector (take count segments)) (ended k (Direct op count device id sector segments) size (stage.Done Error)) refl refl
+served_hand k (Discard flag device id sector count) size = refl
+served_hand k (Indirect op count device id sector pages) size = refl
+
+begun_hand : (k : ℕ) (request : RawRequest) (size : ℕ) (v : Verdict) → hand (begun k request size v) ≡ None
+begun_hand k request size (verdict.Serve plan) = served_hand k request size
+begun_hand k request size (verdict.Error why) = refl
+begun_hand k request size verdict.Unsupported = refl
+
+removed_all : (P : Work → Type 0) (works : List Work) (i : ℕ) → AllByRecursion P works → AllByRecursion P (remove works i)
+removed_all P [] zero all = tt
+removed_all P [] (suc i) all = tt
+removed_all P (w ∷ works) zero all = all.1
+removed_all P (w ∷ works) (suc i) all = (all.0, removed_all P works i all.1)
+
+removed_place : (P : Work → Type 0) (works : List Work) (place : Option ℕ) → AllByRecursion P works → AllByRecursion P (removed_at works place)
+removed_place P works None all = all
+removed_place P works (Some i) all = removed_all P works i all
+
+-- what a move of the back makes of the jobs
+pub changed_hands : (words : ℕ) (epoch : List Line) (old new : View) → Change words old new → is_some new.halted ≡ false → AllByRecursion (IsMadeBy epoch) old.jobs.works → AllByRecursion (IsMadeBy epoch) new.jobs.works
+changed_hands words epoch old new (kept works fetched) runs all = subst (λ (ws : List Work). AllByRecursion (IsMadeBy epoch) ws) (sym works) all
+changed_hands words epoch old new (replies works fetched) runs all = subst (λ (ws : List Work). AllByRecursion (IsMadeBy epoch) ws) (sym works) (removed_place (IsMadeBy epoch) old.jobs.works _ all)
+changed_hands words epoch old new (halts over fetched) runs all = absurd (cc)
+changed_hands words epoch old new (fetches works fetched at some) runs all =
+    subst (λ (ws : List Work). AllByRecursion (IsMadeBy epoch) ws) (sym works)
+    (all_both (IsMadeBy epoch) old.jobs.works _ all (λ m e. absurd (none-some m (sym (begun_hand ((old.fetched + 1) % 2 ^ 64) (request_of X64 new.entry) old.jobs.info.sectors (verdict_of (request_of X64 new.entry) old.jobs.info)) ∙ e)), tt))
+
+-- the mapping in the hand of a job stands by the lines
+abbrev pub Stands : List Line → Work → Type 0
+Stands ls t = (m : Mapping) → mapping_at t.stage ≡ Some m → IsSomeAnd (numbered m.number (standing_behind ls)) (λ (x : Standing). x.gref ≡ m.gref)
+
+-- behind a job's lines
+record Behind (before ys : List Line) : Type 0 where
+  obeys : Obeys IsMine (before ++ ys)
+  epoch : this_epoch (before ++ ys) ≡ this_epoch before ++ ys
+  none : (n gref : ℕ) → IsSomeAnd (numbered n (standing_behind (before ++ ys))) (λ (x : Standing). x.gref ≡ gref) → list_any (is_unmap_of n) ys ≡ false
+
+behind : (before ys told : List Line) (line : Line) (k : ℕ) (s : Stage) → ys ≡ line ∷ told → Obeys IsMine before → IsMine before line → AllByRecursion IsOpen told → Way k s ys → Behind before ys
+behind before ys told line k s is obeys mine opens (quietly quiet) = record {
+  obeys = subst (λ (ls : List Line). Obeys IsMine (before ++ ls)) (sym is) (subst (λ (ls : List Line). Obeys IsMine ls) (append_assoc before (line ∷ []) told) (open_more (before ++ line ∷ []) told opens (obeys_more IsMine before line obeys mine)));
+  epoch = quiet_epoch before ys quiet;
+  none = λ n gref stands. quiet_none n ys quiet;
+}
+behind before ys told line k s is obeys mine opens (gives m at one) = record {
+  obeys = subst (λ (ls : List Line). Obeys IsMine (before ++ ls)) (sym is) (subst (λ (ls : List Line). Obeys IsMine ls) (append_assoc before (line ∷ []) told) (open_more (before ++ line ∷ []) told opens (obeys_more IsMine before line obeys mine)));
+  epoch = subst (λ (ls : List Line). this_epoch (before ++ ls) ≡ this_epoch before ++ ls) (sym one) (epoch_longer before (lines.Move (moves.Unmap (mover.Job k) m.number)) refl);
+  none = λ n gref stands.
+      ap (λ (ls : List Line). list_any (is_unmap_of n) ls) one
+      ∙ ap (λ (b : Bool). b || false) (unmapped_other before (mover.Job k) m.number n (λ (x : Standing). x.gref ≡ gref) (subst (λ (ls : List Line). IsSomeAnd (numbered n (standing_behind (before ++ ls))) (λ (x : Standing). x.gref ≡ gref)) one stands));
+}
+
+-- the lines and the jobs behind a job's move
+pub record Turned (before ys : List Line) (works : List Work) : Type 0 where
+  pub obeys : Obeys IsMine (before ++ ys)
+  pub hands : AllByRecursion (IsMadeBy (this_epoch (before ++ ys))) works
+
+pub job_turned : (before : List Line) (h : Hypervisor) (works : List Work) (k : ℕ) (o : Outcome) (a : BackAct) (place : Option ℕ) (found : Option Work) → place_of works k ≡ place → work_at works place ≡ found → back_act h (mover.Job k) (asked found) o ≡ Some a
+    → Obeys IsMine before → AllByRecursion (IsMadeBy (this_epoch before)) works → AllByRecursion (Stands (before ++ lines_of_job found a)) (told_works works place found a.answer) → Turned before (lines_of_job found a) (told_works works place found a.answer)
+job_turned before h works k o a place None at is e obeys all stands = absurd (none-some a e)
+job_turned before h works k o a None (Some t) at is e obeys all stands = absurd (none-some t is)
+job_turned before h works k o a (Some place) (Some t) at is e obeys all stands =
+    let ys : List Line = lines_of_job (Some t) a in
+    let among : IsAmong works place t = place_among works place t is in
+    let number : t.number ≡ k = found_number works k place t at is in
+    let parts : AllByRecursion (IsMadeBy (this_epoch before)) (among.front ++ t ∷ among.rest) = subst (λ (ws : List Work). AllByRecursion (IsMadeBy (this_epoch before)) ws) among.is all in
+    let later : AllByRecursion (IsMadeBy (this_epoch before)) (t ∷ among.rest) = all_second (IsMadeBy (this_epoch before)) among.front (t ∷ among.rest) parts in
+    let own : (m : Mapping) → mapping_at t.stage ≡ Some m → has m.number k (this_epoch before) ≡ true = λ m e. subst (λ (i : ℕ). has m.number i (this_epoch before) ≡ true) number (later.0 m e) in
+    let makes : Makes before k t.stage t a = job_makes before h k t.stage t o a own e in
+    let told : List Line = told_at t.stage t a.answer in
+    let b : Behind before ys = behind before ys told (lines.Move a.shown) k t.stage refl obeys makes.mine (calm_open told (back_calm (told_effect (effect_at t.stage t a.answer)) a.answer)) makes.way in
+    let new : Work = step_of t a.answer in
+    let same : IsSame t (step_of t a.answer) = step_same t.stage t a.answer in
+    let standing : AllByRecursion (Stands (before ++ ys)) (among.front ++ step_of t a.answer ∷ among.rest) = subst (λ (ws : List Work). AllByRecursion (Stands (before ++ ys)) ws) (among.set new) stands in
+    let others : (u : Work) → Stands (before ++ ys) u → IsMadeBy (this_epoch before) u → IsMadeBy (this_epoch before ++ ys) u = λ u s made m e. makers.kept m.number u.number ys (this_epoch before) (b.none m.number m.gref (s m e)) (made m e) in
+    let mine : IsMadeBy (this_epoch before ++ ys) (step_of t a.answer) = λ m e. subst (λ (i : ℕ). has m.number i (this_epoch before ++ ys) ≡ true) (sym (same.number ∙ number)) (makes.hand m e) in
+    let front = all_pairs (Stands (before ++ ys)) (IsMadeBy (this_epoch before)) (IsMadeBy (this_epoch before ++ ys)) among.front others (all_first (Stands (before ++ ys)) among.front (step_of t a.answer ∷ among.rest) standing) (all_first (IsMadeBy (this_epoch before)) among.front (t ∷ among.rest) parts) in
+    let rest = all_pairs (Stands (before ++ ys)) (IsMadeBy (this_epoch before)) (IsMadeBy (this_epoch before ++ ys)) among.rest others (all_second (Stands (before ++ ys)) among.front (step_of t a.answer ∷ among.rest) standing).1 later.1 in
+    let joined : AllByRecursion (IsMadeBy (this_epoch before ++ ys)) (among.front ++ step_of t a.answer ∷ among.rest) = all_both (IsMadeBy (this_epoch before ++ ys)) among.front (step_of t a.answer ∷ among.rest) front (mine, rest) in
+    record {
+      obeys = b.obeys;
+      hands = subst (λ (ls : List Line). AllByRecursion (IsMadeBy ls) (told_works works (Some place) (Some t) a.answer)) (sym b.epoch) (subst (λ (ws : List Work). AllByRecursion (IsMadeBy (this_epoch before ++ ys)) ws) (sym (among.set new)) joined);
+    }
+
+pub all_by_place : {X : Type 0} (P : X → Type 0) (xs : List X) → ((i : ℕ) (x : X) → slice_get xs i ≡ Some x → P x) → AllByRecursion P xs
+all_by_place P [] f = tt
+all_by_place P (x ∷ xs) f = (f zero x refl, all_by_place P xs (λ i y e. f (suc i) y e))

@@ -1,0 +1,109 @@
+-- How far a job is in the work of its entry, by its stage.
+use Rattle.std.proofs.Common.{◌≡◌, ℕ, ◌+◌, ◌-◌, ◌*◌, ◌<◌, ◌≤◌, Bool, true, false, List, [], ◌∷◌, ◌++◌, length, count_by, refl, ap, ◌∙◌, arith}
+use Rattle.std.specs.Prelude.{slice_get, Some, None, option_and_then}
+use Rattle.std.specs.List.{AllByRecursion}
+use Rattle.blk_base.specs.declared.parts.Mapping.{Mapping}
+use Rattle.blk_base.specs.declared.parts.Mode.TheVariants.{ReadOnly}
+use Rattle.blk_base.specs.declared.moves.Move.{Move}
+use Rattle.schedule_text.specs.declared.line.Line.{Line}
+use Rattle.blk_layout.specs.declared.segment.Segment.{Segment}
+use Rattle.segment_list.specs.Segments.{IsSound, length_of, sectors_of}
+use Rattle.report_rules.specs.declared.work.Task.{Task}
+use Rattle.report_rules.specs.declared.work.Task.TheVariants as tasks
+use Rattle.report_rules.specs.Work.{stores_of, loads_of}
+use Rattle.report_rules.specs.Steps.{spot, advanced, walk_of, failed_in}
+use Rattle.report_rules.specs.Data.{words_from}
+use Rattle.back_jobs.specs.declared.stage.Stage.{Stage}
+use Rattle.back_jobs.specs.declared.stage.Stage.TheVariants as stage
+use Rattle.back_jobs.specs.Task.{Work, first_of, rest_of}
+use Rattle.ring_laws.proofs.JobLines.{is_disk_of}
+use Rattle.ring_laws.proofs.TaskSteps.{task_at}
+
+-- the tasks of segments from a disk sector on
+abbrev pub tasks_of : Bool → ℕ → List Segment → List Task
+tasks_of true disk segments = stores_of false disk segments
+tasks_of false disk segments = loads_of disk segments
+
+-- between two segments: these are left
+pub record Before (work : List Task) (k : ℕ) (epoch : List Line) (rest : List Segment) (disk moved : ℕ) (writes : Bool) : Type 0 where
+  pub done : List Task
+  pub gref : ℕ
+  pub tail : work ≡ done ++ tasks_of writes disk rest
+  pub came : walk_of false work k epoch ≡ Some (spot (length done) 0 false gref)
+  pub sound : AllByRecursion IsSound rest
+  pub few : moved + sectors_of rest ≤ 88
+  pub counted : count_by (is_disk_of k) epoch ≡ moved
+  pub whole : failed_in k epoch ≡ false
+
+-- in the first of these segments, through a mapping of its frame: at step j of sector i, which the disk is still to move where `ahead` is 1
+pub record Within (work : List Task) (k : ℕ) (epoch : List Line) (rest : List Segment) (within disk moved : ℕ) (writes : Bool) (j ahead : ℕ) (m : Mapping) : Type 0 where
+  pub segment : Segment
+  pub more : List Segment
+  pub rest_is : rest ≡ segment ∷ more
+  pub i : ℕ
+  pub sector : within ≡ segment.first + i
+  pub inside : within ≤ segment.last
+  pub begin : ℕ
+  pub disk_is : disk + ahead ≡ begin + i + 1
+  pub done : List Task
+  pub tail : work ≡ done ++ tasks_of writes begin (segment ∷ more)
+  pub came : walk_of false work k epoch ≡ Some (spot (length done) (1 + (129 * i + j)) false segment.gref)
+  pub gref : m.gref ≡ segment.gref
+  pub sound : AllByRecursion IsSound (segment ∷ more)
+  pub few : moved + ahead + (segment.last - within) + sectors_of more ≤ 88
+  pub counted : count_by (is_disk_of k) epoch ≡ moved
+  pub whole : failed_in k epoch ≡ false
+
+abbrev pub IsAt : List Task → ℕ → List Line → Stage → Work → Type 0
+IsAt work k epoch stage.Map t = Before work k epoch t.rest t.disk t.moved t.writes × (t.within ≡ first_of t.rest)
+IsAt work k epoch (stage.ReadWord m j) t = Within work k epoch t.rest t.within t.disk t.moved t.writes j 1 m × (j < 128) × (t.writes ≡ true)
+IsAt work k epoch (stage.DiskWrite m) t = Within work k epoch t.rest t.within t.disk t.moved t.writes 128 1 m × (t.writes ≡ true)
+IsAt work k epoch (stage.DiskRead m) t = Within work k epoch t.rest t.within t.disk t.moved t.writes 0 1 m × (t.writes ≡ false)
+IsAt work k epoch (stage.WriteWord m j) t = Within work k epoch t.rest t.within t.disk t.moved t.writes (1 + j) 0 m × (j < 128) × (t.writes ≡ false) × (words_from None k epoch ≡ Some t.words)
+IsAt work k epoch (stage.Unmap m) t = Before work k epoch (rest_of t.rest) t.disk t.moved t.writes
+IsAt work k epoch s t = Unit {0}
+
+-- the task of the segment at hand
+pub store_at : (work done : List Task) (segment : Segment) (more : List Segment) (writes : Bool) (begin : ℕ) → work ≡ done ++ tasks_of writes begin (segment ∷ more) → writes ≡ true → slice_get work (length done) ≡ Some (tasks.Store segment.gref ReadOnly begin segment.first (length_of segment))
+store_at work done segment more writes begin tail is =
+    ap (λ (l : List Task). slice_get l (length done)) (tail ∙ ap (λ (b : Bool). done ++ tasks_of b begin (segment ∷ more)) is)
+    ∙ task_at done (stores_of false (begin + length_of segment) more) (tasks.Store segment.gref ReadOnly begin segment.first (length_of segment))
+
+pub load_at : (work done : List Task) (segment : Segment) (more : List Segment) (writes : Bool) (begin : ℕ) → work ≡ done ++ tasks_of writes begin (segment ∷ more) → writes ≡ false → slice_get work (length done) ≡ Some (tasks.Load segment.gref begin segment.first (length_of segment))
+load_at work done segment more writes begin tail is =
+    ap (λ (l : List Task). slice_get l (length done)) (tail ∙ ap (λ (b : Bool). done ++ tasks_of b begin (segment ∷ more)) is)
+    ∙ task_at done (loads_of (begin + length_of segment) more) (tasks.Load segment.gref begin segment.first (length_of segment))
+
+-- the sectors behind a segment are those of the tasks behind its task
+append_one : (done more : List Task) (task : Task) → done ++ task ∷ more ≡ (done ++ task ∷ []) ++ more
+append_one [] more task = refl
+append_one (d ∷ done) more task = ap (λ (l : List Task). d ∷ l) (append_one done more task)
+
+length_one : (done : List Task) (task : Task) → length (done ++ task ∷ []) ≡ length done + 1
+length_one [] task = refl
+length_one (d ∷ done) task = let rest = length_one done task in omega arith
+
+pub record Passed (work done : List Task) (writes : Bool) (after : ℕ) (more : List Segment) : Type 0 where
+  pub all : List Task
+  pub tail : work ≡ all ++ tasks_of writes after more
+  pub long : length all ≡ length done + 1
+
+pub passed : (work done : List Task) (segment : Segment) (more : List Segment) (writes : Bool) (begin : ℕ) → work ≡ done ++ tasks_of writes begin (segment ∷ more) → Passed work done writes (begin + length_of segment) more
+passed work done segment more true begin tail = record {
+  all = done ++ tasks.Store segment.gref ReadOnly begin segment.first (length_of segment) ∷ [];
+  tail = tail ∙ append_one done (stores_of false (begin + length_of segment) more) (tasks.Store segment.gref ReadOnly begin segment.first (length_of segment));
+  long = length_one done (tasks.Store segment.gref ReadOnly begin segment.first (length_of segment));
+}
+passed work done segment more false begin tail = record {
+  all = done ++ tasks.Load segment.gref begin segment.first (length_of segment) ∷ [];
+  tail = tail ∙ append_one done (loads_of (begin + length_of segment) more) (tasks.Load segment.gref begin segment.first (length_of segment));
+  long = length_one done (tasks.Load segment.gref begin segment.first (length_of segment));
+}
+
+-- a move is the next step of the job's work, about this reference
+pub record IsStepOn (work : List Task) (k : ℕ) (epoch : List Line) (shown : Move) (gref : ℕ) : Type 0 where
+  pub done : ℕ
+  pub place : ℕ
+  pub refused : Bool
+  pub taken : option_and_then (advanced false work shown) (walk_of false work k epoch) ≡ Some (spot done place refused gref)
+  pub whole : failed_in k epoch ≡ false

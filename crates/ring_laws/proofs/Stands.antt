@@ -1,0 +1,113 @@
+-- The rules of the ring hold of the lines so far, and of one line more.
+use Rattle.std.proofs.Common.{◌≡◌, ℕ, ◌*◌, ◌^◌, ◌<◌, ◌||◌, Bool, true, false, if◌then◌else◌, List, [], ◌∷◌, ◌++◌, refl, ap, sym, ◌∙◌, subst, append_assoc, arith}
+use Rattle.std.specs.Prelude.{Option, Some, None, is_some, IfSome}
+use Rattle.std.proofs.lemmas.List.{reverse-append, reverse-reverse}
+use Rattle.blk_base.specs.declared.operation.Abi.{Abi}
+use Rattle.blk_base.specs.declared.operation.Abi.TheVariants.{X64}
+use Rattle.schedule_text.specs.declared.line.Halt.TheVariants as halts
+use Rattle.schedule_text.specs.declared.line.Line.{Line}
+use Rattle.schedule_text.specs.declared.line.Line.TheVariants as lines
+use Rattle.report_rules.specs.Obeys.{Obeys}
+use Rattle.report_rules.specs.Standing.{is_epoch}
+use Rattle.report_rules.specs.Ring.{produced_shown, ring_order, shape_of, replied_before}
+use Rattle.report_rules.specs.Overrun.{overrun_of, overrun_by, overrun_shown, overran_after, overran_behind, is_service, IsOverrunAt}
+use Rattle.report_rules.specs.Stretch.{entry_word_read, words_within, is_of_back, IsStretchAt}
+use Rattle.report_rules.proofs.Obeys.{obeys_none, obeys_more}
+use Rattle.ring_laws.proofs.Lists.{or_false}
+use Rattle.ring_laws.proofs.Shows.{Sight, Shows}
+
+-- the line of an overrun
+abbrev pub is_overrun : Line → Bool
+is_overrun (lines.Halt (halts.Overrun produced replied)) = true
+is_overrun line = false
+
+pub record Stands (before : List Line) (start : ℕ) (over : Bool) : Type 0 where
+  pub overruns : Obeys IsOverrunAt before
+  pub stretches : start < 2 ^ 32 → Obeys IsStretchAt before
+  pub last : overrun_shown before ≡ None
+  pub halted : overran_behind before ≡ true → over ≡ true
+
+pub stands_none : (start : ℕ) → Stands [] start false
+stands_none start = record { overruns = obeys_none IsOverrunAt; stretches = λ small. obeys_none IsStretchAt; last = refl; halted = λ e. e }
+
+shown_more : (before : List Line) (line : Line) → overrun_shown (before ++ line ∷ []) ≡ overrun_by before line
+shown_more before line = rw (reverse-append before (line ∷ []), reverse-reverse before) refl
+
+overran_more : (before : List Line) (line : Line) → overran_behind (before ++ line ∷ []) ≡ overran_after (overran_behind before) before line
+overran_more before line = rw (reverse-append before (line ∷ []), reverse-reverse before) refl
+
+overran_by : (before : List Line) (line : Line) → is_epoch line ≡ false → overrun_by before line ≡ None → overran_behind (before ++ line ∷ []) ≡ overran_behind before
+overran_by before line same e =
+    let none : is_some (overrun_by before line) ≡ false = ap (λ o. is_some o) e in
+    overran_more before line ∙ (ap (λ (b : Bool). if b then false else overran_behind before || is_some (overrun_by before line)) same
+    ∙ (ap (λ (b : Bool). overran_behind before || b) none ∙ or_false (overran_behind before)))
+
+-- a line that shows no producer shows no overrun
+pub shows_none : (before : List Line) (line : Line) → produced_shown before line ≡ None → overrun_by before line ≡ None
+shows_none before line none = ap (λ (produced : Option ℕ). overrun_of (ring_order before) (replied_before before) produced) none ∙ by_order (ring_order before) (replied_before before)
+  where
+    by_order : (order : Option ℕ) (replied : ℕ) → overrun_of order replied None ≡ None
+    by_order None replied = refl
+    by_order (Some order) replied = refl
+
+no_overrun : (line : Line) (produced replied : ℕ) → is_overrun line ≡ false → line ≡ lines.Halt (halts.Overrun produced replied) → ⊥
+no_overrun line produced replied none e = let is : is_overrun line ≡ true = ap is_overrun e in cc
+
+-- no overrun was shown last, and the line is no halt for one
+allowed : (before : List Line) (line : Line) (start : ℕ) (over : Bool) → Stands before start over → (over ≡ true → is_service line ≡ false) → is_overrun line ≡ false → IsOverrunAt before line
+allowed before line start over s idle none = record {
+  halted = rw s.last tt;
+  only = λ produced replied e. absurd (no_overrun line produced replied none e);
+  serves_nothing = λ overran. idle (s.halted overran);
+}
+
+pub stands_more : (before : List Line) (line : Line) (start : ℕ) (over : Bool) → Stands before start over → is_epoch line ≡ false → overrun_by before line ≡ None → (over ≡ true → is_service line ≡ false) → is_overrun line ≡ false → (start < 2 ^ 32 → IsStretchAt before line) → Stands (before ++ line ∷ []) start over
+stands_more before line start over s same shown idle none stretch = record {
+  overruns = obeys_more IsOverrunAt before line s.overruns (allowed before line start over s idle none);
+  stretches = λ small. obeys_more IsStretchAt before line (s.stretches small) (stretch small);
+  last = shown_more before line ∙ shown;
+  halted = λ overran. s.halted (sym (overran_by before line same shown) ∙ overran);
+}
+
+-- a read that overran, and the halt behind it
+pub stands_overrun : (before : List Line) (line : Line) (start produced replied : ℕ) → Stands before start false → is_epoch line ≡ false → overrun_by before line ≡ Some (record { produced = produced; replied = replied }) → is_overrun line ≡ false
+    → (start < 2 ^ 32 → IsStretchAt before line) → (start < 2 ^ 32 → IsStretchAt (before ++ line ∷ []) (lines.Halt (halts.Overrun produced replied)))
+    → Stands (before ++ line ∷ lines.Halt (halts.Overrun produced replied) ∷ []) start true
+stands_overrun before line start produced replied s same shown none stretch behind =
+    let halt : Line = lines.Halt (halts.Overrun produced replied) in
+    let longer : List Line = before ++ line ∷ [] in
+    let told : overrun_shown (before ++ line ∷ []) ≡ Some (record { produced = produced; replied = replied }) = shown_more before line ∙ shown in
+    let one : Obeys IsOverrunAt (before ++ line ∷ []) = obeys_more IsOverrunAt before line s.overruns (allowed before line start false s (λ e. absurd (cc)) none) in
+    let allowed_halt : IsOverrunAt (before ++ line ∷ []) (lines.Halt (halts.Overrun produced replied)) = record {
+      halted = rw told refl;
+      only = λ p r e. only_this p r e;
+      serves_nothing = λ overran. refl;
+    } in
+    subst (λ (ls : List Line). Stands ls start true) (append_assoc before (line ∷ []) (lines.Halt (halts.Overrun produced replied) ∷ []))
+    (record {
+      overruns = obeys_more IsOverrunAt longer halt one allowed_halt;
+      stretches = λ small. obeys_more IsStretchAt longer halt (obeys_more IsStretchAt before line (s.stretches small) (stretch small)) (behind small);
+      last = shown_more longer halt ∙ shows_none longer halt refl;
+      halted = λ overran. refl;
+    })
+  where
+    only_this : (p r : ℕ) → lines.Halt (halts.Overrun produced replied) ≡ lines.Halt (halts.Overrun p r) → overrun_shown (before ++ line ∷ []) ≡ Some (record { produced = p; replied = r })
+    only_this p r e =
+        let same_p : produced ≡ p = cc in
+        let same_r : replied ≡ r = cc in
+        rw (← same_p, ← same_r) (shown_more before line ∙ shown)
+
+-- a line of someone else's that reads no entry
+pub foreign_stretch : (before : List Line) (line : Line) → is_of_back line ≡ false → entry_word_read before line ≡ None → IsStretchAt before line
+foreign_stretch before line foreign none = record { next = rw none tt; whole = λ own. absurd (cc) }
+
+-- a line of the back's own between two stretches
+pub own_stretch : (before : List Line) (line : Line) (x : Sight) (n : ℕ) → Shows before x → x.words ≡ 28 * n → entry_word_read before line ≡ None → IsStretchAt before line
+own_stretch before line x n shows whole none = record {
+  next = rw none tt;
+  whole = λ own read. subst (λ (abi : Option Abi). IfSome (shape_of abi (ring_order before)) (λ s. words_within before s ≡ 0)) (sym shows.abi) (by_order (ring_order before));
+}
+  where
+    by_order : (order : Option ℕ) → IfSome (shape_of (Some X64) order) (λ s. words_within before s ≡ 0)
+    by_order None = tt
+    by_order (Some order) = let words = shows.words in omega arith

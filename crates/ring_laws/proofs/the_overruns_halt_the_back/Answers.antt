@@ -1,0 +1,8 @@
+use Rattle.ring_laws.proofs.Runs.{report_overruns, ended_overruns}
+use Rattle.ring_laws.proofs.the_overruns_halt_the_back.Goals as goal
+
+pub returns-clause-report : goal.returns-clause-report
+returns-clause-report c config detail history = report_overruns config detail history
+
+pub returns-clause-ended : goal.returns-clause-ended
+returns-clause-ended c config detail history = ended_overruns config detail history

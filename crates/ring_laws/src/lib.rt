@@ -1,0 +1,68 @@
+//! What every report of the machine tells of the ring and of each request, whatever happens to it
+//! (`io/ring.h`, `io/blkif.h`): it obeys the rules of `report_rules` on a producer that overran, on
+//! how entries are fetched, on the steps of each job, on the data that they move and on what comes
+//! of each move of the disk. The machine is the pure function of `split_model`; each law is over
+//! every list of happenings, with any options.
+#![tactic(auto)]
+
+ghost use Rattle.std.specs.Prelude.{◌<◌, ◌^◌, List, length};
+ghost use Rattle.blk_base.specs.Options.{Options};
+ghost use Rattle.schedule_text.specs.declared.line.Detail.{Detail};
+ghost use Rattle.report_rules.specs.Overrun.{IsOverrunRule};
+ghost use Rattle.report_rules.specs.Stretch.{AreStretches};
+ghost use Rattle.report_rules.specs.Steps.{AreSteps};
+ghost use Rattle.report_rules.specs.Data.{AreData};
+ghost use Rattle.report_rules.specs.Effect.{AreEffects};
+ghost use Rattle.report_rules.specs.Unmap.{AreUnmaps};
+ghost use Rattle.report_rules.specs.Own.{AreOwn};
+ghost use Rattle.split_model.specs.Happening.{Happening};
+ghost use Rattle.split_model.specs.Report.{report_of, ended_report_of};
+
+/// A back that reads a producer further ahead of its own than the ring has entries halts, in the
+/// very next line; it halts for an overrun nowhere else, and from there on nothing is served.
+pub fn the_overruns_halt_the_back()
+    ensures report { (config : Options) (detail : Detail) (history : List Happening) → IsOverrunRule (report_of config detail history) }
+    ensures ended { (config : Options) (detail : Detail) (history : List Happening) → IsOverrunRule (ended_report_of config detail history) }
+{}
+
+/// Each entry is fetched in one stretch, each of its words read once, in order; a stretch begins
+/// only where a request is unconsumed, and the back does nothing else before its end. An index has
+/// 32 bits (`RING_IDX`), so a ring starts at one below 2^32: that is the one premise.
+pub fn the_entries_are_fetched_in_stretches()
+    ensures report { (config : Options) (detail : Detail) (history : List Happening) → config.start < 2 ^ 32 → AreStretches (report_of config detail history) }
+    ensures ended { (config : Options) (detail : Detail) (history : List Happening) → config.start < 2 ^ 32 → AreStretches (ended_report_of config detail history) }
+{}
+
+/// The moves of the job of the k-th entry, apart from unmaps, are in order the steps of the work of
+/// that entry as its words were read, through mappings of the references that it names, and none
+/// follows a failure of the disk. The numbers of jobs have 64 bits and begin anew past the last, so
+/// the report has fewer than 2^64 lines: that is the one premise here and in the next two laws.
+pub fn the_jobs_do_the_work_of_their_entries()
+    ensures report { (config : Options) (detail : Detail) (history : List Happening) → length (report_of config detail history) < 2 ^ 64 → AreSteps (report_of config detail history) }
+    ensures ended { (config : Options) (detail : Detail) (history : List Happening) → length (report_of config detail history) < 2 ^ 64 → AreSteps (ended_report_of config detail history) }
+{}
+
+/// Each word that a job writes to the guest is the one that the disk gave for that place.
+pub fn the_data_are_what_the_disk_gave()
+    ensures report { (config : Options) (detail : Detail) (history : List Happening) → length (report_of config detail history) < 2 ^ 64 → AreData (report_of config detail history) }
+    ensures ended { (config : Options) (detail : Detail) (history : List Happening) → length (report_of config detail history) < 2 ^ 64 → AreData (ended_report_of config detail history) }
+{}
+
+/// Behind each move of the disk stands what came of it, by the request's id and the place in it, and
+/// nowhere else does such a line stand.
+pub fn the_effects_stand_behind_their_moves()
+    ensures report { (config : Options) (detail : Detail) (history : List Happening) → length (report_of config detail history) < 2 ^ 64 → AreEffects (report_of config detail history) }
+    ensures ended { (config : Options) (detail : Detail) (history : List Happening) → length (report_of config detail history) < 2 ^ 64 → AreEffects (ended_report_of config detail history) }
+{}
+
+/// A job unmaps only what stands and what it mapped itself.
+pub fn the_jobs_give_up_what_they_mapped()
+    ensures report { (config : Options) (detail : Detail) (history : List Happening) → length (report_of config detail history) < 2 ^ 64 → AreUnmaps (report_of config detail history) }
+    ensures ended { (config : Options) (detail : Detail) (history : List Happening) → length (report_of config detail history) < 2 ^ 64 → AreUnmaps (ended_report_of config detail history) }
+{}
+
+/// A job reads and writes the guest's memory only through mappings that it made itself.
+pub fn the_jobs_touch_what_they_mapped()
+    ensures report { (config : Options) (detail : Detail) (history : List Happening) → length (report_of config detail history) < 2 ^ 64 → AreOwn (report_of config detail history) }
+    ensures ended { (config : Options) (detail : Detail) (history : List Happening) → length (report_of config detail history) < 2 ^ 64 → AreOwn (ended_report_of config detail history) }
+{}
