@@ -1,0 +1,80 @@
+-- What a move of the front tells: that it is connected, where it becomes so; and that it is broken, where it becomes so.
+use Rattle.std.proofs.Common.{◌≡◌, ℕ, ◌+◌, ◌*◌, ◌^◌, ◌==◌, Bool, true, false, if◌then◌else◌, [], ◌∷◌, refl, sym, ap, subst}
+use Rattle.std.specs.Prelude.{Option, Some, None, Result, Ok, Err, nat_lt}
+use Rattle.blk_base.specs.Distance.{distance_of}
+use Rattle.blk_base.specs.declared.ask.FrontAnswer.{FrontAnswer}
+use Rattle.blk_base.specs.declared.ask.FrontAnswer.TheVariants as answer
+use Rattle.ring_words.specs.Ring.{responses_of, notifies}
+use Rattle.blk_layout.specs.declared.response.Response.{Response}
+use Rattle.blk_layout.specs.Response.{response_of}
+use Rattle.blk_front.specs.declared.request.Request.{Request}
+use Rattle.blk_front.specs.declared.stage.Stage.{Stage}
+use Rattle.blk_front.specs.declared.stage.Stage.TheVariants as stage
+use Rattle.blk_front.specs.declared.told.Told.{Told}
+use Rattle.blk_front.specs.declared.told.Told.TheVariants as told
+use Rattle.blk_front.specs.View.{View, next_request}
+use Rattle.blk_front.specs.Submit.{is_connected}
+use Rattle.blk_front.specs.Step.{broken, looked, loop_step, issued, response_at, is_mapped, at, ended, step_at}
+
+-- what was told by an end that was connected or not, and is at this stage now
+abbrev pub Tells : Bool → Option Told → Stage → Type 0
+Tells connected None s = is_connected s ≡ connected
+Tells connected (Some told.Ready) s = is_connected s ≡ true
+Tells connected (Some (told.Answer id status)) s = is_connected s ≡ connected
+Tells connected (Some (told.Broken word)) s = s ≡ stage.Broken word
+
+abbrev pub TellsAs : Bool → View → Type 0
+TellsAs connected v = Tells connected v.told v.stage
+
+untold : (connected : Bool) (t : Option Told) (s : Stage) → t ≡ None → is_connected s ≡ connected → Tells connected t s
+untold connected t s e same = subst (λ (x : Option Told). Tells connected x s) (sym e) same
+
+either : (connected b : Bool) (x y : View) → TellsAs connected x → TellsAs connected y → TellsAs connected (if b then x else y)
+either connected true x y p q = p
+either connected false x y p q = q
+
+staged : (b connected : Bool) (s s' : Stage) → is_connected s ≡ connected → is_connected s' ≡ connected → is_connected (if b then s else s') ≡ connected
+staged true connected s s' p q = p
+staged false connected s s' p q = q
+
+looked_tells : (v : View) (word : ℕ) (otherwise : View) → v.told ≡ None → TellsAs true otherwise → TellsAs true (looked v word otherwise)
+looked_tells v word otherwise e p =
+    either true (nat_lt (distance_of v.ring.cons v.ring.prod) (distance_of v.ring.cons word)) (broken word v) (if word == v.ring.cons then otherwise else record v { seen = word; stage = stage.Loop }) refl
+    (either true (word == v.ring.cons) otherwise (record v { seen = word; stage = stage.Loop }) p (untold true v.told stage.Loop e refl))
+
+loop_tells : (v : View) (next : Option Request) (a : FrontAnswer) → v.told ≡ None → v.stage ≡ stage.Loop → TellsAs true (loop_step v next a)
+loop_tells v (Some r) a e s = untold true v.told (stage.Data r 1) e refl
+loop_tells v None (answer.Word word) e s =
+    either true (responses_of v.ring v.seen == 0) (looked v word (record v { seen = word; stage = stage.StoreEvent })) (at (stage.ResponseHigh word) v)
+    (looked_tells v word (record v { seen = word; stage = stage.StoreEvent }) e (untold true v.told stage.StoreEvent e refl)) (untold true v.told (stage.ResponseHigh word) e refl)
+loop_tells v None a e s = untold true v.told v.stage e (ap is_connected s)
+
+response_tells : (v : View) (response : Result Response ℕ) (low : ℕ) (found : Option (ℕ × Request)) → v.told ≡ None → TellsAs true (response_at v response low found)
+response_tells v response low None e = refl
+response_tells v (Err word) low (Some found) e = refl
+response_tells v (Ok response) low (Some found) e = untold true v.told (stage.GrantRead (record { number = found.1.number; frame = found.1.frame; status = response.status })) e refl
+
+pub front_tells : (s : Stage) (v : View) (a : FrontAnswer) → v.told ≡ None → v.stage ≡ s → TellsAs (is_connected s) (step_at s v a)
+front_tells (stage.RingWord k) v a e same = untold false v.told (if k == 15 then stage.RingFrame else stage.RingWord (k + 1)) e (staged (k == 15) false stage.RingFrame (stage.RingWord (k + 1)) refl refl)
+front_tells stage.RingFrame v a e same = untold false v.told stage.RingFence e refl
+front_tells stage.RingFence v a e same = untold false v.told stage.RingFlags e refl
+front_tells stage.RingFlags v a e same = untold false v.told stage.NewPort e refl
+front_tells stage.NewPort v a e same = refl
+front_tells stage.Loop v a e same = loop_tells v (next_request v) a e same
+front_tells (stage.Data r k) v a e same = untold true v.told (if k == 127 then stage.GrantFrame r else stage.Data r (k + 1)) e (staged (k == 127) true (stage.GrantFrame r) (stage.Data r (k + 1)) refl refl)
+front_tells (stage.GrantFrame r) v a e same = untold true v.told (stage.GrantFence r) e refl
+front_tells (stage.GrantFence r) v a e same = untold true v.told (stage.GrantFlags r) e refl
+front_tells (stage.GrantFlags r) v a e same = untold true v.told (stage.Slot 0) e refl
+front_tells (stage.Slot k) v a e same = untold true v.told (if k == 27 then stage.Producer else stage.Slot (k + 1)) e (staged (k == 27) true stage.Producer (stage.Slot (k + 1)) refl refl)
+front_tells stage.Producer v a e same = untold true v.told (stage.ProducerFence v.ring.prod) e refl
+front_tells (stage.ProducerFence old) v a e same = untold true v.told (stage.RequestEvent old) e refl
+front_tells (stage.RequestEvent old) v (answer.Word event) e same = untold true v.told (if notifies old v.ring.prod event then stage.Send else stage.Loop) e (staged (notifies old v.ring.prod event) true stage.Send stage.Loop refl refl)
+front_tells stage.Send v a e same = untold true v.told stage.Loop e refl
+front_tells (stage.ResponseHigh low) v (answer.Word high) e same = untold true v.told (stage.ResponseLast low high) e refl
+front_tells (stage.ResponseLast low high) v (answer.Word last) e same = response_tells v (response_of (low ∷ high ∷ last ∷ [])) low (issued v (low + high * 2 ^ 32)) e
+front_tells (stage.GrantRead end) v (answer.Word word) e same = either true (is_mapped word) (broken word v) (at (stage.GrantEnd end word) v) refl (untold true v.told (stage.GrantEnd end word) e refl)
+front_tells (stage.GrantEnd end before) v (answer.Word word) e same = either true (word == before) (ended v end) (broken word v) refl refl
+front_tells stage.StoreEvent v a e same = untold true v.told stage.EventFence e refl
+front_tells stage.EventFence v a e same = untold true v.told stage.LookAgain e refl
+front_tells stage.LookAgain v (answer.Word word) e same = looked_tells v word (record v { seen = word; stage = stage.Loop; asleep = true }) e (untold true v.told stage.Loop e refl)
+front_tells s v a e same = untold (is_connected s) v.told v.stage e (ap is_connected same)

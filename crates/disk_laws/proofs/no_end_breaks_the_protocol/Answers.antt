@@ -1,0 +1,8 @@
+use Rattle.disk_laws.proofs.Reports.{reports_unbroken, ended_unbroken}
+use Rattle.disk_laws.proofs.no_end_breaks_the_protocol.Goals as goal
+
+pub returns-clause-report : goal.returns-clause-report
+returns-clause-report c config detail history plain may = reports_unbroken config detail history plain may
+
+pub returns-clause-ended : goal.returns-clause-ended
+returns-clause-ended c config detail history plain may = ended_unbroken config detail history plain may
