@@ -2,7 +2,7 @@
 //! streams and files. All that it does is `commands::blkring`.
 #![tactic(auto)]
 
-use blk_io::{ReaderSource, WriterSink};
+use blk_io::{BufferedSink, ReaderSource, WriterSink};
 use commands::{Stop, blkring, give_up};
 use image_disk::FileDisk;
 use std::fs::{OpenFile, OpenOptions};
@@ -27,7 +27,7 @@ fn main(rt: HostRuntime) -> ExitCode {
         words.as_slice(),
         &mut ReaderSource::new(rt.stdin()),
         &mut FileDisk::new(files),
-        &mut WriterSink::new(rt.stdout()),
+        &mut BufferedSink::new(WriterSink::new(rt.stdout())),
         &mut err,
     );
     ExitCode::from(status)

@@ -1,10 +1,9 @@
 -- A run that is done wrote the text of a report that echoes its schedule.
-use Rattle.schedule_text.specs.declared.line.Detail.TheVariants.{Moves}
-use Rattle.move_laws.specs.Report.{ended_report_of}
-use Rattle.move_laws.proofs.Recorded.{lines_kept}
-use Rattle.move_laws.proofs.Runs.{ended_obeys, coherent_of, answers_of, touches_of, grantable_of}
-use Rattle.commands.specs.Ending.{IsTrueToMemory}
-use Rattle.std.proofs.Common.{◌≡◌, ℕ, List, [], ◌∷◌, ◌++◌, Option, refl, ap, sym, subst}
+use Rattle.split_model.specs.Report.{report_of, ended_report_of}
+use Rattle.split_model.proofs.Running.{kept_of-append}
+use Rattle.disk_laws.specs.Plain.{IsPlain}
+use Rattle.schedule_run.proofs.LawfulEnds.{done_told, done_report}
+use Rattle.std.proofs.Common.{◌≡◌, ℕ, ◌^◌, ◌<◌, List, [], ◌∷◌, ◌++◌, Option, refl, ap, sym, ◌∙◌, subst, arith}
 use Rattle.blk_base.specs.Options.{Options}
 use Rattle.schedule_text.specs.declared.event.Event.{Event}
 use Rattle.schedule_text.specs.declared.line.Detail.{Detail}
@@ -15,55 +14,38 @@ use Rattle.plain_disk.specs.Echo.{AnswersAll, Echoes}
 use Rattle.split_model.specs.World.{start_of}
 use Rattle.split_model.specs.Happening.{Happening, lines_of}
 use Rattle.split_model.specs.Leads.{kept_of}
-use Rattle.schedule_text.proofs.Gaining.{gained_on}
 use Rattle.split_model.proofs.Echo.{echo_of, schedule_echo, kept_echo}
 use Rattle.commands.specs.declared.words.Command.{Command}
 use Rattle.commands.specs.declared.words.Command.TheVariants.{Run}
 use Rattle.commands.specs.Words.{Gives}
 use Rattle.commands.proofs.WordLemmas.{same_command}
-use Rattle.commands.specs.Ending.{Makes, IsDone, Scene, options_of, outside, IsRun, IsReported}
+use Rattle.commands.specs.Ending.{Makes, IsDone, Scene, options_of, bytes_limit, outside, IsRun, IsReported}
 
--- the report of a run that is done
-abbrev report_of : Detail → Options → List Happening → List Line
-report_of detail config history = (kept_of detail (Begin config detail ∷ []) ++ kept_of detail (lines_of history (start_of config))) ++ kept_of detail (End ∷ [])
-
-told_whole : (old before new : Told) (a b c : List Line) → before ≡ gained (gained old a) b → new ≡ gained before c → new ≡ gained old ((a ++ b) ++ c)
-told_whole old before new a b c p q =
-    gained_on old before new (a ++ b) c (gained_on old (gained old a) before a b refl p) q
+-- a ring of one page, over a disk that may be written
+pub plain_options : (sectors : ℕ) → sectors < 2 ^ 64 → IsPlain (options_of sectors)
+plain_options sectors few = record { order = refl; read_only = refl; start = omega arith; sectors = omega arith }
 
 echoes : (detail : Detail) (config : Options) (events : List Event) (rest : List Line) → AnswersAll config.order events (echo_of rest) → Echoes config detail events ((kept_of detail (Begin config detail ∷ []) ++ rest) ++ kept_of detail (End ∷ []))
 echoes detail config events rest answers = (kept_of detail (Begin config detail ∷ []) ++ rest, refl, (rest, refl, answers))
 
--- a recorder that shows moves keeps the whole report
-whole_kept : (config : Options) (history : List Happening) → report_of Moves config history ≡ ended_report_of config Moves history
-whole_kept config history = ap (λ l. (Begin config Moves ∷ l) ++ End ∷ []) (lines_kept history (start_of config))
-
-true_to_memory : (config : Options) (history : List Happening) → IsTrueToMemory (ended_report_of config Moves history)
-true_to_memory config history =
-    let obeys = ended_obeys config Moves history in
-    let report = ended_report_of config Moves history in
-    record { coherent = coherent_of report obeys; answered = answers_of report obeys; touched = touches_of report obeys; grantable = grantable_of report obeys }
-
-shown_true : (detail : Detail) (config : Options) (history : List Happening) → detail ≡ Moves → IsTrueToMemory (report_of detail config history)
-shown_true detail config history same =
-    subst (λ d. IsTrueToMemory (report_of d config history)) (sym same) (subst (λ l. IsTrueToMemory l) (sym (whole_kept config history)) (true_to_memory config history))
-
 pub echoed : (detail : Detail) (left : Option (List ℕ)) (old new : Scene) → IsRun detail left old new → IsReported detail left old new
 echoed detail left old new run =
     let config = options_of run.0 in
-    let done = run.2 in
+    let done = run.3 in
     let leads = done.carried.1 in
     let lines = lines_of leads.history (start_of config) in
     let answers : AnswersAll 0 done.events (echo_of (kept_of detail lines)) =
     subst (λ l. AnswersAll 0 done.events l) (sym (kept_echo detail lines)) (schedule_echo 0 done.events (start_of config) leads.history leads.is_kind) in
+    let split : kept_of detail (ended_report_of config detail leads.history) ≡ (kept_of detail (Begin config detail ∷ []) ++ kept_of detail lines) ++ kept_of detail (End ∷ []) =
+    kept_of-append detail (report_of config detail leads.history) (End ∷ []) ∙ ap (λ (l : List Line). l ++ kept_of detail (End ∷ [])) (kept_of-append detail (Begin config detail ∷ []) lines) in
     record {
       sectors = run.0;
       events = done.events;
-      report = report_of detail config leads.history;
+      report = kept_of detail (ended_report_of config detail leads.history);
       schedule = done.schedule;
-      echo = echoes detail config done.events (kept_of detail lines) answers;
-      text = ap (λ (t : Told). t.text) (told_whole (outside old).told done.before (outside new).told (kept_of detail (Begin config detail ∷ [])) (kept_of detail lines) (kept_of detail (End ∷ [])) leads.report done.ended);
-      moves = shown_true detail config leads.history;
+      echo = subst (Echoes config detail done.events) (sym split) (echoes detail config done.events (kept_of detail lines) answers);
+      text = ap (λ (t : Told). t.text) (done_told detail config bytes_limit left (outside old) (outside new) done);
+      lawful = done_report detail config bytes_limit left (outside old) (outside new) (plain_options run.0 run.2) run.1 done;
     }
 
 -- whatever the words give, where they give a run it was that run

@@ -1,2 +1,4 @@
 pub mod WordLemmas
 pub mod Echoed
+pub mod Stopping
+pub mod SoFar

@@ -1,5 +1,5 @@
 -- What the program leaves, and what it says, at each of its statuses.
-use Rattle.std.specs.Prelude.{◌≡◌, ◌≢◌, ℕ, ◌⊎◌, List, Option, None, false}
+use Rattle.std.specs.Prelude.{◌≡◌, ◌≢◌, ℕ, ◌^◌, ◌<◌, ◌⊎◌, List, Option, None, false}
 use Rattle.blk_base.specs.Options.{Options}
 use Rattle.blk_base.specs.declared.operation.Abi.TheVariants.{X64}
 use Rattle.blk_io.specs.Outside.{Rose, written, IsPartlyWritten}
@@ -7,14 +7,12 @@ use Rattle.blk_io.specs.Disk.{HasLength}
 use Rattle.ring_inspect.specs.Stop.{bytes_of, IsShown, IsPartlyShown, IsCount}
 use Rattle.schedule_text.specs.declared.line.Detail.{Detail}
 use Rattle.schedule_text.specs.declared.line.Line.{Line}
-use Rattle.schedule_text.specs.Recorder.{report_text}
+use Rattle.schedule_text.specs.Recorder.{report_text, recorded}
 use Rattle.schedule_text.specs.declared.event.Event.{Event}
 use Rattle.plain_disk.specs.Echo.{Echoes}
-use Rattle.report_rules.specs.Coherent.{IsCoherent}
-use Rattle.report_rules.specs.Mapped.{AreMapAnswers}
-use Rattle.report_rules.specs.Touch.{AreTouches}
-use Rattle.move_laws.specs.Grantable.{AreGrantable}
-use Rattle.schedule_text.specs.declared.line.Detail.TheVariants.{Moves}
+use Rattle.blk_base.specs.declared.config.Job.{Job}
+use Rattle.disk_laws.specs.Submissions.{jobs_of}
+use Rattle.schedule_run.specs.Lawful.{IsLawful, IsLawfulSoFar}
 use Rattle.schedule_run.specs.Outcome.{Outside, IsDone as IsRunDone, IsStopped as IsRunStopped}
 use Rattle.schedule_run.specs.Reading.{IsWholeSchedule, Tells}
 use Rattle.schedule_run.specs.declared.schedule.RunStop.{RunStop}
@@ -49,7 +47,7 @@ outside s = record { content = s.content; told = record { lines = None; text = s
 -- what a run made of the disk and the output
 abbrev pub IsRun : Detail → Option (List ℕ) → Scene → Scene → Type 0
 IsRun detail left old new =
-    (sectors : ℕ) × HasLength old.content sectors × IsRunDone detail (options_of sectors) bytes_limit left (outside old) (outside new)
+    (sectors : ℕ) × HasLength old.content sectors × (sectors < 2 ^ 64) × IsRunDone detail (options_of sectors) bytes_limit left (outside old) (outside new)
 
 -- this command, with what the source had left, made of the outside what it is
 abbrev pub Makes : Command → Option (List ℕ) → Scene → Scene → Type 0
@@ -60,14 +58,7 @@ Makes (Run detail) left old new = IsRun detail left old new
 abbrev pub IsDone : List (List ℕ) → Option (List ℕ) → Scene → Scene → Type 0
 IsDone words left old new = (command : Command) × Gives words command × Makes command left old new
 
--- what a report says of memory and mappings: each read shows what the lines before it left there; each map is answered as its entry stands by them; each touch of the back or a job is of a word of frames 2 to 1023 through a mapping that stands, and writes only through one for writing
-pub record IsTrueToMemory (report : List Line) : Type 0 where
-  pub coherent : IsCoherent report
-  pub answered : AreMapAnswers report
-  pub touched : AreTouches report
-  pub grantable : AreGrantable report
-
--- what was written is the text of a report that echoes the whole schedule, and that tells the truth of memory and mappings where it shows the moves
+-- what was written is the text of a report that echoes the whole schedule and is lawful: a run of the plain disk from what the disk held to what it holds, and more (`schedule_run`)
 pub record IsReported (detail : Detail) (left : Option (List ℕ)) (old new : Scene) : Type 0 where
   pub sectors : ℕ
   pub events : List Event
@@ -75,7 +66,20 @@ pub record IsReported (detail : Detail) (left : Option (List ℕ)) (old new : Sc
   pub schedule : Tells (λ bytes. IsWholeSchedule bytes_limit bytes events) left
   pub echo : Echoes (options_of sectors) detail events report
   pub text : new.out ≡ written old.out (report_text report)
-  pub moves : detail ≡ Moves → IsTrueToMemory report
+  pub lawful : IsLawful (options_of sectors) detail (jobs_of events) old.content new.content report
+
+-- these lines were written, and at most a beginning of one more
+abbrev pub IsWrittenSoFar : Detail → List Line → (before now : Option (List ℕ)) → Type 0
+IsWrittenSoFar detail report before now =
+    (now ≡ written before (report_text report))
+    ⊎ ((cut : Line) × IsPartlyWritten (written before (report_text report)) (report_text (recorded detail cut)) now)
+
+-- the lines that were written whole are lawful
+pub record IsReportedSoFar (detail : Detail) (old new : Scene) : Type 0 where
+  pub jobs : List Job
+  pub report : List Line
+  pub text : IsWrittenSoFar detail report old.out new.out
+  pub lawful : IsLawfulSoFar detail jobs old.content report
 
 -- the source had so many bytes, where one too many stand for more, and not the number that the command asks for
 abbrev pub IsOff : Command → Option (List ℕ) → (count expected : ℕ) → Type 0
@@ -102,7 +106,7 @@ InspectStops command left old new stop = ⊥
 -- a run on an image of some number of sectors stopped so
 abbrev pub HasStopped : Detail → Option (List ℕ) → Scene → Scene → RunStop → Type 0
 HasStopped detail left old new stop =
-    (sectors : ℕ) × HasLength old.content sectors
+    (sectors : ℕ) × HasLength old.content sectors × (sectors < 2 ^ 64)
     × IsRunStopped detail (options_of sectors) bytes_limit left old.source_faults new.source_faults old.out_faults new.out_faults stop (outside old) (outside new)
 
 -- why a run stopped, and what it left

@@ -1,14 +1,15 @@
 // The program over its outside.
 ghost use Rattle.std.specs.Prelude.{◌≡◌, ◌≢◌, ◌≤◌, ◌↔◌, map, OnOk, IfErr};
 ghost use Rattle.std.specs.String.{string_bytes};
+ghost use Rattle.blk_io.specs.Outside.{Rose};
 ghost use Rattle.commands.specs.Words.{Gives, GivesNone};
 ghost use Rattle.commands.specs.Status.{status_of, line_of};
-ghost use Rattle.commands.specs.Ending.{IsDone, IsReported, IsSaid, IsStopped, Stops, Makes, HasEnded, run_stop};
+ghost use Rattle.commands.specs.Ending.{IsDone, IsReported, IsReportedSoFar, IsSaid, IsStopped, Stops, Makes, HasEnded, run_stop};
 
 use crate::status::Stop;
 use crate::words::{Command, read_command};
 use blk_base::{Abi, Config};
-use blk_io::{AttachStop, SectorDisk, Sink, Source};
+use blk_io::{AttachStop, Failed, SectorDisk, Sink, Source};
 use ring_inspect::{InspectStop, inspect};
 use schedule_run::{RunStop, run};
 use schedule_text::{Detail, LineSink};
@@ -38,11 +39,14 @@ pub fn blkring<S: Source, D: SectorDisk, O: Sink, E: Sink>(
 ) -> u8
     // Done: the command of the words made of the outside what it is.
     ensures done { result ≡ 0 → IsDone (map string_bytes words.now) (S.left src.old) (record { content = D.content disk.old; out = O.held out.old; source_faults = S.faults src.old; disk_faults = D.faults disk.old; out_faults = O.faults out.old }) (record { content = D.content disk.new; out = O.held out.new; source_faults = S.faults src.new; disk_faults = D.faults disk.new; out_faults = O.faults out.new }) × (E.held err.new ≡ E.held err.old) }
-    // A run that is done wrote the text of a report that echoes the whole schedule; where it shows the
-    // moves, they are true to memory and mappings.
+    // A run that is done wrote the text of a report that echoes the whole schedule and is lawful.
     ensures reported { (detail : Detail) → Gives (map string_bytes words.now) (Command.Run detail) → result ≡ 0 → IsReported detail (S.left src.old) (record { content = D.content disk.old; out = O.held out.old; source_faults = S.faults src.old; disk_faults = D.faults disk.old; out_faults = O.faults out.old }) (record { content = D.content disk.new; out = O.held out.new; source_faults = S.faults src.new; disk_faults = D.faults disk.new; out_faults = O.faults out.new }) }
+    // The lines that a run that stopped wrote whole are lawful.
+    ensures reported_so_far { (detail : Detail) → Gives (map string_bytes words.now) (Command.Run detail) → result ≢ 0 → IsReportedSoFar detail (record { content = D.content disk.old; out = O.held out.old; source_faults = S.faults src.old; disk_faults = D.faults disk.old; out_faults = O.faults out.old }) (record { content = D.content disk.new; out = O.held out.new; source_faults = S.faults src.new; disk_faults = D.faults disk.new; out_faults = O.faults out.new }) }
     // Any other status is that of a reason, which says what came before, and was said.
     ensures stopped { result ≢ 0 → HasEnded (map string_bytes words.now) (S.left src.old) (record { content = D.content disk.old; out = O.held out.old; source_faults = S.faults src.old; disk_faults = D.faults disk.old; out_faults = O.faults out.old }) (record { content = D.content disk.new; out = O.held out.new; source_faults = S.faults src.new; disk_faults = D.faults disk.new; out_faults = O.faults out.new }) result (E.held err.old) (E.held err.new) (E.faults err.old) (E.faults err.new) }
+    // What was written was handed on.
+    ensures handed_on { result ≡ 0 → O.kept_back out.new ≡ 0 }
     ensures bad_words { (result ≡ 2) ↔ GivesNone (map string_bytes words.now) }
     ensures nothing_done { result ≡ 2 → (src.new ≡ src.old) × (out.new ≡ out.old) × (disk.new ≡ disk.old) }
     ensures source_later { S.faults src.old ≤ S.faults src.new }
@@ -77,6 +81,7 @@ fn carry_out<S: Source, D: SectorDisk, O: Sink>(
 ) -> Result<(), Stop>
     ensures done { OnOk result (IsDone (map string_bytes words.now) (S.left src.old) (record { content = D.content disk.old; out = O.held out.old; source_faults = S.faults src.old; disk_faults = D.faults disk.old; out_faults = O.faults out.old }) (record { content = D.content disk.new; out = O.held out.new; source_faults = S.faults src.new; disk_faults = D.faults disk.new; out_faults = O.faults out.new })) }
     ensures stopped { IfErr result (IsStopped (map string_bytes words.now) (S.left src.old) (record { content = D.content disk.old; out = O.held out.old; source_faults = S.faults src.old; disk_faults = D.faults disk.old; out_faults = O.faults out.old }) (record { content = D.content disk.new; out = O.held out.new; source_faults = S.faults src.new; disk_faults = D.faults disk.new; out_faults = O.faults out.new })) }
+    ensures handed_on { OnOk result (O.kept_back out.new ≡ 0) }
     ensures unread { IfErr result (λ stop. stop ≡ Stop.Words → (src.new ≡ src.old) × (out.new ≡ out.old) × (disk.new ≡ disk.old)) }
     ensures source_later { S.faults src.old ≤ S.faults src.new }
     ensures disk_later { D.faults disk.old ≤ D.faults disk.new }
@@ -111,12 +116,13 @@ fn show_ring<S: Source, D: SectorDisk, O: Sink>(
     requires { order ≤ 4 }
     ensures done { OnOk result (Makes (Command.Inspect abi order) (S.left src.old) (record { content = D.content disk.old; out = O.held out.old; source_faults = S.faults src.old; disk_faults = D.faults disk.old; out_faults = O.faults out.old }) (record { content = D.content disk.new; out = O.held out.new; source_faults = S.faults src.new; disk_faults = D.faults disk.new; out_faults = O.faults out.new })) }
     ensures stopped { IfErr result (Stops (Command.Inspect abi order) (S.left src.old) (record { content = D.content disk.old; out = O.held out.old; source_faults = S.faults src.old; disk_faults = D.faults disk.old; out_faults = O.faults out.old }) (record { content = D.content disk.new; out = O.held out.new; source_faults = S.faults src.new; disk_faults = D.faults disk.new; out_faults = O.faults out.new })) }
+    ensures handed_on { OnOk result (O.kept_back out.new ≡ 0) }
     ensures disk { disk.new ≡ disk.old }
     ensures source_later { S.faults src.old ≤ S.faults src.new }
     ensures output_later { O.faults out.old ≤ O.faults out.new }
 {
     match inspect(alloc, src, abi, order, out) {
-        Ok(()) => Ok(()),
+        Ok(()) => hand_on(out),
         Err(InspectStop::Length(count)) => Err(Stop::Length {
             count,
             expected: 4096 << order,
@@ -124,6 +130,19 @@ fn show_ring<S: Source, D: SectorDisk, O: Sink>(
         Err(InspectStop::Source) => Err(Stop::Source),
         Err(InspectStop::Sink) => Err(Stop::Sink),
         Err(InspectStop::OutOfMemory) => Err(Stop::OutOfMemory),
+    }
+}
+
+// Hands on what the output keeps back.
+fn hand_on<O: Sink>(out: &mut O) -> Result<(), Stop>
+    ensures held { O.held out.new ≡ O.held out.old }
+    ensures handed_on { OnOk result (O.kept_back out.new ≡ 0) }
+    ensures later { O.faults out.old ≤ O.faults out.new }
+    ensures failed { IfErr result (λ stop. (stop ≡ Stop.Sink) × Rose (O.faults out.old) (O.faults out.new)) }
+{
+    match out.flush() {
+        Ok(()) => Ok(()),
+        Err(Failed) => Err(Stop::Sink),
     }
 }
 
@@ -138,6 +157,7 @@ fn run_schedule<S: Source, D: SectorDisk, O: Sink>(
 ) -> Result<(), Stop>
     ensures done { OnOk result (Makes (Command.Run detail) (S.left src.old) (record { content = D.content disk.old; out = O.held out.old; source_faults = S.faults src.old; disk_faults = D.faults disk.old; out_faults = O.faults out.old }) (record { content = D.content disk.new; out = O.held out.new; source_faults = S.faults src.new; disk_faults = D.faults disk.new; out_faults = O.faults out.new })) }
     ensures stopped { IfErr result (Stops (Command.Run detail) (S.left src.old) (record { content = D.content disk.old; out = O.held out.old; source_faults = S.faults src.old; disk_faults = D.faults disk.old; out_faults = O.faults out.old }) (record { content = D.content disk.new; out = O.held out.new; source_faults = S.faults src.new; disk_faults = D.faults disk.new; out_faults = O.faults out.new })) }
+    ensures handed_on { OnOk result (O.kept_back out.new ≡ 0) }
     ensures source_later { S.faults src.old ≤ S.faults src.new }
     ensures disk_later { D.faults disk.old ≤ D.faults disk.new }
     ensures output_later { O.faults out.old ≤ O.faults out.new }

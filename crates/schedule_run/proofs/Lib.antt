@@ -2,3 +2,8 @@ pub mod Lines
 pub mod Carrying
 pub mod Taking
 pub mod Ending
+pub mod Lengths
+pub mod Lawful
+pub mod LawfulEnds
+pub mod Two
+pub mod Unsent

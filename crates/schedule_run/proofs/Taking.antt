@@ -183,7 +183,7 @@ read_stopped_last detail left now after limit room n buffer s t source source' a
 read_stopped_last detail left now after limit room n buffer s t source source' a b c stop.Source new none none_before zero some room_left some_part le read h stops = absurd stops
 read_stopped_last detail left now after limit room n buffer s t source source' a b c stop.TooLong new none none_before zero some room_left some_part le read h stops = absurd stops
 read_stopped_last detail left now after limit room n buffer s t source source' a b c stop.Sink new none none_before zero some room_left some_part le read h stops =
-    (rose_on a b c le stops.0, last_stopped detail left now limit room s t new none h stops.1)
+    (rose_on a b c le stops.0, inl (last_stopped detail left now limit room s t new none h stops.1))
 read_stopped_last detail left now after limit room n buffer s t source source' a b c stop.OutOfMemory new none none_before zero some room_left some_part le read h stops =
     last_stopped detail left now limit room s t new none h stops
 
@@ -221,7 +221,7 @@ read_stopped detail detail' left now after limit room n buffer s t source source
     by (stop.BadLine number) whole so_far size = piece_bad detail left after limit number (h.done ++ take n buffer) s new none none_before size so_far whole
     by stop.Source whole so_far size = absurd whole
     by stop.TooLong whole so_far size = absurd whole
-    by stop.Sink whole so_far size = (whole.0, stopped_in detail left (h.done ++ take n buffer) s new after none so_far whole.1)
+    by stop.Sink whole so_far size = (whole.0, inl (stopped_in detail left (h.done ++ take n buffer) s new after none so_far whole.1))
     by stop.OutOfMemory whole so_far size = stopped_in detail left (h.done ++ take n buffer) s new after none so_far whole
 
 -- the bytes that were read stand at the beginning of the buffer

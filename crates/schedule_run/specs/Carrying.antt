@@ -1,5 +1,5 @@
 -- What the reader does with a schedule's bytes as they come: it carries out the whole lines among them.
-use Rattle.std.specs.Prelude.{◌≡◌, ℕ, ◌+◌, ◌≤◌, min, List, ◌++◌, length, Option, Some, option_to_list}
+use Rattle.std.specs.Prelude.{◌⊎◌, ◌≡◌, ℕ, ◌+◌, ◌≤◌, min, List, ◌++◌, length, Option, Some, option_to_list}
 use Rattle.blk_io.specs.Outside.{Rose}
 use Rattle.schedule_text.specs.declared.event.Event.{Event}
 use Rattle.schedule_text.specs.declared.line.Detail.{Detail}
@@ -120,5 +120,5 @@ abbrev pub ReadStops : Detail → (limit : ℕ) → Option (List ℕ) → (sourc
 ReadStops detail limit left source source' recorder recorder' (stop.BadLine n) old new = Reads (λ bytes events. HasBadLine limit bytes events n) detail left old new
 ReadStops detail limit left source source' recorder recorder' stop.Source old new = Rose source source' × Reads HasBegun detail left old new
 ReadStops detail limit left source source' recorder recorder' stop.TooLong old new = Reads (IsTooLong limit) detail left old new
-ReadStops detail limit left source source' recorder recorder' stop.Sink old new = Rose recorder recorder' × ReadsToStop detail left old new
+ReadStops detail limit left source source' recorder recorder' stop.Sink old new = Rose recorder recorder' × (ReadsToStop detail left old new ⊎ Reads HasBegun detail left old new)
 ReadStops detail limit left source source' recorder recorder' stop.OutOfMemory old new = ReadsToStop detail left old new

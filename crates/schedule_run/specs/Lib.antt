@@ -2,3 +2,4 @@ pub mod Machine
 pub mod Reading
 pub mod Outcome
 pub mod Carrying
+pub mod Lawful

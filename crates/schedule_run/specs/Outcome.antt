@@ -1,5 +1,6 @@
 -- How a run may end, and what then stands.
-use Rattle.std.specs.Prelude.{◌≡◌, ℕ, ◌⊎◌, List, [], ◌∷◌, Option}
+use Rattle.std.specs.Prelude.{◌≡◌, ℕ, ◌⊎◌, List, [], ◌∷◌, Option, Result, Ok, Err}
+use Rattle.blk_io.specs.declared.failed.Failed.{Failed}
 use Rattle.blk_base.specs.Options.{Options}
 use Rattle.blk_io.specs.Outside.{Rose}
 use Rattle.schedule_text.specs.declared.event.Event.{Event}
@@ -68,6 +69,11 @@ abbrev pub IsCut : Detail → Options → ℕ → Option (List ℕ) → Outside 
 IsCut detail config limit left old new =
     StopsAtBegin detail config old new ⊎ StopsInEvent detail config left old new ⊎ StopsAtEnd detail config limit left old new
 
+-- the recorder failed to hand on what it kept back: after whole events, or after the last line
+abbrev pub IsKeptBack : Detail → Options → ℕ → Option (List ℕ) → Outside → Outside → Type 0
+IsKeptBack detail config limit left old new =
+    ((events : List Event) × Tells (λ bytes. HasBegun bytes events) left × HasCarried detail config events old new) ⊎ IsDone detail config limit left old new
+
 -- how the run stopped, and what stands then: whole events were carried out, and the report says what they made
 abbrev pub IsStopped : Detail → Options → ℕ → Option (List ℕ) → (source source' recorder recorder' : ℕ) → RunStop → Outside → Outside → Type 0
 IsStopped detail config limit left source source' recorder recorder' (stop.BadLine number) old new =
@@ -77,9 +83,14 @@ IsStopped detail config limit left source source' recorder recorder' stop.Source
 IsStopped detail config limit left source source' recorder recorder' stop.TooLong old new =
     (events : List Event) × Tells (λ bytes. IsTooLong limit bytes events) left × HasCarried detail config events old new
 IsStopped detail config limit left source source' recorder recorder' stop.Sink old new =
-    Rose recorder recorder' × IsCut detail config limit left old new
+    Rose recorder recorder' × (IsCut detail config limit left old new ⊎ IsKeptBack detail config limit left old new)
 IsStopped detail config limit left source source' recorder recorder' stop.OutOfMemory old new =
     (new ≡ old) ⊎ IsCut detail config limit left old new
+
+-- why the run stops, once what the recorder kept back was handed on, or couldn't be
+abbrev pub stop_after : RunStop → Result (Unit {0}) Failed → RunStop
+stop_after why (Ok done) = why
+stop_after why (Err failed) = stop.Sink
 
 -- why the run stops where the recorder does
 abbrev pub stop_of : RecordStop → RunStop

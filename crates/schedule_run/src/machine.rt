@@ -6,6 +6,7 @@ ghost use Rattle.split_model.specs.Kind.{AreOf, AreOfSoFar, is_carried, is_carri
 ghost use Rattle.split_model.specs.Leads.{Goes};
 ghost use Rattle.schedule_text.specs.Event.{is_number};
 ghost use Rattle.schedule_run.specs.Machine.{moment};
+ghost use Rattle.schedule_run.specs.Lawful.{AreLawful};
 
 use crate::split::Split;
 use blk_base::{Config, Job, OutOfMemory};
@@ -52,8 +53,33 @@ impl Machine {
 
     /// Carries out an event, and gives the recorder the lines of all that happens. The event is one
     /// for which `can_carry_out` holds. After a stop, what was done before it stands, and the lines
-    /// before the one at which the recorder stopped.
+    /// before the one at which the recorder stopped. Whatever led here, the report stays one that obeys
+    /// the rules (`AreLawful`).
     pub fn event<D: SectorDisk, R: Recorder>(
+        &mut self,
+        event: Event,
+        disk: &mut D,
+        recorder: &mut R,
+    ) -> Result<(), RecordStop>
+        requires carried { is_carried event ≡ true }
+        requires few { self.old.events < 10 ^ 9 }
+        requires attached { D.attached disk.old ≡ Some self.old.world.front.sectors }
+        ensures goes { Goes (R.detail recorder.old) (AreOf event self.old.world) (AreOfSoFar event self.old.world) result (moment self.old.world (D.content disk.old) (R.told recorder.old)) (moment self.new.world (D.content disk.new) (R.told recorder.new)) }
+        ensures lawful { Goes (R.detail recorder.old) (AreLawful self.old.world) (AreLawful self.old.world) result (moment self.old.world (D.content disk.old) (R.told recorder.old)) (moment self.new.world (D.content disk.new) (R.told recorder.new)) }
+        ensures counted { self.new.events ≡ self.old.events + 1 }
+        ensures sectors { self.new.world.front.sectors ≡ self.old.world.front.sectors }
+        ensures attached { D.attached disk.new ≡ D.attached disk.old }
+        ensures disk_later { D.faults disk.old ≤ D.faults disk.new }
+        ensures same_detail { R.detail recorder.new ≡ R.detail recorder.old }
+        ensures same_lender { R.lender recorder.new ≡ R.lender recorder.old }
+        ensures later { R.faults recorder.old ≤ R.faults recorder.new }
+        ensures failed { result ≡ Err RecordStop.Failed → Rose (R.faults recorder.old) (R.faults recorder.new) }
+    {
+        self.carry_out(event, disk, recorder)
+    }
+
+    // Moves both ends as an event says.
+    fn carry_out<D: SectorDisk, R: Recorder>(
         &mut self,
         event: Event,
         disk: &mut D,

@@ -1,45 +1,137 @@
 // The lines that a move shows.
-ghost use Rattle.std.specs.Prelude.{◌≡◌, ◌≤◌, ◌∷◌, ◌++◌, [], Err, option_to_list};
+ghost use Rattle.std.specs.Prelude.{◌≡◌, ◌≤◌, ◌∷◌, ◌++◌, [], Err, Some, None};
 ghost use Rattle.blk_io.specs.Outside.{Rose};
 ghost use Rattle.split_model.specs.Leads.{Shows};
 ghost use Rattle.split_model.specs.Happening.{submit_line};
 ghost use Rattle.split_model.specs.Shown.{front_lines, back_lines, halt_lines, halt_line, effect_line, refusal_word};
 
 use blk_back::{BackTold, Halt};
-use blk_base::{BackAnswer, Job, Move};
+use blk_base::{BackAnswer, Job, SmallMove};
 use blk_front::{Refusal, Told};
-use schedule_text::{Halt as HaltLine, Line, RecordStop, Recorder, Refusal as RefusalWord};
+use schedule_text::{Detail, Halt as HaltLine, Line, RecordStop, Recorder, Refusal as RefusalWord};
 
-/// Shows a move, and what it made happen at its end.
-pub fn show<R: Recorder>(
+/// Shows a move of the front, and what it made happen there.
+pub fn show_front<R: Recorder>(
     recorder: &mut R,
-    shown: Move,
-    first: Option<Line>,
-    second: Option<Line>,
+    shown: &SmallMove,
+    told: Option<Told>,
 ) -> Result<(), RecordStop>
-    ensures shown { Shows (R.detail recorder.old) (Line.Move shown ∷ option_to_list first ++ option_to_list second) result (R.told recorder.old) (R.told recorder.new) }
+    ensures shown { Shows (R.detail recorder.old) (Line.Move shown.now ∷ front_lines told) result (R.told recorder.old) (R.told recorder.new) }
     ensures same_detail { R.detail recorder.new ≡ R.detail recorder.old }
     ensures same_lender { R.lender recorder.new ≡ R.lender recorder.old }
     ensures later { R.faults recorder.old ≤ R.faults recorder.new }
     ensures failed { result ≡ Err RecordStop.Failed → Rose (R.faults recorder.old) (R.faults recorder.new) }
 {
-    say(recorder, &Line::Move(shown))?;
-    say_if(recorder, first)?;
-    say_if(recorder, second)
+    show_move(recorder, shown)?;
+    match told {
+        None => Ok(()),
+        Some(told) => say_front(recorder, told),
+    }
 }
 
-// Shows a line, if there is one.
-fn say_if<R: Recorder>(recorder: &mut R, line: Option<Line>) -> Result<(), RecordStop>
-    ensures shown { Shows (R.detail recorder.old) (option_to_list line) result (R.told recorder.old) (R.told recorder.new) }
+/// Shows a move of the back, what it made happen there, and the halt where it made the back halt.
+pub fn show_back<R: Recorder>(
+    recorder: &mut R,
+    shown: &SmallMove,
+    told: Option<BackTold>,
+    answer: &BackAnswer,
+    before: Option<Halt>,
+    after: Option<Halt>,
+) -> Result<(), RecordStop>
+    ensures shown { Shows (R.detail recorder.old) (Line.Move shown.now ∷ back_lines told answer.now ++ halt_lines before after) result (R.told recorder.old) (R.told recorder.new) }
     ensures same_detail { R.detail recorder.new ≡ R.detail recorder.old }
     ensures same_lender { R.lender recorder.new ≡ R.lender recorder.old }
     ensures later { R.faults recorder.old ≤ R.faults recorder.new }
     ensures failed { result ≡ Err RecordStop.Failed → Rose (R.faults recorder.old) (R.faults recorder.new) }
 {
-    match line {
-        None => Ok(()),
-        Some(line) => say(recorder, &line),
+    show_job(recorder, shown, told, answer)?;
+    match (before, after) {
+        (None, Some(halt)) => say_halt(recorder, halt),
+        _ => Ok(()),
     }
+}
+
+/// Shows a move of a job, and what it made happen to its request.
+pub fn show_job<R: Recorder>(
+    recorder: &mut R,
+    shown: &SmallMove,
+    told: Option<BackTold>,
+    answer: &BackAnswer,
+) -> Result<(), RecordStop>
+    ensures shown { Shows (R.detail recorder.old) (Line.Move shown.now ∷ back_lines told answer.now) result (R.told recorder.old) (R.told recorder.new) }
+    ensures same_detail { R.detail recorder.new ≡ R.detail recorder.old }
+    ensures same_lender { R.lender recorder.new ≡ R.lender recorder.old }
+    ensures later { R.faults recorder.old ≤ R.faults recorder.new }
+    ensures failed { result ≡ Err RecordStop.Failed → Rose (R.faults recorder.old) (R.faults recorder.new) }
+{
+    show_move(recorder, shown)?;
+    match told {
+        None => Ok(()),
+        Some(told) => say_back(recorder, told, answer),
+    }
+}
+
+// Shows a move, where moves are shown. Lines have much room and few moves have one else, so whatever
+// makes a line stands in a function of its own.
+fn show_move<R: Recorder>(recorder: &mut R, shown: &SmallMove) -> Result<(), RecordStop>
+    ensures shown { Shows (R.detail recorder.old) (Line.Move shown.now ∷ []) result (R.told recorder.old) (R.told recorder.new) }
+    ensures same_detail { R.detail recorder.new ≡ R.detail recorder.old }
+    ensures same_lender { R.lender recorder.new ≡ R.lender recorder.old }
+    ensures later { R.faults recorder.old ≤ R.faults recorder.new }
+    ensures failed { result ≡ Err RecordStop.Failed → Rose (R.faults recorder.old) (R.faults recorder.new) }
+{
+    match recorder.detail() {
+        Detail::Lines => Ok(()),
+        Detail::Moves => say_move(recorder, shown),
+    }
+}
+
+#[inline(never)]
+fn say_move<R: Recorder>(recorder: &mut R, shown: &SmallMove) -> Result<(), RecordStop>
+    ensures shown { Shows (R.detail recorder.old) (Line.Move shown.now ∷ []) result (R.told recorder.old) (R.told recorder.new) }
+    ensures same_detail { R.detail recorder.new ≡ R.detail recorder.old }
+    ensures same_lender { R.lender recorder.new ≡ R.lender recorder.old }
+    ensures later { R.faults recorder.old ≤ R.faults recorder.new }
+    ensures failed { result ≡ Err RecordStop.Failed → Rose (R.faults recorder.old) (R.faults recorder.new) }
+{
+    say(recorder, &Line::Move(shown.shown()))
+}
+
+#[inline(never)]
+fn say_front<R: Recorder>(recorder: &mut R, told: Told) -> Result<(), RecordStop>
+    ensures shown { Shows (R.detail recorder.old) (front_lines (Some told)) result (R.told recorder.old) (R.told recorder.new) }
+    ensures same_detail { R.detail recorder.new ≡ R.detail recorder.old }
+    ensures same_lender { R.lender recorder.new ≡ R.lender recorder.old }
+    ensures later { R.faults recorder.old ≤ R.faults recorder.new }
+    ensures failed { result ≡ Err RecordStop.Failed → Rose (R.faults recorder.old) (R.faults recorder.new) }
+{
+    say(recorder, &front_line(told))
+}
+
+#[inline(never)]
+fn say_back<R: Recorder>(
+    recorder: &mut R,
+    told: BackTold,
+    answer: &BackAnswer,
+) -> Result<(), RecordStop>
+    ensures shown { Shows (R.detail recorder.old) (back_lines (Some told) answer.now) result (R.told recorder.old) (R.told recorder.new) }
+    ensures same_detail { R.detail recorder.new ≡ R.detail recorder.old }
+    ensures same_lender { R.lender recorder.new ≡ R.lender recorder.old }
+    ensures later { R.faults recorder.old ≤ R.faults recorder.new }
+    ensures failed { result ≡ Err RecordStop.Failed → Rose (R.faults recorder.old) (R.faults recorder.new) }
+{
+    say(recorder, &back_line(told, answer))
+}
+
+#[inline(never)]
+fn say_halt<R: Recorder>(recorder: &mut R, halt: Halt) -> Result<(), RecordStop>
+    ensures shown { Shows (R.detail recorder.old) (halt_lines None (Some halt)) result (R.told recorder.old) (R.told recorder.new) }
+    ensures same_detail { R.detail recorder.new ≡ R.detail recorder.old }
+    ensures same_lender { R.lender recorder.new ≡ R.lender recorder.old }
+    ensures later { R.faults recorder.old ≤ R.faults recorder.new }
+    ensures failed { result ≡ Err RecordStop.Failed → Rose (R.faults recorder.old) (R.faults recorder.new) }
+{
+    say(recorder, &Line::Halt(halt_word(halt)))
 }
 
 /// Shows one line.
@@ -53,30 +145,28 @@ pub fn say<R: Recorder>(recorder: &mut R, line: &Line) -> Result<(), RecordStop>
     recorder.add(line)
 }
 
-/// What happened at the front.
-pub fn front_line(told: Option<Told>) -> Option<Line>
-    ensures { option_to_list result ≡ front_lines told }
+// What happened at the front.
+fn front_line(told: Told) -> Line
+    ensures { result ∷ [] ≡ front_lines (Some told) }
 {
     match told {
-        None => None,
-        Some(Told::Ready) => Some(Line::Ready),
-        Some(Told::Answer { id, status }) => Some(Line::Answer {
+        Told::Ready => Line::Ready,
+        Told::Answer { id, status } => Line::Answer {
             id: u64::from(id),
             status,
-        }),
-        Some(Told::Broken(word)) => Some(Line::Broken(word)),
+        },
+        Told::Broken(word) => Line::Broken(word),
     }
 }
 
-/// What happened at the back or one of its jobs, by what it was answered.
-pub fn back_line(told: Option<BackTold>, answer: &BackAnswer) -> Option<Line>
-    ensures { option_to_list result ≡ back_lines told answer.now }
+// What happened at the back or one of its jobs, by what it was answered.
+fn back_line(told: BackTold, answer: &BackAnswer) -> Line
+    ensures { result ∷ [] ≡ back_lines (Some told) answer.now }
 {
     match told {
-        None => None,
-        Some(BackTold::Effect { id, index }) => Some(effect_line(id, index, answer)),
-        Some(BackTold::Fault { id, index }) => Some(Line::Fault { id, index }),
-        Some(BackTold::Reply { id, status }) => Some(Line::Reply { id, status }),
+        BackTold::Effect { id, index } => effect_line(id, index, answer),
+        BackTold::Fault { id, index } => Line::Fault { id, index },
+        BackTold::Reply { id, status } => Line::Reply { id, status },
     }
 }
 
@@ -88,19 +178,9 @@ fn effect_line(id: u64, index: u32, answer: &BackAnswer) -> Line
         BackAnswer::Sector(words) => Line::EffectRead {
             id,
             index,
-            words: *words,
+            words: *words.get(),
         },
         _ => Line::Effect { id, index },
-    }
-}
-
-/// The halt of the back, at the move that made it halt.
-pub fn halt_line(before: Option<Halt>, after: Option<Halt>) -> Option<Line>
-    ensures { option_to_list result ≡ halt_lines before after }
-{
-    match (before, after) {
-        (None, Some(halt)) => Some(Line::Halt(halt_word(halt))),
-        _ => None,
     }
 }
 

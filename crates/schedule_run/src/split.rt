@@ -1,15 +1,16 @@
 // Both ends in their machine, and the moves of each.
 ghost use Rattle.std.specs.Prelude.{◌≡◌, ◌+◌, ◌<◌, ◌≤◌, ◌^◌, ◌∷◌, [], List, ℕ, Option, Some, None, Err, IfOk};
 ghost use Rattle.blk_io.specs.Outside.{Rose};
+ghost use Rattle.schedule_text.specs.Range.{JobHasWidths};
 ghost use Rattle.split_model.specs.World.{start_of, is_quiet};
 ghost use Rattle.split_model.specs.Happening.{FrontMoves, BackMoves, Submits, Notifies, happens};
 ghost use Rattle.split_model.specs.Kind.{IsJobMove};
 ghost use Rattle.split_model.specs.Leads.{Goes, Is};
 ghost use Rattle.schedule_run.specs.Machine.{moment};
 
-use crate::showing::{back_line, front_line, halt_line, say, show, submit_line};
+use crate::showing::{say, show_back, show_front, show_job, submit_line};
 use blk_back::Back;
-use blk_base::{BackMover, Config, End, Endpoint, Job, OutOfMemory};
+use blk_base::{BackMover, Config, End, Endpoint, Job, OutOfMemory, SectorWords};
 use blk_front::Front;
 use blk_io::SectorDisk;
 use hypervisor::Hypervisor;
@@ -25,6 +26,8 @@ pub struct Split {
     front: Front,
     back: Back,
     under: Hypervisor,
+    // where a sector that is read from the disk lies until it is told
+    room: SectorWords,
 }
 
 impl Model for Split {
@@ -47,6 +50,7 @@ impl Split {
             front: Front::new(alloc, config)?,
             back: Back::new(alloc, config)?,
             under: Hypervisor::new(alloc)?,
+            room: [0; 128],
         })
     }
 
@@ -61,13 +65,13 @@ impl Split {
         ensures failed { result ≡ Err RecordStop.Failed → Rose (R.faults recorder.old) (R.faults recorder.new) }
     {
         let ask = self.front.ask();
-        let Some((answer, shown)) = self.under.front(ask) else {
+        let Some((answer, shown)) = self.under.front(&ask) else {
             return Ok(());
         };
         // A front takes no memory once it is made.
-        let _ = self.front.tell(answer);
+        let _ = self.front.tell(&answer);
         let told = self.front.take_told();
-        show(recorder, shown, front_line(told), None)
+        show_front(recorder, &shown, told)
     }
 
     /// A move of the back, if it has one.
@@ -90,13 +94,13 @@ impl Split {
     {
         let ask = self.back.ask();
         let before = self.back.halted();
-        let Some((answer, shown)) = self.under.back(BackMover::Back, ask, disk) else {
+        let Some((answer, shown)) = self.under.back(BackMover::Back, &ask, disk, &mut self.room)
+        else {
             return Ok(());
         };
-        let _ = self.back.tell(answer);
+        let _ = self.back.tell(&answer);
         let told = self.back.take_told();
-        let halt = halt_line(before, self.back.halted());
-        show(recorder, shown, back_line(told, &answer), halt)
+        show_back(recorder, &shown, told, &answer, before, self.back.halted())
     }
 
     /// A move of the job of a number, if it has one.
@@ -119,16 +123,20 @@ impl Split {
         ensures failed { result ≡ Err RecordStop.Failed → Rose (R.faults recorder.old) (R.faults recorder.new) }
     {
         let ask = self.back.job_ask(number);
-        let Some((answer, shown)) = self.under.back(BackMover::Job(number), ask, disk) else {
+        let Some((answer, shown)) = self
+            .under
+            .back(BackMover::Job(number), &ask, disk, &mut self.room)
+        else {
             return Ok(());
         };
-        self.back.job_tell(number, answer);
+        self.back.job_tell(number, &answer);
         let told = self.back.take_told();
-        show(recorder, shown, back_line(told, &answer), None)
+        show_job(recorder, &shown, told, &answer)
     }
 
     /// A request is handed to the front.
     pub fn submit<R: Recorder>(&mut self, job: Job, recorder: &mut R) -> Result<(), RecordStop>
+        ensures widths { JobHasWidths job }
         ensures goes { (content : Option (List (List ℕ))) → Goes (R.detail recorder.old) (Is (Submits job ∷ [])) (Is (Submits job ∷ [])) result (moment self.old content (R.told recorder.old)) (moment self.new content (R.told recorder.new)) }
         ensures made { self.new.under ≡ self.old.under }
         ensures sectors { self.new.front.sectors ≡ self.old.front.sectors }

@@ -47,6 +47,10 @@ impl Reader {
         let mut piece = [0; PIECE];
         let mut room = bytes_limit;
         while room > 0 {
+            // Whoever gives the lines as the report comes has all of it before he is waited for.
+            if recorder.flush().is_err() {
+                return Err(RunStop::Sink);
+            }
             let most = room.min(PIECE as u64) as usize;
             let count = match source.read(&mut piece[..most]) {
                 Ok(count) => count,

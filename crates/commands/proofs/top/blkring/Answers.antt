@@ -1,5 +1,9 @@
 use Rattle.commands.proofs.Echoed.{done_echoed}
+use Rattle.commands.proofs.SoFar.{stopped_so_far}
 use Rattle.commands.proofs.top.blkring.Goals as goal
 
 pub returns-in-Ok-clause-reported : goal.returns-in-Ok-clause-reported
 returns-in-Ok-clause-reported g c detail gives zero = done_echoed _ _ _ _ c.in-Ok.ensures.done detail gives
+
+pub returns-in-Err-clause-reported_so_far : goal.returns-in-Err-clause-reported_so_far
+returns-in-Err-clause-reported_so_far g c detail gives other = stopped_so_far _ _ _ _ _ c.in-Err.ensures.stopped detail gives

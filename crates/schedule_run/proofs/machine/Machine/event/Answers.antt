@@ -1,17 +1,6 @@
-use Rattle.std.proofs.Common.{refl}
-use Rattle.split_model.specs.Happening.{Notifies}
-use Rattle.split_model.proofs.Running.{leads_one}
-use Rattle.split_model.proofs.Showing.{shows_none}
+use Rattle.split_model.proofs.Joining.{goes_as}
+use Rattle.schedule_run.proofs.Lawful.{event_lawful, event_so_far_lawful}
 use Rattle.schedule_run.proofs.machine.Machine.event.Goals as goal
 
-pub returns-in-Submit-clause-goes : goal.returns-in-Submit-clause-goes
-returns-in-Submit-clause-goes g c = rw (c.in-Submit.is, ← c.self.view_is) (c.submit.ensures.goes (g.D.SectorDisk.content c.args.disk.now))
-
-pub returns-in-Settle-clause-goes : goal.returns-in-Settle-clause-goes
-returns-in-Settle-clause-goes g c = rw (c.in-Settle.is, ← c.self.view_is) c.settle.ensures.goes
-
-pub returns-in-Look-clause-goes : goal.returns-in-Look-clause-goes
-returns-in-Look-clause-goes g c = rw (c.in-Look.is, ← c.self.view_is) (c.look.ensures.goes (g.D.SectorDisk.content c.args.disk.now))
-
-pub returns-in-Notify-clause-goes : goal.returns-in-Notify-clause-goes
-returns-in-Notify-clause-goes g c = rw (c.in-Notify.is, ← c.self.view_is) (leads_one _ (Notifies c.in-Notify.at) _ _ c.notify.ensures.goes refl (shows_none (g.R.Recorder.detail c.args.recorder.now) _))
+pub returns-clause-lawful : goal.returns-clause-lawful
+returns-clause-lawful g c = goes_as _ _ _ _ _ _ _ _ (event_lawful _ _) (event_so_far_lawful _ _) c.carry_out.ensures.goes

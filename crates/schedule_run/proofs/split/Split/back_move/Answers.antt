@@ -1,4 +1,5 @@
-use Rattle.std.specs.Prelude.{option_to_list}
+use Rattle.std.proofs.Common.{refl}
+use Rattle.split_model.specs.Shown.{back_lines, halt_lines}
 use Rattle.blk_base.specs.declared.moves.BackMover.TheVariants.{Back}
 use Rattle.hypervisor.specs.Act.{outcome_told, Took}
 use Rattle.blk_back.specs.Ask.{ask_of}
@@ -37,14 +38,14 @@ invariant_of-self-2 g c =
 pub returns-clause-goes : goal.returns-clause-goes
 returns-clause-goes g c =
     let w : World = record { front = c.self.inside.front; back = c.self.inside.back; under = c.self.inside.under } in
-    rw (← c.self.view_is) (back_goes _ w (c.in-Some.answer, c.in-Some.shown) c.take_told-told.new.self c.back.new.self (option_to_list c.back_line.result) (option_to_list c.halt_line-halt.result) _ _ _ _ c.show.result
+    rw (← c.self.view_is) (back_goes _ w (c.in-Some.answer, c.in-Some.shown) c.take_told-told.new.self c.back.new.self (back_lines c.take_told-told.result c.in-Some.answer) (halt_lines c.halted-before.result c.halted.result) _ _ _ _ c.show_back.result
     (back_asked w.under Back c.ask-ask.result (ask_of w.back) (c.in-Some.answer, c.in-Some.shown) c.ask-ask.ensures.value c.in-Some.ensures.acted)
     (back_left w.under Back c.ask-ask.result (ask_of w.back) (outcome_told c.in-Some.answer) c.back.new.self c.ask-ask.ensures.value c.in-Some.ensures.under)
     (back_did_disk c.ask-ask.result (ask_of w.back) (outcome_told c.in-Some.answer) _ _ c.ask-ask.ensures.value c.in-Some.ensures.disk)
     (back_stepped c.tell.new.self c.take_told-told.new.self (step_of w.back c.in-Some.answer) c.tell.ensures.told c.take_told-told.ensures.taken)
-    (back_said c.tell.new.self (step_of w.back c.in-Some.answer) c.in-Some.answer c.take_told-told.result (option_to_list c.back_line.result) c.tell.ensures.told c.take_told-told.ensures.told c.back_line.ensures)
-    (back_halts w.back c.tell.new.self c.take_told-told.new.self (step_of w.back c.in-Some.answer) _ _ (option_to_list c.halt_line-halt.result) c.tell.ensures.told c.take_told-told.ensures.taken c.halted-before.ensures c.halted.ensures c.halt_line-halt.ensures)
-    c.show.ensures.shown)
+    (back_said c.tell.new.self (step_of w.back c.in-Some.answer) c.in-Some.answer c.take_told-told.result (back_lines c.take_told-told.result c.in-Some.answer) c.tell.ensures.told c.take_told-told.ensures.told refl)
+    (back_halts w.back c.tell.new.self c.take_told-told.new.self (step_of w.back c.in-Some.answer) _ _ (halt_lines c.halted-before.result c.halted.result) c.tell.ensures.told c.take_told-told.ensures.taken c.halted-before.ensures c.halted.ensures refl)
+    c.show_back.ensures.shown)
 
 pub returns-clause-made : goal.returns-clause-made
 returns-clause-made g c = rw (← c.self.view_is) (back_made (record { front = c.self.inside.front; back = c.self.inside.back; under = c.self.inside.under }) Back c.ask-ask.result _ c.back.new.self c.in-Some.ensures.under)

@@ -1,4 +1,6 @@
-use Rattle.std.specs.Prelude.{option_to_list}
+use Rattle.std.proofs.Common.{refl}
+use Rattle.std.proofs.lemmas.List.{append-nil}
+use Rattle.split_model.specs.Shown.{front_lines}
 use Rattle.split_model.specs.World.{World}
 use Rattle.split_model.proofs.Moving.{front_asked_may, front_asked, front_unasked, front_told, front_left, front_rests, front_stepped, front_said, front_safe, front_goes, front_grants, front_sectors}
 use Rattle.schedule_run.proofs.split.Split.front_move.Goals as goal
@@ -31,12 +33,12 @@ invariant_of-self-2 g c =
 pub returns-clause-goes : goal.returns-clause-goes
 returns-clause-goes g c =
     let w : World = record { front = c.self.inside.front; back = c.self.inside.back; under = c.self.inside.under } in
-    rw (← c.self.view_is) (λ content. front_goes _ w (c.in-Some.answer, c.in-Some.shown) c.take_told-told.new.self c.front.new.self (option_to_list c.front_line.result) content _ _ c.show.result
+    rw (← c.self.view_is) (λ content. front_goes _ w (c.in-Some.answer, c.in-Some.shown) c.take_told-told.new.self c.front.new.self (front_lines c.take_told-told.result) content _ _ c.show_front.result
     (front_asked w _ _ c.ask-ask.ensures.value c.in-Some.ensures.acted)
     (front_left w _ _ c.ask-ask.ensures.value c.in-Some.ensures.under)
     (front_stepped c.self.inside.front _ _ c.in-Some.answer c.tell.ensures.told c.take_told-told.ensures.taken)
-    (front_said c.self.inside.front _ c.in-Some.answer _ _ c.tell.ensures.told c.take_told-told.ensures.told c.front_line.ensures)
-    c.show.ensures.shown)
+    (front_said c.self.inside.front _ c.in-Some.answer _ _ c.tell.ensures.told c.take_told-told.ensures.told refl)
+    (rw (append-nil (front_lines c.take_told-told.result)) c.show_front.ensures.shown))
 
 pub returns-clause-made : goal.returns-clause-made
 returns-clause-made g c =

@@ -1,4 +1,6 @@
-use Rattle.std.specs.Prelude.{option_to_list}
+use Rattle.std.proofs.Common.{refl}
+use Rattle.std.proofs.lemmas.List.{append-nil}
+use Rattle.split_model.specs.Shown.{back_lines}
 use Rattle.blk_base.specs.declared.moves.BackMover.TheVariants.{Job}
 use Rattle.hypervisor.specs.Act.{outcome_told, Took}
 use Rattle.blk_back.specs.Step.{job_ask_of, job_step}
@@ -36,13 +38,13 @@ invariant_of-self-2 g c =
 pub returns-clause-goes : goal.returns-clause-goes
 returns-clause-goes g c =
     let w : World = record { front = c.self.inside.front; back = c.self.inside.back; under = c.self.inside.under } in
-    rw (← c.self.view_is) (job_goes _ w c.args.number (c.in-Some.answer, c.in-Some.shown) c.take_told-told.new.self c.back.new.self (option_to_list c.back_line.result) _ _ _ _ c.show.result
+    rw (← c.self.view_is) (job_goes _ w c.args.number (c.in-Some.answer, c.in-Some.shown) c.take_told-told.new.self c.back.new.self (back_lines c.take_told-told.result c.in-Some.answer) _ _ _ _ c.show_job.result
     (back_asked w.under (Job c.args.number) c.job_ask-ask.result (job_ask_of w.back c.args.number) (c.in-Some.answer, c.in-Some.shown) c.job_ask-ask.ensures.value c.in-Some.ensures.acted)
     (back_left w.under (Job c.args.number) c.job_ask-ask.result (job_ask_of w.back c.args.number) (outcome_told c.in-Some.answer) c.back.new.self c.job_ask-ask.ensures.value c.in-Some.ensures.under)
     (back_did_disk c.job_ask-ask.result (job_ask_of w.back c.args.number) (outcome_told c.in-Some.answer) _ _ c.job_ask-ask.ensures.value c.in-Some.ensures.disk)
     (back_stepped c.job_tell.new.self c.take_told-told.new.self (job_step w.back c.args.number c.in-Some.answer) c.job_tell.ensures.stepped c.take_told-told.ensures.taken)
-    (back_said c.job_tell.new.self (job_step w.back c.args.number c.in-Some.answer) c.in-Some.answer c.take_told-told.result (option_to_list c.back_line.result) c.job_tell.ensures.stepped c.take_told-told.ensures.told c.back_line.ensures)
-    c.show.ensures.shown)
+    (back_said c.job_tell.new.self (job_step w.back c.args.number c.in-Some.answer) c.in-Some.answer c.take_told-told.result (back_lines c.take_told-told.result c.in-Some.answer) c.job_tell.ensures.stepped c.take_told-told.ensures.told refl)
+    (rw (append-nil (back_lines c.take_told-told.result c.in-Some.answer)) c.show_job.ensures.shown))
 
 pub returns-clause-made : goal.returns-clause-made
 returns-clause-made g c = rw (← c.self.view_is) (back_made (record { front = c.self.inside.front; back = c.self.inside.back; under = c.self.inside.under }) (Job c.args.number) c.job_ask-ask.result _ c.back.new.self c.in-Some.ensures.under)

@@ -1,0 +1,38 @@
+-- Why a command stopped.
+use Rattle.std.proofs.Common.{◌≡◌, ℕ, List, Option, Result, Ok, Err, IfErr, inr, sym, subst, ◌≤◌, length, arith}
+use Rattle.std.proofs.lemmas.List.{take_all}
+use Rattle.blk_io.specs.Outside.{Rose, IsPartlyWritten, written}
+use Rattle.ring_inspect.specs.Stop.{IsShown}
+use Rattle.blk_base.specs.declared.operation.Abi.{Abi}
+use Rattle.schedule_text.specs.declared.line.Detail.{Detail}
+use Rattle.schedule_run.specs.declared.schedule.RunStop.{RunStop}
+use Rattle.schedule_run.specs.declared.schedule.RunStop.TheVariants as run
+use Rattle.commands.specs.declared.words.Command.TheVariants.{Inspect}
+use Rattle.commands.specs.declared.status.Stop.{Stop}
+use Rattle.commands.specs.declared.status.Stop.TheVariants.{Sink}
+use Rattle.commands.specs.Ending.{Scene, HasStopped, RunStops, Stops, run_stop}
+
+-- the program stops where the run did
+pub run_stops : (detail : Detail) (left : Option (List ℕ)) (old new : Scene) (why : RunStop) (said : Stop) → said ≡ run_stop why → HasStopped detail left old new why → RunStops detail left old new said
+run_stops detail left old new why said same h = subst (λ (s : Stop). RunStops detail left old new s) (sym same) (stops_at why h)
+  where
+    stops_at : (why : RunStop) → HasStopped detail left old new why → RunStops detail left old new (run_stop why)
+    stops_at (run.BadLine number) h = h
+    stops_at run.Source h = h
+    stops_at run.TooLong h = h
+    stops_at run.Sink h = h
+    stops_at run.OutOfMemory h = inr h
+
+whole : (before after : Option (List ℕ)) (piece : List ℕ) → after ≡ written before piece → IsPartlyWritten before piece after
+whole before after piece same = (length piece, omega arith, subst (λ (p : List ℕ). after ≡ written before p) (sym (take_all (length piece) piece (omega arith))) same)
+
+sink_stop : (abi : Abi) (order : ℕ) (left : Option (List ℕ)) (old new : Scene) → Rose old.out_faults new.out_faults → IsShown left (record { abi = abi; order = order }) old.out new.out → new.content ≡ old.content → Stops (Inspect abi order) left old new Sink
+sink_stop abi order left old new rose shown same = (rose, record { bytes = shown.bytes; size = shown.size; all = shown.all; text = whole old.out new.out _ shown.text }, same)
+
+rose_since : (a b c : ℕ) → a ≤ b → Rose b c → Rose a c
+rose_since a b c le rose = grind arith
+
+-- a ring was shown, and then what the output kept back could not be handed on
+pub shown_unsent : (abi : Abi) (order : ℕ) (left : Option (List ℕ)) (old new : Scene) (between : ℕ) (result : Result (Unit {0}) Stop) → old.out_faults ≤ between → IfErr result (λ stop. (stop ≡ Sink) × Rose between new.out_faults) → IsShown left (record { abi = abi; order = order }) old.out new.out → new.content ≡ old.content → IfErr result (Stops (Inspect abi order) left old new)
+shown_unsent abi order left old new between (Ok done) le failed shown same = tt
+shown_unsent abi order left old new between (Err stop) le failed shown same = subst (λ (s : Stop). Stops (Inspect abi order) left old new s) (sym failed.0) (sink_stop abi order left old new (rose_since old.out_faults between new.out_faults le failed.1) shown same)
