@@ -22,29 +22,29 @@ as_written : (detail : Detail) (report : List Line) (old new : Scene) → (let w
 as_written detail report old new (inl same) = inl (ap (λ (t : Told). t.text) same)
 as_written detail report old new (inr cut) = (let stops = cut.1 in inr (cut.0, stops.text))
 
-of_stop : (detail : Detail) (old new : Scene) → IsLawfulStop detail (outside old) (outside new) → IsReportedSoFar detail old new
-of_stop detail old new h = record { jobs = h.jobs; report = h.report; text = as_written detail h.report old new h.told; lawful = h.lawful }
+of_stop : (detail : Detail) (left : Option (List ℕ)) (old new : Scene) → IsLawfulStop detail bytes_limit left (outside old) (outside new) → IsReportedSoFar detail left old new
+of_stop detail left old new h = record { events = h.events; schedule = h.schedule; report = h.report; text = as_written detail h.report old new h.told; lawful = h.lawful }
 
-has_stopped : (detail : Detail) (left : Option (List ℕ)) (old new : Scene) (why : RunStop) → HasStopped detail left old new why → IsReportedSoFar detail old new
-has_stopped detail left old new why h = of_stop detail old new (stop_lawful detail (options_of h.0) bytes_limit left _ _ _ _ why (outside old) (outside new) (plain_options h.0 h.2) h.3)
+has_stopped : (detail : Detail) (left : Option (List ℕ)) (old new : Scene) (why : RunStop) → HasStopped detail left old new why → IsReportedSoFar detail left old new
+has_stopped detail left old new why h = of_stop detail left old new (stop_lawful detail (options_of h.0) bytes_limit left _ _ _ _ why (outside old) (outside new) (plain_options h.0 h.2) h.3)
 
 same_outside : (old new : Scene) → IsUntouched old new → outside new ≡ outside old
 same_outside old new h = rw (h.0, h.1) refl
 
-untouched : (detail : Detail) (old new : Scene) → IsUntouched old new → IsReportedSoFar detail old new
-untouched detail old new h = of_stop detail old new (nothing_lawful detail (options_of 0) (outside old) (outside new) (plain_options 0 (omega arith)) (same_outside old new h))
+untouched : (detail : Detail) (left : Option (List ℕ)) (old new : Scene) → IsUntouched old new → IsReportedSoFar detail left old new
+untouched detail left old new h = of_stop detail left old new (nothing_lawful detail (options_of 0) bytes_limit left (outside old) (outside new) (plain_options 0 (omega arith)) (same_outside old new h))
 
-run_stopped : (detail : Detail) (left : Option (List ℕ)) (old new : Scene) (why : Stop) → RunStops detail left old new why → IsReportedSoFar detail old new
+run_stopped : (detail : Detail) (left : Option (List ℕ)) (old new : Scene) (why : Stop) → RunStops detail left old new why → IsReportedSoFar detail left old new
 run_stopped detail left old new (Length count expected) h = absurd h
 run_stopped detail left old new Words h = absurd h
 run_stopped detail left old new (BadLine number) h = has_stopped detail left old new (run.BadLine number) h
 run_stopped detail left old new Source h = has_stopped detail left old new run.Source h
 run_stopped detail left old new Sink h = has_stopped detail left old new run.Sink h
-run_stopped detail left old new OutOfMemory (inl h) = untouched detail old new h
+run_stopped detail left old new OutOfMemory (inl h) = untouched detail left old new h
 run_stopped detail left old new OutOfMemory (inr h) = has_stopped detail left old new run.OutOfMemory h
-run_stopped detail left old new Image h = untouched detail old new h.1
+run_stopped detail left old new Image h = untouched detail left old new h.1
 run_stopped detail left old new TooLong h = has_stopped detail left old new run.TooLong h
 
-pub stopped_so_far : (words : List (List ℕ)) (left : Option (List ℕ)) (old new : Scene) (why : Stop) → IsStopped words left old new why → (detail : Detail) → Gives words (Run detail) → IsReportedSoFar detail old new
+pub stopped_so_far : (words : List (List ℕ)) (left : Option (List ℕ)) (old new : Scene) (why : Stop) → IsStopped words left old new why → (detail : Detail) → Gives words (Run detail) → IsReportedSoFar detail left old new
 stopped_so_far words left old new why (inl none) detail gives = absurd (none.1 (Run detail) gives)
 stopped_so_far words left old new why (inr some) detail gives = run_stopped detail left old new why (subst (λ (c : Command). Stops c left old new why) (same_command words some.0 (Run detail) some.1 gives) some.2)

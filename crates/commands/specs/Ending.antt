@@ -10,11 +10,10 @@ use Rattle.schedule_text.specs.declared.line.Line.{Line}
 use Rattle.schedule_text.specs.Recorder.{report_text, recorded}
 use Rattle.schedule_text.specs.declared.event.Event.{Event}
 use Rattle.plain_disk.specs.Echo.{Echoes}
-use Rattle.blk_base.specs.declared.config.Job.{Job}
 use Rattle.disk_laws.specs.Submissions.{jobs_of}
 use Rattle.schedule_run.specs.Lawful.{IsLawful, IsLawfulSoFar}
 use Rattle.schedule_run.specs.Outcome.{Outside, IsDone as IsRunDone, IsStopped as IsRunStopped}
-use Rattle.schedule_run.specs.Reading.{IsWholeSchedule, Tells}
+use Rattle.schedule_run.specs.Reading.{IsWholeSchedule, IsReadSoFar, Tells}
 use Rattle.schedule_run.specs.declared.schedule.RunStop.{RunStop}
 use Rattle.schedule_run.specs.declared.schedule.RunStop.TheVariants as run
 use Rattle.commands.specs.declared.words.Command.{Command}
@@ -74,12 +73,13 @@ IsWrittenSoFar detail report before now =
     (now ≡ written before (report_text report))
     ⊎ ((cut : Line) × IsPartlyWritten (written before (report_text report)) (report_text (recorded detail cut)) now)
 
--- the lines that were written whole are lawful
-pub record IsReportedSoFar (detail : Detail) (old new : Scene) : Type 0 where
-  pub jobs : List Job
+-- the lines that were written whole are lawful: they answer the submissions that were read by then
+pub record IsReportedSoFar (detail : Detail) (left : Option (List ℕ)) (old new : Scene) : Type 0 where
+  pub events : List Event
+  pub schedule : Tells (λ bytes. IsReadSoFar bytes_limit bytes events) left
   pub report : List Line
   pub text : IsWrittenSoFar detail report old.out new.out
-  pub lawful : IsLawfulSoFar detail jobs old.content report
+  pub lawful : IsLawfulSoFar detail (jobs_of events) old.content report
 
 -- the source had so many bytes, where one too many stand for more, and not the number that the command asks for
 abbrev pub IsOff : Command → Option (List ℕ) → (count expected : ℕ) → Type 0

@@ -19,7 +19,10 @@ use std::alloc::Global;
 /// status; whatever isn't 0 is also said in a line on `err`, whose failing changes no status.
 ///
 /// - 0: it is done, and nothing was said. For `run` the output is the text of a report that echoes
-///   the whole schedule.
+///   the whole schedule and is a run of the plain disk, from what the image held to what it holds;
+///   with `--moves` each move in it obeys the rules of the ring, of grants and of the work
+///   (`io/ring.h`, `io/blkif.h`, `grant_table.h`). At each other status so are the lines that were
+///   written whole.
 /// - 1: `inspect` found another number of bytes than the ring's. Nothing was written.
 /// - 2: the words give no command. Nothing was read or written.
 /// - 3: a line of the schedule isn't carried out. Those before it were, and are reported.
@@ -42,7 +45,7 @@ pub fn blkring<S: Source, D: SectorDisk, O: Sink, E: Sink>(
     // A run that is done wrote the text of a report that echoes the whole schedule and is lawful.
     ensures reported { (detail : Detail) → Gives (map string_bytes words.now) (Command.Run detail) → result ≡ 0 → IsReported detail (S.left src.old) (record { content = D.content disk.old; out = O.held out.old; source_faults = S.faults src.old; disk_faults = D.faults disk.old; out_faults = O.faults out.old }) (record { content = D.content disk.new; out = O.held out.new; source_faults = S.faults src.new; disk_faults = D.faults disk.new; out_faults = O.faults out.new }) }
     // The lines that a run that stopped wrote whole are lawful.
-    ensures reported_so_far { (detail : Detail) → Gives (map string_bytes words.now) (Command.Run detail) → result ≢ 0 → IsReportedSoFar detail (record { content = D.content disk.old; out = O.held out.old; source_faults = S.faults src.old; disk_faults = D.faults disk.old; out_faults = O.faults out.old }) (record { content = D.content disk.new; out = O.held out.new; source_faults = S.faults src.new; disk_faults = D.faults disk.new; out_faults = O.faults out.new }) }
+    ensures reported_so_far { (detail : Detail) → Gives (map string_bytes words.now) (Command.Run detail) → result ≢ 0 → IsReportedSoFar detail (S.left src.old) (record { content = D.content disk.old; out = O.held out.old; source_faults = S.faults src.old; disk_faults = D.faults disk.old; out_faults = O.faults out.old }) (record { content = D.content disk.new; out = O.held out.new; source_faults = S.faults src.new; disk_faults = D.faults disk.new; out_faults = O.faults out.new }) }
     // Any other status is that of a reason, which says what came before, and was said.
     ensures stopped { result ≢ 0 → HasEnded (map string_bytes words.now) (S.left src.old) (record { content = D.content disk.old; out = O.held out.old; source_faults = S.faults src.old; disk_faults = D.faults disk.old; out_faults = O.faults out.old }) (record { content = D.content disk.new; out = O.held out.new; source_faults = S.faults src.new; disk_faults = D.faults disk.new; out_faults = O.faults out.new }) result (E.held err.old) (E.held err.new) (E.faults err.old) (E.faults err.new) }
     // What was written was handed on.

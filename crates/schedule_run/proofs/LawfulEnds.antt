@@ -20,12 +20,15 @@ use Rattle.disk_laws.specs.Allowed.{AreAllowed}
 use Rattle.disk_laws.specs.Submissions.{jobs_of, submitted_of}
 use Rattle.disk_laws.proofs.KindsFront.{Connects, start_connects, connects_after}
 use Rattle.disk_laws.proofs.KindsEvents.{allowed_append, event_so_far_allowed, events_allowed}
-use Rattle.disk_laws.proofs.SubmissionsOf.{events_submit}
+use Rattle.disk_laws.proofs.SubmissionsOf.{events_submit, events_so_far_submit}
 use Rattle.schedule_run.specs.Machine.{moment}
 use Rattle.schedule_run.specs.Outcome.{Outside, begun, Carried, HasCarried, IsDone, StopsAtBegin, StopsInEvent, StopsAtEnd, IsCut, IsKeptBack, IsStopped}
 use Rattle.schedule_run.specs.declared.schedule.RunStop.{RunStop}
 use Rattle.schedule_run.specs.declared.schedule.RunStop.TheVariants as stop
-use Rattle.schedule_run.specs.Lawful.{IsLawful, IsLawfulRun, IsLawfulStop, IsToldSoFar}
+use Rattle.schedule_run.specs.Lawful.{IsLawful, IsLawfulSoFar, IsLawfulRun, IsLawfulStop, IsToldSoFar}
+use Rattle.schedule_run.specs.Reading.{IsWholeSchedule, HasBadLine, IsTooLong, HasBegun, HasComeTo, IsReadSoFar, Tells, text_of}
+use Rattle.std.specs.Prelude.{drop, take}
+use Rattle.std.proofs.lemmas.List.{take-append-drop}
 use Rattle.schedule_run.proofs.Lengths.{lines_few}
 use Rattle.schedule_run.proofs.Lawful.{ended_lawful, begun_lawful}
 
@@ -64,16 +67,52 @@ done_lawful detail config limit left old new plain long done =
       lawful = done_report detail config limit left old new plain long done;
     }
 
+-- nothing needs to be read for no events
+read_none : (limit : ℕ) (left : Option (List ℕ)) → Tells (λ (bytes : List ℕ). IsReadSoFar limit bytes []) left
+read_none limit None = tt
+read_none limit (Some bytes) = inl (record { lines = []; rest = bytes; all = refl; are_lines = refl })
+
+read_begun : (limit : ℕ) (events : List Event) (left : Option (List ℕ)) → Tells (λ (bytes : List ℕ). HasBegun bytes events) left → Tells (λ (bytes : List ℕ). IsReadSoFar limit bytes events) left
+read_begun limit events None h = tt
+read_begun limit events (Some bytes) h = inl h
+
+read_bad : (limit : ℕ) (events : List Event) (number : ℕ) (left : Option (List ℕ)) → Tells (λ (bytes : List ℕ). HasBadLine limit bytes events number) left → Tells (λ (bytes : List ℕ). IsReadSoFar limit bytes events) left
+read_bad limit events number None h = tt
+read_bad limit events number (Some bytes) h = inl (record { lines = h.lines; rest = h.rest; all = h.all; are_lines = h.are_lines })
+
+read_long : (limit : ℕ) (events : List Event) (left : Option (List ℕ)) → Tells (λ (bytes : List ℕ). IsTooLong limit bytes events) left → Tells (λ (bytes : List ℕ). IsReadSoFar limit bytes events) left
+read_long limit events None h = tt
+read_long limit events (Some bytes) h = inl (record {
+  lines = h.lines;
+  rest = h.part ++ drop limit bytes;
+  all = sym (take-append-drop limit bytes) ∙ (ap (λ (x : List ℕ). x ++ drop limit bytes) h.all ∙ append_assoc (text_of h.lines) h.part (drop limit bytes));
+  are_lines = h.are_lines;
+})
+
+read_come : (limit : ℕ) (events : List Event) (event : Event) (left : Option (List ℕ)) → Tells (λ (bytes : List ℕ). HasComeTo bytes events event) left → Tells (λ (bytes : List ℕ). IsReadSoFar limit bytes (events ++ event ∷ [])) left
+read_come limit events event None h = tt
+read_come limit events event (Some bytes) h = inr (inl (events, event, refl, h))
+
+read_whole : (limit : ℕ) (events : List Event) (left : Option (List ℕ)) → Tells (λ (bytes : List ℕ). IsWholeSchedule limit bytes events) left → Tells (λ (bytes : List ℕ). IsReadSoFar limit bytes events) left
+read_whole limit events None h = tt
+read_whole limit events (Some bytes) h = inr (inr h)
+
+-- what was said of a history that submits what these events do
+begun_by : (config : Options) (detail : Detail) (events : List Event) (history : List Happening) (before : Option (List (List ℕ))) (said rest : List Line) → IsPlain config → AreAllowed history (start_of config) → submitted_of history ≡ jobs_of events → said ++ rest ≡ ended_report_of config detail history → length rest ≤ 4 → IsLawfulSoFar detail (jobs_of events) before (kept_of detail said)
+begun_by config detail events history before said rest plain may same all few =
+    subst (λ (jobs : List Job). IsLawfulSoFar detail jobs before (kept_of detail said)) same (begun_lawful config detail history before said rest plain may all few)
+
 -- whole events were carried out
-carried_lawful : (detail : Detail) (config : Options) (events : List Event) (old new : Outside) → IsPlain config → HasCarried detail config events old new → IsLawfulStop detail old new
-carried_lawful detail config events old new plain carried =
+carried_lawful : (detail : Detail) (config : Options) (limit : ℕ) (left : Option (List ℕ)) (events : List Event) (old new : Outside) → IsPlain config → Tells (λ (bytes : List ℕ). IsReadSoFar limit bytes events) left → HasCarried detail config events old new → IsLawfulStop detail limit left old new
+carried_lawful detail config limit left events old new plain read carried =
     let leads = carried.1 in
     let may = allowed_of config events leads.history leads.is_kind in
     record {
-      jobs = submitted_of leads.history;
+      events = events;
+      schedule = read;
       report = kept_of detail (report_of config detail leads.history);
       told = inl (told_on detail config old.told new.told (lines_of leads.history (start_of config)) leads.report);
-      lawful = begun_lawful config detail leads.history old.content (report_of config detail leads.history) (End ∷ []) plain may refl (omega arith);
+      lawful = begun_by config detail events leads.history old.content (report_of config detail leads.history) (End ∷ []) plain may (events_submit events (start_of config) leads.history leads.is_kind) refl (omega arith);
     }
 
 -- the recorder stopped at the first line
@@ -89,11 +128,12 @@ few_left whole said cut rest all few =
     let more = length-append (cut ∷ rest) (End ∷ []) in
     omega arith
 
-begin_lawful : (detail : Detail) (config : Options) (old new : Outside) → IsPlain config → StopsAtBegin detail config old new → IsLawfulStop detail old new
-begin_lawful detail config old new plain h =
+begin_lawful : (detail : Detail) (config : Options) (limit : ℕ) (left : Option (List ℕ)) (old new : Outside) → IsPlain config → StopsAtBegin detail config old new → IsLawfulStop detail limit left old new
+begin_lawful detail config limit left old new plain h =
     let stops = h.told in
     record {
-      jobs = [];
+      events = [];
+      schedule = read_none limit left;
       report = kept_of detail stops.said;
       told = inr (stops.cut, stops.stops);
       lawful = begun_lawful config detail [] old.content stops.said ((stops.cut ∷ stops.rest) ++ End ∷ []) plain tt (sym (append_assoc stops.said (stops.cut ∷ stops.rest) (End ∷ [])) ∙ ap (λ (x : List Line). x ++ End ∷ []) (sym stops.all)) (few_left (Begin config detail ∷ []) stops.said stops.cut stops.rest stops.all (omega arith));
@@ -106,8 +146,8 @@ said_on a b c d cut rest e =
     ∙ (append_assoc a b (c ++ cut ∷ rest)
     ∙ ap (λ (x : List Line). a ++ (b ++ x)) (sym e))
 
-in_event_lawful : (detail : Detail) (config : Options) (left : Option (List ℕ)) (old new : Outside) → IsPlain config → StopsInEvent detail config left old new → IsLawfulStop detail old new
-in_event_lawful detail config left old new plain h =
+in_event_lawful : (detail : Detail) (config : Options) (limit : ℕ) (left : Option (List ℕ)) (old new : Outside) → IsPlain config → StopsInEvent detail config left old new → IsLawfulStop detail limit left old new
+in_event_lawful detail config limit left old new plain h =
     let first = h.carried in
     let next = h.stopped in
     let stops = next.report in
@@ -131,14 +171,15 @@ in_event_lawful detail config left old new plain h =
     ∙ (append_assoc begin one (lines_of (next.history ++ next.last ∷ []) (after first.history (start_of config)))
     ∙ ap (λ (x : List Line). begin ++ x) (sym (lines_of-append first.history (next.history ++ next.last ∷ []) (start_of config))))) in
     record {
-      jobs = submitted_of (first.history ++ (next.history ++ next.last ∷ []));
+      events = h.events ++ h.event ∷ [];
+      schedule = read_come limit h.events h.event left h.schedule;
       report = kept_of detail (((begin ++ one) ++ two) ++ stops.said);
       told = inr (stops.cut, subst (λ (t : Told). StopsWithin t (recorded detail stops.cut) new.told) (told_said ∙ ap (gained old.told) (sym kept)) stops.stops);
-      lawful = begun_lawful config detail (first.history ++ (next.history ++ next.last ∷ [])) old.content (((begin ++ one) ++ two) ++ stops.said) ((stops.cut ∷ stops.rest) ++ End ∷ []) plain may (sym (append_assoc (((begin ++ one) ++ two) ++ stops.said) (stops.cut ∷ stops.rest) (End ∷ [])) ∙ ap (λ (x : List Line). x ++ End ∷ []) all) (few_left (lines_at (after next.history h.world) next.last) stops.said stops.cut stops.rest stops.all (lines_few (after next.history h.world) next.last));
+      lawful = begun_by config detail (h.events ++ h.event ∷ []) (first.history ++ (next.history ++ next.last ∷ [])) old.content (((begin ++ one) ++ two) ++ stops.said) ((stops.cut ∷ stops.rest) ++ End ∷ []) plain may (events_so_far_submit h.events h.event (start_of config) first.history (next.history ++ next.last ∷ []) first.is_kind (subst (λ (w : World). AreOfSoFar h.event w (next.history ++ next.last ∷ [])) world next.is_kind)) (sym (append_assoc (((begin ++ one) ++ two) ++ stops.said) (stops.cut ∷ stops.rest) (End ∷ [])) ∙ ap (λ (x : List Line). x ++ End ∷ []) all) (few_left (lines_at (after next.history h.world) next.last) stops.said stops.cut stops.rest stops.all (lines_few (after next.history h.world) next.last));
     }
 
 -- or at the last line
-end_lawful : (detail : Detail) (config : Options) (limit : ℕ) (left : Option (List ℕ)) (old new : Outside) → IsPlain config → StopsAtEnd detail config limit left old new → IsLawfulStop detail old new
+end_lawful : (detail : Detail) (config : Options) (limit : ℕ) (left : Option (List ℕ)) (old new : Outside) → IsPlain config → StopsAtEnd detail config limit left old new → IsLawfulStop detail limit left old new
 end_lawful detail config limit left old new plain h =
     let leads = h.carried.1 in
     let stops = h.told in
@@ -149,49 +190,52 @@ end_lawful detail config limit left old new plain h =
     gained_on old.told h.before (gained h.before (kept_of detail stops.said)) (kept_of detail (report_of config detail leads.history)) (kept_of detail stops.said) told refl
     ∙ ap (gained old.told) (ap (λ (x : List Line). kept_of detail (report_of config detail leads.history) ++ kept_of detail x) none ∙ append-nil (kept_of detail (report_of config detail leads.history))) in
     record {
-      jobs = submitted_of leads.history;
+      events = h.events;
+      schedule = read_whole limit h.events left h.schedule;
       report = kept_of detail (report_of config detail leads.history);
       told = inr (stops.cut, subst (λ (t : Told). StopsWithin t (recorded detail stops.cut) new.told) said stops.stops);
-      lawful = begun_lawful config detail leads.history old.content (report_of config detail leads.history) (End ∷ []) plain may refl (omega arith);
+      lawful = begun_by config detail h.events leads.history old.content (report_of config detail leads.history) (End ∷ []) plain may (events_submit h.events (start_of config) leads.history leads.is_kind) refl (omega arith);
     }
 
-cut_lawful : (detail : Detail) (config : Options) (limit : ℕ) (left : Option (List ℕ)) (old new : Outside) → IsPlain config → IsCut detail config limit left old new → IsLawfulStop detail old new
-cut_lawful detail config limit left old new plain (inl h) = begin_lawful detail config old new plain h
-cut_lawful detail config limit left old new plain (inr (inl h)) = in_event_lawful detail config left old new plain h
+cut_lawful : (detail : Detail) (config : Options) (limit : ℕ) (left : Option (List ℕ)) (old new : Outside) → IsPlain config → IsCut detail config limit left old new → IsLawfulStop detail limit left old new
+cut_lawful detail config limit left old new plain (inl h) = begin_lawful detail config limit left old new plain h
+cut_lawful detail config limit left old new plain (inr (inl h)) = in_event_lawful detail config limit left old new plain h
 cut_lawful detail config limit left old new plain (inr (inr h)) = end_lawful detail config limit left old new plain h
 
 -- nothing was told
-pub nothing_lawful : (detail : Detail) (config : Options) (old new : Outside) → IsPlain config → new ≡ old → IsLawfulStop detail old new
-nothing_lawful detail config old new plain same = record {
-  jobs = [];
+pub nothing_lawful : (detail : Detail) (config : Options) (limit : ℕ) (left : Option (List ℕ)) (old new : Outside) → IsPlain config → new ≡ old → IsLawfulStop detail limit left old new
+nothing_lawful detail config limit left old new plain same = record {
+  events = [];
+  schedule = read_none limit left;
   report = [];
   told = inl (ap (λ (x : Outside). x.told) same ∙ sym (gained_none old.told));
   lawful = begun_lawful config detail [] old.content [] (Begin config detail ∷ End ∷ []) plain tt refl (omega arith);
 }
 
 -- the whole report was told, and some of it kept back
-whole_lawful : (detail : Detail) (config : Options) (limit : ℕ) (left : Option (List ℕ)) (old new : Outside) → IsPlain config → IsDone detail config limit left old new → IsLawfulStop detail old new
+whole_lawful : (detail : Detail) (config : Options) (limit : ℕ) (left : Option (List ℕ)) (old new : Outside) → IsPlain config → IsDone detail config limit left old new → IsLawfulStop detail limit left old new
 whole_lawful detail config limit left old new plain done =
     let leads = done.carried.1 in
     let may = allowed_of config done.events leads.history leads.is_kind in
     record {
-      jobs = submitted_of leads.history;
+      events = done.events;
+      schedule = read_whole limit done.events left done.schedule;
       report = kept_of detail (ended_report_of config detail leads.history);
       told = inl (done_told detail config limit left old new done);
-      lawful = begun_lawful config detail leads.history old.content (ended_report_of config detail leads.history) [] plain may (append-nil (ended_report_of config detail leads.history)) (omega arith);
+      lawful = begun_by config detail done.events leads.history old.content (ended_report_of config detail leads.history) [] plain may (events_submit done.events (start_of config) leads.history leads.is_kind) (append-nil (ended_report_of config detail leads.history)) (omega arith);
     }
 
-sink_lawful : (detail : Detail) (config : Options) (limit : ℕ) (left : Option (List ℕ)) (old new : Outside) → IsPlain config → IsCut detail config limit left old new ⊎ IsKeptBack detail config limit left old new → IsLawfulStop detail old new
+sink_lawful : (detail : Detail) (config : Options) (limit : ℕ) (left : Option (List ℕ)) (old new : Outside) → IsPlain config → IsCut detail config limit left old new ⊎ IsKeptBack detail config limit left old new → IsLawfulStop detail limit left old new
 sink_lawful detail config limit left old new plain (inl h) = cut_lawful detail config limit left old new plain h
-sink_lawful detail config limit left old new plain (inr (inl h)) = carried_lawful detail config h.0 old new plain h.2
+sink_lawful detail config limit left old new plain (inr (inl h)) = carried_lawful detail config limit left h.0 old new plain (read_begun limit h.0 left h.1) h.2
 sink_lawful detail config limit left old new plain (inr (inr h)) = whole_lawful detail config limit left old new plain h
 
-pub stop_lawful : (detail : Detail) (config : Options) (limit : ℕ) (left : Option (List ℕ)) (source source' recorder recorder' : ℕ) (why : RunStop) (old new : Outside) → IsPlain config → IsStopped detail config limit left source source' recorder recorder' why old new → IsLawfulStop detail old new
-stop_lawful detail config limit left source source' recorder recorder' (stop.BadLine number) old new plain h = carried_lawful detail config h.0 old new plain h.2
-stop_lawful detail config limit left source source' recorder recorder' stop.Source old new plain h = carried_lawful detail config h.1.0 old new plain h.1.2
-stop_lawful detail config limit left source source' recorder recorder' stop.TooLong old new plain h = carried_lawful detail config h.0 old new plain h.2
+pub stop_lawful : (detail : Detail) (config : Options) (limit : ℕ) (left : Option (List ℕ)) (source source' recorder recorder' : ℕ) (why : RunStop) (old new : Outside) → IsPlain config → IsStopped detail config limit left source source' recorder recorder' why old new → IsLawfulStop detail limit left old new
+stop_lawful detail config limit left source source' recorder recorder' (stop.BadLine number) old new plain h = carried_lawful detail config limit left h.0 old new plain (read_bad limit h.0 number left h.1) h.2
+stop_lawful detail config limit left source source' recorder recorder' stop.Source old new plain h = carried_lawful detail config limit left h.1.0 old new plain (read_begun limit h.1.0 left h.1.1) h.1.2
+stop_lawful detail config limit left source source' recorder recorder' stop.TooLong old new plain h = carried_lawful detail config limit left h.0 old new plain (read_long limit h.0 left h.1) h.2
 stop_lawful detail config limit left source source' recorder recorder' stop.Sink old new plain h = sink_lawful detail config limit left old new plain h.1
-stop_lawful detail config limit left source source' recorder recorder' stop.OutOfMemory old new plain (inl same) = nothing_lawful detail config old new plain same
+stop_lawful detail config limit left source source' recorder recorder' stop.OutOfMemory old new plain (inl same) = nothing_lawful detail config limit left old new plain same
 stop_lawful detail config limit left source source' recorder recorder' stop.OutOfMemory old new plain (inr h) = cut_lawful detail config limit left old new plain h
 
 -- as the run's result says
@@ -199,6 +243,6 @@ pub run_lawful : (detail : Detail) (config : Options) (limit : ℕ) (left : Opti
 run_lawful detail config limit left old new (Ok done) plain long h = done_lawful detail config limit left old new plain long h
 run_lawful detail config limit left old new (Err why) plain long h = h
 
-pub run_lawful_so_far : (detail : Detail) (config : Options) (limit : ℕ) (left : Option (List ℕ)) (source source' recorder recorder' : ℕ) (old new : Outside) (result : Result (Unit {0}) RunStop) → IsPlain config → IfErr result (λ why. IsStopped detail config limit left source source' recorder recorder' why old new) → IfErr result (λ why. IsLawfulStop detail old new)
+pub run_lawful_so_far : (detail : Detail) (config : Options) (limit : ℕ) (left : Option (List ℕ)) (source source' recorder recorder' : ℕ) (old new : Outside) (result : Result (Unit {0}) RunStop) → IsPlain config → IfErr result (λ why. IsStopped detail config limit left source source' recorder recorder' why old new) → IfErr result (λ why. IsLawfulStop detail limit left old new)
 run_lawful_so_far detail config limit left source source' recorder recorder' old new (Ok done) plain h = h
 run_lawful_so_far detail config limit left source source' recorder recorder' old new (Err why) plain h = stop_lawful detail config limit left source source' recorder recorder' why old new plain h

@@ -30,7 +30,7 @@ use Rattle.split_model.specs.World.{World, start_of}
 use Rattle.split_model.specs.Happening.{Happening, after, DiskRuns}
 use Rattle.split_model.specs.Leads.{kept_of}
 use Rattle.split_model.specs.Report.{report_of}
-use Rattle.schedule_run.specs.Reading.{IsWholeSchedule, Tells}
+use Rattle.schedule_run.specs.Reading.{IsWholeSchedule, IsReadSoFar, Tells}
 use Rattle.schedule_run.specs.Outcome.{Outside}
 
 -- the moves that a report shows: each read shows what the lines before it left there; each map is answered as its entry stands by them; each touch of the back or a job is of a word of frames 2 to 1023 through a mapping that stands, and writes only through one for writing; a producer that overran halts the back, which serves nothing more; each entry is fetched in one stretch, each word once, only where a request is unconsumed
@@ -90,9 +90,10 @@ pub record IsLawfulRun (detail : Detail) (config : Options) (limit : ℕ) (left 
 abbrev pub IsToldSoFar : Detail → List Line → Told → Told → Type 0
 IsToldSoFar detail report old new = (new ≡ gained old report) ⊎ ((cut : Line) × StopsWithin (gained old report) (recorded detail cut) new)
 
--- a run stopped, and the lines that were told whole are lawful
-pub record IsLawfulStop (detail : Detail) (old new : Outside) : Type 0 where
-  pub jobs : List Job
+-- a run stopped, and the lines that were told whole are lawful: they answer the submissions that were read by then
+pub record IsLawfulStop (detail : Detail) (limit : ℕ) (left : Option (List ℕ)) (old new : Outside) : Type 0 where
+  pub events : List Event
+  pub schedule : Tells (λ bytes. IsReadSoFar limit bytes events) left
   pub report : List Line
   pub told : IsToldSoFar detail report old.told new.told
-  pub lawful : IsLawfulSoFar detail jobs old.content report
+  pub lawful : IsLawfulSoFar detail (jobs_of events) old.content report

@@ -84,6 +84,13 @@ pub record HasComeTo (bytes : List ℕ) (events : List Event) (event : Event) : 
   pub are_lines : AreLinesOf lines events
   pub is_line : IsLineOf line (Some event)
 
+-- these events were read: whole lines ask for them, or whole lines and one more, or all the lines that there are
+abbrev pub IsReadSoFar : ℕ → List ℕ → List Event → Type 0
+IsReadSoFar limit bytes events =
+    HasBegun bytes events
+    ⊎ ((whole : List Event) × (event : Event) × (events ≡ whole ++ event ∷ []) × HasComeTo bytes whole event)
+    ⊎ IsWholeSchedule limit bytes events
+
 -- what is so of the bytes, where the source tells them
 abbrev pub Tells : (List ℕ → Type 0) → Option (List ℕ) → Type 0
 Tells claim None = Unit {0}

@@ -60,7 +60,7 @@ pub fn run<S: Source, D: SectorDisk, R: Recorder>(
     // What was told is a lawful report: a run of the plain disk, and more.
     ensures lawful { IsPlain config → HasLength (D.content disk.old) config.sectors → OnOk result (IsLawfulRun (R.detail recorder.old) config bytes_limit (S.left source.old) (record { content = D.content disk.old; told = R.told recorder.old }) (record { content = D.content disk.new; told = R.told recorder.new })) }
     // So are the lines that were told whole before a stop.
-    ensures lawful_so_far { IsPlain config → IfErr result (λ stop. IsLawfulStop (R.detail recorder.old) (record { content = D.content disk.old; told = R.told recorder.old }) (record { content = D.content disk.new; told = R.told recorder.new })) }
+    ensures lawful_so_far { IsPlain config → IfErr result (λ stop. IsLawfulStop (R.detail recorder.old) bytes_limit (S.left source.old) (record { content = D.content disk.old; told = R.told recorder.old }) (record { content = D.content disk.new; told = R.told recorder.new })) }
     ensures handed_on { OnOk result (R.kept_back recorder.new ≡ 0) }
     ensures attached { D.attached disk.new ≡ D.attached disk.old }
     ensures source_later { S.faults source.old ≤ S.faults source.new }
