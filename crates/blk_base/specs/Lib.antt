@@ -1,4 +1,5 @@
 pub mod Distance
+pub mod Kinds
 pub mod Moves
 pub mod Operation
 pub mod Options

@@ -1,5 +1,7 @@
 // Moves in few bytes.
 ghost use Rattle.std.specs.Prelude.{◌≡◌};
+ghost use Rattle.blk_base.specs.Kinds.{IsFrontMove, IsAccess, IsBackCall};
+ghost use Rattle.blk_base.specs.Moves.{move_of};
 
 use crate::moves::{BackMover, Move, Mover};
 use crate::parts::Mode;
@@ -105,8 +107,6 @@ impl Model for SmallMove {
 }
 
 impl SmallMove {
-    ghost use Rattle.blk_base.specs.Moves.{move_of};
-
     /// The move of that kind.
     pub fn of(kind: KeylessMove) -> SmallMove
         ensures { result ≡ move_of kind }
@@ -119,77 +119,16 @@ impl SmallMove {
         ensures { result ≡ self.now }
     {
         match self.kind {
-            KeylessMove::FrontRead { frame, word, value } => Move::FrontRead { frame, word, value },
-            KeylessMove::FrontWrite { frame, word, value } => {
-                Move::FrontWrite { frame, word, value }
-            }
-            KeylessMove::FrontCas {
-                frame,
-                word,
-                old,
-                new,
-                seen,
-            } => Move::FrontCas {
-                frame,
-                word,
-                old,
-                new,
-                seen,
-            },
-            KeylessMove::FrontPort { port } => Move::FrontPort { port },
-            KeylessMove::Read {
-                who,
-                mapping,
-                frame,
-                word,
-                value,
-            } => Move::Read {
-                who,
-                mapping,
-                frame,
-                word,
-                value,
-            },
-            KeylessMove::Write {
-                who,
-                mapping,
-                frame,
-                word,
-                value,
-            } => Move::Write {
-                who,
-                mapping,
-                frame,
-                word,
-                value,
-            },
-            KeylessMove::Map {
-                who,
-                gref,
-                mode,
-                mapping,
-                frame,
-            } => Move::Map {
-                who,
-                gref,
-                mode,
-                mapping,
-                frame,
-            },
-            KeylessMove::MapRefused {
-                who,
-                gref,
-                mode,
-                status,
-            } => Move::MapRefused {
-                who,
-                gref,
-                mode,
-                status,
-            },
-            KeylessMove::Unmap { who, mapping } => Move::Unmap { who, mapping },
-            KeylessMove::Bind { port } => Move::Bind { port },
-            KeylessMove::BindRefused { port } => Move::BindRefused { port },
+            KeylessMove::FrontRead { .. }
+            | KeylessMove::FrontWrite { .. }
+            | KeylessMove::FrontCas { .. }
+            | KeylessMove::FrontPort { .. } => front_move(self.kind),
+            KeylessMove::Read { .. } | KeylessMove::Write { .. } => access(self.kind),
+            KeylessMove::Map { .. }
+            | KeylessMove::MapRefused { .. }
+            | KeylessMove::Unmap { .. }
+            | KeylessMove::Bind { .. }
+            | KeylessMove::BindRefused { .. } => back_call(self.kind),
             KeylessMove::DiskRead { job, sector } => Move::DiskRead { job, sector },
             KeylessMove::DiskWrite { job, sector } => Move::DiskWrite { job, sector },
             KeylessMove::DiskFlush { job } => Move::DiskFlush { job },
@@ -199,5 +138,104 @@ impl SmallMove {
             KeylessMove::ClosePort(who) => Move::ClosePort(who),
             KeylessMove::Event(who) => Move::Event(who),
         }
+    }
+}
+
+// A move of the front on a word of its memory or on its port.
+fn front_move(kind: KeylessMove) -> Move
+    requires { IsFrontMove (move_of kind) }
+    ensures { result ≡ move_of kind }
+{
+    match kind {
+        KeylessMove::FrontRead { frame, word, value } => Move::FrontRead { frame, word, value },
+        KeylessMove::FrontWrite { frame, word, value } => Move::FrontWrite { frame, word, value },
+        KeylessMove::FrontCas {
+            frame,
+            word,
+            old,
+            new,
+            seen,
+        } => Move::FrontCas {
+            frame,
+            word,
+            old,
+            new,
+            seen,
+        },
+        KeylessMove::FrontPort { port } => Move::FrontPort { port },
+        _ => unreachable!(),
+    }
+}
+
+// A word read or written through a mapping.
+fn access(kind: KeylessMove) -> Move
+    requires { IsAccess (move_of kind) }
+    ensures { result ≡ move_of kind }
+{
+    match kind {
+        KeylessMove::Read {
+            who,
+            mapping,
+            frame,
+            word,
+            value,
+        } => Move::Read {
+            who,
+            mapping,
+            frame,
+            word,
+            value,
+        },
+        KeylessMove::Write {
+            who,
+            mapping,
+            frame,
+            word,
+            value,
+        } => Move::Write {
+            who,
+            mapping,
+            frame,
+            word,
+            value,
+        },
+        _ => unreachable!(),
+    }
+}
+
+// A hypercall of the back's side on a grant or on the front's port.
+fn back_call(kind: KeylessMove) -> Move
+    requires { IsBackCall (move_of kind) }
+    ensures { result ≡ move_of kind }
+{
+    match kind {
+        KeylessMove::Map {
+            who,
+            gref,
+            mode,
+            mapping,
+            frame,
+        } => Move::Map {
+            who,
+            gref,
+            mode,
+            mapping,
+            frame,
+        },
+        KeylessMove::MapRefused {
+            who,
+            gref,
+            mode,
+            status,
+        } => Move::MapRefused {
+            who,
+            gref,
+            mode,
+            status,
+        },
+        KeylessMove::Unmap { who, mapping } => Move::Unmap { who, mapping },
+        KeylessMove::Bind { port } => Move::Bind { port },
+        KeylessMove::BindRefused { port } => Move::BindRefused { port },
+        _ => unreachable!(),
     }
 }

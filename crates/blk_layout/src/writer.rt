@@ -40,8 +40,7 @@ pub fn request_words(abi: Abi, request: &Request) -> ArrayVec<u32, 28>
         } => {
             let mut words = begin(abi, head(5, flag, device), id, sector);
             put_double(&mut words, count);
-            pad_to(&mut words, Places::of(abi).end);
-            words
+            padded(abi, words)
         }
         Request::Indirect {
             op,
@@ -54,8 +53,7 @@ pub fn request_words(abi: Abi, request: &Request) -> ArrayVec<u32, 28>
             let mut words = begin(abi, head(6, indirect_number(op), count), id, sector);
             words.push(u32::from(device));
             put_pages(&mut words, &pages);
-            pad_to(&mut words, Places::of(abi).end);
-            words
+            padded(abi, words)
         }
     }
 }
@@ -126,6 +124,16 @@ fn put_pages(words: &mut Words, pages: &[u32; 8])
     for page in pages {
         words.push(*page);
     }
+}
+
+// Zeros up to the entry's end.
+fn padded(abi: Abi, words: Words) -> Words
+    requires { array_vec_len words ≤ (places_of abi).end }
+    ensures { result.items ≡ words.items ++ replicate ((places_of abi).end - length words.items) 0 }
+{
+    let mut words = words;
+    pad_to(&mut words, Places::of(abi).end);
+    words
 }
 
 // Zeros up to a place, where no field lies.

@@ -1,5 +1,5 @@
 // The lines of a ring's text.
-ghost use Rattle.std.specs.Prelude.{◌≡◌, ◌+◌, ◌≤◌, ◌++◌, length, decimal};
+ghost use Rattle.std.specs.Prelude.{◌≡◌, ◌+◌, ◌≤◌, ◌++◌, length, codes, decimal};
 ghost use Rattle.arrayvec.specs.ArrayString.{array_string_len};
 ghost use Rattle.ring_inspect.specs.Text.{line_feed, indices_text, entries_text, overrun_text, requests_text, segment_text, page_text, request_line};
 
@@ -83,6 +83,17 @@ pub fn page(gref: u32) -> Line
     end(begin("page ", u64::from(gref)))
 }
 
+// Adds what requests of all forms have: the device, the front's number and the first sector.
+fn put_common(line: &mut Line, device: u16, id: u64, sector: u64)
+    requires { array_string_len line.old ≤ 111 }
+    ensures appended { line.new.bytes ≡ line.old.bytes ++ codes " device " ++ decimal device ++ codes " id " ++ decimal id ++ codes " sector " ++ decimal sector }
+    ensures short { array_string_len line.new ≤ array_string_len line.old + 80 }
+{
+    put(line, " device ", u64::from(device));
+    put(line, " id ", id);
+    put(line, " sector ", sector);
+}
+
 pub fn request(index: u32, request: &RawRequest) -> Line
     ensures { result.bytes ≡ request_line index request.now }
 {
@@ -98,9 +109,7 @@ pub fn request(index: u32, request: &RawRequest) -> Line
         } => {
             put(&mut line, " op ", u64::from(op));
             put(&mut line, " count ", u64::from(count));
-            put(&mut line, " device ", u64::from(device));
-            put(&mut line, " id ", id);
-            put(&mut line, " sector ", sector);
+            put_common(&mut line, device, id, sector);
         }
         RawRequest::Discard {
             flag,
@@ -110,9 +119,7 @@ pub fn request(index: u32, request: &RawRequest) -> Line
             count,
         } => {
             put(&mut line, " op 5 flag ", u64::from(flag));
-            put(&mut line, " device ", u64::from(device));
-            put(&mut line, " id ", id);
-            put(&mut line, " sector ", sector);
+            put_common(&mut line, device, id, sector);
             put(&mut line, " count ", count);
         }
         RawRequest::Indirect {
@@ -125,9 +132,7 @@ pub fn request(index: u32, request: &RawRequest) -> Line
         } => {
             put(&mut line, " op 6 inner ", u64::from(op));
             put(&mut line, " count ", u64::from(count));
-            put(&mut line, " device ", u64::from(device));
-            put(&mut line, " id ", id);
-            put(&mut line, " sector ", sector);
+            put_common(&mut line, device, id, sector);
         }
     }
     end(line)

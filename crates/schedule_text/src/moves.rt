@@ -1,6 +1,7 @@
 // A report's line of a move.
 ghost use Rattle.std.specs.Prelude.{◌≡◌, ◌+◌, ◌≤◌, ◌∷◌, [], ◌++◌, decimal, codes, length};
 ghost use Rattle.arrayvec.specs.ArrayString.{array_string_len};
+ghost use Rattle.blk_base.specs.Kinds.{IsFrontMove, IsAccess, IsBackCall};
 ghost use Rattle.line_text.specs.Numbers.{hex8};
 ghost use Rattle.line_text.specs.Words.{spaced};
 ghost use Rattle.schedule_text.specs.Line.{move_words, mover_words, back_words, mode_word};
@@ -11,6 +12,45 @@ use line_text::{LineText, put, put_hex, put_number, put_signed};
 /// Adds a move.
 pub fn put_move(text: &mut LineText, one: &Move)
     requires { array_string_len text.old ≤ 200 }
+    ensures bytes { text.new.bytes ≡ text.old.bytes ++ spaced (move_words one.now) }
+    ensures len { array_string_len text.new ≤ 1000 }
+{
+    match one {
+        Move::FrontRead { .. }
+        | Move::FrontWrite { .. }
+        | Move::FrontCas { .. }
+        | Move::FrontPort { .. } => put_front_move(text, one),
+        Move::Read { .. } | Move::Write { .. } => put_back_access(text, one),
+        Move::Map { .. }
+        | Move::MapRefused { .. }
+        | Move::Unmap { .. }
+        | Move::Bind { .. }
+        | Move::BindRefused { .. } => put_back_call(text, one),
+        Move::DiskRead { job, sector } => put_disk(text, *job, "dread", *sector),
+        Move::DiskWrite { job, sector } => put_disk(text, *job, "dwrite", *sector),
+        Move::DiskFlush { job } => put_act(text, Mover::Job(*job), "flush"),
+        Move::DiskTrim { job, sector, count } => {
+            put_disk(text, *job, "trim", *sector);
+            put_number(text, *count);
+        }
+        Move::Fence(who) => put_act(text, *who, "fence"),
+        Move::Send(who) => put_act(text, *who, "send"),
+        Move::ClosePort(who) => put_act(text, *who, "closeport"),
+        Move::Event(who) => put_act(text, *who, "event"),
+        Move::Watch(who, path) => put_path(text, *who, "watch", path),
+        Move::Watched(who, path) => put_path(text, *who, "watched", path),
+        Move::GetKey(who, path, found) => put_found(text, *who, path, found),
+        Move::SetKey(who, path, value) => {
+            put_path(text, *who, "setkey", path);
+            put_value(text, value);
+        }
+    }
+}
+
+/// Adds a move of the front on a word of its memory or on its port.
+fn put_front_move(text: &mut LineText, one: &Move)
+    requires room { array_string_len text.old ≤ 200 }
+    requires front { IsFrontMove one.now }
     ensures bytes { text.new.bytes ≡ text.old.bytes ++ spaced (move_words one.now) }
     ensures len { array_string_len text.new ≤ 1000 }
 {
@@ -33,6 +73,18 @@ pub fn put_move(text: &mut LineText, one: &Move)
             put(text, "port");
             put_number(text, u64::from(*port));
         }
+        _ => unreachable!(),
+    }
+}
+
+/// Adds the reading or writing of a word through a mapping.
+fn put_back_access(text: &mut LineText, one: &Move)
+    requires room { array_string_len text.old ≤ 200 }
+    requires access { IsAccess one.now }
+    ensures bytes { text.new.bytes ≡ text.old.bytes ++ spaced (move_words one.now) }
+    ensures len { array_string_len text.new ≤ 1000 }
+{
+    match one {
         Move::Read {
             who,
             mapping,
@@ -53,6 +105,18 @@ pub fn put_move(text: &mut LineText, one: &Move)
             put_back(text, *who);
             put_access(text, "write", *mapping, *frame, *word, *value);
         }
+        _ => unreachable!(),
+    }
+}
+
+/// Adds a hypercall of the back's side on a grant or on the front's port.
+fn put_back_call(text: &mut LineText, one: &Move)
+    requires room { array_string_len text.old ≤ 200 }
+    requires call { IsBackCall one.now }
+    ensures bytes { text.new.bytes ≡ text.old.bytes ++ spaced (move_words one.now) }
+    ensures len { array_string_len text.new ≤ 1000 }
+{
+    match one {
         Move::Map {
             who,
             gref,
@@ -78,27 +142,7 @@ pub fn put_move(text: &mut LineText, one: &Move)
         }
         Move::Bind { port } => put_bind(text, *port, "ok"),
         Move::BindRefused { port } => put_bind(text, *port, "refused"),
-        Move::DiskRead { job, sector } => put_disk(text, *job, "dread", *sector),
-        Move::DiskWrite { job, sector } => put_disk(text, *job, "dwrite", *sector),
-        Move::DiskFlush { job } => {
-            put_back(text, BackMover::Job(*job));
-            put(text, "flush");
-        }
-        Move::DiskTrim { job, sector, count } => {
-            put_disk(text, *job, "trim", *sector);
-            put_number(text, *count);
-        }
-        Move::Fence(who) => put_act(text, *who, "fence"),
-        Move::Send(who) => put_act(text, *who, "send"),
-        Move::ClosePort(who) => put_act(text, *who, "closeport"),
-        Move::Event(who) => put_act(text, *who, "event"),
-        Move::Watch(who, path) => put_path(text, *who, "watch", path),
-        Move::Watched(who, path) => put_path(text, *who, "watched", path),
-        Move::GetKey(who, path, found) => put_found(text, *who, path, found),
-        Move::SetKey(who, path, value) => {
-            put_path(text, *who, "setkey", path);
-            put_value(text, value);
-        }
+        _ => unreachable!(),
     }
 }
 

@@ -1,12 +1,12 @@
 // A line of a schedule, written and read.
-ghost use Rattle.std.specs.Prelude.{◌≡◌};
-ghost use Rattle.line_text.specs.Words.{words_in};
+ghost use Rattle.std.specs.Prelude.{◌≡◌, ◌≤◌, ◌∷◌, [], ◌++◌, length};
+ghost use Rattle.line_text.specs.Words.{spaced, words_in};
 ghost use Rattle.schedule_text.specs.Event.{event_text, EventHasWidths, is_event_allowed, is_number, end_word, plain_event};
 ghost use Rattle.schedule_text.specs.EventReading.{event_at, other_event_at, end_at};
 
 use crate::event::Event;
 use crate::reading::job;
-use crate::writing::put_job;
+use crate::writing::{put_job, write_key, write_number, write_poke};
 use blk_base::End;
 use line_text::{
     LineText, Words, begin, is, is_key_name, is_key_text, put, put_number, short_text,
@@ -21,50 +21,31 @@ pub fn write_event(event: &Event, text: &mut LineText)
             begin(text, "submit");
             put_job(text, job);
         }
-        Event::Front(moves) => {
-            begin(text, "front");
-            put_number(text, u64::from(*moves));
-        }
-        Event::Back(moves) => {
-            begin(text, "back");
-            put_number(text, u64::from(*moves));
-        }
+        Event::Front(moves) => write_number(text, "front", u64::from(*moves)),
+        Event::Back(moves) => write_number(text, "back", u64::from(*moves)),
         Event::Job { number, moves } => {
-            begin(text, "job");
-            put_number(text, u64::from(*number));
+            write_number(text, "job", u64::from(*number));
             put_number(text, u64::from(*moves));
         }
-        Event::Turn(rounds) => {
-            begin(text, "turn");
-            put_number(text, u64::from(*rounds));
-        }
+        Event::Turn(rounds) => write_number(text, "turn", u64::from(*rounds)),
         Event::Settle => begin(text, "settle"),
         Event::Look => begin(text, "look"),
-        Event::Notify(end) => {
-            begin(text, "notify");
-            put(text, end_text(*end));
-        }
+        Event::Notify(end) => write_end(text, "notify", *end),
         Event::Suspend => begin(text, "suspend"),
-        Event::Close(end) => {
-            begin(text, "close");
-            put(text, end_text(*end));
-        }
-        Event::Poke { frame, word, value } => {
-            begin(text, "poke");
-            put_number(text, u64::from(*frame));
-            put_number(text, u64::from(*word));
-            put_number(text, u64::from(*value));
-        }
-        Event::Key {
-            name,
-            text: key_text,
-        } => {
-            begin(text, "key");
-            put(text, name.as_str());
-            put(text, key_text.as_str());
-        }
+        Event::Close(end) => write_end(text, "close", *end),
+        Event::Poke { frame, word, value } => write_poke(text, *frame, *word, *value),
+        Event::Key { name, text: value } => write_key(text, name, value),
         Event::Dump => begin(text, "dump"),
     }
+}
+
+/// A line of a word and an end.
+fn write_end(text: &mut LineText, name: &str, end: End)
+    requires { length name.now ≤ 100 }
+    ensures { text.new.bytes ≡ name.now ++ spaced (end_word end ∷ []) }
+{
+    begin(text, name);
+    put(text, end_text(end));
 }
 
 fn end_text(end: End) -> &'static str

@@ -1,12 +1,13 @@
 // A report's line is written word by word.
 ghost use Rattle.std.specs.Prelude.{◌≡◌, ◌+◌, ◌<◌, ◌≤◌, ◌∷◌, [], ◌++◌, decimal, codes, length};
 ghost use Rattle.arrayvec.specs.ArrayString.{array_string_len};
+ghost use Rattle.line_text.specs.Sector.{sector_words};
 ghost use Rattle.line_text.specs.Words.{spaced};
 ghost use Rattle.schedule_text.specs.Line.{text_of, job_words, halt_words, status_word, refusal_word, detail_word};
 
-use crate::line::{Detail, Halt, Line, Refusal};
+use crate::line::{Detail, Halt, KeyName, Line, Refusal};
 use crate::moves::put_move;
-use blk_base::{Abi, Config, Job, SectorCount, SectorWords, Status, Text};
+use blk_base::{Abi, Config, Job, Move, SectorCount, SectorWords, Status, Text};
 use line_text::{LineText, begin, put, put_hex, put_number, put_sector, put_signed};
 
 /// Writes the one spelling of a line, without its line feed, in place of what the text held.
@@ -19,66 +20,27 @@ pub fn write_line(line: &Line, text: &mut LineText)
         Line::Ready => begin(text, "ready"),
         Line::Closing => begin(text, "closing"),
         Line::Closed => begin(text, "closed"),
-        Line::Broken(word) => {
-            begin(text, "broken");
-            put_hex(text, *word);
-        }
-        Line::Submit { id, job } => {
-            begin(text, "submit");
-            put_number(text, *id);
-            put_job(text, job);
-        }
-        Line::Refuse(refusal) => {
-            begin(text, "refuse");
-            put(text, refusal_text(*refusal));
-        }
+        Line::Broken(word) => write_broken(text, *word),
+        Line::Submit { id, job } => write_submit(text, *id, job),
+        Line::Refuse(refusal) => write_refuse(text, *refusal),
         Line::Effect { id, index } => write_place(text, "effect", *id, *index),
-        Line::EffectRead { id, index, words } => {
-            write_place(text, "effect", *id, *index);
-            put_sector(text, words);
-        }
-        Line::Flushed { id } => write_id(text, "flushed", *id),
-        Line::Trimmed { id } => write_id(text, "trimmed", *id),
+        Line::EffectRead { id, index, words } => write_sector(text, "effect", *id, *index, words),
+        Line::Flushed { id } => write_number(text, "flushed", *id),
+        Line::Trimmed { id } => write_number(text, "trimmed", *id),
         Line::Fault { id, index } => write_place(text, "fault", *id, *index),
         Line::Reply { id, status } => write_status(text, "reply", *id, *status),
         Line::Answer { id, status } => write_status(text, "answer", *id, *status),
-        Line::Data { id, index, words } => {
-            write_place(text, "data", *id, *index);
-            put_sector(text, words);
-        }
+        Line::Data { id, index, words } => write_sector(text, "data", *id, *index, words),
         Line::Epoch => begin(text, "epoch"),
-        Line::Halt(halt) => {
-            begin(text, "halt");
-            put_halt(text, halt);
-        }
-        Line::Poke { frame, word, value } => {
-            begin(text, "poke");
-            put_number(text, u64::from(*frame));
-            put_number(text, u64::from(*word));
-            put_number(text, u64::from(*value));
-        }
-        Line::Key {
-            name,
-            text: key_text,
-        } => {
-            begin(text, "key");
-            put(text, name.as_str());
-            put(text, key_text.as_str());
-        }
+        Line::Halt(halt) => write_halt(text, halt),
+        Line::Poke { frame, word, value } => write_poke(text, *frame, *word, *value),
+        Line::Key { name, text: value } => write_key(text, name, value),
         Line::Quiet => begin(text, "quiet"),
         Line::Busy => begin(text, "busy"),
         Line::Unsettled => begin(text, "unsettled"),
-        Line::Word { frame, word, value } => {
-            begin(text, "word");
-            put_number(text, u64::from(*frame));
-            put_number(text, u64::from(*word));
-            put_hex(text, *value);
-        }
+        Line::Word { frame, word, value } => write_word(text, *frame, *word, *value),
         Line::End => begin(text, "end"),
-        Line::Move(one) => {
-            begin(text, "m");
-            put_move(text, one);
-        }
+        Line::Move(one) => write_move(text, one),
     }
 }
 
@@ -141,14 +103,86 @@ fn status_text(status: Status) -> &'static str
     }
 }
 
-/// A line of a word and a request.
-fn write_id(text: &mut LineText, name: &str, id: u64)
+fn write_broken(text: &mut LineText, word: u32)
+    ensures written { text.new.bytes ≡ text_of (Line.Broken word) }
+    ensures short { array_string_len text.new < 1000 }
+{
+    begin(text, "broken");
+    put_hex(text, word);
+}
+
+fn write_submit(text: &mut LineText, id: u64, job: &Job)
+    ensures written { text.new.bytes ≡ text_of (Line.Submit id job.now) }
+    ensures short { array_string_len text.new < 1000 }
+{
+    begin(text, "submit");
+    put_number(text, id);
+    put_job(text, job);
+}
+
+fn write_refuse(text: &mut LineText, refusal: Refusal)
+    ensures written { text.new.bytes ≡ text_of (Line.Refuse refusal) }
+    ensures short { array_string_len text.new < 1000 }
+{
+    begin(text, "refuse");
+    put(text, refusal_text(refusal));
+}
+
+fn write_halt(text: &mut LineText, halt: &Halt)
+    ensures written { text.new.bytes ≡ text_of (Line.Halt halt.now) }
+    ensures short { array_string_len text.new < 1000 }
+{
+    begin(text, "halt");
+    put_halt(text, halt);
+}
+
+fn write_word(text: &mut LineText, frame: u32, word: u32, value: u32)
+    ensures written { text.new.bytes ≡ text_of (Line.Word frame word value) }
+    ensures short { array_string_len text.new < 1000 }
+{
+    begin(text, "word");
+    put_number(text, u64::from(frame));
+    put_number(text, u64::from(word));
+    put_hex(text, value);
+}
+
+fn write_move(text: &mut LineText, one: &Move)
+    ensures written { text.new.bytes ≡ text_of (Line.Move one.now) }
+    ensures short { array_string_len text.new ≤ 1000 }
+{
+    begin(text, "m");
+    put_move(text, one);
+}
+
+/// A word that is overwritten from outside, as a schedule and a report have it.
+pub fn write_poke(text: &mut LineText, frame: u32, word: u32, value: u32)
+    ensures bytes { text.new.bytes ≡ codes "poke" ++ spaced (decimal frame ∷ decimal word ∷ decimal value ∷ []) }
+    ensures len { array_string_len text.new ≤ 100 }
+{
+    begin(text, "poke");
+    put_number(text, u64::from(frame));
+    put_number(text, u64::from(word));
+    put_number(text, u64::from(value));
+}
+
+/// A key that is overwritten from outside, as a schedule and a report have it.
+pub fn write_key(text: &mut LineText, name: &KeyName, value: &Text)
+    ensures bytes { text.new.bytes ≡ codes "key" ++ spaced (name.now.bytes ∷ value.now.bytes ∷ []) }
+    ensures len { array_string_len text.new ≤ 200 }
+{
+    begin(text, "key");
+    put(text, name.as_str());
+    put(text, value.as_str());
+}
+
+/// A line of a word and a number.
+pub fn write_number(text: &mut LineText, name: &str, number: u64)
     requires { length name.now ≤ 100 }
-    ensures bytes { text.new.bytes ≡ name.now ++ spaced (decimal id ∷ []) }
+    ensures bytes { text.new.bytes ≡ name.now ++ spaced (decimal number ∷ []) }
     ensures len { array_string_len text.new ≤ length name.now + 21 }
 {
     begin(text, name);
-    put_number(text, id);
+    put_number(text, number);
 }
 
 /// A line of a word, a request and a sector's place in it.
@@ -160,6 +194,16 @@ fn write_place(text: &mut LineText, name: &str, id: u64, index: u32)
     begin(text, name);
     put_number(text, id);
     put_number(text, u64::from(index));
+}
+
+/// A line of a word, a request, a sector's place in it and what it holds.
+fn write_sector(text: &mut LineText, name: &str, id: u64, index: u32, words: &SectorWords)
+    requires { length name.now ≤ 80 }
+    ensures bytes { text.new.bytes ≡ name.now ++ spaced (decimal id ∷ decimal index ∷ sector_words words.now) }
+    ensures len { array_string_len text.new < 1152 }
+{
+    write_place(text, name, id, index);
+    put_sector(text, words);
 }
 
 /// A line of a word, a request and a status.

@@ -4,9 +4,9 @@ use Rattle.blk_layout.proofs.Back.{length-words_of}
 use Rattle.blk_layout.proofs.Laid.{direct_laid, discard_laid, indirect_laid, indirect_room}
 use Rattle.blk_layout.proofs.writer.request_words.Goals as goal
 
-pub pad_to-requires-in-Indirect-clause-ahead : goal.pad_to-requires-in-Indirect-clause-ahead
-pad_to-requires-in-Indirect-clause-ahead c =
-    rw (c.of-in-Indirect.ensures, c.put_pages.ensures.appended, c.push.ensures.items, c.begin-words-in-Indirect.ensures)
+pub padded-requires-in-Indirect : goal.padded-requires-in-Indirect
+padded-requires-in-Indirect c =
+    rw (c.put_pages.ensures.appended, c.push.ensures.items, c.begin-words-in-Indirect.ensures)
     (indirect_room c.args.abi c.head-in-Indirect.result c.in-Indirect.id c.in-Indirect.sector c.from.result c.in-Indirect.pages c.put_pages.ensures.whole)
 
 pub returns-in-Direct-clause-words : goal.returns-in-Direct-clause-words
@@ -16,12 +16,12 @@ returns-in-Direct-clause-words c =
 
 pub returns-in-Discard-clause-words : goal.returns-in-Discard-clause-words
 returns-in-Discard-clause-words c =
-    rw (c.pad_to.ensures, c.of.ensures, c.put_double.ensures, c.begin-words-in-Discard.ensures, c.head-in-Discard.ensures, c.in-Discard.is)
+    rw (c.padded.ensures, c.put_double.ensures, c.begin-words-in-Discard.ensures, c.head-in-Discard.ensures, c.in-Discard.is)
     (discard_laid c.args.abi _ _ _ _ _)
 
 pub returns-in-Indirect-clause-words : goal.returns-in-Indirect-clause-words
 returns-in-Indirect-clause-words c =
-    rw (c.pad_to-in-Indirect.ensures, c.of-in-Indirect.ensures, c.put_pages.ensures.appended, c.push.ensures.items, c.begin-words-in-Indirect.ensures, c.from.ensures, c.head-in-Indirect.ensures, c.indirect_number.ensures, c.in-Indirect.is)
+    rw (c.padded-in-Indirect.ensures, c.put_pages.ensures.appended, c.push.ensures.items, c.begin-words-in-Indirect.ensures, c.from.ensures, c.head-in-Indirect.ensures, c.indirect_number.ensures, c.in-Indirect.is)
     (indirect_laid c.args.abi _ _ _ _ _ c.in-Indirect.pages c.put_pages.ensures.whole)
 
 pub returns-in-Direct-clause-long : goal.returns-in-Direct-clause-long
