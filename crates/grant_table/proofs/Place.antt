@@ -19,7 +19,7 @@ module _ (live : List Held) (up : IsAscending 0 live) (number : ℕ) where
       let rise : number_at live i ≤ number_at live j = grind (arith, ascends 0 live up i j, λ (same : i ≡ j). ap (number_at live) same) in
       grind (arith, nat_tests))
 
-  is_place : (place : ℕ) → place < length live → number_at live place ≡ number → IsPlace live number place
+  pub is_place : (place : ℕ) → place < length live → number_at live place ≡ number → IsPlace live number place
   is_place place within same = record {
     within = within;
     found = ap (λ n. held_of n live) (sym same) ∙ held_of-number_at 0 live place up within;

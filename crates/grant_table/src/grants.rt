@@ -239,6 +239,36 @@ fn search(held: &[Held], number: u64) -> Option<usize>
     ensures found { IfSome result (IsPlace held.now number) }
     ensures absent { IfNone result (held_of number held.now ≡ None) }
 {
+    if let Some(place) = guess(held, number) {
+        return Some(place);
+    }
+    search_by_halves(held, number)
+}
+
+// The place as far before the last one as the number is before the last number, where it stands if
+// all mappings that were made since live.
+fn guess(held: &[Held], number: u64) -> Option<usize>
+    requires { IsAscending 0 held.now }
+    ensures { IfSome result (IsPlace held.now number) }
+{
+    let last = held.len().checked_sub(1)?;
+    let since = held[last].mapping.number.checked_sub(number)?;
+    if since > last as u64 {
+        return None;
+    }
+    let place = last - since as usize;
+    if held[place].mapping.number == number {
+        Some(place)
+    } else {
+        None
+    }
+}
+
+fn search_by_halves(held: &[Held], number: u64) -> Option<usize>
+    requires { IsAscending 0 held.now }
+    ensures found { IfSome result (IsPlace held.now number) }
+    ensures absent { IfNone result (held_of number held.now ≡ None) }
+{
     held.binary_search_by_key(&number, |held| held.mapping.number)
         .ok()
 }

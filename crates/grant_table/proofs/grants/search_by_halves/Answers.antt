@@ -1,7 +1,7 @@
 use Rattle.std.proofs.Common.{rules}
 use Rattle.std.proofs.lemmas.List.Sorted.{answers_always}
 use Rattle.grant_table.proofs.Place.{searched}
-use Rattle.grant_table.proofs.grants.search.Goals as goal
+use Rattle.grant_table.proofs.grants.search_by_halves.Goals as goal
 
 -- the closure gives a mapping's number
 pub returns : goal.returns
