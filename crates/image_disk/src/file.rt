@@ -6,7 +6,8 @@ use blk_base::SectorWords;
 use blk_io::{AttachStop, Failed, SectorDisk};
 use byteorder::{ByteOrder, LittleEndian};
 use std::fs::{OpenFile, OpenOptions};
-use std::io::{self, Read, Seek, SeekFrom, Write};
+use std::io;
+use std::os::unix::fs::FileExt;
 use std::rt::Files;
 
 /// The bytes of a sector.
@@ -23,8 +24,13 @@ pub struct FileDisk<R: Files + Drop> {
 }
 
 impl<R: Files + Drop> FileDisk<R> {
-    /// A disk to which no file is attached yet.
-    pub fn new(files: R) -> FileDisk<R> {
+    ghost use Rattle.std.specs.Prelude.{◌≡◌};
+
+    /// A disk to which no file is attached yet, and which has no fault.
+    pub fn new(files: R) -> FileDisk<R>
+        ensures unattached { result.attached ≡ None }
+        ensures no_faults { result.faults ≡ 0 }
+    {
         FileDisk {
             files,
             file: None,
@@ -57,21 +63,18 @@ fn counted(outcome: io::Result<()>, faults: &mut u64) -> Result<(), Failed>
     }
 }
 
-// The file, placed at the beginning of a sector.
-fn placed<F: Seek>(file: &mut Option<F>, sector: u64) -> io::Result<&mut F> {
-    let missing = io::Error::from(io::ErrorKind::NotFound);
-    let Some(file) = file else {
-        return Err(missing);
-    };
-    let place = sector.checked_mul(SECTOR);
-    let Some(place) = place else {
-        return Err(missing);
-    };
-    file.seek(SeekFrom::Start(place))?;
-    Ok(file)
+// The file, and where a sector begins in it.
+fn placed<F>(file: &Option<F>, sector: u64) -> io::Result<(&F, u64)> {
+    match (file, sector.checked_mul(SECTOR)) {
+        (Some(file), Some(place)) => Ok((file, place)),
+        _ => Err(io::Error::from(io::ErrorKind::NotFound)),
+    }
 }
 
-impl<R: Files + Drop> SectorDisk for FileDisk<R> {
+impl<R: Files + Drop> SectorDisk for FileDisk<R>
+where
+    R::File: FileExt,
+{
     ghost attached = { λ d. d.attached };
 
     ghost content = { λ _. None };
@@ -95,59 +98,57 @@ impl<R: Files + Drop> SectorDisk for FileDisk<R> {
     }
 
     fn read(&mut self, sector: u64, words: &mut SectorWords) -> Result<(), Failed> {
-        let read = read_sector(&mut self.file, sector, words);
+        let read = read_sector(&self.file, sector, words);
         counted(read, &mut self.faults)
     }
 
     fn write(&mut self, sector: u64, words: &SectorWords) -> Result<(), Failed> {
-        let written = write_sector(&mut self.file, sector, words);
+        let written = write_sector(&self.file, sector, words);
         counted(written, &mut self.faults)
     }
 
     fn flush(&mut self) -> Result<(), Failed> {
-        let flushed = flush_file(&mut self.file);
+        let flushed = flush_file(&self.file);
         counted(flushed, &mut self.faults)
     }
 
     fn trim(&mut self, sector: u64, count: u64) -> Result<(), Failed> {
-        let trimmed = zero_sectors(&mut self.file, sector, count);
+        let trimmed = zero_sectors(&self.file, sector, count);
         counted(trimmed, &mut self.faults)
     }
 }
 
-fn read_sector<F: Read + Seek>(
-    file: &mut Option<F>,
+fn read_sector<F: FileExt>(
+    file: &Option<F>,
     sector: u64,
     words: &mut SectorWords,
 ) -> io::Result<()> {
     let mut bytes = [0u8; 512];
-    placed(file, sector)?.read_exact(&mut bytes)?;
+    let (file, place) = placed(file, sector)?;
+    file.read_exact_at(&mut bytes, place)?;
     LittleEndian::read_u32_into(&bytes, words);
     Ok(())
 }
 
-fn write_sector<F: Write + Seek>(
-    file: &mut Option<F>,
-    sector: u64,
-    words: &SectorWords,
-) -> io::Result<()> {
+fn write_sector<F: FileExt>(file: &Option<F>, sector: u64, words: &SectorWords) -> io::Result<()> {
     let mut bytes = [0u8; 512];
     LittleEndian::write_u32_into(words, &mut bytes);
-    placed(file, sector)?.write_all(&bytes)
+    let (file, place) = placed(file, sector)?;
+    file.write_all_at(&bytes, place)
 }
 
-fn flush_file<F: OpenFile>(file: &mut Option<F>) -> io::Result<()> {
+fn flush_file<F: OpenFile>(file: &Option<F>) -> io::Result<()> {
     match file {
         Some(file) => file.sync_data(),
         None => Ok(()),
     }
 }
 
-fn zero_sectors<F: Write + Seek>(file: &mut Option<F>, sector: u64, count: u64) -> io::Result<()> {
+fn zero_sectors<F: FileExt>(file: &Option<F>, sector: u64, count: u64) -> io::Result<()> {
     let zeros = [0u8; 512];
-    let file = placed(file, sector)?;
-    for _ in 0..count {
-        file.write_all(&zeros)?;
+    for done in 0..count {
+        let (file, place) = placed(file, sector.saturating_add(done))?;
+        file.write_all_at(&zeros, place)?;
     }
     Ok(())
 }
