@@ -1,7 +1,6 @@
 // The front's ports and the ends' pending marks.
 ghost use Rattle.std.specs.Prelude.{◌≡◌, ◌+◌, ◌^◌, ◌<◌, ◌≤◌, ◌↔◌, length, map, IsOk, IfOk, OnErr};
-ghost use Rattle.std.specs.List.{list_any};
-ghost use Rattle.event_channel.specs.Channels.{fresh_channels, with_port, IsUnbound, bound, is_bound, is_bound_port, is_pending, sent, taken, closed, unbound_port, closed_port, reset};
+ghost use Rattle.event_channel.specs.Channels.{fresh_channels, with_port, IsUnbound, bound, is_pending, sent, taken, closed, unbound_port, closed_port, reset};
 
 use arrayvec::ArrayVec;
 use blk_base::End;
@@ -41,19 +40,22 @@ pub enum PortState {
 pub struct Channels {
     made: u32,
     ports: ArrayVec<PortState, 4>,
+    // Whether one of them is bound.
+    any_bound: bool,
     front_pending: bool,
     back_pending: bool,
 }
 
 impl Model for Channels {
-    ghost use Rattle.std.specs.Prelude.{◌≤◌, length};
-    ghost use Rattle.event_channel.specs.Channels.{ChannelState};
+    ghost use Rattle.std.specs.Prelude.{◌≡◌, ◌≤◌, length};
+    ghost use Rattle.std.specs.List.{list_any};
+    ghost use Rattle.event_channel.specs.Channels.{ChannelState, is_bound_port};
 
     ghost Value = { ChannelState };
 
     ghost view = { λ c. record { made = c.made; ports = c.ports.items; front_pending = c.front_pending; back_pending = c.back_pending } };
 
-    ghost invariant = { λ c. length c.ports.items ≤ c.made };
+    ghost invariant = { λ c. (length c.ports.items ≤ c.made) × (c.any_bound ≡ list_any is_bound_port c.ports.items) };
 }
 
 impl Channels {
@@ -64,6 +66,7 @@ impl Channels {
         Channels {
             made: 0,
             ports: ArrayVec::new(),
+            any_bound: false,
             front_pending: false,
             back_pending: false,
         }
@@ -97,6 +100,7 @@ impl Channels {
             return Err(BadPort);
         }
         self.ports[place] = PortState::Bound;
+        self.any_bound = true;
         Ok(port)
     }
 
@@ -104,7 +108,7 @@ impl Channels {
     pub fn send(&mut self, who: End)
         ensures { self.new ≡ sent self.old who }
     {
-        if self.is_bound() {
+        if self.any_bound {
             match who {
                 End::Front => self.back_pending = true,
                 End::Back => self.front_pending = true,
@@ -144,10 +148,12 @@ impl Channels {
             End::Front => {
                 self.front_pending = false;
                 close_all(self.ports.as_mut_slice());
+                self.any_bound = false;
             }
             End::Back => {
                 self.back_pending = false;
                 unbind_all(self.ports.as_mut_slice());
+                self.any_bound = false;
             }
         }
     }
@@ -157,14 +163,9 @@ impl Channels {
         ensures { self.new ≡ reset self.old }
     {
         self.ports.clear();
+        self.any_bound = false;
         self.front_pending = false;
         self.back_pending = false;
-    }
-
-    fn is_bound(&self) -> bool
-        ensures { result ≡ is_bound self.now }
-    {
-        self.ports.iter().any(|port| *port == PortState::Bound)
     }
 }
 
