@@ -1,6 +1,7 @@
 -- What is true of the front at every moment.
-use Rattle.std.specs.Prelude.{◌≡◌, ℕ, ◌+◌, ◌<◌, ◌≤◌, length}
+use Rattle.std.specs.Prelude.{◌≡◌, ℕ, ◌+◌, ◌<◌, ◌≤◌, List, length, All, AllPairs}
 use Rattle.blk_base.specs.Distance.{distance_of}
+use Rattle.blk_front.specs.declared.request.Request.{Request}
 use Rattle.blk_front.specs.declared.stage.Stage.{Stage}
 use Rattle.blk_front.specs.declared.stage.Stage.TheVariants as stage
 use Rattle.blk_front.specs.Submit.{ending_of}
@@ -29,6 +30,10 @@ IsReading (stage.ResponseHigh low) ahead = 0 < ahead
 IsReading (stage.ResponseLast low high) ahead = 0 < ahead
 IsReading s ahead = Unit {0}
 
+-- each request's number is below those of the requests behind it
+abbrev pub AreAscending : List Request → Type 0
+AreAscending requests = AllPairs (λ (r s : Request). r.number < s.number) requests
+
 pub record IsSound (v : View) : Type 0 where
   pub entries : v.ring.entries ≡ 32
   -- each request between the two indices is an issued one, and all fit the ring
@@ -39,3 +44,6 @@ pub record IsSound (v : View) : Type 0 where
   pub placed : IsPlaced v.stage
   pub issuing : IsIssuing v.stage v.waiting
   pub reading : IsReading v.stage (distance_of v.ring.cons v.seen)
+  -- numbers were given in order, so an id is found without a walk
+  pub ascending : AreAscending v.requests
+  pub given : All (λ (r : Request). r.number ≤ v.last) v.requests

@@ -4,6 +4,7 @@ ghost use Rattle.blk_base.specs.declared.ask.FrontAnswer.TheVariants.{Word, Done
 ghost use Rattle.blk_front.specs.declared.stage.Stage.TheVariants as stage;
 ghost use Rattle.blk_front.specs.View.{next_request};
 ghost use Rattle.blk_front.specs.Ask.{loop_ask, IsAnswer};
+ghost use Rattle.blk_front.specs.Sound.{AreAscending};
 ghost use Rattle.blk_front.specs.Step.{step_at, loop_step, loop_word, looked, broken, issued, taken, response_step, end_step, exchanged, pushed, entry_request, IsTaking};
 ghost use Rattle.blk_layout.specs.Entry.{raw_of};
 ghost use Rattle.blk_front.specs.declared.request.Request.{Request};
@@ -230,12 +231,15 @@ impl Front {
     }
 }
 
-// Where the request of an id stands.
+// Where the request of an id stands, among requests whose numbers ascend: a binary search.
 fn place_of(requests: &[Request], id: u64) -> Option<usize>
+    requires { AreAscending requests.now }
     ensures value { result ≡ position (λ (r : Request). r.number == id) requests.now }
     ensures within { IfSome result (λ place. place < length requests.now) }
 {
-    requests.iter().position(|r| u64::from(r.number) == id)
+    requests
+        .binary_search_by_key(&id, |r| u64::from(r.number))
+        .ok()
 }
 
 // The request as its entry has it.

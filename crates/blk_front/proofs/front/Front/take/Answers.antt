@@ -1,0 +1,23 @@
+use Rattle.std.proofs.Common.{◌<◌, length, arith, rules}
+use Rattle.std.proofs.lemmas.Grind.{common_steps}
+use Rattle.blk_front.proofs.Numbers.{remove_ascending, remove_given}
+use Rattle.blk_front.proofs.front.Front.take.Goals as goal
+
+pub invariant_of-self : goal.invariant_of-self
+invariant_of-self c =
+    let requests = c.self.inside.requests.items in
+    let sound = c.self.invariant.0 in
+    let within : c.args.place < length requests = search rules in (
+      record {
+        entries = search rules;
+        counted = grind (arith, common_steps);
+        room = grind (arith, common_steps);
+        seen = grind (arith, common_steps);
+        placed = tt;
+        issuing = tt;
+        reading = tt;
+        ascending = rw c.remove.ensures.items (remove_ascending requests c.args.place within sound.ascending);
+        given = rw c.remove.ensures.items (remove_given requests c.args.place c.self.inside.last within sound.given);
+      },
+      omega arith,
+    )
