@@ -51,7 +51,7 @@ undone_at (stage.Done status) t a h = absurd h
 undone_at s t a h = refl
 
 -- a job that is told an answer isn't done
-undone : (t : Work) (a : BackAnswer) → IsAnswer (ask_of t) a → is_done t ≡ false
+pub undone : (t : Work) (a : BackAnswer) → IsAnswer (ask_of t) a → is_done t ≡ false
 undone t a h = undone_at t.stage t a h
 
 pub told_done : (works : List Work) (i : ℕ) (t y : Work) (a : BackAnswer) (done now : ℕ) (b : Bool) → slice_get works i ≡ Some t → IsAnswer (ask_of t) a → done ≡ done_place works → b ≡ is_done y → now ≡ done_after done i b → now ≡ done_place (slice_set works i y)

@@ -148,6 +148,22 @@ either_side : (k place : ℕ) (b : Bool) → nat_lt k place ≡ b → (k < place
 either_side k place true h = inl (grind (arith, nat_tests))
 either_side k place false h = inr (grind (arith, nat_tests))
 
+apart : (a n : ℕ) → a < n → n ≤ a → ⊥
+apart a n less more = omega (arith, less, more)
+
+not_behind : (works : List Work) (n p q : ℕ) → IsFirstFrom n works p → IsFirstFrom n works q → p ≤ q
+not_behind works n p q here there = elim (either_side q p (nat_lt q p) refl) as (λ x. p ≤ q) [
+  | inl before ↦ absurd (apart (slice_index_or works q blank).number n (here.1 q blank (omega arith) before) (there.2 q blank (omega arith) (omega (arith, before, here.0))))
+  | inr behind ↦ behind
+]
+
+-- only one place is that of the first number from this one on
+pub first_place : (works : List Work) (n p q : ℕ) → IsFirstFrom n works p → IsFirstFrom n works q → p ≡ q
+first_place works n p q here there =
+    let up = not_behind works n p q here there in
+    let down = not_behind works n q p there here in
+    omega (arith, up, down)
+
 higher_differs : (a b m n : ℕ) → b ≤ a → b ≡ m → n ≤ m → (m ≡ n → ⊥) → a ≡ n → ⊥
 higher_differs a b m n h same low other there = other (omega (arith, same, there))
 

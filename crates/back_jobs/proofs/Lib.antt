@@ -5,4 +5,5 @@ pub mod Order
 pub mod Numbers
 pub mod Done
 pub mod Finding
+pub mod Listed
 pub mod Telling

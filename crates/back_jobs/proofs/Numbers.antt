@@ -9,7 +9,7 @@ use Rattle.back_jobs.specs.Jobs.{mapping_at, behind_mapping}
 use Rattle.back_jobs.specs.Sound.{AreAscending}
 use Rattle.back_jobs.specs.Order.{is_above, is_above_last}
 
-abbrev Above : ℕ → List Work → Type 0
+abbrev pub Above : ℕ → List Work → Type 0
 Above n works = AllByRecursion (λ (u : Work). n < u.number) works
 
 -- a number that is below those of all jobs is below each

@@ -1,5 +1,5 @@
 -- Finding jobs whose numbers ascend, and the lowest that is done.
-use Rattle.std.specs.Prelude.{◌≡◌, ℕ, ◌+◌, ◌-◌, ◌<◌, ◌≤◌, Bool, true, false, List, length, Option, Some, None, slice_get, slice_index_or, nat_lt, ◌==◌, min, if◌then◌else◌}
+use Rattle.std.specs.Prelude.{◌≡◌, ℕ, ◌+◌, ◌-◌, ◌<◌, ◌≤◌, Bool, true, false, List, [], ◌∷◌, length, Option, Some, None, slice_get, slice_index_or, nat_lt, ◌==◌, min, if◌then◌else◌}
 use Rattle.std.specs.List.{AllWithin}
 use Rattle.std.specs.Option.{option_map}
 use Rattle.back_jobs.specs.Task.{Work}
@@ -24,6 +24,15 @@ is_above_last (Some t) number = nat_lt t.number number
 
 abbrev pub is_above : List Work → ℕ → Bool
 is_above works number = is_above_last (slice_get works (length works - 1)) number
+
+-- a number is put among numbers that ascend
+abbrev pub put : ℕ → List ℕ → List ℕ
+put n [] = n ∷ []
+put n (m ∷ ms) = if nat_lt m n then m ∷ put n ms else n ∷ m ∷ ms
+
+-- it is, or nothing is
+abbrev pub noted : Bool → ℕ → List ℕ → List ℕ
+noted is_noted n ms = if is_noted then put n ms else ms
 
 -- the place of the lowest job that is done, once one more is held
 abbrev pub done_with : ℕ → ℕ → Bool → ℕ

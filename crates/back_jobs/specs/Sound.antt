@@ -1,6 +1,6 @@
 -- What is true of a job at every moment.
-use Rattle.std.specs.Prelude.{◌≡◌, ℕ, ◌+◌, ◌-◌, ◌<◌, ◌≤◌, Bool, true, false, List, [], ◌∷◌, All}
-use Rattle.std.specs.List.{AllByRecursion, position_or_len}
+use Rattle.std.specs.Prelude.{◌≡◌, ℕ, ◌+◌, ◌-◌, ◌<◌, ◌≤◌, Bool, true, false, List, [], ◌∷◌, length, map, All}
+use Rattle.std.specs.List.{AllByRecursion, filter, position_or_len}
 use Rattle.blk_base.specs.declared.parts.Mapping.{Mapping}
 use Rattle.blk_base.specs.declared.ask.BackAsk.{BackAsk}
 use Rattle.blk_base.specs.declared.ask.BackAsk.TheVariants as ask
@@ -49,11 +49,18 @@ AreAscending (t ∷ works) = AllByRecursion (λ (u : Work). t.number < u.number)
 abbrev pub done_place : List Work → ℕ
 done_place works = position_or_len (λ (t : Work). is_done t) works
 
--- the jobs, with what is known of them: where their numbers are said to ascend they do, and the lowest that is done stands at this place
-pub record IsKept (ascending : Bool) (done room capacity size : ℕ) (works : List Work) : Type 0 where
+-- the numbers of the jobs that are done, in the order of the jobs
+abbrev pub done_numbers : List Work → List ℕ
+done_numbers works = map (λ (t : Work). t.number) (filter (λ (t : Work). is_done t) works)
+
+-- the jobs, with what is known of them: where their numbers are said to ascend they do, and those of the jobs that are done are listed; and the lowest that is done stands at this place
+pub record IsKept (ascending : Bool) (finished : List ℕ) (done room capacity listed size : ℕ) (works : List Work) : Type 0 where
   pub has_room : room ≤ capacity
+  pub has_list_room : room ≤ listed
+  pub held : length works ≤ room
   pub sized : AreSized size works
   pub in_order : ascending ≡ true → AreAscending works
+  pub is_listed : ascending ≡ true → finished ≡ done_numbers works
   pub is_done : done ≡ done_place works
 
 -- segments that a job may begin with: there is one, each has a sector and none beyond its frame, and all lie on the disk

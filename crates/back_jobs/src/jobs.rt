@@ -1,10 +1,11 @@
 // All jobs of the back.
 ghost use Rattle.std.specs.Prelude.{◌≡◌, ◌<◌, ◌≤◌, ◌+◌, ◌↔◌, IfOk, IfSome, IsSome, IsTrue, length, vec_capacity};
 ghost use Rattle.std.specs.Option.{option_map};
-ghost use Rattle.std.specs.Prelude.{◌&&◌, option_and_then, position};
-ghost use Rattle.back_jobs.specs.Order.{IsFirstFrom, IsNumberAt, number_at, is_above, done_with, done_after};
+ghost use Rattle.std.specs.Prelude.{◌&&◌, true, drop, option_and_then, position};
+ghost use Rattle.std.specs.List.Sorted.{IsNonDecreasing};
+ghost use Rattle.back_jobs.specs.Order.{IsFirstFrom, IsNumberAt, number_at, is_above, noted, done_with, done_after};
 ghost use Rattle.back_jobs.specs.Task.{IsAnswer, step_of};
-ghost use Rattle.back_jobs.specs.Sound.{IsWithin, AreAscending, done_place};
+ghost use Rattle.back_jobs.specs.Sound.{IsWithin, AreAscending, done_place, done_numbers};
 ghost use Rattle.back_jobs.specs.Hands.{hands_in, Names};
 ghost use Rattle.back_jobs.specs.Jobs.{none_held, place_of, work_of, ask_job, tell_job, start_job, without_done, first_mapping, behind_mapping, effect_of, done_of, is_done, response_of, next_in, next_after};
 ghost use Rattle.back_jobs.specs.Task.{Work};
@@ -29,6 +30,8 @@ pub struct Jobs {
     // Whether the numbers ascend, as they do where each was above those that were held. Jobs are then
     // found without a walk.
     ascending: bool,
+    // The numbers of the jobs that are done, where numbers ascend, in their order.
+    finished: Vec<u64>,
     // The place of the lowest job that is done; how many are held where none is.
     done: usize,
 }
@@ -42,7 +45,7 @@ impl Model for Jobs {
 
     ghost view = { λ j. record { works = j.tasks.items; room = j.room; info = j.info } };
 
-    ghost invariant = { λ j. IsKept j.ascending j.done j.room (vec_capacity j.tasks) j.info.sectors j.tasks.items };
+    ghost invariant = { λ j. IsKept j.ascending j.finished.items j.done j.room (vec_capacity j.tasks) (vec_capacity j.finished) j.info.sectors j.tasks.items };
 }
 
 impl Jobs {
@@ -53,11 +56,13 @@ impl Jobs {
     {
         let room = shape.entries();
         let tasks = Vec::with_capacity(alloc, room as usize)?;
+        let finished = Vec::with_capacity(alloc, room as usize)?;
         Ok(Jobs {
             tasks,
             room,
             info,
             ascending: true,
+            finished,
             done: 0,
         })
     }
@@ -85,8 +90,10 @@ impl Jobs {
         ensures { self.new ≡ start_job self.old number request.now }
     {
         let task = Task::begin(number, request, &self.info);
-        self.done = done_with(self.done, self.tasks.len(), task.is_done());
+        let is_done = task.is_done();
+        self.done = done_with(self.done, self.tasks.len(), is_done);
         self.ascending = goes_on_ascending(self.ascending, self.tasks.as_slice(), number);
+        note(&mut self.finished, number, self.ascending, is_done);
         let _ = self.tasks.push(task);
     }
 
@@ -113,7 +120,9 @@ impl Jobs {
         let task = &mut self.tasks[place];
         let effect = task.effect(answer);
         task.tell(answer);
-        self.done = done_after(self.done, place, task.is_done());
+        let is_done = task.is_done();
+        self.done = done_after(self.done, place, is_done);
+        note(&mut self.finished, task.number(), self.ascending, is_done);
         effect
     }
 
@@ -160,7 +169,12 @@ impl Jobs {
             return None;
         }
         let task = self.tasks.remove(self.done);
-        self.done = first_done(self.tasks.as_slice());
+        drop_first(&mut self.finished);
+        self.done = lowest_done(
+            self.tasks.as_slice(),
+            self.ascending,
+            self.finished.as_slice(),
+        );
         task.response()
     }
 
@@ -186,7 +200,11 @@ impl Jobs {
         ensures no_more { length self.new.works ≤ length self.old.works }
     {
         let mapping = give_up_first(&mut self.tasks);
-        self.done = first_done(self.tasks.as_slice());
+        let tasks = self.tasks.as_slice();
+        // Those that are left no more go on, and are found by a walk.
+        self.ascending = tasks.is_empty();
+        self.done = first_done(tasks);
+        self.finished.clear();
         mapping
     }
 }
@@ -281,6 +299,46 @@ fn goes_on_ascending(ascending: bool, tasks: &[Task], number: u64) -> bool
     match tasks.last() {
         None => ascending,
         Some(task) => ascending && task.number() < number,
+    }
+}
+
+// The place of the lowest job that is done, where these are the numbers of those that are; by a walk
+// where numbers don't ascend.
+fn lowest_done(tasks: &[Task], ascending: bool, finished: &[u64]) -> usize
+    requires in_order { ascending ≡ true → AreAscending tasks.now }
+    requires listed { ascending ≡ true → finished.now ≡ done_numbers tasks.now }
+    ensures { result ≡ done_place tasks.now }
+{
+    if !ascending {
+        return first_done(tasks);
+    }
+    match finished.first() {
+        None => tasks.len(),
+        Some(number) => first_from(tasks, *number),
+    }
+}
+
+// Where numbers ascend, puts the number of a job that is done among those of the others. There is
+// room for it.
+fn note(numbers: &mut Vec<u64>, number: u64, ascending: bool, is_done: bool)
+    requires ascending { ascending ≡ true → IsNonDecreasing numbers.old.items }
+    requires has_room { ascending ≡ true → length numbers.old.items < vec_capacity numbers.old }
+    ensures items { ascending ≡ true → numbers.new.items ≡ noted is_done number numbers.old.items }
+    ensures capacity { vec_capacity numbers.old ≤ vec_capacity numbers.new }
+{
+    if ascending && is_done {
+        let place = numbers.as_slice().partition_point(|n| *n < number);
+        let _ = numbers.insert(place, number);
+    }
+}
+
+// Drops the first number.
+fn drop_first(numbers: &mut Vec<u64>)
+    ensures items { numbers.new.items ≡ drop 1 numbers.old.items }
+    ensures capacity { vec_capacity numbers.new ≡ vec_capacity numbers.old }
+{
+    if !numbers.is_empty() {
+        let _ = numbers.remove(0);
     }
 }
 

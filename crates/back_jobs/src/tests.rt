@@ -160,3 +160,22 @@ fn what_is_not_served_is_done_at_once(rt: HostRuntime) -> Result<(), Fail> {
     assert_eq!(rt; jobs.give_up(), None);
     Ok(())
 }
+
+#[test]
+fn those_that_are_done_leave_in_order(rt: HostRuntime) -> Result<(), Fail> {
+    let mut jobs = jobs(rt.alloc())?;
+    assert!(rt; jobs.has_room());
+    jobs.start(1, &request(1, 0));
+    for number in 2..5u64 {
+        assert!(rt; jobs.has_room());
+        jobs.start(number, &request(3, 0));
+    }
+    assert_eq!(rt; jobs.take_done(), Some((2, 5, 3, Status::Unsupported)));
+    let _ = answer(&mut jobs, BackAnswer::MapRefused(-1));
+    assert_eq!(rt; jobs.done(), Some((1, 5, 1, Status::Error)));
+    assert_eq!(rt; jobs.take_done(), Some((1, 5, 1, Status::Error)));
+    assert_eq!(rt; jobs.take_done(), Some((3, 5, 3, Status::Unsupported)));
+    assert_eq!(rt; jobs.take_done(), Some((4, 5, 3, Status::Unsupported)));
+    assert_eq!(rt; jobs.take_done(), None);
+    Ok(())
+}
