@@ -55,11 +55,16 @@ after_made line xs (Some m) left =
     let flat : (is_unmap_of m.number line || false) ≡ is_unmap_of m.number line = or_false (is_unmap_of m.number line) in
     rw (split, flat) (more_by line xs m left (list_any (is_unmap_of m.number) xs) (is_unmap_of m.number line) refl refl)
 
--- the mappings that lines made and that are left, with one line more: without the one that it unmaps, and then the one that it makes
+-- the mappings that lines made, by what each line makes, and that are left, with one line more: without the one that it unmaps, and then the one that it makes
+pub left_more_by : (made : Line → Option Standing) (left : List Line → List Standing) → left [] ≡ [] → ((line : Line) (later : List Line) → left (line ∷ later) ≡ cons_option (unless_unmapped later (made line)) (left later))
+    → (lines : List Line) (line : Line) → left (lines ++ line ∷ []) ≡ filter (λ (s : Standing). not (is_unmap_of s.number line)) (left lines) ++ option_to_list (made line)
+left_more_by made left none one [] line = rw (one line [], none) (one_made line (made line))
+left_more_by made left none one (x ∷ xs) line =
+    rw (one x (xs ++ line ∷ []), one x xs, left_more_by made left none one xs line, ← joined (unless_unmapped (xs ++ line ∷ []) (made x)) (filter (λ (s : Standing). not (is_unmap_of s.number line)) (left xs)) (option_to_list (made line)), after_made line xs (made x) (left xs)) refl
+
+-- whoever made them
 pub left_more : (lines : List Line) (line : Line) → left_of (lines ++ line ∷ []) ≡ filter (λ (s : Standing). not (is_unmap_of s.number line)) (left_of lines) ++ option_to_list (mapping_made line)
-left_more [] line = one_made line (mapping_made line)
-left_more (x ∷ xs) line =
-    rw (left_more xs line, ← joined (unless_unmapped (xs ++ line ∷ []) (mapping_made x)) (filter (λ (s : Standing). not (is_unmap_of s.number line)) (left_of xs)) (option_to_list (mapping_made line)), after_made line xs (mapping_made x) (left_of xs)) refl
+left_more lines line = left_more_by mapping_made left_of refl (λ x later. refl) lines line
 
 picked : (b : Bool) (xs : List Line) (ys : List Standing) → left_of xs ≡ ys → left_of (if b then [] else xs) ≡ (if b then [] else ys)
 picked true xs ys e = refl

@@ -44,7 +44,7 @@ number_if : (n : ℕ) (b : Bool) (x y : Work) → x.number ≡ n → y.number �
 number_if n true x y p q = p
 number_if n false x y p q = q
 
-begun_number : (n size : ℕ) (r : RawRequest) (v : Verdict) → (let t : Work = begun n r size v in t.number) ≡ n
+pub begun_number : (n size : ℕ) (r : RawRequest) (v : Verdict) → (let t : Work = begun n r size v in t.number) ≡ n
 begun_number n size (Direct op count device id sector segments) (verdict.Serve plan) =
     number_if n (nat_le op 1) (moving n (Direct op count device id sector segments) size (op == 1) sector (take count segments)) (ended n (Direct op count device id sector segments) size (job_stage.Done Error)) refl refl
 begun_number n size (Discard flag device id sector count) (verdict.Serve plan) = refl

@@ -1,13 +1,14 @@
 -- A job, where its entry was fetched; and one that begins.
-use Rattle.std.proofs.Common.{◌≡◌, ℕ, zero, suc, ◌*◌, ◌≤◌, ◌==◌, Bool, true, false, if◌then◌else◌, List, [], ◌∷◌, length, take, refl, ap, sym, ◌∙◌, arith}
-use Rattle.std.specs.Prelude.{nat_le}
+use Rattle.std.proofs.Common.{◌≡◌, ℕ, zero, suc, ◌*◌, ◌≤◌, ◌==◌, Bool, true, false, if◌then◌else◌, List, [], ◌∷◌, length, take, refl, ap, sym, ◌∙◌, subst, arith}
+use Rattle.std.specs.Prelude.{nat_le, Option, Some}
 use Rattle.std.specs.List.{AllByRecursion, list_any}
 use Rattle.std.proofs.lemmas.Bool.Decides.{nat_tests}
 use Rattle.std.proofs.lemmas.List.Sums.{sum_by-cons}
 use Rattle.std.proofs.lemmas.List.Elements.{recursion_from_All}
 use Rattle.blk_base.specs.Options.{Options}
 use Rattle.blk_base.specs.declared.operation.Abi.TheVariants.{X64}
-use Rattle.blk_base.specs.declared.operation.Status.TheVariants.{Error, Unsupported}
+use Rattle.blk_base.specs.declared.operation.Status.{Status}
+use Rattle.blk_base.specs.declared.operation.Status.TheVariants.{Okay, Error}
 use Rattle.schedule_text.specs.declared.line.Line.{Line}
 use Rattle.blk_layout.specs.declared.segment.Segment.{Segment}
 use Rattle.blk_layout.specs.declared.request.RawRequest.{RawRequest}
@@ -16,25 +17,36 @@ use Rattle.blk_layout.specs.Entry.{request_of}
 use Rattle.segment_list.specs.declared.verdict.DiskInfo.{DiskInfo}
 use Rattle.segment_list.specs.declared.verdict.Kind.TheVariants as kind
 use Rattle.segment_list.specs.declared.verdict.Plan.{Plan}
+use Rattle.segment_list.specs.declared.verdict.Why.{Why}
+use Rattle.segment_list.specs.declared.verdict.Why.TheVariants as why
 use Rattle.segment_list.specs.declared.verdict.Verdict.{Verdict}
 use Rattle.segment_list.specs.declared.verdict.Verdict.TheVariants as verdict
 use Rattle.segment_list.specs.Segments.{IsSound, length_of, sectors_of}
-use Rattle.segment_list.specs.Verdict.{verdict_of}
+use Rattle.segment_list.specs.Verdict.{transfer_verdict, flush_verdict, verdict_of}
 use Rattle.segment_list.proofs.Served.{IsTransfer, transfer_served}
+use Rattle.report_rules.specs.declared.step.Spot.{Spot}
 use Rattle.report_rules.specs.declared.work.Task.{Task}
-use Rattle.report_rules.specs.Work.{stores_of, loads_of, planned_tasks, served_tasks, work_tasks}
+use Rattle.report_rules.specs.Work.{stores_of, loads_of, planned_tasks, served_tasks, settled, work_verdict, indirect_tasks, work_tasks, status_by, response_to, work_response}
 use Rattle.report_rules.specs.Job.{words_of_job, id_of}
+use Rattle.report_rules.specs.Steps.{walk_of}
+use Rattle.report_rules.specs.Reply.{end_of}
 use Rattle.back_jobs.specs.declared.stage.Stage.{Stage}
 use Rattle.back_jobs.specs.declared.stage.Stage.TheVariants as stage
-use Rattle.back_jobs.specs.Task.{Work, IsDone, id_of as job_id, begun, served, moving, ended}
+use Rattle.back_jobs.specs.Task.{Work, id_of as job_id, response_op, begun, served, moving, ended}
 use Rattle.blk_back.specs.View.{info_of as back_info}
 use Rattle.ring_laws.proofs.JobLines.{is_of, walk_aside, moves_aside, failed_skip}
-use Rattle.ring_laws.proofs.Places.{tasks_of, Before, IsAt}
+use Rattle.ring_laws.proofs.Places.{tasks_of, Before, ending, IsAt}
 
--- the job does this work, or it does nothing
-pub data IsPlan (request : RawRequest) (info : DiskInfo) (work : List Task) (s : Stage) : Type 0 where
-  serves : ((indirect : List ℕ) → work_tasks request info false indirect ≡ work) → IsPlan request info work s
-  over : IsDone s → IsPlan request info work s
+-- what is to be done for a request: this work, with this status where it is done in full; and the id and the operation that the response names
+pub record IsPlan (request : RawRequest) (info : DiskInfo) (work : List Task) (served : Status) (id op : ℕ) : Type 0 where
+  pub names : (status : Status) → work_response request status ≡ response_to id op status
+  pub tasks : (indirect : List ℕ) → work_tasks request info false indirect ≡ work
+  pub verdict : (indirect : List ℕ) → status_by (work_verdict request info indirect) ≡ served
+
+-- the job is in its work, or it was done as it began
+pub data HasCome (served : Status) (work : List Task) (k : ℕ) (epoch : List Line) (s : Stage) (t : Work) : Type 0 where
+  serves : served ≡ Okay → IsAt work k epoch s t → HasCome served work k epoch s t
+  over : s ≡ stage.Done served → ending work k epoch served ≡ Some served → HasCome served work k epoch s t
 
 -- the entry of a number, among these words
 abbrev pub request_at : List ℕ → ℕ → RawRequest
@@ -42,11 +54,12 @@ request_at values k = request_of X64 (words_of_job values 28 k)
 
 pub record IsJobOf (config : Options) (values : List ℕ) (epoch : List Line) (t : Work) : Type 0 where
   pub work : List Task
+  pub served : Status
   pub first : 1 ≤ t.number
   pub read : 28 * t.number ≤ length values
   pub id : id_of (request_at values t.number) ≡ t.id
-  pub plan : IsPlan (request_at values t.number) (back_info config) work t.stage
-  pub at : IsAt work t.number epoch t.stage t
+  pub plan : IsPlan (request_at values t.number) (back_info config) work served t.id t.op
+  pub at : HasCome served work t.number epoch t.stage t
 
 same_id : (r : RawRequest) → id_of r ≡ job_id r
 same_id (Direct op count device id sector segments) = refl
@@ -84,14 +97,58 @@ pub record IsFresh (k : ℕ) (request : RawRequest) (values : List ℕ) (epoch :
   pub is : request ≡ request_at values k
   pub none : list_any (is_of k) epoch ≡ false
 
-idle : (config : Options) (k size : ℕ) (request : RawRequest) (values : List ℕ) (epoch : List Line) (status : Stage) → IsFresh k request values epoch → IsDone status → ((work : List Task) → IsAt work k epoch status (ended k request size status)) → IsJobOf config values epoch (ended k request size status)
-idle config k size request values epoch status fresh done at = record {
+abbrev IsRefused : Verdict → Type 0
+IsRefused (verdict.Serve plan) = ⊥
+IsRefused v = Unit {0}
+
+-- nothing is done for a request that isn't served
+refused_tasks : (v : Verdict) (segments : List Segment) → IsRefused v → served_tasks false v segments ≡ []
+refused_tasks (verdict.Serve plan) segments refused = absurd refused
+refused_tasks (verdict.Error why) segments refused = refl
+refused_tasks verdict.Unsupported segments refused = refl
+
+refused_pages : (v : Verdict) (count : ℕ) (pages indirect : List ℕ) (info : DiskInfo) → IsRefused v → indirect_tasks false v count pages indirect info ≡ []
+refused_pages (verdict.Serve plan) count pages indirect info refused = absurd refused
+refused_pages (verdict.Error why) count pages indirect info refused = refl
+refused_pages verdict.Unsupported count pages indirect info refused = refl
+
+settled_as : (v : Verdict) (count : ℕ) (indirect : List ℕ) (info : DiskInfo) → IsRefused v → settled v count indirect info ≡ v
+settled_as (verdict.Serve plan) count indirect info refused = absurd refused
+settled_as (verdict.Error why) count indirect info refused = refl
+settled_as verdict.Unsupported count indirect info refused = refl
+
+refused_plan : (request : RawRequest) (info : DiskInfo) (v : Verdict) → IsRefused v → verdict_of request info ≡ v → IsPlan request info [] (status_by v) (job_id request) (response_op request)
+refused_plan (Direct op count device id sector segments) info v refused e = record {
+  names = λ status. refl;
+  tasks = λ indirect. ap (λ (w : Verdict). served_tasks false w (take count segments)) e ∙ refused_tasks v (take count segments) refused;
+  verdict = λ indirect. ap status_by e;
+}
+refused_plan (Discard flag device id sector count) info v refused e = record {
+  names = λ status. refl;
+  tasks = λ indirect. ap (λ (w : Verdict). served_tasks false w []) e ∙ refused_tasks v [] refused;
+  verdict = λ indirect. ap status_by e;
+}
+refused_plan (Indirect op count device id sector pages) info v refused e = record {
+  names = λ status. refl;
+  tasks = λ indirect. ap (λ (w : Verdict). indirect_tasks false w count pages indirect info) e ∙ refused_pages v count pages indirect info refused;
+  verdict = λ indirect. ap (λ (w : Verdict). status_by (settled w count indirect info)) e ∙ ap status_by (settled_as v count indirect info refused);
+}
+
+-- where there is no work, it ends as it begins
+nothing_done : (k : ℕ) (epoch : List Line) (served : Status) → list_any (is_of k) epoch ≡ false → ending [] k epoch served ≡ Some served
+nothing_done k epoch served none =
+    ap (λ (failed : Bool). end_of failed 0 served (walk_of false [] k epoch)) (failed_skip k epoch none)
+    ∙ ap (λ (s : Option Spot). end_of false 0 served s) (walk_aside [] k [] epoch none)
+
+idle : (config : Options) (k size : ℕ) (request : RawRequest) (values : List ℕ) (epoch : List Line) (v : Verdict) → IsFresh k request values epoch → IsRefused v → verdict_of request (back_info config) ≡ v → IsJobOf config values epoch (ended k request size (stage.Done (status_by v)))
+idle config k size request values epoch v fresh refused e = record {
   work = [];
+  served = status_by v;
   first = fresh.first;
   read = fresh.read;
   id = ap id_of (sym fresh.is) ∙ same_id request;
-  plan = over done;
-  at = at [];
+  plan = subst (λ (r : RawRequest). IsPlan r (back_info config) [] (status_by v) (job_id request) (response_op request)) fresh.is (refused_plan request (back_info config) v refused e);
+  at = over refl (nothing_done k epoch (status_by v) fresh.none);
 }
 
 -- a read, and a write
@@ -104,11 +161,16 @@ reads config k size count device id sector segments values epoch plan fresh e =
     let small = t.few in
     record {
       work = loads_of sector (take count segments);
+      served = Okay;
       first = fresh.first;
       read = fresh.read;
       id = ap id_of (sym fresh.is);
-      plan = serves (λ indirect. ap (λ (r : RawRequest). work_tasks r (back_info config) false indirect) (sym fresh.is) ∙ (ap (λ (v : Verdict). served_tasks false v (take count segments)) e ∙ ap (λ (p : Plan). planned_tasks false p p.kind (take count segments)) t.plan_is));
-      at = (begins k epoch (take count segments) sector false fresh.none sound (omega arith), refl);
+      plan = record {
+        names = λ status. ap (λ (r : RawRequest). work_response r status) (sym fresh.is);
+        tasks = λ indirect. ap (λ (r : RawRequest). work_tasks r (back_info config) false indirect) (sym fresh.is) ∙ (ap (λ (v : Verdict). served_tasks false v (take count segments)) e ∙ ap (λ (p : Plan). planned_tasks false p p.kind (take count segments)) t.plan_is);
+        verdict = λ indirect. ap (λ (r : RawRequest). status_by (work_verdict r (back_info config) indirect)) (sym fresh.is) ∙ ap status_by e;
+      };
+      at = serves refl (begins k epoch (take count segments) sector false fresh.none sound (omega arith), refl);
     }
 
 stores : (config : Options) (k size count device id sector : ℕ) (segments : List Segment) (values : List ℕ) (epoch : List Line) (plan : Plan) → IsFresh k (Direct 1 count device id sector segments) values epoch → verdict_of (Direct 1 count device id sector segments) (back_info config) ≡ verdict.Serve plan
@@ -120,12 +182,39 @@ stores config k size count device id sector segments values epoch plan fresh e =
     let small = t.few in
     record {
       work = stores_of false sector (take count segments);
+      served = Okay;
       first = fresh.first;
       read = fresh.read;
       id = ap id_of (sym fresh.is);
-      plan = serves (λ indirect. ap (λ (r : RawRequest). work_tasks r (back_info config) false indirect) (sym fresh.is) ∙ (ap (λ (v : Verdict). served_tasks false v (take count segments)) e ∙ ap (λ (p : Plan). planned_tasks false p p.kind (take count segments)) t.plan_is));
-      at = (begins k epoch (take count segments) sector true fresh.none sound (omega arith), refl);
+      plan = record {
+        names = λ status. ap (λ (r : RawRequest). work_response r status) (sym fresh.is);
+        tasks = λ indirect. ap (λ (r : RawRequest). work_tasks r (back_info config) false indirect) (sym fresh.is) ∙ (ap (λ (v : Verdict). served_tasks false v (take count segments)) e ∙ ap (λ (p : Plan). planned_tasks false p p.kind (take count segments)) t.plan_is);
+        verdict = λ indirect. ap (λ (r : RawRequest). status_by (work_verdict r (back_info config) indirect)) (sym fresh.is) ∙ ap status_by e;
+      };
+      at = serves refl (begins k epoch (take count segments) sector true fresh.none sound (omega arith), refl);
     }
+
+-- of other operations this back serves none
+unsupported : {plan : Plan} → verdict.Unsupported ≡ verdict.Serve plan → ⊥
+unsupported e = cc
+
+no_other : (config : Options) (op count device id sector : ℕ) (segments : List Segment) (plan : Plan) → nat_le op 1 ≡ false → verdict_of (Direct op count device id sector segments) (back_info config) ≡ verdict.Serve plan → ⊥
+no_other config op count device id sector segments plan high e = by_tests (op == 0) (op == 1) (op == 2) (op == 3) (grind (arith, nat_tests)) (grind (arith, nat_tests)) e
+  where
+    by_tests : (a b c d : Bool) → a ≡ false → b ≡ false
+        → (if a then transfer_verdict kind.Read count sector segments (back_info config)
+        else (if b then transfer_verdict kind.Write count sector segments (back_info config)
+        else (if c then transfer_verdict kind.Barrier count sector segments (back_info config)
+        else (if d then flush_verdict count sector (back_info config)
+        else verdict.Error why.Op)))) ≡ verdict.Serve plan → ⊥
+    by_tests true b c d p q h = absurd (cc)
+    by_tests false true c d p q h = absurd (cc)
+    by_tests false false true d p q h = unsupported h
+    by_tests false false false true p q h = unsupported h
+    by_tests false false false false p q h = no_error h
+      where
+        no_error : {w : Why} → verdict.Error w ≡ verdict.Serve plan → ⊥
+        no_error f = cc
 
 direct : (config : Options) (k op size count device id sector : ℕ) (segments : List Segment) (values : List ℕ) (epoch : List Line) (plan : Plan) (few : Bool) → nat_le op 1 ≡ few → IsFresh k (Direct op count device id sector segments) values epoch → verdict_of (Direct op count device id sector segments) (back_info config) ≡ verdict.Serve plan
     → IsJobOf config values epoch (if few then moving k (Direct op count device id sector segments) size (op == 1) sector (take count segments) else ended k (Direct op count device id sector segments) size (stage.Done Error))
@@ -139,14 +228,14 @@ direct config k op size count device id sector segments values epoch plan true f
       where
         too_many : (m : ℕ) → nat_le (suc (suc m)) 1 ≡ true → ⊥
         too_many m h = grind (arith, nat_tests)
-direct config k op size count device id sector segments values epoch plan false few fresh e = idle config k size (Direct op count device id sector segments) values epoch (stage.Done Error) fresh tt (λ work. tt)
+direct config k op size count device id sector segments values epoch plan false few fresh e = absurd (no_other config op count device id sector segments plan few e)
 
 served_job : (config : Options) (k size : ℕ) (request : RawRequest) (values : List ℕ) (epoch : List Line) (plan : Plan) → IsFresh k request values epoch → verdict_of request (back_info config) ≡ verdict.Serve plan → IsJobOf config values epoch (served k request size)
 served_job config k size (Direct op count device id sector segments) values epoch plan fresh e = direct config k op size count device id sector segments values epoch plan (nat_le op 1) refl fresh e
-served_job config k size (Discard flag device id sector count) values epoch plan fresh e = idle config k size (Discard flag device id sector count) values epoch (stage.Done Error) fresh tt (λ work. tt)
-served_job config k size (Indirect op count device id sector pages) values epoch plan fresh e = idle config k size (Indirect op count device id sector pages) values epoch (stage.Done Error) fresh tt (λ work. tt)
+served_job config k size (Discard flag device id sector count) values epoch plan fresh e = absurd (unsupported e)
+served_job config k size (Indirect op count device id sector pages) values epoch plan fresh e = absurd (unsupported e)
 
 pub begun_job : (config : Options) (k size : ℕ) (request : RawRequest) (values : List ℕ) (epoch : List Line) (v : Verdict) → IsFresh k request values epoch → verdict_of request (back_info config) ≡ v → IsJobOf config values epoch (begun k request size v)
 begun_job config k size request values epoch (verdict.Serve plan) fresh e = served_job config k size request values epoch plan fresh e
-begun_job config k size request values epoch (verdict.Error why) fresh e = idle config k size request values epoch (stage.Done Error) fresh tt (λ work. tt)
-begun_job config k size request values epoch verdict.Unsupported fresh e = idle config k size request values epoch (stage.Done Unsupported) fresh tt (λ work. tt)
+begun_job config k size request values epoch (verdict.Error why) fresh e = idle config k size request values epoch (verdict.Error why) fresh tt e
+begun_job config k size request values epoch verdict.Unsupported fresh e = idle config k size request values epoch verdict.Unsupported fresh tt e

@@ -30,7 +30,7 @@ whole_entries words count k e within = omega arith
 rest_words : (words count k : ℕ) → words ≡ 28 * count + k → k < 28 → words % 28 ≡ k
 rest_words words count k e within = omega arith
 
-slot_is : (index k : ℕ) → k < 28 → slot_word index k ≡ 16 + index % 32 * 28 + k
+pub slot_is : (index k : ℕ) → k < 28 → slot_word index k ≡ 16 + index % 32 * 28 + k
 slot_is index k within = omega arith
 
 -- the index of the entry is the back's consumer

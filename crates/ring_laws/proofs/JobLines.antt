@@ -11,7 +11,7 @@ use Rattle.report_rules.specs.declared.work.Task.{Task}
 use Rattle.report_rules.specs.Job.{disk_mover, is_job}
 use Rattle.report_rules.specs.Steps.{spot, advanced, stepper, move_in, job_step, walked, walk_of, is_fault, begins_with_fault, failed_in}
 use Rattle.report_rules.specs.Data.{words_in, words_behind, words_from}
-use Rattle.ring_laws.proofs.Lists.{either_false, fold_none, count_none}
+use Rattle.ring_laws.proofs.Lists.{or_false, either_false, fold_none, count_none}
 
 -- a step of job k
 abbrev pub is_of : ℕ → Line → Bool
@@ -125,9 +125,23 @@ failed_skip k (y ∷ ys) none =
     let both : (is_of k y ≡ false) × (list_any (is_of k) ys ≡ false) = either_false (is_of k y) (list_any (is_of k) ys) none in
     ap (λ (b : Bool). (b && begins_with_fault ys) || failed_in k ys) (disk_aside k y both.0) ∙ failed_skip k ys both.1
 
+-- others' lines say nothing of a failure
+pub failed_same : (k : ℕ) (epoch ys : List Line) → IsAside k ys → failed_in k (epoch ++ ys) ≡ failed_in k epoch
+failed_same k epoch ys aside = failed_split k epoch ys aside.calm ∙ (ap (λ (b : Bool). failed_in k epoch || b) (failed_skip k ys aside.none) ∙ or_false (failed_in k epoch))
+
 pub failed_aside : (k : ℕ) (epoch ys : List Line) → IsAside k ys → failed_in k epoch ≡ false → failed_in k (epoch ++ ys) ≡ false
-failed_aside k epoch ys aside sound =
-    failed_split k epoch ys aside.calm ∙ (ap (λ (b : Bool). b || failed_in k ys) sound ∙ failed_skip k ys aside.none)
+failed_aside k epoch ys aside sound = failed_same k epoch ys aside ∙ sound
+
+-- a move of the disk at which it failed
+pub failed_then : (k : ℕ) (epoch : List Line) (line fault : Line) → is_disk_of k line ≡ true → is_fault line ≡ false → is_fault fault ≡ true → failed_in k (epoch ++ line ∷ fault ∷ []) ≡ true
+failed_then k epoch line fault own calm is =
+    failed_split k epoch (line ∷ fault ∷ []) calm
+    ∙ (ap (λ (b : Bool). failed_in k epoch || ((b && is_fault fault) || failed_in k (fault ∷ []))) own
+    ∙ (ap (λ (b : Bool). failed_in k epoch || (b || failed_in k (fault ∷ []))) is ∙ or_true (failed_in k epoch)))
+  where
+    or_true : (b : Bool) → (b || true) ≡ true
+    or_true true = refl
+    or_true false = refl
 
 -- a step that does not fail
 pub failed_own : (k : ℕ) (epoch ys : List Line) (line : Line) → is_fault line ≡ false → begins_with_fault ys ≡ false → list_any (is_of k) ys ≡ false → failed_in k epoch ≡ false → failed_in k (epoch ++ line ∷ ys) ≡ false

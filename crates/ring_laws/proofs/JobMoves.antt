@@ -3,6 +3,7 @@ use Rattle.std.proofs.Common.{◌≡◌, ℕ, ◌+◌, ◌*◌, ◌%◌, ◌^◌
 use Rattle.std.specs.Prelude.{Some, option_and_then}
 use Rattle.std.specs.List.{list_any}
 use Rattle.std.proofs.lemmas.Bool.Decides.{nat_tests}
+use Rattle.blk_base.specs.declared.operation.Status.TheVariants.{Okay}
 use Rattle.blk_base.specs.declared.parts.Mapping.{Mapping}
 use Rattle.blk_base.specs.declared.moves.Move.{Move}
 use Rattle.blk_base.specs.declared.moves.Move.TheVariants as moves
@@ -15,8 +16,8 @@ use Rattle.report_rules.specs.Steps.{spot, advanced, walk_of, failed_in, begins_
 use Rattle.back_jobs.specs.declared.stage.Stage.{Stage}
 use Rattle.back_jobs.specs.declared.stage.Stage.TheVariants as stage
 use Rattle.back_jobs.specs.Task.{Work, rest_of, counted}
-use Rattle.ring_laws.proofs.JobLines.{is_of, is_disk_of, IsAside, walk_aside, walk_own, moves_aside, moves_own, moves_step, words_aside, failed_aside, failed_own}
-use Rattle.ring_laws.proofs.Places.{tasks_of, Before, Within, IsAt, Passed, passed}
+use Rattle.ring_laws.proofs.JobLines.{is_of, is_disk_of, IsAside, walk_aside, walk_own, moves_aside, moves_own, moves_step, words_aside, failed_same, failed_aside, failed_own}
+use Rattle.ring_laws.proofs.Places.{tasks_of, Before, Within, IsAt, ending_aside, Passed, passed}
 
 pub itself : (k : ℕ) → (k == k) ≡ true
 itself k = grind (arith, nat_tests)
@@ -61,8 +62,8 @@ at_aside work k epoch ys (stage.DiskWrite m) t aside at = (within_aside work k e
 at_aside work k epoch ys (stage.DiskRead m) t aside at = (within_aside work k epoch ys t.rest t.within t.disk t.moved t.writes 0 1 m aside at.0, at.1)
 at_aside work k epoch ys (stage.WriteWord m j) t aside at = (within_aside work k epoch ys t.rest t.within t.disk t.moved t.writes (1 + j) 0 m aside at.0, at.1, at.2, words_aside k epoch ys aside ∙ at.3)
 at_aside work k epoch ys (stage.Unmap m) t aside at = before_aside work k epoch ys (rest_of t.rest) t.disk t.moved t.writes aside at
-at_aside work k epoch ys (stage.GiveUp m) t aside at = tt
-at_aside work k epoch ys (stage.Done status) t aside at = tt
+at_aside work k epoch ys (stage.GiveUp m) t aside at = failed_same k epoch ys aside ∙ at
+at_aside work k epoch ys (stage.Done status) t aside at = ending_aside work k epoch ys Okay aside ∙ at
 
 -- the same sector, at another step
 pub step_on : (work : List Task) (k : ℕ) (epoch : List Line) (rest : List Segment) (within disk moved : ℕ) (writes : Bool) (j ahead next : ℕ) (m : Mapping) (shown : Move) (w : Within work k epoch rest within disk moved writes j ahead m)

@@ -51,7 +51,7 @@ pub record Stand (config : Options) (before : List Line) (w : World) : Type 0 wh
   pub safe : IsSafe w
   pub tells : Tells config before w.back
 
-same_values : (over : Bool) (before ys : List Line) (x : Sight) → AreFree over ys → Shows before x → entry_values (before ++ ys) ≡ entry_values before
+pub same_values : (over : Bool) (before ys : List Line) (x : Sight) → AreFree over ys → Shows before x → entry_values (before ++ ys) ≡ entry_values before
 same_values over before ys x free shows = let longer : Shows (before ++ ys) x = shows_free over ys before x free shows in longer.values ∙ sym shows.values
 
 aside : (config : Options) (start : ℕ) (before ys : List Line) (v : back.View) → Follows start [] before v → AreFree (is_some v.halted) ys → AreBystanders ys → Tells config before v → Tells config (before ++ ys) v
@@ -84,19 +84,19 @@ job_goes_on config w before k o (Some a) s e =
     let running : is_some w.back.halted ≡ false = job_running (is_some w.back.halted) w.under k (ask_job w.back.jobs k) o a e in
     let asks = ap (λ (b : Bool). back_act w.under (mover.Job k) (if b then ask.Wait else ask_job w.back.jobs k) o) (sym running) ∙ e in
     let free : AreFree (is_some w.back.halted) (job_shows w k (Some a)) = (job_free (is_some w.back.halted) w.under k (back_step.job_ask_of w.back k) o a running (jobs_of w.back k) e, free_told (is_some w.back.halted) _ a.answer running) in
-    let told : JobTells config before (job_shows w k (Some a)) w.back _ = job_tells config config.start before w.under.pages w.under.grants w.under w.back k o a (place_of w.back.jobs.works k) (work_of w.back.jobs.works k) refl refl running s.ring.follows s.memory.tells s.safe.held free s.tells asks in
+    let told : JobTells config before (job_shows w k (Some a)) w.back k _ = job_tells config config.start before w.under.pages w.under.grants w.under w.back k o a (place_of w.back.jobs.works k) (work_of w.back.jobs.works k) refl refl running s.ring.follows s.memory.tells s.safe.held free s.tells asks in
     let behind : After config before (job_shows w k (Some a)) = told.after in
     record { tale = behind.tale; quiet = behind.quiet; info = t.info; jobs = λ r. told.jobs; unseen = told.unseen }
 
-submit_by : (job : Job) (r : Result ℕ Refusal) → IsBystander (submit_line job r)
+pub submit_by : (job : Job) (r : Result ℕ Refusal) → IsBystander (submit_line job r)
 submit_by job (Ok number) = record { plain = refl; unstepped = refl }
 submit_by job (Err r) = record { plain = refl; unstepped = refl }
 
-look_by : (quiet : Bool) → IsBystander (if quiet then lines.Quiet else lines.Busy)
+pub look_by : (quiet : Bool) → IsBystander (if quiet then lines.Quiet else lines.Busy)
 look_by true = record { plain = refl; unstepped = refl }
 look_by false = record { plain = refl; unstepped = refl }
 
-settle_by : (quiet : Bool) → IsBystander (if quiet then lines.Quiet else lines.Unsettled)
+pub settle_by : (quiet : Bool) → IsBystander (if quiet then lines.Quiet else lines.Unsettled)
 settle_by true = record { plain = refl; unstepped = refl }
 settle_by false = record { plain = refl; unstepped = refl }
 

@@ -1,5 +1,5 @@
 -- Whatever a job is at, its move is the next step of its work, and what it writes is what the disk gave.
-use Rattle.std.proofs.Common.{◌≡◌, ℕ, ◌+◌, true, false, List, [], ◌∷◌, ◌++◌, refl, ap, sym, ◌∙◌, subst}
+use Rattle.std.proofs.Common.{◌≡◌, ℕ, ◌+◌, true, false, List, [], ◌∷◌, ◌++◌, length, refl, ap, sym, ◌∙◌, subst}
 use Rattle.std.specs.Prelude.{Some, IsSomeAnd, Result, Ok, Err}
 use Rattle.std.proofs.lemmas.Option.{none-some}
 use Rattle.blk_base.specs.declared.parts.Mapping.{Mapping}
@@ -22,8 +22,9 @@ use Rattle.back_jobs.specs.declared.stage.Stage.TheVariants as stage
 use Rattle.back_jobs.specs.Task.{Work, ask_at, step_at, map_ask, mode_of, first_of, rest_of, sector_stage, next_segment}
 use Rattle.back_jobs.specs.Jobs.{mapping_at}
 use Rattle.split_model.proofs.SafeActs.{of_back}
-use Rattle.ring_laws.proofs.Places.{Before, Within, IsAt}
-use Rattle.ring_laws.proofs.JobMoves.{before_aside}
+use Rattle.ring_laws.proofs.JobLines.{IsAside, walk_own, failed_same, failed_own, failed_then}
+use Rattle.ring_laws.proofs.Places.{Before, Within, IsAt, all_done, refused_end, failed_end}
+use Rattle.ring_laws.proofs.JobMoves.{itself, before_aside}
 use Rattle.ring_laws.proofs.Mapping.{map_is, refusal_is, map_taken, mapped_on}
 use Rattle.ring_laws.proofs.JobSteps.{takes, rests, JobGoes, told_at, sector_at, on_step}
 use Rattle.ring_laws.proofs.JobWords.{read_goes, write_goes}
@@ -48,9 +49,10 @@ map_goes work k epoch standing h t s more (Ok frame) rest at =
 map_goes work k epoch standing h t s more (Err refusal) rest at =
     let shown : Move = moves.MapRefused (back.Job k) s.gref (mode_of t.writes) (status_of refusal) in
     let b : Before work k epoch (s ∷ more) t.disk t.moved t.writes = subst (λ (l : List Segment). Before work k epoch l t.disk t.moved t.writes) rest at.0 in
+    let taken = map_taken work k epoch s more t.disk t.moved t.writes shown b (refusal_is t.writes t.disk s k (status_of refusal)) in
     record {
-      steps = takes refl (record { gref = s.gref; on = on_step work k epoch shown s.gref _ _ true b.whole (map_taken work k epoch s more t.disk t.moved t.writes shown b (refusal_is t.writes t.disk s k (status_of refusal))); through = tt; moved = tt });
-      at = tt;
+      steps = takes refl (record { gref = s.gref; on = on_step work k epoch shown s.gref _ _ true b.whole taken; through = tt; moved = tt });
+      at = refused_end work k (epoch ++ lines.Move shown ∷ []) (length b.done) 1 s.gref (failed_own k epoch [] (lines.Move shown) refl refl refl b.whole) (walk_own work k epoch [] shown (itself k) refl ∙ taken);
     }
 
 map_asked : (work : List Task) (k : ℕ) (epoch : List Line) (standing : List Standing) (h : Hypervisor) (t : Work) (o : Outcome) (a : BackAct) (rest : List Segment) → t.rest ≡ rest → IsAt work k epoch stage.Map t → back_act h (back.Job k) (map_ask rest t.writes) o ≡ Some a → Goes work k epoch standing stage.Map t a
@@ -59,8 +61,12 @@ map_asked work k epoch standing h t o a (s ∷ more) is at e = of_back (Goes wor
 
 -- the next segment, or the job is done
 segment_at : (work : List Task) (k : ℕ) (epoch : List Line) (t : Work) (rest : List Segment) → Before work k epoch rest t.disk t.moved t.writes → (let n : Work = next_segment t rest in IsAt work k epoch n.stage n)
-segment_at work k epoch t [] b = tt
+segment_at work k epoch t [] b = all_done work k epoch t.disk t.moved t.writes b
 segment_at work k epoch t (s ∷ rest) b = (b, refl)
+
+-- an unmap is no step of the work
+unmap_aside : (k number : ℕ) → IsAside k (lines.Move (moves.Unmap (back.Job k) number) ∷ [])
+unmap_aside k number = record { none = refl; calm = refl; silent = refl }
 
 pub job_goes : (work : List Task) (k : ℕ) (epoch : List Line) (standing : List Standing) (h : Hypervisor) (s : Stage) (t : Work) (o : Outcome) (a : BackAct)
     → ((m : Mapping) → mapping_at s ≡ Some m → IsSomeAnd (numbered m.number standing) (λ (x : Standing). x.gref ≡ m.gref))
@@ -69,15 +75,17 @@ job_goes work k epoch standing h stage.Map t o a stands at e = map_asked work k 
 job_goes work k epoch standing h (stage.ReadWord m j) t o a stands at e = of_back (Goes work k epoch standing (stage.ReadWord m j) t) _ a (read_goes work k epoch standing t m j (frame_of h.grants m) _ at (stands m refl)) e
 job_goes work k epoch standing h (stage.DiskWrite m) t Took a stands at e = of_back (Goes work k epoch standing (stage.DiskWrite m) t) _ a (take_goes work k epoch standing t m at) e
 job_goes work k epoch standing h (stage.DiskWrite m) t Failed a stands at e =
-    of_back (Goes work k epoch standing (stage.DiskWrite m) t) _ a (record { steps = takes refl (disk_failed work k epoch standing (moves.DiskWrite k t.disk) _ (take_step work k epoch t m at.0 at.1) refl tt); at = tt }) e
+    of_back (Goes work k epoch standing (stage.DiskWrite m) t) _ a (record { steps = takes refl (disk_failed work k epoch standing (moves.DiskWrite k t.disk) _ (take_step work k epoch t m at.0 at.1) refl tt); at = failed_then k epoch (lines.Move (moves.DiskWrite k t.disk)) (lines.Fault t.id t.moved) (itself k) refl refl }) e
 job_goes work k epoch standing h (stage.DiskWrite m) t (Gave words) a stands at e = absurd (none-some a e)
 job_goes work k epoch standing h (stage.DiskRead m) t (Gave words) a stands at e = of_back (Goes work k epoch standing (stage.DiskRead m) t) _ a (give_goes work k epoch standing t m words at) e
 job_goes work k epoch standing h (stage.DiskRead m) t Failed a stands at e =
-    of_back (Goes work k epoch standing (stage.DiskRead m) t) _ a (record { steps = takes refl (disk_failed work k epoch standing (moves.DiskRead k t.disk) _ (give_step work k epoch t m at.0 at.1) refl tt); at = tt }) e
+    of_back (Goes work k epoch standing (stage.DiskRead m) t) _ a (record { steps = takes refl (disk_failed work k epoch standing (moves.DiskRead k t.disk) _ (give_step work k epoch t m at.0 at.1) refl tt); at = failed_then k epoch (lines.Move (moves.DiskRead k t.disk)) (lines.Fault t.id t.moved) (itself k) refl refl }) e
 job_goes work k epoch standing h (stage.DiskRead m) t Took a stands at e = absurd (none-some a e)
 job_goes work k epoch standing h (stage.WriteWord m j) t o a stands at e = of_back (Goes work k epoch standing (stage.WriteWord m j) t) _ a (write_goes work k epoch standing t m j (frame_of h.grants m) at (stands m refl)) e
 job_goes work k epoch standing h (stage.Unmap m) t o a stands at e =
     of_back (Goes work k epoch standing (stage.Unmap m) t) _ a
-    (record { steps = rests refl; at = segment_at work k (epoch ++ lines.Move (moves.Unmap (back.Job k) m.number) ∷ []) t (rest_of t.rest) (before_aside work k epoch (lines.Move (moves.Unmap (back.Job k) m.number) ∷ []) (rest_of t.rest) t.disk t.moved t.writes (record { none = refl; calm = refl; silent = refl }) at) }) e
-job_goes work k epoch standing h (stage.GiveUp m) t o a stands at e = of_back (Goes work k epoch standing (stage.GiveUp m) t) _ a (record { steps = rests refl; at = tt }) e
+    (record { steps = rests refl; at = segment_at work k (epoch ++ lines.Move (moves.Unmap (back.Job k) m.number) ∷ []) t (rest_of t.rest) (before_aside work k epoch (lines.Move (moves.Unmap (back.Job k) m.number) ∷ []) (rest_of t.rest) t.disk t.moved t.writes (unmap_aside k m.number) at) }) e
+job_goes work k epoch standing h (stage.GiveUp m) t o a stands at e =
+    of_back (Goes work k epoch standing (stage.GiveUp m) t) _ a
+    (record { steps = rests refl; at = failed_end work k (epoch ++ lines.Move (moves.Unmap (back.Job k) m.number) ∷ []) (failed_same k epoch (lines.Move (moves.Unmap (back.Job k) m.number) ∷ []) (unmap_aside k m.number) ∙ at) }) e
 job_goes work k epoch standing h (stage.Done status) t o a stands at e = absurd (none-some a e)

@@ -27,7 +27,7 @@ use Rattle.move_laws.specs.Tells.{Tells as TellsMemory}
 use Rattle.ring_laws.proofs.Shows.{Shows}
 use Rattle.ring_laws.proofs.Knows.{Follows}
 use Rattle.ring_laws.proofs.Free.{AreFree}
-use Rattle.ring_laws.proofs.JobLines.{is_of}
+use Rattle.ring_laws.proofs.JobLines.{is_of, IsAside}
 use Rattle.ring_laws.proofs.Began.{IsJobOf}
 use Rattle.ring_laws.proofs.Works.{AreJobs, numbers, number_of, all_second, job_found}
 use Rattle.ring_laws.proofs.JobTurn.{After, Turned, found_turn}
@@ -35,7 +35,7 @@ use Rattle.ring_laws.proofs.Standings.{in_hand}
 use Rattle.ring_laws.proofs.Tells.{Tells, same_jobs, shows_free, unseen_then, known_page}
 
 -- a job that stands there has a number that was given
-low_number : (config : Options) (values : List ℕ) (epoch : List Line) (fetched : ℕ) (works : List Work) (place : ℕ) (t : Work) → slice_get works place ≡ Some t → AreJobs config values epoch fetched works → t.number ≤ fetched
+pub low_number : (config : Options) (values : List ℕ) (epoch : List Line) (fetched : ℕ) (works : List Work) (place : ℕ) (t : Work) → slice_get works place ≡ Some t → AreJobs config values epoch fetched works → t.number ≤ fetched
 low_number config values epoch fetched works place t e jobs =
     let among : IsAmong works place t = place_among works place t e in
     let split : numbers works ≡ numbers among.front ++ t.number ∷ numbers among.rest = ap numbers among.is ∙ map-append number_of among.front (t ∷ among.rest) in
@@ -57,15 +57,16 @@ abbrev pub lines_of_job : Option Work → BackAct → List Line
 lines_of_job found a = lines.Move a.shown ∷ back_lines (told_effect (effect_of found a.answer)) a.answer
 
 -- what changes of the back at a move of a job
-pub record JobTells (config : Options) (before ys : List Line) (v : View) (works : List Work) : Type 0 where
+pub record JobTells (config : Options) (before ys : List Line) (v : View) (k : ℕ) (works : List Work) : Type 0 where
   pub after : After config before ys
   pub jobs : AreJobs config (entry_values (before ++ ys)) (this_epoch (before ++ ys)) v.fetched works
-  pub unseen : (k : ℕ) → v.fetched < k → list_any (is_of k) (this_epoch (before ++ ys)) ≡ false
+  pub unseen : (n : ℕ) → v.fetched < n → list_any (is_of n) (this_epoch (before ++ ys)) ≡ false
+  pub aside : (n : ℕ) → n ≢ k → IsAside n ys
 
 pub job_tells : (config : Options) (start : ℕ) (before : List Line) (pages : List ℕ) (table : GrantTable) (h : Hypervisor) (v : View) (k : ℕ) (o : Outcome) (a : BackAct) (place : Option ℕ) (found : Option Work)
     → place_of v.jobs.works k ≡ place → work_at v.jobs.works place ≡ found → is_some v.halted ≡ false → Follows start [] before v → TellsMemory before pages table → AreHeld table (hands_of v) → AreFree (is_some v.halted) (lines_of_job found a) → Tells config before v
     → back_act h (mover.Job k) (asked found) o ≡ Some a
-    → JobTells config before (lines_of_job found a) v (told_works v.jobs.works place found a.answer)
+    → JobTells config before (lines_of_job found a) v k (told_works v.jobs.works place found a.answer)
 job_tells config start before pages table h v k o a place None at is running f memory held free t e = absurd (none-some a e)
 job_tells config start before pages table h v k o a None (Some work) at is running f memory held free t e = absurd (none-some work is)
 job_tells config start before pages table h v k o a (Some place) (Some work) at is running f memory held free t e =
@@ -85,6 +86,7 @@ job_tells config start before pages table h v k o a (Some place) (Some work) at 
       after = turn.after;
       jobs = same_jobs config f.sight.values (entry_values (before ++ lines_of_job (Some work) a)) (this_epoch before ++ lines_of_job (Some work) a) (this_epoch (before ++ lines_of_job (Some work) a)) v.fetched v.fetched _ _ (sym longer.values) (sym after.epoch) refl refl turn.jobs;
       unseen = λ n above. let aside = turn.aside n (other n k v.fetched work.number above low number) in unseen_then n before (lines_of_job (Some work) a) after.epoch (t.unseen n above) aside.none;
+      aside = turn.aside;
     }
   where
     other : (n k fetched w : ℕ) → fetched < n → w ≤ fetched → w ≡ k → n ≢ k

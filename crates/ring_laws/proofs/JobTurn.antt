@@ -5,6 +5,8 @@ use Rattle.std.proofs.lemmas.Option.{none-some}
 use Rattle.std.proofs.lemmas.Bool.Decides.{nat_tests}
 use Rattle.blk_base.specs.Options.{Options}
 use Rattle.blk_base.specs.declared.operation.Abi.TheVariants.{X64}
+use Rattle.blk_base.specs.declared.operation.Status.{Status}
+use Rattle.blk_base.specs.declared.operation.Status.TheVariants.{Okay}
 use Rattle.blk_base.specs.declared.parts.Mapping.{Mapping}
 use Rattle.blk_base.specs.declared.ask.BackAnswer.{BackAnswer}
 use Rattle.blk_base.specs.declared.ask.BackAnswer.TheVariants as answers
@@ -17,10 +19,13 @@ use Rattle.hypervisor.specs.Act.{BackAct, Outcome, Gave, Took, Failed, back_act,
 use Rattle.schedule_text.specs.declared.line.Line.{Line}
 use Rattle.schedule_text.specs.declared.line.Line.TheVariants as lines
 use Rattle.blk_layout.specs.declared.segment.Segment.{Segment}
+use Rattle.blk_layout.specs.declared.request.RawRequest.{RawRequest}
+use Rattle.segment_list.specs.declared.verdict.DiskInfo.{DiskInfo}
 use Rattle.ring_words.specs.Shape.{Shape}
 use Rattle.report_rules.specs.declared.standing.Standing.{Standing}
 use Rattle.report_rules.specs.declared.work.Task.{Task}
 use Rattle.report_rules.specs.Standing.{this_epoch, standing_behind, numbered}
+use Rattle.report_rules.specs.Work.{work_tasks}
 use Rattle.report_rules.specs.Job.{is_job, is_fetched, entry_values, request_in, request_of_job, id_of}
 use Rattle.report_rules.specs.Steps.{info_of}
 use Rattle.report_rules.specs.Effect.{disk_move_shown}
@@ -39,7 +44,7 @@ use Rattle.ring_laws.proofs.Places.{Within, IsAt}
 use Rattle.ring_laws.proofs.JobMoves.{itself}
 use Rattle.ring_laws.proofs.JobSteps.{StepsBy, takes, rests, JobGoes, told_at}
 use Rattle.ring_laws.proofs.JobStages.{job_goes}
-use Rattle.ring_laws.proofs.Began.{IsPlan, serves, over, IsJobOf, request_at}
+use Rattle.ring_laws.proofs.Began.{IsPlan, HasCome, serves, over, IsJobOf, request_at}
 use Rattle.ring_laws.proofs.Works.{AreJobs, jobs_told, job_found}
 use Rattle.ring_laws.proofs.Bystanders.{IsRule, Tale, shown_last, tale_more, is_plain, plain_keeps, plain_serves, plain_tells, bystander_rule, some_and}
 use Rattle.ring_laws.proofs.JobRule.{own_rule, ToldBy, nothing, one, effect_done, effect_given, write_failed, read_failed}
@@ -115,7 +120,7 @@ after_told config before k id index shown told tale (one line is l disk counted)
       epoch = ap this_epoch (sym joined) ∙ (epoch_longer longer line l.same_epoch ∙ (ap (λ (ls : List Line). ls ++ line ∷ []) epoch ∙ append_assoc (this_epoch before) (lines.Move shown ∷ []) (line ∷ [])));
     })
 
-other_number : (j k : ℕ) → j ≢ k → (k == j) ≡ false
+pub other_number : (j k : ℕ) → j ≢ k → (k == j) ≡ false
 other_number j k other = grind (arith, nat_tests)
 
 -- no line of the group is of another job
@@ -129,62 +134,71 @@ mover_aside : (work : List Task) (k j : ℕ) (epoch : List Line) (standing : Lis
 mover_aside work k j epoch standing shown other (takes own s) = ap (λ (o : Option ℕ). is_job j o) own ∙ other_number j k other
 mover_aside work k j epoch standing shown other (rests none) = ap (λ (o : Option ℕ). is_job j o) none
 
-own_line : (config : Options) (before : List Line) (k : ℕ) (shown : Move) (work : List Task) (x : Sight) (s : Stage) → Tale config before → disk_move_shown before ≡ None → request_of_job before k ≡ Some (request_at x.values k) → IsPlan (request_at x.values k) (back_info config) work s → (IsDone s → ⊥)
+own_line : (config : Options) (before : List Line) (k : ℕ) (shown : Move) (work : List Task) (x : Sight) → Tale config before → disk_move_shown before ≡ None → request_of_job before k ≡ Some (request_at x.values k) → ((indirect : List ℕ) → work_tasks (request_at x.values k) (back_info config) false indirect ≡ work)
     → is_plain (lines.Move shown) ≡ true → StepsBy work k (this_epoch before) (standing_behind before) shown → IsRule before (lines.Move shown)
-own_line config before k shown work x s tale quiet asked (serves plan) busy plain (takes own steps) = own_rule config before k shown (request_at x.values k) work tale quiet asked plan plain own steps
-own_line config before k shown work x s tale quiet asked (over done) busy plain (takes own steps) = absurd (busy done)
-own_line config before k shown work x s tale quiet asked plan busy plain (rests none) = bystander_rule before (lines.Move shown) quiet (record { plain = plain; unstepped = none })
+own_line config before k shown work x tale quiet asked tasks plain (takes own steps) = own_rule config before k shown (request_at x.values k) work tale quiet asked tasks plain own steps
+own_line config before k shown work x tale quiet asked tasks plain (rests none) = bystander_rule before (lines.Move shown) quiet (record { plain = plain; unstepped = none })
 
 done_waits : (h : Hypervisor) (k : ℕ) (s : Stage) (t : Work) (o : Outcome) (a : BackAct) → back_act h (back.Job k) (ask_at s t) o ≡ Some a → IsDone s → ⊥
 done_waits h k (stage.Done status) t o a e done = none-some a e
 done_waits h k s t o a e done = done
 
-still_plan : (config : Options) (values : List ℕ) (k : ℕ) (work : List Task) (s now : Stage) → (IsDone s → ⊥) → IsPlan (request_at values k) (back_info config) work s → IsPlan (request_at values k) (back_info config) work now
-still_plan config values k work s now busy (serves plan) = serves plan
-still_plan config values k work s now busy (over done) = absurd (busy done)
+-- a job that moves is in its work
+pub record IsRunning (served : Status) (work : List Task) (k : ℕ) (epoch : List Line) (s : Stage) (t : Work) : Type 0 where
+  pub okay : served ≡ Okay
+  pub at : IsAt work k epoch s t
 
--- a job keeps its number and its id
+running : (served : Status) (work : List Task) (k : ℕ) (epoch : List Line) (s : Stage) (t : Work) → (IsDone s → ⊥) → HasCome served work k epoch s t → IsRunning served work k epoch s t
+running served work k epoch s t busy (serves okay at) = record { okay = okay; at = at }
+running served work k epoch s t busy (over done ends) = absurd (busy (subst IsDone (sym done) tt))
+
+-- a job keeps its number, its id and its operation
 pub record IsSame (old new : Work) : Type 0 where
   pub number : new.number ≡ old.number
   pub id : new.id ≡ old.id
+  pub op : new.op ≡ old.op
 
 either_same : (old : Work) (b : Bool) (x y : Work) → IsSame old x → IsSame old y → IsSame old (if b then x else y)
 either_same old true x y p q = p
 either_same old false x y p q = q
 
 sector_same : (old t : Work) (m : Mapping) → IsSame old t → IsSame old (next_sector t m)
-sector_same old t m s = either_same old (t.within == last_of t.rest) (record t { stage = stage.Unmap m }) (record t { within = t.within + 1; stage = sector_stage t.writes m }) (record { number = s.number; id = s.id }) (record { number = s.number; id = s.id })
+sector_same old t m s = either_same old (t.within == last_of t.rest) (record t { stage = stage.Unmap m }) (record t { within = t.within + 1; stage = sector_stage t.writes m }) (record { number = s.number; id = s.id; op = s.op }) (record { number = s.number; id = s.id; op = s.op })
 
 segment_same : (t : Work) (rest : List Segment) → IsSame t (next_segment t rest)
-segment_same t [] = record { number = refl; id = refl }
-segment_same t (s ∷ rest) = record { number = refl; id = refl }
+segment_same t [] = record { number = refl; id = refl; op = refl }
+segment_same t (s ∷ rest) = record { number = refl; id = refl; op = refl }
 
 pub step_same : (s : Stage) (t : Work) (a : BackAnswer) → IsSame t (step_at s t a)
-step_same stage.Map t (answers.Mapped m) = record { number = refl; id = refl }
-step_same stage.Map t (answers.MapRefused status) = record { number = refl; id = refl }
-step_same (stage.ReadWord m k) t (answers.Word word) = record { number = refl; id = refl }
-step_same (stage.DiskWrite m) t answers.Done = sector_same t (counted t) m (record { number = refl; id = refl })
-step_same (stage.DiskWrite m) t answers.DiskFailed = record { number = refl; id = refl }
-step_same (stage.DiskRead m) t (answers.Sector words) = record { number = refl; id = refl }
-step_same (stage.DiskRead m) t answers.DiskFailed = record { number = refl; id = refl }
-step_same (stage.WriteWord m k) t answers.Done = either_same t (k == 127) (next_sector t m) (record t { stage = stage.WriteWord m (k + 1) }) (sector_same t t m (record { number = refl; id = refl })) (record { number = refl; id = refl })
+step_same stage.Map t (answers.Mapped m) = record { number = refl; id = refl; op = refl }
+step_same stage.Map t (answers.MapRefused status) = record { number = refl; id = refl; op = refl }
+step_same (stage.ReadWord m k) t (answers.Word word) = record { number = refl; id = refl; op = refl }
+step_same (stage.DiskWrite m) t answers.Done = sector_same t (counted t) m (record { number = refl; id = refl; op = refl })
+step_same (stage.DiskWrite m) t answers.DiskFailed = record { number = refl; id = refl; op = refl }
+step_same (stage.DiskRead m) t (answers.Sector words) = record { number = refl; id = refl; op = refl }
+step_same (stage.DiskRead m) t answers.DiskFailed = record { number = refl; id = refl; op = refl }
+step_same (stage.WriteWord m k) t answers.Done = either_same t (k == 127) (next_sector t m) (record t { stage = stage.WriteWord m (k + 1) }) (sector_same t t m (record { number = refl; id = refl; op = refl })) (record { number = refl; id = refl; op = refl })
 step_same (stage.Unmap m) t answers.Done = segment_same t (rest_of t.rest)
-step_same (stage.GiveUp m) t answers.Done = record { number = refl; id = refl }
-step_same s t a = record { number = refl; id = refl }
+step_same (stage.GiveUp m) t answers.Done = record { number = refl; id = refl; op = refl }
+step_same s t a = record { number = refl; id = refl; op = refl }
 
 -- a job under its number
 pub record IsNumbered (config : Options) (values : List ℕ) (epoch : List Line) (t : Work) (k : ℕ) : Type 0 where
   pub work : List Task
+  pub served : Status
   pub first : 1 ≤ k
   pub read : 28 * k ≤ length values
   pub id : id_of (request_at values k) ≡ t.id
-  pub plan : IsPlan (request_at values k) (back_info config) work t.stage
-  pub at : IsAt work k epoch t.stage t
+  pub plan : IsPlan (request_at values k) (back_info config) work served t.id t.op
+  pub at : HasCome served work k epoch t.stage t
+
+renamed : (request : RawRequest) (info : DiskInfo) (work : List Task) (served : Status) (id id' op op' : ℕ) → id ≡ id' → op ≡ op' → IsPlan request info work served id op → IsPlan request info work served id' op'
+renamed request info work served id id' op op' p q plan = subst (λ (n : ℕ). IsPlan request info work served id' n) q (subst (λ (n : ℕ). IsPlan request info work served n op) p plan)
 
 renumbered : (config : Options) (values : List ℕ) (epoch : List Line) (t : Work) (k : ℕ) → k ≡ t.number → IsNumbered config values epoch t k → IsJobOf config values epoch t
 renumbered config values epoch t k is n =
     let m : IsNumbered config values epoch t t.number = subst (λ (j : ℕ). IsNumbered config values epoch t j) is n in
-    record { work = m.work; first = m.first; read = m.read; id = m.id; plan = m.plan; at = m.at }
+    record { work = m.work; served = m.served; first = m.first; read = m.read; id = m.id; plan = m.plan; at = m.at }
 
 -- the lines and the jobs behind a move of a job
 pub record Turned (config : Options) (before : List Line) (values : List ℕ) (fetched k : ℕ) (ys : List Line) (works : List Work) : Type 0 where
@@ -202,18 +216,19 @@ found_turn config before x number fetched k works h o a place t found is shows p
     go : back_act h (back.Job t.number) (ask_at t.stage t) o ≡ Some a → Turned config before x.values fetched t.number (lines.Move a.shown ∷ told_at t.stage t a.answer) (told_works works (Some place) (Some t) a.answer)
     go act =
         let j : IsJobOf config x.values (this_epoch before) t = job_found config x.values (this_epoch before) fetched works place t found jobs in
-        let busy = done_waits h t.number t.stage t o a act in
-        let goes : JobGoes j.work t.number (this_epoch before) (standing_behind before) a.shown (told_at t.stage t a.answer) (step_at t.stage t a.answer) = job_goes j.work t.number (this_epoch before) (standing_behind before) h t.stage t o a stands j.at act in
-        let tells : IsSpoken (this_epoch before) t.number t.stage t a = job_tells j.work (this_epoch before) h t.number t.stage t o a j.at act in
+        let plan : IsPlan (request_at x.values t.number) (back_info config) j.work j.served t.id t.op = j.plan in
+        let runs : IsRunning j.served j.work t.number (this_epoch before) t.stage t = running j.served j.work t.number (this_epoch before) t.stage t (done_waits h t.number t.stage t o a act) j.at in
+        let goes : JobGoes j.work t.number (this_epoch before) (standing_behind before) a.shown (told_at t.stage t a.answer) (step_at t.stage t a.answer) = job_goes j.work t.number (this_epoch before) (standing_behind before) h t.stage t o a stands runs.at act in
+        let tells : IsSpoken (this_epoch before) t.number t.stage t a = job_tells j.work (this_epoch before) h t.number t.stage t o a runs.at act in
         let asked : request_of_job before t.number ≡ Some (request_at x.values t.number) = asked_for before x number t.number shows page j.first j.read in
-        let rule : IsRule before (lines.Move a.shown) = own_line config before t.number a.shown j.work x t.stage tale quiet asked j.plan busy tells.plain goes.steps in
+        let rule : IsRule before (lines.Move a.shown) = own_line config before t.number a.shown j.work x tale quiet asked plan.tasks tells.plain goes.steps in
         let longer : Tale config (before ++ lines.Move a.shown ∷ []) = tale_more config before (lines.Move a.shown) tale refl (plain_keeps (lines.Move a.shown) tells.plain) (plain_serves (lines.Move a.shown) tells.plain) (plain_tells (info_of config) (lines.Move a.shown) tells.plain) rule in
         let asked_then : request_of_job (before ++ lines.Move a.shown ∷ []) t.number ≡ Some (request_at x.values t.number) = asked_for (before ++ lines.Move a.shown ∷ []) x number t.number (shows_other before (lines.Move a.shown) x other shows) page j.first j.read in
         let same : IsSame t (step_at t.stage t a.answer) = step_same t.stage t a.answer in
         let aside : (n : ℕ) → n ≢ t.number → IsAside n (lines.Move a.shown ∷ told_at t.stage t a.answer) = λ n apart. told_aside (this_epoch before) n t.number t.id t.moved a.shown (told_at t.stage t a.answer) (mover_aside j.work t.number n (this_epoch before) (standing_behind before) a.shown apart goes.steps) tells.told in
         let now : List Line = this_epoch before ++ lines.Move a.shown ∷ told_at t.stage t a.answer in
         let new : Work = step_at t.stage t a.answer in
-        let fresh : IsJobOf config x.values (this_epoch before ++ lines.Move a.shown ∷ told_at t.stage t a.answer) (step_at t.stage t a.answer) = renumbered config x.values now new t.number (sym same.number) (record { work = j.work; first = j.first; read = j.read; id = j.id ∙ sym same.id; plan = still_plan config x.values t.number j.work t.stage new.stage busy j.plan; at = goes.at }) in
+        let fresh : IsJobOf config x.values (this_epoch before ++ lines.Move a.shown ∷ told_at t.stage t a.answer) (step_at t.stage t a.answer) = renumbered config x.values now new t.number (sym same.number) (record { work = j.work; served = j.served; first = j.first; read = j.read; id = j.id ∙ sym same.id; plan = renamed (request_at x.values t.number) (back_info config) j.work j.served t.id new.id t.op new.op (sym same.id) (sym same.op) plan; at = serves runs.okay goes.at }) in
         record {
           after = after_told config before t.number t.id t.moved a.shown (told_at t.stage t a.answer) longer tells.told (some_and _ asked_then j.id);
           jobs = jobs_told config x.values (this_epoch before) (lines.Move a.shown ∷ told_at t.stage t a.answer) fetched works place t new found same.number aside fresh jobs;

@@ -22,10 +22,15 @@ pub mod JobWords
 pub mod JobDisk
 pub mod JobStages
 pub mod Began
+pub mod Due
 pub mod Works
+pub mod Pigeons
+pub mod HasJob
 pub mod Bystanders
 pub mod JobRule
 pub mod JobTurn
+pub mod Over
+pub mod Owed
 pub mod BackChange
 pub mod Standings
 pub mod Tells
@@ -37,3 +42,11 @@ pub mod MakerLines
 pub mod MakerJob
 pub mod MakerTurns
 pub mod MakerRuns
+pub mod WrittenRows
+pub mod Written
+pub mod WrittenElse
+pub mod WrittenWord
+pub mod WrittenBack
+pub mod Replying
+pub mod NextReply
+pub mod ReplyRuns

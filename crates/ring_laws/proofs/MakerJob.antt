@@ -1,8 +1,9 @@
 -- What a job's own move makes of the mapping in its hand.
-use Rattle.std.proofs.Common.{◌≡◌, ℕ, ◌+◌, ◌==◌, Bool, true, false, if◌then◌else◌, List, [], ◌∷◌, ◌++◌, refl, sym, ◌∙◌, subst}
+use Rattle.std.proofs.Common.{◌≡◌, ℕ, ◌+◌, ◌==◌, Bool, true, false, if◌then◌else◌, List, [], ◌∷◌, ◌++◌, refl, sym, subst}
 use Rattle.std.specs.Prelude.{Option, Some, None, Result, Ok, Err}
-use Rattle.std.proofs.lemmas.Option.{none-some, same_Some}
+use Rattle.std.proofs.lemmas.Option.{none-some}
 use Rattle.blk_base.specs.declared.parts.Mapping.{Mapping}
+use Rattle.blk_base.specs.declared.parts.Mode.{Mode}
 use Rattle.blk_base.specs.declared.ask.BackAnswer.{BackAnswer}
 use Rattle.blk_base.specs.declared.moves.BackMover.TheVariants as back
 use Rattle.blk_base.specs.declared.moves.Move.TheVariants as moves
@@ -14,6 +15,7 @@ use Rattle.schedule_text.specs.declared.line.Line.{Line}
 use Rattle.schedule_text.specs.declared.line.Line.TheVariants as lines
 use Rattle.blk_layout.specs.declared.segment.Segment.{Segment}
 use Rattle.report_rules.specs.Standing.{this_epoch}
+use Rattle.report_rules.specs.Unmap.{left_to}
 use Rattle.back_jobs.specs.declared.stage.Stage.{Stage}
 use Rattle.back_jobs.specs.declared.stage.Stage.TheVariants as stage
 use Rattle.back_jobs.specs.Task.{Work, ask_at, step_at, map_ask, mode_of, last_of, rest_of, sector_stage, next_sector, next_segment, counted}
@@ -21,33 +23,25 @@ use Rattle.back_jobs.specs.Jobs.{mapping_at, effect_at}
 use Rattle.blk_back.specs.Step.{told_effect}
 use Rattle.split_model.proofs.SafeActs.{of_back}
 use Rattle.ring_laws.proofs.JobSteps.{told_at}
-use Rattle.ring_laws.proofs.Makers.{has, kept, made_last, IsQuiet, AreQuiet, quiet_none, IsMine, touches}
+use Rattle.ring_laws.proofs.Makers.{Holds, holds_has, holds_made, holds_gone, IsQuiet, AreQuiet, quiet_holds, IsMine, touches}
 use Rattle.ring_laws.proofs.MakerLines.{calm_quiet, back_calm}
 
 abbrev hand : Work → Option Mapping
 hand t = mapping_at t.stage
 
--- a job's lines unmap nothing, or they are the unmap of what it has in its hand
+-- a job's lines map and unmap nothing, or they are a map, or the unmap of what it has in its hand
 pub data Way (k : ℕ) (s : Stage) (ys : List Line) : Type 0 where
   quietly : AreQuiet ys → Way k s ys
+  takes : (gref number frame : ℕ) (mode : Mode) → ys ≡ lines.Move (moves.Map (back.Job k) gref mode number frame) ∷ [] → Way k s ys
   gives : (m : Mapping) → mapping_at s ≡ Some m → ys ≡ lines.Move (moves.Unmap (back.Job k) m.number) ∷ [] → Way k s ys
 
 pub record Makes (before : List Line) (k : ℕ) (s : Stage) (t : Work) (a : BackAct) : Type 0 where
-  pub hand : (m : Mapping) → (let n : Work = step_at s t a.answer in mapping_at n.stage) ≡ Some m → has m.number k (this_epoch before ++ lines.Move a.shown ∷ told_at s t a.answer) ≡ true
+  pub hand : let n : Work = step_at s t a.answer in Holds (mapping_at n.stage) (left_to k (this_epoch before ++ lines.Move a.shown ∷ told_at s t a.answer))
   pub way : Way k s (lines.Move a.shown ∷ told_at s t a.answer)
   pub mine : IsMine before (lines.Move a.shown)
 
 told_quiet : (s : Stage) (t : Work) (a : BackAnswer) → AreQuiet (told_at s t a)
 told_quiet s t a = calm_quiet (told_at s t a) (back_calm (told_effect (effect_at s t a)) a)
-
--- the hand keeps its mapping
-same_hand : (before ys : List Line) (k : ℕ) (m : Mapping) (now : Option Mapping) → now ≡ Some m → AreQuiet ys → has m.number k (this_epoch before) ≡ true → (other : Mapping) → now ≡ Some other → has other.number k (this_epoch before ++ ys) ≡ true
-same_hand before ys k m now is quiet old other e =
-    let same : m ≡ other = same_Some m other (sym is ∙ e) in
-    subst (λ (x : Mapping). has x.number k (this_epoch before ++ ys) ≡ true) same (kept m.number k ys (this_epoch before) (quiet_none m.number ys quiet) old)
-
-empty_hand : (now : Option Mapping) (A : Mapping → Type 0) → now ≡ None → (m : Mapping) → now ≡ Some m → A m
-empty_hand now A none m e = absurd (none-some m (sym none ∙ e))
 
 either : (b : Bool) (x y : Stage) (m : Mapping) → mapping_at x ≡ Some m → mapping_at y ≡ Some m → mapping_at (if b then x else y) ≡ Some m
 either true x y m p q = p
@@ -68,36 +62,41 @@ segment_hand : (t : Work) (rest : List Segment) → hand (next_segment t rest) �
 segment_hand t [] = refl
 segment_hand t (s ∷ rest) = refl
 
-still : (before : List Line) (k : ℕ) (s : Stage) (t : Work) (a : BackAct) (m : Mapping) → mapping_at s ≡ Some m → hand (step_at s t a.answer) ≡ Some m → IsQuiet (lines.Move a.shown) → IsMine before (lines.Move a.shown) → ((x : Mapping) → mapping_at s ≡ Some x → has x.number k (this_epoch before) ≡ true) → Makes before k s t a
-still before k s t a m was is quiet mine old =
+-- the hand keeps its mapping
+still : (before : List Line) (k : ℕ) (s : Stage) (t : Work) (a : BackAct) → hand (step_at s t a.answer) ≡ mapping_at s → IsQuiet (lines.Move a.shown) → IsMine before (lines.Move a.shown) → Holds (mapping_at s) (left_to k (this_epoch before)) → Makes before k s t a
+still before k s t a same quiet mine old =
     let all : AreQuiet (lines.Move a.shown ∷ told_at s t a.answer) = (quiet, told_quiet s t a.answer) in
-    record { hand = same_hand before (lines.Move a.shown ∷ told_at s t a.answer) k m (hand (step_at s t a.answer)) is all (old m was); way = quietly all; mine = mine }
+    record {
+      hand = subst (λ (o : Option Mapping). Holds o (left_to k (this_epoch before ++ lines.Move a.shown ∷ told_at s t a.answer))) (sym same) (quiet_holds (mapping_at s) k (lines.Move a.shown ∷ told_at s t a.answer) (this_epoch before) all old);
+      way = quietly all;
+      mine = mine;
+    }
 
-map_makes : (before : List Line) (h : Hypervisor) (k : ℕ) (t : Work) (s : Segment) (verdict : Result ℕ MapRefusal) → Makes before k stage.Map t (map_act h (back.Job k) s.gref (mode_of t.writes) verdict)
-map_makes before h k t s (Ok frame) =
+map_makes : (before : List Line) (h : Hypervisor) (k : ℕ) (t : Work) (s : Segment) (verdict : Result ℕ MapRefusal) → left_to k (this_epoch before) ≡ [] → Makes before k stage.Map t (map_act h (back.Job k) s.gref (mode_of t.writes) verdict)
+map_makes before h k t s (Ok frame) old =
     let m : Mapping = next_mapping h.grants s.gref (mode_of t.writes) in
     record {
-      hand = λ other e. subst (λ (x : Mapping). has x.number k (this_epoch before ++ lines.Move (moves.Map (back.Job k) s.gref (mode_of t.writes) (h.grants.made + 1) frame) ∷ []) ≡ true) (same_Some m other (sym (sector_hand t.writes m) ∙ e)) (made_last (h.grants.made + 1) k s.gref frame (mode_of t.writes) (this_epoch before));
-      way = quietly (record { same_epoch = refl; none_gone = λ n. refl }, tt);
+      hand = subst (λ (o : Option Mapping). Holds o (left_to k (this_epoch before ++ lines.Move (moves.Map (back.Job k) s.gref (mode_of t.writes) (h.grants.made + 1) frame) ∷ []))) (sym (sector_hand t.writes m)) (holds_made k s.gref frame (mode_of t.writes) m (this_epoch before) old);
+      way = takes s.gref (h.grants.made + 1) frame (mode_of t.writes) refl;
       mine = record { unmap = tt; touch = tt };
     }
-map_makes before h k t s (Err refusal) = record { hand = λ other e. absurd (none-some other e); way = quietly (record { same_epoch = refl; none_gone = λ n. refl }, tt); mine = record { unmap = tt; touch = tt } }
+map_makes before h k t s (Err refusal) old = still before k stage.Map t _ refl (record { same_epoch = refl; none_gone = λ n. refl; none_made = λ j. refl }) (record { unmap = tt; touch = tt }) old
 
-map_asked : (before : List Line) (h : Hypervisor) (k : ℕ) (t : Work) (o : Outcome) (a : BackAct) (rest : List Segment) → back_act h (back.Job k) (map_ask rest t.writes) o ≡ Some a → Makes before k stage.Map t a
-map_asked before h k t o a [] e = absurd (none-some a e)
-map_asked before h k t o a (s ∷ more) e = of_back (Makes before k stage.Map t) _ a (map_makes before h k t s (verdict_at h.pages s.gref (mode_of t.writes))) e
+map_asked : (before : List Line) (h : Hypervisor) (k : ℕ) (t : Work) (o : Outcome) (a : BackAct) (rest : List Segment) → left_to k (this_epoch before) ≡ [] → back_act h (back.Job k) (map_ask rest t.writes) o ≡ Some a → Makes before k stage.Map t a
+map_asked before h k t o a [] old e = absurd (none-some a e)
+map_asked before h k t o a (s ∷ more) old e = of_back (Makes before k stage.Map t) _ a (map_makes before h k t s (verdict_at h.pages s.gref (mode_of t.writes)) old) e
 
-pub job_makes : (before : List Line) (h : Hypervisor) (k : ℕ) (s : Stage) (t : Work) (o : Outcome) (a : BackAct) → ((x : Mapping) → mapping_at s ≡ Some x → has x.number k (this_epoch before) ≡ true) → back_act h (back.Job k) (ask_at s t) o ≡ Some a → Makes before k s t a
-job_makes before h k stage.Map t o a old e = map_asked before h k t o a t.rest e
-job_makes before h k (stage.ReadWord m j) t o a old e = of_back (Makes before k (stage.ReadWord m j) t) _ a (still before k (stage.ReadWord m j) t _ m refl (either (j == 127) (stage.DiskWrite m) (stage.ReadWord m (j + 1)) m refl refl) (record { same_epoch = refl; none_gone = λ n. refl }) (record { unmap = tt; touch = touches before k m.number (old m refl) }) old) e
-job_makes before h k (stage.DiskWrite m) t Took a old e = of_back (Makes before k (stage.DiskWrite m) t) _ a (still before k (stage.DiskWrite m) t _ m refl (next_hand (counted t) m) (record { same_epoch = refl; none_gone = λ n. refl }) (record { unmap = tt; touch = tt }) old) e
-job_makes before h k (stage.DiskWrite m) t Failed a old e = of_back (Makes before k (stage.DiskWrite m) t) _ a (still before k (stage.DiskWrite m) t _ m refl refl (record { same_epoch = refl; none_gone = λ n. refl }) (record { unmap = tt; touch = tt }) old) e
+pub job_makes : (before : List Line) (h : Hypervisor) (k : ℕ) (s : Stage) (t : Work) (o : Outcome) (a : BackAct) → Holds (mapping_at s) (left_to k (this_epoch before)) → back_act h (back.Job k) (ask_at s t) o ≡ Some a → Makes before k s t a
+job_makes before h k stage.Map t o a old e = map_asked before h k t o a t.rest old e
+job_makes before h k (stage.ReadWord m j) t o a old e = of_back (Makes before k (stage.ReadWord m j) t) _ a (still before k (stage.ReadWord m j) t _ (either (j == 127) (stage.DiskWrite m) (stage.ReadWord m (j + 1)) m refl refl) (record { same_epoch = refl; none_gone = λ n. refl; none_made = λ j. refl }) (record { unmap = tt; touch = touches before k m.number (holds_has k m (this_epoch before) old) }) old) e
+job_makes before h k (stage.DiskWrite m) t Took a old e = of_back (Makes before k (stage.DiskWrite m) t) _ a (still before k (stage.DiskWrite m) t _ (next_hand (counted t) m) (record { same_epoch = refl; none_gone = λ n. refl; none_made = λ j. refl }) (record { unmap = tt; touch = tt }) old) e
+job_makes before h k (stage.DiskWrite m) t Failed a old e = of_back (Makes before k (stage.DiskWrite m) t) _ a (still before k (stage.DiskWrite m) t _ refl (record { same_epoch = refl; none_gone = λ n. refl; none_made = λ j. refl }) (record { unmap = tt; touch = tt }) old) e
 job_makes before h k (stage.DiskWrite m) t (Gave words) a old e = absurd (none-some a e)
-job_makes before h k (stage.DiskRead m) t (Gave words) a old e = of_back (Makes before k (stage.DiskRead m) t) _ a (still before k (stage.DiskRead m) t _ m refl refl (record { same_epoch = refl; none_gone = λ n. refl }) (record { unmap = tt; touch = tt }) old) e
-job_makes before h k (stage.DiskRead m) t Failed a old e = of_back (Makes before k (stage.DiskRead m) t) _ a (still before k (stage.DiskRead m) t _ m refl refl (record { same_epoch = refl; none_gone = λ n. refl }) (record { unmap = tt; touch = tt }) old) e
+job_makes before h k (stage.DiskRead m) t (Gave words) a old e = of_back (Makes before k (stage.DiskRead m) t) _ a (still before k (stage.DiskRead m) t _ refl (record { same_epoch = refl; none_gone = λ n. refl; none_made = λ j. refl }) (record { unmap = tt; touch = tt }) old) e
+job_makes before h k (stage.DiskRead m) t Failed a old e = of_back (Makes before k (stage.DiskRead m) t) _ a (still before k (stage.DiskRead m) t _ refl (record { same_epoch = refl; none_gone = λ n. refl; none_made = λ j. refl }) (record { unmap = tt; touch = tt }) old) e
 job_makes before h k (stage.DiskRead m) t Took a old e = absurd (none-some a e)
 job_makes before h k (stage.WriteWord m j) t o a old e =
-    of_back (Makes before k (stage.WriteWord m j) t) _ a (still before k (stage.WriteWord m j) t _ m refl (either_work (j == 127) (next_sector t m) (record t { stage = stage.WriteWord m (j + 1) }) m (next_hand t m) refl) (record { same_epoch = refl; none_gone = λ n. refl }) (record { unmap = tt; touch = touches before k m.number (old m refl) }) old) e
-job_makes before h k (stage.Unmap m) t o a old e = of_back (Makes before k (stage.Unmap m) t) _ a (record { hand = empty_hand _ (λ x. has x.number k (this_epoch before ++ lines.Move (moves.Unmap (back.Job k) m.number) ∷ []) ≡ true) (segment_hand t (rest_of t.rest)); way = gives m refl refl; mine = record { unmap = old m refl; touch = tt } }) e
-job_makes before h k (stage.GiveUp m) t o a old e = of_back (Makes before k (stage.GiveUp m) t) _ a (record { hand = λ x e. absurd (none-some x e); way = gives m refl refl; mine = record { unmap = old m refl; touch = tt } }) e
+    of_back (Makes before k (stage.WriteWord m j) t) _ a (still before k (stage.WriteWord m j) t _ (either_work (j == 127) (next_sector t m) (record t { stage = stage.WriteWord m (j + 1) }) m (next_hand t m) refl) (record { same_epoch = refl; none_gone = λ n. refl; none_made = λ j. refl }) (record { unmap = tt; touch = touches before k m.number (holds_has k m (this_epoch before) old) }) old) e
+job_makes before h k (stage.Unmap m) t o a old e = of_back (Makes before k (stage.Unmap m) t) _ a (record { hand = subst (λ (x : Option Mapping). Holds x (left_to k (this_epoch before ++ lines.Move (moves.Unmap (back.Job k) m.number) ∷ []))) (sym (segment_hand t (rest_of t.rest))) (holds_gone k m (this_epoch before) old); way = gives m refl refl; mine = record { unmap = holds_has k m (this_epoch before) old; touch = tt } }) e
+job_makes before h k (stage.GiveUp m) t o a old e = of_back (Makes before k (stage.GiveUp m) t) _ a (record { hand = holds_gone k m (this_epoch before) old; way = gives m refl refl; mine = record { unmap = holds_has k m (this_epoch before) old; touch = tt } }) e
 job_makes before h k (stage.Done status) t o a old e = absurd (none-some a e)

@@ -1,4 +1,4 @@
--- The lines of each mover, by what they unmap.
+-- The lines of each mover, by what they map and unmap.
 use Rattle.std.proofs.Common.{◌≡◌, ℕ, ◌==◌, Bool, true, false, if◌then◌else◌, List, [], ◌∷◌, ◌++◌, refl}
 use Rattle.std.specs.Prelude.{Option, Some, None, is_some, Result, Ok, Err}
 use Rattle.std.specs.List.{AllByRecursion}
@@ -13,6 +13,7 @@ use Rattle.blk_base.specs.declared.ask.BackAsk.TheVariants as ask
 use Rattle.blk_base.specs.declared.ask.BackAnswer.{BackAnswer}
 use Rattle.blk_base.specs.declared.ask.BackAnswer.TheVariants as answers
 use Rattle.blk_base.specs.declared.moves.BackMover.TheVariants as back
+use Rattle.blk_base.specs.declared.moves.Move.TheVariants as moves
 use Rattle.grant_table.specs.declared.entry.MapRefusal.{MapRefusal}
 use Rattle.grant_table.specs.Table.{verdict_at}
 use Rattle.event_channel.specs.declared.channels.PortState.{PortState}
@@ -23,6 +24,8 @@ use Rattle.hypervisor.specs.Act.{FrontAct, BackAct, Outcome, front_act, back_act
 use Rattle.ring_words.specs.Ring.{requests_of}
 use Rattle.schedule_text.specs.declared.line.Line.{Line}
 use Rattle.schedule_text.specs.declared.line.Line.TheVariants as lines
+use Rattle.report_rules.specs.Standing.{mapping_made}
+use Rattle.report_rules.specs.Unmap.{made_by}
 use Rattle.blk_front.specs.declared.told.Told.{Told}
 use Rattle.blk_front.specs.declared.told.Told.TheVariants as front_told
 use Rattle.blk_front.specs.declared.told.Refusal.{Refusal}
@@ -43,7 +46,7 @@ use Rattle.ring_laws.proofs.Shows.{Sight}
 use Rattle.ring_laws.proofs.Knows.{KnowsAt}
 use Rattle.ring_laws.proofs.Makers.{IsQuiet, AreQuiet, IsOpen}
 
--- a line that unmaps nothing, and is no touch of a job
+-- a line that unmaps nothing, and is no map or touch of a job
 pub record IsCalm (line : Line) : Type 0 where
   pub quiet : IsQuiet line
   pub free : IsOpen line
@@ -59,8 +62,12 @@ pub calm_open : (ls : List Line) → AreCalm ls → AllByRecursion IsOpen ls
 calm_open [] all = tt
 calm_open (line ∷ ls) all = (let c : IsCalm line = all.0 in c.free, calm_open ls all.1)
 
+none_by : (k : ℕ) (line : Line) → mapping_made line ≡ None → made_by k line ≡ None
+none_by k (lines.Move (moves.Map who gref mode number frame)) e = absurd (cc)
+none_by k line e = refl
+
 calm : (line : Line) → IsPlain line → IsOpen line → IsCalm line
-calm line p open_line = let s : IsStill line = p.is_still in record { quiet = record { same_epoch = s.same_epoch; none_gone = s.none_gone }; free = open_line }
+calm line p open_line = let s : IsStill line = p.is_still in record { quiet = record { same_epoch = s.same_epoch; none_gone = s.none_gone; none_made = λ k. none_by k line s.none_made }; free = open_line }
 
 all_calm : (ls : List Line) → ArePlain ls → AllByRecursion IsOpen ls → AreCalm ls
 all_calm [] all opens = tt
@@ -124,14 +131,14 @@ abbrev FrontCalm : FrontAct → Type 0
 FrontCalm a = IsCalm (lines.Move a.shown)
 
 front_calm : (h : Hypervisor) (a' : FrontAsk) (a : FrontAct) → front_act h a' ≡ Some a → FrontCalm a
-front_calm h front_ask.Wait a e = front_test FrontCalm (is_pending h.channels end.Front) _ a (record { quiet = record { same_epoch = refl; none_gone = λ n. refl }; free = λ before. record { unmap = tt; touch = tt } }) e
-front_calm h front_ask.Fence a e = of_front FrontCalm _ a (record { quiet = record { same_epoch = refl; none_gone = λ n. refl }; free = λ before. record { unmap = tt; touch = tt } }) e
-front_calm h (front_ask.Read frame word) a e = of_front FrontCalm _ a (record { quiet = record { same_epoch = refl; none_gone = λ n. refl }; free = λ before. record { unmap = tt; touch = tt } }) e
-front_calm h (front_ask.Write frame word value) a e = of_front FrontCalm _ a (record { quiet = record { same_epoch = refl; none_gone = λ n. refl }; free = λ before. record { unmap = tt; touch = tt } }) e
-front_calm h (front_ask.Cas frame word old new) a e = of_front FrontCalm _ a (record { quiet = record { same_epoch = refl; none_gone = λ n. refl }; free = λ before. record { unmap = tt; touch = tt } }) e
-front_calm h front_ask.NewPort a e = of_front FrontCalm _ a (record { quiet = record { same_epoch = refl; none_gone = λ n. refl }; free = λ before. record { unmap = tt; touch = tt } }) e
-front_calm h front_ask.Send a e = of_front FrontCalm _ a (record { quiet = record { same_epoch = refl; none_gone = λ n. refl }; free = λ before. record { unmap = tt; touch = tt } }) e
-front_calm h front_ask.ClosePort a e = of_front FrontCalm _ a (record { quiet = record { same_epoch = refl; none_gone = λ n. refl }; free = λ before. record { unmap = tt; touch = tt } }) e
+front_calm h front_ask.Wait a e = front_test FrontCalm (is_pending h.channels end.Front) _ a (record { quiet = record { same_epoch = refl; none_gone = λ n. refl; none_made = λ k. refl }; free = λ before. record { unmap = tt; touch = tt } }) e
+front_calm h front_ask.Fence a e = of_front FrontCalm _ a (record { quiet = record { same_epoch = refl; none_gone = λ n. refl; none_made = λ k. refl }; free = λ before. record { unmap = tt; touch = tt } }) e
+front_calm h (front_ask.Read frame word) a e = of_front FrontCalm _ a (record { quiet = record { same_epoch = refl; none_gone = λ n. refl; none_made = λ k. refl }; free = λ before. record { unmap = tt; touch = tt } }) e
+front_calm h (front_ask.Write frame word value) a e = of_front FrontCalm _ a (record { quiet = record { same_epoch = refl; none_gone = λ n. refl; none_made = λ k. refl }; free = λ before. record { unmap = tt; touch = tt } }) e
+front_calm h (front_ask.Cas frame word old new) a e = of_front FrontCalm _ a (record { quiet = record { same_epoch = refl; none_gone = λ n. refl; none_made = λ k. refl }; free = λ before. record { unmap = tt; touch = tt } }) e
+front_calm h front_ask.NewPort a e = of_front FrontCalm _ a (record { quiet = record { same_epoch = refl; none_gone = λ n. refl; none_made = λ k. refl }; free = λ before. record { unmap = tt; touch = tt } }) e
+front_calm h front_ask.Send a e = of_front FrontCalm _ a (record { quiet = record { same_epoch = refl; none_gone = λ n. refl; none_made = λ k. refl }; free = λ before. record { unmap = tt; touch = tt } }) e
+front_calm h front_ask.ClosePort a e = of_front FrontCalm _ a (record { quiet = record { same_epoch = refl; none_gone = λ n. refl; none_made = λ k. refl }; free = λ before. record { unmap = tt; touch = tt } }) e
 front_calm h (front_ask.GetKey path) a e = absurd (none-some a e)
 front_calm h (front_ask.SetKey path text) a e = absurd (none-some a e)
 front_calm h (front_ask.Watch path) a e = absurd (none-some a e)
@@ -143,7 +150,7 @@ abbrev pub is_unmap : BackAsk → Bool
 is_unmap (ask.Unmap m) = true
 is_unmap a' = false
 
--- the back unmaps nothing for a job, and at no other ask than an unmap
+-- the back maps and unmaps nothing for a job, and unmaps at no other ask than an unmap
 pub record Does (a' : BackAsk) (a : BackAct) : Type 0 where
   pub quiet : is_unmap a' ≡ false → IsQuiet (lines.Move a.shown)
   pub allowed : IsOpen (lines.Move a.shown)
@@ -152,24 +159,24 @@ does : (a' : BackAsk) (a : BackAct) → IsCalm (lines.Move a.shown) → Does a' 
 does a' a c = record { quiet = λ none. c.quiet; allowed = c.free }
 
 map_does : (h : Hypervisor) (gref : ℕ) (mode : Mode) (verdict : Result ℕ MapRefusal) → Does (ask.Map gref mode) (map_act h back.Back gref mode verdict)
-map_does h gref mode (Ok frame) = does _ _ (record { quiet = record { same_epoch = refl; none_gone = λ n. refl }; free = λ before. record { unmap = tt; touch = tt } })
-map_does h gref mode (Err refusal) = does _ _ (record { quiet = record { same_epoch = refl; none_gone = λ n. refl }; free = λ before. record { unmap = tt; touch = tt } })
+map_does h gref mode (Ok frame) = does _ _ (record { quiet = record { same_epoch = refl; none_gone = λ n. refl; none_made = λ k. refl }; free = λ before. record { unmap = tt; touch = tt } })
+map_does h gref mode (Err refusal) = does _ _ (record { quiet = record { same_epoch = refl; none_gone = λ n. refl; none_made = λ k. refl }; free = λ before. record { unmap = tt; touch = tt } })
 
 bind_does : (h : Hypervisor) (p : ℕ) (state : PortState) → Does (ask.Bind p) (bind_act h p state)
-bind_does h p port.Unbound = does _ _ (record { quiet = record { same_epoch = refl; none_gone = λ n. refl }; free = λ before. record { unmap = tt; touch = tt } })
-bind_does h p port.Closed = does _ _ (record { quiet = record { same_epoch = refl; none_gone = λ n. refl }; free = λ before. record { unmap = tt; touch = tt } })
-bind_does h p port.Bound = does _ _ (record { quiet = record { same_epoch = refl; none_gone = λ n. refl }; free = λ before. record { unmap = tt; touch = tt } })
+bind_does h p port.Unbound = does _ _ (record { quiet = record { same_epoch = refl; none_gone = λ n. refl; none_made = λ k. refl }; free = λ before. record { unmap = tt; touch = tt } })
+bind_does h p port.Closed = does _ _ (record { quiet = record { same_epoch = refl; none_gone = λ n. refl; none_made = λ k. refl }; free = λ before. record { unmap = tt; touch = tt } })
+bind_does h p port.Bound = does _ _ (record { quiet = record { same_epoch = refl; none_gone = λ n. refl; none_made = λ k. refl }; free = λ before. record { unmap = tt; touch = tt } })
 
 pub back_does : (h : Hypervisor) (a' : BackAsk) (o : Outcome) (a : BackAct) → IsBacks a' → back_act h back.Back a' o ≡ Some a → Does a' a
-back_does h ask.Wait o a own e = back_test (Does ask.Wait) (is_pending h.channels end.Back) _ a (does _ _ (record { quiet = record { same_epoch = refl; none_gone = λ n. refl }; free = λ before. record { unmap = tt; touch = tt } })) e
-back_does h ask.Fence o a own e = of_back (Does ask.Fence) _ a (does _ _ (record { quiet = record { same_epoch = refl; none_gone = λ n. refl }; free = λ before. record { unmap = tt; touch = tt } })) e
-back_does h (ask.Read m word) o a own e = of_back (Does (ask.Read m word)) _ a (does _ _ (record { quiet = record { same_epoch = refl; none_gone = λ n. refl }; free = λ before. record { unmap = tt; touch = tt } })) e
-back_does h (ask.Write m word value) o a own e = of_back (Does (ask.Write m word value)) _ a (does _ _ (record { quiet = record { same_epoch = refl; none_gone = λ n. refl }; free = λ before. record { unmap = tt; touch = tt } })) e
+back_does h ask.Wait o a own e = back_test (Does ask.Wait) (is_pending h.channels end.Back) _ a (does _ _ (record { quiet = record { same_epoch = refl; none_gone = λ n. refl; none_made = λ k. refl }; free = λ before. record { unmap = tt; touch = tt } })) e
+back_does h ask.Fence o a own e = of_back (Does ask.Fence) _ a (does _ _ (record { quiet = record { same_epoch = refl; none_gone = λ n. refl; none_made = λ k. refl }; free = λ before. record { unmap = tt; touch = tt } })) e
+back_does h (ask.Read m word) o a own e = of_back (Does (ask.Read m word)) _ a (does _ _ (record { quiet = record { same_epoch = refl; none_gone = λ n. refl; none_made = λ k. refl }; free = λ before. record { unmap = tt; touch = tt } })) e
+back_does h (ask.Write m word value) o a own e = of_back (Does (ask.Write m word value)) _ a (does _ _ (record { quiet = record { same_epoch = refl; none_gone = λ n. refl; none_made = λ k. refl }; free = λ before. record { unmap = tt; touch = tt } })) e
 back_does h (ask.Map gref mode) o a own e = of_back (Does (ask.Map gref mode)) _ a (map_does h gref mode (verdict_at h.pages gref mode)) e
 back_does h (ask.Unmap m) o a own e = of_back (Does (ask.Unmap m)) _ a (record { quiet = λ none. absurd (cc); allowed = λ before. record { unmap = tt; touch = tt } }) e
 back_does h (ask.Bind p) o a own e = of_back (Does (ask.Bind p)) _ a (bind_does h p (state_of h.channels p)) e
-back_does h ask.Send o a own e = of_back (Does ask.Send) _ a (does _ _ (record { quiet = record { same_epoch = refl; none_gone = λ n. refl }; free = λ before. record { unmap = tt; touch = tt } })) e
-back_does h ask.ClosePort o a own e = of_back (Does ask.ClosePort) _ a (does _ _ (record { quiet = record { same_epoch = refl; none_gone = λ n. refl }; free = λ before. record { unmap = tt; touch = tt } })) e
+back_does h ask.Send o a own e = of_back (Does ask.Send) _ a (does _ _ (record { quiet = record { same_epoch = refl; none_gone = λ n. refl; none_made = λ k. refl }; free = λ before. record { unmap = tt; touch = tt } })) e
+back_does h ask.ClosePort o a own e = of_back (Does ask.ClosePort) _ a (does _ _ (record { quiet = record { same_epoch = refl; none_gone = λ n. refl; none_made = λ k. refl }; free = λ before. record { unmap = tt; touch = tt } })) e
 back_does h (ask.GetKey path) o a own e = absurd own
 back_does h (ask.SetKey path text) o a own e = absurd own
 back_does h (ask.Watch path) o a own e = absurd own

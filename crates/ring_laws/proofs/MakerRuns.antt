@@ -1,8 +1,9 @@
--- Whatever happens from the start, jobs unmap only what they made.
-use Rattle.std.proofs.Common.{◌≡◌, ℕ, ◌<◌, ◌^◌, Bool, false, if◌then◌else◌, List, [], ◌∷◌, ◌++◌, length, refl, ap, sym, ◌∙◌, subst, append_assoc, append-nil, length-append, arith}
-use Rattle.std.specs.Prelude.{Option, Some, None, is_some}
+-- Whatever happens from the start, jobs unmap only what they made, and nothing is left to them but what they have in their hands.
+use Rattle.std.proofs.Common.{◌≡◌, ℕ, ◌+◌, ◌<◌, ◌≤◌, ◌^◌, Bool, false, if◌then◌else◌, List, [], ◌∷◌, ◌++◌, length, refl, ap, sym, ◌∙◌, subst, append_assoc, append-nil, length-append, arith}
+use Rattle.std.specs.Prelude.{Option, Some, None, is_some, slice_get}
 use Rattle.std.specs.List.{AllByRecursion}
 use Rattle.blk_base.specs.Options.{Options}
+use Rattle.blk_base.specs.declared.parts.Mapping.{Mapping}
 use Rattle.blk_base.specs.declared.moves.BackMover.TheVariants as mover
 use Rattle.blk_base.specs.declared.ask.BackAsk.TheVariants as ask
 use Rattle.hypervisor.specs.Act.{FrontAct, BackAct, Outcome, Took, back_act}
@@ -11,10 +12,13 @@ use Rattle.schedule_text.specs.declared.line.Line.TheVariants as lines
 use Rattle.schedule_text.specs.declared.line.Detail.{Detail}
 use Rattle.report_rules.specs.Obeys.{Obeys}
 use Rattle.report_rules.specs.Standing.{this_epoch}
-use Rattle.report_rules.specs.Unmap.{AreUnmaps}
+use Rattle.report_rules.specs.Job.{entry_values}
+use Rattle.report_rules.specs.Unmap.{left_to, AreUnmaps}
 use Rattle.report_rules.specs.Own.{AreOwn}
 use Rattle.report_rules.proofs.Obeys.{obeys_none, obeys_more}
-use Rattle.back_jobs.specs.Jobs.{ask_job, place_of, work_of}
+use Rattle.back_jobs.specs.Task.{Work}
+use Rattle.back_jobs.specs.Jobs.{ask_job, place_of, work_of, mapping_at}
+use Rattle.back_jobs.proofs.Hands.{IsAmong, place_among}
 use Rattle.blk_front.specs.Ask as front_ask
 use Rattle.blk_front.specs.Step as front_step
 use Rattle.blk_front.specs.Submit as front_submit
@@ -31,14 +35,17 @@ use Rattle.move_laws.specs.Within.{AreWithin}
 use Rattle.move_laws.proofs.Always.{always_within}
 use Rattle.ring_laws.proofs.Knows.{Follows}
 use Rattle.ring_laws.proofs.Free.{job_running}
+use Rattle.ring_laws.proofs.Began.{IsJobOf}
+use Rattle.ring_laws.proofs.Works.{AreJobs, all_second, all_more}
 use Rattle.ring_laws.proofs.BackChange.{Changed, change_at}
 use Rattle.ring_laws.proofs.BackTells.{told_none}
+use Rattle.ring_laws.proofs.Tells.{small_number}
 use Rattle.ring_laws.proofs.Standings.{in_hand}
 use Rattle.ring_laws.proofs.Runs.{FollowsTo}
 use Rattle.ring_laws.proofs.JobRuns.{Stand, stand_start, stand_happens}
-use Rattle.ring_laws.proofs.Makers.{IsMine, open_more}
+use Rattle.ring_laws.proofs.Makers.{Holds, IsMine, open_more}
 use Rattle.ring_laws.proofs.MakerLines.{calm_quiet, calm_open, front_lines_calm, submit_calm, look_calm, settle_calm, told_calm, Does, back_does, serving_asks}
-use Rattle.ring_laws.proofs.MakerTurns.{Made, made_aside, quiet_hands, changed_hands, Stands, Turned, job_turned, all_by_place}
+use Rattle.ring_laws.proofs.MakerTurns.{IsMadeBy, Made, made_aside, quiet_hands, changed_hands, Stands, Turned, job_turned, all_by_place}
 
 no_lines : (before : List Line) (v : back.View) → Made before v → Made (before ++ []) v
 no_lines before v m = subst (λ (ls : List Line). Made ls v) (sym (append-nil before)) m
@@ -47,11 +54,15 @@ front_made : (w : World) (before : List Line) (act : Option FrontAct) → front_
 front_made w before None e m = no_lines before w.back m
 front_made w before (Some a) e m = let g : front.View = front_step.step_of w.front a.answer in made_aside before (front_shows w (Some a)) w.back (front_lines_calm w.under (front_ask.ask_of w.front) a g.told e) m
 
-back_made : (config : Options) (w : World) (before : List Line) (o : Outcome) (act : Option BackAct) → FollowsTo config.start before w → back_turn w o ≡ act → Made before w.back → (let n : World = back_after w act in Made (before ++ back_shows w act) n.back)
-back_made config w before o None f e m = no_lines before w.back m
-back_made config w before o (Some a) f e m =
+first_numbers : (config : Options) (values : List ℕ) (epoch : List Line) (fetched : ℕ) (works : List Work) → AreJobs config values epoch fetched works → AllByRecursion (λ (t : Work). 1 ≤ t.number) works
+first_numbers config values epoch fetched works jobs = all_more (IsJobOf config values epoch) (λ (t : Work). 1 ≤ t.number) works (λ t j. j.first) jobs.each
+
+back_made : (config : Options) (w : World) (before : List Line) (o : Outcome) (act : Option BackAct) → Stand config before w → Stand config (before ++ back_shows w act) (back_after w act) → back_turn w o ≡ act → Made before w.back → (let n : World = back_after w act in Made (before ++ back_shows w act) n.back)
+back_made config w before o None s t e m = no_lines before w.back m
+back_made config w before o (Some a) s t e m =
     let v : back.View = w.back in
     let new : back.View = back_step.step_of w.back a.answer in
+    let f : FollowsTo config.start before w = s.ring in
     let g : Follows config.start [] before w.back = f.follows in
     let c : Changed (length g.sight.values) w.back (back_step.step_of w.back a.answer) = change_at v.stage v g.sight a.answer g.knows (told_none v.told f.told) in
     let d : Does (ask_of w.back) a = back_does w.under (ask_of w.back) o a (backs_of w.back) e in
@@ -59,31 +70,45 @@ back_made config w before o (Some a) f e m =
     let made : Made (before ++ back_shows w (Some a)) (back_step.step_of w.back a.answer) = record {
       obeys = open_more before (back_shows w (Some a)) (d.allowed, calm_open (back_lines new.told a.answer ++ halt_lines v.halted new.halted) rest) m.obeys;
       hands = λ runs.
-          changed_hands (length g.sight.values) (this_epoch (before ++ back_shows w (Some a))) v new c.change runs
-          (quiet_hands before (back_shows w (Some a)) v.jobs.works (d.quiet (serving_asks v.stage v g.sight g.knows (c.running runs)), calm_quiet (back_lines new.told a.answer ++ halt_lines v.halted new.halted) rest) (m.hands (c.running runs)));
+          let jobs : AreJobs config (entry_values (before ++ back_shows w (Some a))) (this_epoch (before ++ back_shows w (Some a))) new.fetched new.jobs.works = t.tells.jobs runs in
+          let small : v.fetched < 2 ^ 64 = small_number v.stage v g.sight g.knows (c.running runs) in
+          quiet_hands before (back_shows w (Some a)) new.jobs.works (d.quiet (serving_asks v.stage v g.sight g.knows (c.running runs)), calm_quiet (back_lines new.told a.answer ++ halt_lines v.halted new.halted) rest)
+          (changed_hands (length g.sight.values) (this_epoch before) v new c.change runs small (s.tells.unseen (v.fetched + 1) (omega arith)) (first_numbers config _ _ new.fetched new.jobs.works jobs) (m.hands (c.running runs)));
     } in
     record { obeys = made.obeys; hands = made.hands }
 
-job_made : (config : Options) (w : World) (before : List Line) (k : ℕ) (o : Outcome) (act : Option BackAct) → job_turn w k o ≡ act → Stand config (before ++ job_shows w k act) (job_after w k act) → Made before w.back → (let n : World = job_after w k act in Made (before ++ job_shows w k act) n.back)
-job_made config w before k o None e s m = no_lines before w.back m
-job_made config w before k o (Some a) e s m =
+job_made : (config : Options) (w : World) (before : List Line) (k : ℕ) (o : Outcome) (act : Option BackAct) → job_turn w k o ≡ act → Stand config before w → Stand config (before ++ job_shows w k act) (job_after w k act) → Made before w.back → (let n : World = job_after w k act in Made (before ++ job_shows w k act) n.back)
+job_made config w before k o None e old s m = no_lines before w.back m
+job_made config w before k o (Some a) e old s m =
     let v : back.View = w.back in
     let n : World = job_after w k (Some a) in
     let running : is_some v.halted ≡ false = job_running (is_some v.halted) w.under k (ask_job v.jobs k) o a e in
     let asks = ap (λ (b : Bool). back_act w.under (mover.Job k) (if b then ask.Wait else ask_job v.jobs k) o) (sym running) ∙ e in
     let stands : AllByRecursion (Stands (before ++ job_shows w k (Some a))) n.back.jobs.works = all_by_place (Stands (before ++ job_shows w k (Some a))) n.back.jobs.works
     (λ i t found x is. in_hand (before ++ job_shows w k (Some a)) n.under.pages n.under.grants n.back i t x s.memory.tells s.safe.held found is) in
-    let turned : Turned before (job_shows w k (Some a)) n.back.jobs.works = job_turned before w.under v.jobs.works k o a (place_of v.jobs.works k) (work_of v.jobs.works k) refl refl asks m.obeys (m.hands running) stands in
+    let jobs : AreJobs config (entry_values before) (this_epoch before) v.fetched v.jobs.works = old.tells.jobs running in
+    let turned : Turned before (job_shows w k (Some a)) n.back.jobs.works = job_turned before w.under v.jobs.works k o a (place_of v.jobs.works k) (work_of v.jobs.works k) refl refl asks m.obeys jobs.apart (m.hands running) stands in
     record { obeys = turned.obeys; hands = λ runs. turned.hands }
 
-made_happens : (config : Options) (w : World) (h : Happening) (before : List Line) → Stand config before w → Stand config (before ++ lines_at w h) (happens w h) → Made before w.back → (let n : World = happens w h in Made (before ++ lines_at w h) n.back)
+-- one happening keeps it
+pub made_happens : (config : Options) (w : World) (h : Happening) (before : List Line) → Stand config before w → Stand config (before ++ lines_at w h) (happens w h) → Made before w.back → (let n : World = happens w h in Made (before ++ lines_at w h) n.back)
 made_happens config w FrontMoves before s t m = front_made w before (front_turn w) refl m
-made_happens config w BackMoves before s t m = back_made config w before Took (back_turn w Took) s.ring refl m
-made_happens config w (JobMoves number outcome) before s t m = job_made config w before number outcome (job_turn w number outcome) refl t m
+made_happens config w BackMoves before s t m = back_made config w before Took (back_turn w Took) s t refl m
+made_happens config w (JobMoves number outcome) before s t m = job_made config w before number outcome (job_turn w number outcome) refl s t m
 made_happens config w (Submits job) before s t m = made_aside before (lines_at w (Submits job)) w.back (submit_calm job (front_submit.submit_of w.front job).0, tt) m
 made_happens config w (Notifies at) before s t m = no_lines before w.back m
 made_happens config w Looks before s t m = made_aside before (lines_at w Looks) w.back (look_calm (is_quiet w), tt) m
 made_happens config w Settles before s t m = made_aside before (lines_at w Settles) w.back (settle_calm (is_quiet w), tt) m
+
+pub made_start : (config : Options) (detail : Detail) → (let w : World = start_of config in Made (lines.Begin config detail ∷ []) w.back)
+made_start config detail = record { obeys = obeys_more IsMine [] (lines.Begin config detail) (obeys_none IsMine) (record { unmap = tt; touch = tt }); hands = λ runs. tt }
+
+-- nothing is left to a job whose hand is empty
+pub hand_empty : (before : List Line) (v : back.View) → Made before v → is_some v.halted ≡ false → (place : ℕ) (t : Work) → slice_get v.jobs.works place ≡ Some t → mapping_at t.stage ≡ None → left_to t.number (this_epoch before) ≡ []
+hand_empty before v m runs place t is empty =
+    let among : IsAmong v.jobs.works place t = place_among v.jobs.works place t is in
+    let parts : AllByRecursion (IsMadeBy (this_epoch before)) (among.front ++ t ∷ among.rest) = subst (λ (ws : List Work). AllByRecursion (IsMadeBy (this_epoch before)) ws) among.is (m.hands runs) in
+    subst (λ (o : Option Mapping). Holds o (left_to t.number (this_epoch before))) empty (all_second (IsMadeBy (this_epoch before)) among.front (t ∷ among.rest) parts).0
 
 made_after : (config : Options) (hs : List Happening) (w : World) (before : List Line) → AreWithin hs w → Stand config before w → Made before w.back → length (before ++ lines_of hs w) < 2 ^ 64 → (let n : World = after hs w in Made (before ++ lines_of hs w) n.back)
 made_after config [] w before within s m few = no_lines before w.back m
@@ -98,8 +123,7 @@ made_after config (h ∷ hs) w before within s m few =
 
 report_made : (config : Options) (detail : Detail) (history : List Happening) → length (report_of config detail history) < 2 ^ 64 → Obeys IsMine (report_of config detail history)
 report_made config detail history few =
-    (made_after config history (start_of config) (lines.Begin config detail ∷ []) (always_within config history) (stand_start config detail)
-    (record { obeys = obeys_more IsMine [] (lines.Begin config detail) (obeys_none IsMine) (record { unmap = tt; touch = tt }); hands = λ runs. tt }) few).obeys
+    (made_after config history (start_of config) (lines.Begin config detail ∷ []) (always_within config history) (stand_start config detail) (made_start config detail) few).obeys
 
 ended_made : (config : Options) (detail : Detail) (history : List Happening) → length (report_of config detail history) < 2 ^ 64 → Obeys IsMine (ended_report_of config detail history)
 ended_made config detail history few = obeys_more IsMine (report_of config detail history) lines.End (report_made config detail history few) (record { unmap = tt; touch = tt })

@@ -1,9 +1,10 @@
--- The mappings that a job made and that stand, with lines more.
-use Rattle.std.proofs.Common.{◌≡◌, ℕ, ◌==◌, ◌||◌, ◌&&◌, not, Bool, true, false, if◌then◌else◌, List, [], ◌∷◌, ◌++◌, filter, refl, ap, sym, ◌∙◌, subst, append_assoc, append-nil, arith}
+-- The mappings that a job made and that stand, with lines more: no others than what it has in its hand.
+use Rattle.std.proofs.Common.{◌≡◌, ℕ, ◌==◌, ◌||◌, ◌&&◌, not, Bool, true, false, List, [], ◌∷◌, ◌++◌, filter, refl, ap, sym, ◌∙◌, subst, append_assoc, append-nil, arith}
 use Rattle.std.specs.Prelude.{Option, Some, None, is_some, IsSomeAnd}
 use Rattle.std.specs.List.{AllByRecursion, list_any, cons_option}
 use Rattle.std.proofs.lemmas.Bool.Decides.{nat_tests}
-use Rattle.std.proofs.lemmas.List.Folds.{list_any-append}
+use Rattle.std.specs.Option.{option_to_list}
+use Rattle.blk_base.specs.declared.parts.Mapping.{Mapping}
 use Rattle.blk_base.specs.declared.parts.Mode.{Mode}
 use Rattle.blk_base.specs.declared.moves.BackMover.{BackMover}
 use Rattle.blk_base.specs.declared.moves.BackMover.TheVariants as back
@@ -17,72 +18,82 @@ use Rattle.report_rules.specs.Steps.{is_persistent}
 use Rattle.report_rules.specs.Unmap.{made_by, left_to, IsUnmapAt}
 use Rattle.report_rules.specs.Own.{is_kept_mapping, may_touch, IsOwnAt}
 use Rattle.report_rules.proofs.Obeys.{obeys_more}
-use Rattle.report_rules.proofs.Back.{standing_more}
+use Rattle.report_rules.proofs.Back.{left_more_by, standing_more}
 use Rattle.ring_laws.proofs.Shows.{epoch_longer}
+use Rattle.ring_laws.proofs.Lists.{either_false}
+use Rattle.ring_laws.proofs.JobLines.{is_of}
 use Rattle.ring_laws.proofs.JobMoves.{itself}
 
 -- job k made the mapping of that number in these lines, and it stands
 abbrev pub has : ℕ → ℕ → List Line → Bool
 has n k epoch = is_some (numbered n (left_to k epoch))
 
--- one mapping more before those that are left
-data Where (n : ℕ) (s : Standing) (rest : List Standing) (gone : Bool) : Type 0 where
-  first : gone ≡ false → (s.number == n) ≡ true → Where n s rest gone
-  later : is_some (numbered n rest) ≡ true → Where n s rest gone
+-- nothing is left but a mapping of that number
+pub record IsOnly (number : ℕ) (left : List Standing) : Type 0 where
+  pub standing : Standing
+  pub is : left ≡ standing ∷ []
+  pub same : standing.number ≡ number
 
-where_is : (n : ℕ) (s : Standing) (rest : List Standing) (gone : Bool) → is_some (numbered n (cons_option (if gone then None else Some s) rest)) ≡ true → Where n s rest gone
-where_is n s rest true e = later e
-where_is n s rest false e = by_test (s.number == n) refl
-  where
-    by_test : (b : Bool) → (s.number == n) ≡ b → Where n s rest false
-    by_test true t = first refl t
-    by_test false t = later (ap (λ (x : Bool). is_some (if x then Some s else numbered n rest)) (sym t) ∙ e)
+-- nothing is left to a job but what it has in its hand
+abbrev pub Holds : Option Mapping → List Standing → Type 0
+Holds None left = left ≡ []
+Holds (Some m) left = IsOnly m.number left
 
-behind : (n : ℕ) (s : Standing) (rest : List Standing) (gone : Bool) → is_some (numbered n rest) ≡ true → is_some (numbered n (cons_option (if gone then None else Some s) rest)) ≡ true
-behind n s rest true e = e
-behind n s rest false e = by_test (s.number == n) refl
-  where
-    by_test : (b : Bool) → (s.number == n) ≡ b → is_some (numbered n (s ∷ rest)) ≡ true
-    by_test true t = ap (λ (x : Bool). is_some (if x then Some s else numbered n rest)) t
-    by_test false t = ap (λ (x : Bool). is_some (if x then Some s else numbered n rest)) t ∙ e
+pub holds_has : (k : ℕ) (m : Mapping) (epoch : List Line) → Holds (Some m) (left_to k epoch) → has m.number k epoch ≡ true
+holds_has k m epoch only = let test : (only.standing.number == m.number) ≡ true = ap (λ (n : ℕ). n == m.number) only.same ∙ itself m.number in rw (only.is, test) refl
 
-here : (n : ℕ) (s : Standing) (rest : List Standing) (gone : Bool) → gone ≡ false → (s.number == n) ≡ true → is_some (numbered n (cons_option (if gone then None else Some s) rest)) ≡ true
-here n s rest gone g t = ap (λ (b : Bool). is_some (numbered n (cons_option (if b then None else Some s) rest))) g ∙ ap (λ (x : Bool). is_some (if x then Some s else numbered n rest)) t
+-- the mappings that are left to job k, with one line more
+left_more : (k : ℕ) (epoch : List Line) (line : Line) → left_to k (epoch ++ line ∷ []) ≡ filter (λ (s : Standing). not (is_unmap_of s.number line)) (left_to k epoch) ++ option_to_list (made_by k line)
+left_more k = left_more_by (made_by k) (left_to k) refl (λ line later. refl)
 
-same_number : (a b : ℕ) → (a == b) ≡ true → a ≡ b
-same_number a b e = grind (arith, nat_tests)
+one_holds : (o : Option Mapping) (k : ℕ) (epoch : List Line) (line : Line) → made_by k line ≡ None → ((m : Mapping) → o ≡ Some m → is_unmap_of m.number line ≡ false) → Holds o (left_to k epoch) → Holds o (left_to k (epoch ++ line ∷ []))
+one_holds None k epoch line none stays h = rw (left_more k epoch line, h, none) refl
+one_holds (Some m) k epoch line none stays h =
+    let here : is_unmap_of h.standing.number line ≡ false = ap (λ (n : ℕ). is_unmap_of n line) h.same ∙ stays m refl in
+    record { standing = h.standing; is = rw (left_more k epoch line, h.is, none, here) refl; same = h.same }
 
--- lines that don't unmap it leave it
-pub kept : (n k : ℕ) (ys epoch : List Line) → list_any (is_unmap_of n) ys ≡ false → has n k epoch ≡ true → has n k (epoch ++ ys) ≡ true
-kept n k ys [] none e = absurd (cc)
-kept n k ys (x ∷ xs) none e = by_made (made_by k x) (kept n k ys xs none) e
-  where
-    by_made : (o : Option Standing) → (has n k xs ≡ true → has n k (xs ++ ys) ≡ true) → is_some (numbered n (cons_option (unless_unmapped xs o) (left_to k xs))) ≡ true → is_some (numbered n (cons_option (unless_unmapped (xs ++ ys) o) (left_to k (xs ++ ys)))) ≡ true
-    by_made None more h = more h
-    by_made (Some s) more h = elim (where_is n s (left_to k xs) (list_any (is_unmap_of s.number) xs) h) [
-      | first g t ↦ here n s (left_to k (xs ++ ys)) (list_any (is_unmap_of s.number) (xs ++ ys))
-          (list_any-append (is_unmap_of s.number) xs ys ∙ (ap (λ (b : Bool). b || list_any (is_unmap_of s.number) ys) g ∙ (ap (λ (i : ℕ). list_any (is_unmap_of i) ys) (same_number s.number n t) ∙ none))) t
-      | later r ↦ behind n s (left_to k (xs ++ ys)) (list_any (is_unmap_of s.number) (xs ++ ys)) (more r)
-    ]
+-- lines that make no mapping for job k
+abbrev pub MakeNone : ℕ → List Line → Type 0
+MakeNone k ys = AllByRecursion (λ (line : Line). made_by k line ≡ None) ys
 
--- the one that is made last
-pub made_last : (n k gref frame : ℕ) (mode : Mode) (epoch : List Line) → has n k (epoch ++ lines.Move (moves.Map (back.Job k) gref mode n frame) ∷ []) ≡ true
-made_last n k gref frame mode [] =
-    let s : Standing = record { number = n; gref = gref; mode = mode; frame = frame } in
-    ap (λ (b : Bool). is_some (numbered n (cons_option (unless_unmapped [] (if b then Some s else None)) []))) (itself k) ∙ here n s [] false refl (itself n)
-made_last n k gref frame mode (x ∷ xs) = by_made (made_by k x) (made_last n k gref frame mode xs)
-  where
-    line : Line
-    line = lines.Move (moves.Map (back.Job k) gref mode n frame)
+-- and that don't unmap what it has in its hand
+pub holds_more : (o : Option Mapping) (k : ℕ) (ys epoch : List Line) → MakeNone k ys → ((m : Mapping) → o ≡ Some m → list_any (is_unmap_of m.number) ys ≡ false) → Holds o (left_to k epoch) → Holds o (left_to k (epoch ++ ys))
+holds_more o k [] epoch none stays h = subst (λ (ls : List Line). Holds o (left_to k ls)) (sym (append-nil epoch)) h
+holds_more o k (y ∷ ys) epoch none stays h =
+    let both : (m : Mapping) → o ≡ Some m → (is_unmap_of m.number y ≡ false) × (list_any (is_unmap_of m.number) ys ≡ false) = λ m e. either_false (is_unmap_of m.number y) (list_any (is_unmap_of m.number) ys) (stays m e) in
+    subst (λ (ls : List Line). Holds o (left_to k ls)) (append_assoc epoch (y ∷ []) ys)
+    (holds_more o k ys (epoch ++ y ∷ []) none.1 (λ m e. (both m e).1) (one_holds o k epoch y none.0 (λ m e. (both m e).0) h))
 
-    by_made : (o : Option Standing) → has n k (xs ++ line ∷ []) ≡ true → is_some (numbered n (cons_option (unless_unmapped (xs ++ line ∷ []) o) (left_to k (xs ++ line ∷ [])))) ≡ true
-    by_made None h = h
-    by_made (Some s) h = behind n s (left_to k (xs ++ line ∷ [])) (list_any (is_unmap_of s.number) (xs ++ line ∷ [])) h
+-- a job whose hand is empty maps
+pub holds_made : (k gref frame : ℕ) (mode : Mode) (m : Mapping) (epoch : List Line) → left_to k epoch ≡ [] → Holds (Some m) (left_to k (epoch ++ lines.Move (moves.Map (back.Job k) gref mode m.number frame) ∷ []))
+holds_made k gref frame mode m epoch empty = record {
+  standing = record { number = m.number; gref = gref; mode = mode; frame = frame };
+  is = rw (left_more k epoch (lines.Move (moves.Map (back.Job k) gref mode m.number frame)), empty, itself k) refl;
+  same = refl;
+}
 
--- a line that unmaps nothing
+-- and it unmaps what is in its hand
+pub holds_gone : (k : ℕ) (m : Mapping) (epoch : List Line) → Holds (Some m) (left_to k epoch) → left_to k (epoch ++ lines.Move (moves.Unmap (back.Job k) m.number) ∷ []) ≡ []
+holds_gone k m epoch only =
+    let gone : (m.number == only.standing.number) ≡ true = ap (λ (n : ℕ). m.number == n) only.same ∙ itself m.number in
+    rw (left_more k epoch (lines.Move (moves.Unmap (back.Job k) m.number)), only.is, gone) refl
+
+-- a job of which no line is a step has nothing
+unmade : (k : ℕ) (line : Line) → is_of k line ≡ false → made_by k line ≡ None
+unmade k (lines.Move (moves.Map who gref mode number frame)) e = rw e refl
+unmade k line e = refl
+
+pub unseen_left : (k : ℕ) (epoch : List Line) → list_any (is_of k) epoch ≡ false → left_to k epoch ≡ []
+unseen_left k [] none = refl
+unseen_left k (x ∷ xs) none =
+    let both : (is_of k x ≡ false) × (list_any (is_of k) xs ≡ false) = either_false (is_of k x) (list_any (is_of k) xs) none in
+    ap (λ (o : Option Standing). cons_option (unless_unmapped xs o) (left_to k xs)) (unmade k x both.0) ∙ unseen_left k xs both.1
+
+-- a line that unmaps nothing, and makes no mapping for a job
 pub record IsQuiet (line : Line) : Type 0 where
   pub same_epoch : is_epoch line ≡ false
   pub none_gone : (n : ℕ) → is_unmap_of n line ≡ false
+  pub none_made : (k : ℕ) → made_by k line ≡ None
 
 abbrev pub AreQuiet : List Line → Type 0
 AreQuiet ls = AllByRecursion IsQuiet ls
@@ -90,6 +101,13 @@ AreQuiet ls = AllByRecursion IsQuiet ls
 pub quiet_none : (n : ℕ) (ys : List Line) → AreQuiet ys → list_any (is_unmap_of n) ys ≡ false
 quiet_none n [] all = refl
 quiet_none n (y ∷ ys) all = let q : IsQuiet y = all.0 in ap (λ (b : Bool). b || list_any (is_unmap_of n) ys) (q.none_gone n) ∙ quiet_none n ys all.1
+
+pub quiet_made : (k : ℕ) (ys : List Line) → AreQuiet ys → MakeNone k ys
+quiet_made k [] all = tt
+quiet_made k (y ∷ ys) all = let q : IsQuiet y = all.0 in (q.none_made k, quiet_made k ys all.1)
+
+pub quiet_holds : (o : Option Mapping) (k : ℕ) (ys epoch : List Line) → AreQuiet ys → Holds o (left_to k epoch) → Holds o (left_to k (epoch ++ ys))
+quiet_holds o k ys epoch quiet h = holds_more o k ys epoch (quiet_made k ys quiet) (λ m e. quiet_none m.number ys quiet) h
 
 pub quiet_epoch : (before ys : List Line) → AreQuiet ys → this_epoch (before ++ ys) ≡ this_epoch before ++ ys
 quiet_epoch before [] all = ap this_epoch (append-nil before) ∙ sym (append-nil (this_epoch before))
@@ -126,6 +144,9 @@ none_left n (s ∷ xs) = by_test (n == s.number) refl (none_left n xs)
     by_test : (b : Bool) → (n == s.number) ≡ b → numbered n (filter (λ (y : Standing). not (n == y.number)) xs ++ []) ≡ None → numbered n (filter (λ (y : Standing). not (n == y.number)) (s ∷ xs) ++ []) ≡ None
     by_test true t rest = rw t rest
     by_test false t rest = let other = turned n s.number t in rw (t, other) rest
+
+same_number : (a b : ℕ) → (a == b) ≡ true → a ≡ b
+same_number a b e = grind (arith, nat_tests)
 
 pub unmapped_other : (before : List Line) (who : BackMover) (x n : ℕ) (P : Standing → Type 0) → IsSomeAnd (numbered n (standing_behind (before ++ lines.Move (moves.Unmap who x) ∷ []))) P → (x == n) ≡ false
 unmapped_other before who x n P stands = by_test (x == n) refl

@@ -1,22 +1,27 @@
 -- How far a job is in the work of its entry, by its stage.
-use Rattle.std.proofs.Common.{◌≡◌, ℕ, ◌+◌, ◌-◌, ◌*◌, ◌<◌, ◌≤◌, Bool, true, false, List, [], ◌∷◌, ◌++◌, length, count_by, refl, ap, ◌∙◌, arith}
-use Rattle.std.specs.Prelude.{slice_get, Some, None, option_and_then}
+use Rattle.std.proofs.Common.{◌≡◌, ℕ, ◌+◌, ◌-◌, ◌*◌, ◌<◌, ◌≤◌, Bool, true, false, if◌then◌else◌, List, [], ◌∷◌, ◌++◌, length, count_by, refl, ap, ◌∙◌, append-nil, arith}
+use Rattle.std.specs.Prelude.{slice_get, nat_le, Option, Some, None, option_and_then}
 use Rattle.std.specs.List.{AllByRecursion}
+use Rattle.std.proofs.lemmas.Bool.Decides.{nat_tests}
+use Rattle.blk_base.specs.declared.operation.Status.{Status}
+use Rattle.blk_base.specs.declared.operation.Status.TheVariants.{Okay, Error}
 use Rattle.blk_base.specs.declared.parts.Mapping.{Mapping}
 use Rattle.blk_base.specs.declared.parts.Mode.TheVariants.{ReadOnly}
 use Rattle.blk_base.specs.declared.moves.Move.{Move}
 use Rattle.schedule_text.specs.declared.line.Line.{Line}
 use Rattle.blk_layout.specs.declared.segment.Segment.{Segment}
 use Rattle.segment_list.specs.Segments.{IsSound, length_of, sectors_of}
+use Rattle.report_rules.specs.declared.step.Spot.{Spot}
 use Rattle.report_rules.specs.declared.work.Task.{Task}
 use Rattle.report_rules.specs.declared.work.Task.TheVariants as tasks
 use Rattle.report_rules.specs.Work.{stores_of, loads_of}
 use Rattle.report_rules.specs.Steps.{spot, advanced, walk_of, failed_in}
 use Rattle.report_rules.specs.Data.{words_from}
+use Rattle.report_rules.specs.Reply.{end_of}
 use Rattle.back_jobs.specs.declared.stage.Stage.{Stage}
 use Rattle.back_jobs.specs.declared.stage.Stage.TheVariants as stage
 use Rattle.back_jobs.specs.Task.{Work, first_of, rest_of}
-use Rattle.ring_laws.proofs.JobLines.{is_disk_of}
+use Rattle.ring_laws.proofs.JobLines.{is_disk_of, IsAside, walk_aside, failed_same}
 use Rattle.ring_laws.proofs.TaskSteps.{task_at}
 
 -- the tasks of segments from a disk sector on
@@ -54,6 +59,10 @@ pub record Within (work : List Task) (k : ℕ) (epoch : List Line) (rest : List 
   pub counted : count_by (is_disk_of k) epoch ≡ moved
   pub whole : failed_in k epoch ≡ false
 
+-- the status with which the work ends by these lines, if it ends; `served` is that of work done in full
+abbrev pub ending : List Task → ℕ → List Line → Status → Option Status
+ending work k epoch served = end_of (failed_in k epoch) (length work) served (walk_of false work k epoch)
+
 abbrev pub IsAt : List Task → ℕ → List Line → Stage → Work → Type 0
 IsAt work k epoch stage.Map t = Before work k epoch t.rest t.disk t.moved t.writes × (t.within ≡ first_of t.rest)
 IsAt work k epoch (stage.ReadWord m j) t = Within work k epoch t.rest t.within t.disk t.moved t.writes j 1 m × (j < 128) × (t.writes ≡ true)
@@ -61,7 +70,38 @@ IsAt work k epoch (stage.DiskWrite m) t = Within work k epoch t.rest t.within t.
 IsAt work k epoch (stage.DiskRead m) t = Within work k epoch t.rest t.within t.disk t.moved t.writes 0 1 m × (t.writes ≡ false)
 IsAt work k epoch (stage.WriteWord m j) t = Within work k epoch t.rest t.within t.disk t.moved t.writes (1 + j) 0 m × (j < 128) × (t.writes ≡ false) × (words_from None k epoch ≡ Some t.words)
 IsAt work k epoch (stage.Unmap m) t = Before work k epoch (rest_of t.rest) t.disk t.moved t.writes
-IsAt work k epoch s t = Unit {0}
+IsAt work k epoch (stage.GiveUp m) t = failed_in k epoch ≡ true
+IsAt work k epoch (stage.Done status) t = ending work k epoch Okay ≡ Some status
+
+-- others' lines leave it as it ended
+pub ending_aside : (work : List Task) (k : ℕ) (epoch ys : List Line) (served : Status) → IsAside k ys → ending work k (epoch ++ ys) served ≡ ending work k epoch served
+ending_aside work k epoch ys served aside =
+    ap (λ (failed : Bool). end_of failed (length work) served (walk_of false work k (epoch ++ ys))) (failed_same k epoch ys aside)
+    ∙ ap (λ (s : Option Spot). end_of (failed_in k epoch) (length work) served s) (walk_aside work k epoch ys aside.none)
+
+-- no segment is left
+pub all_done : (work : List Task) (k : ℕ) (epoch : List Line) (disk moved : ℕ) (writes : Bool) → Before work k epoch [] disk moved writes → ending work k epoch Okay ≡ Some Okay
+all_done work k epoch disk moved writes b =
+    ap (λ (failed : Bool). end_of failed (length work) Okay (walk_of false work k epoch)) b.whole
+    ∙ (ap (λ (s : Option Spot). end_of false (length work) Okay s) b.came
+    ∙ (ap (λ (l : List Task). if nat_le (length l) (length b.done) then Some Okay else None) (b.tail ∙ (ap (λ (l : List Task). b.done ++ l) (no_tasks writes) ∙ append-nil b.done))
+    ∙ ap (λ (whole : Bool). if whole then Some Okay else None) (enough (length b.done))))
+  where
+    no_tasks : (w : Bool) → tasks_of w disk [] ≡ []
+    no_tasks true = refl
+    no_tasks false = refl
+
+    enough : (n : ℕ) → nat_le n n ≡ true
+    enough n = grind (arith, nat_tests)
+
+-- a map was refused
+pub refused_end : (work : List Task) (k : ℕ) (epoch : List Line) (done place gref : ℕ) → failed_in k epoch ≡ false → walk_of false work k epoch ≡ Some (spot done place true gref) → ending work k epoch Okay ≡ Some Error
+refused_end work k epoch done place gref whole came =
+    ap (λ (failed : Bool). end_of failed (length work) Okay (walk_of false work k epoch)) whole ∙ ap (λ (s : Option Spot). end_of false (length work) Okay s) came
+
+-- the disk failed
+pub failed_end : (work : List Task) (k : ℕ) (epoch : List Line) → failed_in k epoch ≡ true → ending work k epoch Okay ≡ Some Error
+failed_end work k epoch failed = ap (λ (f : Bool). end_of f (length work) Okay (walk_of false work k epoch)) failed
 
 -- the task of the segment at hand
 pub store_at : (work done : List Task) (segment : Segment) (more : List Segment) (writes : Bool) (begin : ℕ) → work ≡ done ++ tasks_of writes begin (segment ∷ more) → writes ≡ true → slice_get work (length done) ≡ Some (tasks.Store segment.gref ReadOnly begin segment.first (length_of segment))

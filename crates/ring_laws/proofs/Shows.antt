@@ -60,7 +60,7 @@ pages_more before line same =
     ap (λ (ls : List Line). filter_map page_made ls) (epoch_longer before line same)
     ∙ (filter_map-append page_made (this_epoch before) (line ∷ []) ∙ ap (λ (ps : List Standing). ring_pages before ++ ps) (one_page (page_made line)))
 
-pages_kept : (before : List Line) (line : Line) → is_epoch line ≡ false → page_made line ≡ None → ring_pages (before ++ line ∷ []) ≡ ring_pages before
+pub pages_kept : (before : List Line) (line : Line) → is_epoch line ≡ false → page_made line ≡ None → ring_pages (before ++ line ∷ []) ≡ ring_pages before
 pages_kept before line same none =
     pages_more before line same ∙ (ap (λ (made : Option Standing). ring_pages before ++ option_to_list made) none ∙ append-nil (ring_pages before))
 
@@ -73,7 +73,7 @@ abi_more before line same = ap (λ (ls : List Line). fold abi_after (Some X64) l
 both_false : (a b : Bool) → a ≡ false → b ≡ false → (a || b) ≡ false
 both_false a b p q = rw (p, q) refl
 
-touched_more : (before : List Line) (line : Line) → is_epoch line ≡ false → list_any is_touch (this_epoch (before ++ line ∷ [])) ≡ (list_any is_touch (this_epoch before) || is_touch line)
+pub touched_more : (before : List Line) (line : Line) → is_epoch line ≡ false → list_any is_touch (this_epoch (before ++ line ∷ [])) ≡ (list_any is_touch (this_epoch before) || is_touch line)
 touched_more before line same =
     ap (λ (ls : List Line). list_any is_touch ls) (epoch_longer before line same)
     ∙ (list_any-append is_touch (this_epoch before) (line ∷ []) ∙ ap (λ (b : Bool). list_any is_touch (this_epoch before) || b) (or_false (is_touch line)))

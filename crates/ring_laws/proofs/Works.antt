@@ -5,16 +5,20 @@ use Rattle.std.specs.List.{AllByRecursion}
 use Rattle.std.proofs.lemmas.List.{map-append, take-append-le, drop-append-le}
 use Rattle.blk_base.specs.Options.{Options}
 use Rattle.blk_base.specs.declared.operation.Abi.TheVariants.{X64}
+use Rattle.blk_base.specs.declared.operation.Status.{Status}
 use Rattle.schedule_text.specs.declared.line.Line.{Line}
 use Rattle.blk_layout.specs.Entry.{request_of}
+use Rattle.report_rules.specs.declared.work.Task.{Task}
 use Rattle.report_rules.specs.Job.{words_of_job, id_of}
+use Rattle.back_jobs.specs.declared.stage.Stage.{Stage}
 use Rattle.back_jobs.specs.Task.{Work}
 use Rattle.back_jobs.specs.Jobs.{removed_at}
 use Rattle.back_jobs.proofs.Hands.{IsAmong, place_among}
 use Rattle.blk_back.specs.View.{info_of as back_info}
 use Rattle.ring_laws.proofs.JobLines.{IsAside}
+use Rattle.ring_laws.proofs.Places.{ending_aside}
 use Rattle.ring_laws.proofs.JobMoves.{at_aside}
-use Rattle.ring_laws.proofs.Began.{IsPlan, IsJobOf}
+use Rattle.ring_laws.proofs.Began.{IsPlan, HasCome, serves, over, IsJobOf}
 
 abbrev pub number_of : Work → ℕ
 number_of t = t.number
@@ -48,32 +52,42 @@ pub all_pairs : {X : Type 0} (P Q R : X → Type 0) (xs : List X) → ((x : X) �
 all_pairs P Q R [] f p q = tt
 all_pairs P Q R (x ∷ xs) f p q = (f x p.0 q.0, all_pairs P Q R xs f p.1 q.1)
 
-all_of_map : {X Y : Type 0} (P : Y → Type 0) (f : X → Y) (xs : List X) → AllByRecursion P (map f xs) → AllByRecursion (λ (x : X). P (f x)) xs
+pub all_of_map : {X Y : Type 0} (P : Y → Type 0) (f : X → Y) (xs : List X) → AllByRecursion P (map f xs) → AllByRecursion (λ (x : X). P (f x)) xs
 all_of_map P f [] all = tt
 all_of_map P f (x ∷ xs) all = (all.0, all_of_map P f xs all.1)
 
 -- the others around one have other numbers
-apart_first : (xs ys : List ℕ) (n : ℕ) → AreApart (xs ++ n ∷ ys) → AllByRecursion (λ (m : ℕ). m ≢ n) xs
+pub apart_first : (xs ys : List ℕ) (n : ℕ) → AreApart (xs ++ n ∷ ys) → AllByRecursion (λ (m : ℕ). m ≢ n) xs
 apart_first [] ys n apart = tt
 apart_first (x ∷ xs) ys n apart =
     let here : n ≢ x = (all_second (λ (m : ℕ). m ≢ x) xs (n ∷ ys) apart.0).0 in
     (λ e. here (sym e), apart_first xs ys n apart.1)
 
-apart_second : (xs ys : List ℕ) (n : ℕ) → AreApart (xs ++ n ∷ ys) → AllByRecursion (λ (m : ℕ). m ≢ n) ys
+pub apart_second : (xs ys : List ℕ) (n : ℕ) → AreApart (xs ++ n ∷ ys) → AllByRecursion (λ (m : ℕ). m ≢ n) ys
 apart_second [] ys n apart = apart.0
 apart_second (x ∷ xs) ys n apart = apart_second xs ys n apart.1
 
-apart_without : (xs ys : List ℕ) (n : ℕ) → AreApart (xs ++ n ∷ ys) → AreApart (xs ++ ys)
+pub apart_without : (xs ys : List ℕ) (n : ℕ) → AreApart (xs ++ n ∷ ys) → AreApart (xs ++ ys)
 apart_without [] ys n apart = apart.1
 apart_without (x ∷ xs) ys n apart =
     (all_both (λ (m : ℕ). m ≢ x) xs ys (all_first (λ (m : ℕ). m ≢ x) xs (n ∷ ys) apart.0) (all_second (λ (m : ℕ). m ≢ x) xs (n ∷ ys) apart.0).1, apart_without xs ys n apart.1)
 
-apart_push : (xs : List ℕ) (n : ℕ) → AreApart xs → AllByRecursion (λ (m : ℕ). m < n) xs → AreApart (xs ++ n ∷ [])
+pub apart_push : (xs : List ℕ) (n : ℕ) → AreApart xs → AllByRecursion (λ (m : ℕ). m < n) xs → AreApart (xs ++ n ∷ [])
 apart_push [] n apart low = (tt, tt)
 apart_push (x ∷ xs) n apart low = (all_both (λ (m : ℕ). m ≢ x) xs (n ∷ []) apart.0 (λ e. above x n low.0 e, tt), apart_push xs n apart.1 low.1)
   where
     above : (a b : ℕ) → a < b → b ≡ a → ⊥
     above a b lt e = omega arith
+
+-- the jobs around one have other numbers
+pub numbers_split : (front rest : List Work) (t : Work) → numbers (front ++ t ∷ rest) ≡ numbers front ++ t.number ∷ numbers rest
+numbers_split front rest t = map-append number_of front (t ∷ rest)
+
+pub others_before : (front rest : List Work) (t : Work) → AreApart (numbers (front ++ t ∷ rest)) → AllByRecursion (λ (u : Work). u.number ≢ t.number) front
+others_before front rest t apart = all_of_map (λ (m : ℕ). m ≢ t.number) number_of front (apart_first (numbers front) (numbers rest) t.number (subst AreApart (numbers_split front rest t) apart))
+
+pub others_behind : (front rest : List Work) (t : Work) → AreApart (numbers (front ++ t ∷ rest)) → AllByRecursion (λ (u : Work). u.number ≢ t.number) rest
+others_behind front rest t apart = all_of_map (λ (m : ℕ). m ≢ t.number) number_of rest (apart_second (numbers front) (numbers rest) t.number (subst AreApart (numbers_split front rest t) apart))
 
 -- the jobs by these words and these lines, of numbers up to this one
 pub record AreJobs (config : Options) (values : List ℕ) (epoch : List Line) (fetched : ℕ) (works : List Work) : Type 0 where
@@ -85,12 +99,16 @@ pub no_jobs : (config : Options) (values : List ℕ) (epoch : List Line) (fetche
 no_jobs config values epoch fetched = record { each = tt; apart = tt; low = tt }
 
 -- an entry that was read stays
-entry_kept : (values more : List ℕ) (k : ℕ) → 1 ≤ k → 28 * k ≤ length values → words_of_job (values ++ more) 28 k ≡ words_of_job values 28 k
+pub entry_kept : (values more : List ℕ) (k : ℕ) → 1 ≤ k → 28 * k ≤ length values → words_of_job (values ++ more) 28 k ≡ words_of_job values 28 k
 entry_kept values more k first read =
     let from : (k - 1) * 28 ≤ length values = omega arith in
     let long = length-drop ((k - 1) * 28) values in
     let enough : 28 ≤ length (drop ((k - 1) * 28) values) = omega arith in
     ap (λ (l : List ℕ). take 28 l) (drop-append-le ((k - 1) * 28) values more from) ∙ take-append-le 28 (drop ((k - 1) * 28) values) more enough
+
+come_aside : (served : Status) (work : List Task) (k : ℕ) (epoch ys : List Line) (s : Stage) (t : Work) → IsAside k ys → HasCome served work k epoch s t → HasCome served work k (epoch ++ ys) s t
+come_aside served work k epoch ys s t aside (serves okay at) = serves okay (at_aside work k epoch ys s t aside at)
+come_aside served work k epoch ys s t aside (over done ends) = over done (ending_aside work k epoch ys served aside ∙ ends)
 
 -- others' lines leave a job as it is
 pub job_kept : (config : Options) (values more : List ℕ) (epoch ys : List Line) (t : Work) → IsAside t.number ys → IsJobOf config values epoch t → IsJobOf config (values ++ more) (epoch ++ ys) t
@@ -100,11 +118,12 @@ job_kept config values more epoch ys t aside j =
     let read = j.read in
     record {
       work = j.work;
+      served = j.served;
       first = j.first;
       read = omega arith;
       id = ap (λ (ws : List ℕ). id_of (request_of X64 ws)) kept ∙ j.id;
-      plan = subst (λ (ws : List ℕ). IsPlan (request_of X64 ws) (back_info config) j.work t.stage) (sym kept) j.plan;
-      at = at_aside j.work t.number epoch ys t.stage t aside j.at;
+      plan = subst (λ (ws : List ℕ). IsPlan (request_of X64 ws) (back_info config) j.work j.served t.id t.op) (sym kept) j.plan;
+      at = come_aside j.served j.work t.number epoch ys t.stage t aside j.at;
     }
 
 -- so it is with all, where the lines are no job's
@@ -162,9 +181,9 @@ jobs_told config values epoch ys fetched works place t new e same aside j jobs =
     let among : IsAmong works place t = place_among works place t e in
     let each : AllByRecursion (IsJobOf config values epoch) (among.front ++ t ∷ among.rest) = subst (λ (l : List Work). AllByRecursion (IsJobOf config values epoch) l) among.is jobs.each in
     let split : numbers works ≡ numbers among.front ++ t.number ∷ numbers among.rest = ap numbers among.is ∙ map-append number_of among.front (t ∷ among.rest) in
-    let apart : AreApart (numbers among.front ++ t.number ∷ numbers among.rest) = subst AreApart split jobs.apart in
-    let before = all_of_map (λ (m : ℕ). m ≢ t.number) number_of among.front (apart_first (numbers among.front) (numbers among.rest) t.number apart) in
-    let behind = all_of_map (λ (m : ℕ). m ≢ t.number) number_of among.rest (apart_second (numbers among.front) (numbers among.rest) t.number apart) in
+    let apart : AreApart (numbers (among.front ++ t ∷ among.rest)) = subst (λ (l : List Work). AreApart (numbers l)) among.is jobs.apart in
+    let before = others_before among.front among.rest t apart in
+    let behind = others_behind among.front among.rest t apart in
     let now : numbers works ≡ numbers (among.front ++ new ∷ among.rest) = split ∙ (ap (λ (n : ℕ). numbers among.front ++ n ∷ numbers among.rest) (sym same) ∙ sym (map-append number_of among.front (new ∷ among.rest))) in
     subst (λ (l : List Work). AreJobs config values (epoch ++ ys) fetched l) (sym (among.set new))
     (record {

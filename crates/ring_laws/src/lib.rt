@@ -1,7 +1,7 @@
 //! What every report of the machine tells of the ring and of each request, whatever happens to it
 //! (`io/ring.h`, `io/blkif.h`): it obeys the rules of `report_rules` on a producer that overran, on
-//! how entries are fetched, on the steps of each job, on the data that they move and on what comes
-//! of each move of the disk. The machine is the pure function of `split_model`; each law is over
+//! how entries are fetched, on the steps of each job, on the data that they move, on what comes of
+//! each move of the disk and on replies. The machine is the pure function of `split_model`; each law is over
 //! every list of happenings, with any options.
 #![tactic(auto)]
 
@@ -15,6 +15,7 @@ ghost use Rattle.report_rules.specs.Data.{AreData};
 ghost use Rattle.report_rules.specs.Effect.{AreEffects};
 ghost use Rattle.report_rules.specs.Unmap.{AreUnmaps};
 ghost use Rattle.report_rules.specs.Own.{AreOwn};
+ghost use Rattle.report_rules.specs.Reply.{AreReplies};
 ghost use Rattle.split_model.specs.Happening.{Happening};
 ghost use Rattle.split_model.specs.Report.{report_of, ended_report_of};
 
@@ -36,7 +37,7 @@ pub fn the_entries_are_fetched_in_stretches()
 /// The moves of the job of the k-th entry, apart from unmaps, are in order the steps of the work of
 /// that entry as its words were read, through mappings of the references that it names, and none
 /// follows a failure of the disk. The numbers of jobs have 64 bits and begin anew past the last, so
-/// the report has fewer than 2^64 lines: that is the one premise here and in the next two laws.
+/// the report has fewer than 2^64 lines: that is the one premise here and in the laws below.
 pub fn the_jobs_do_the_work_of_their_entries()
     ensures report { (config : Options) (detail : Detail) (history : List Happening) → length (report_of config detail history) < 2 ^ 64 → AreSteps (report_of config detail history) }
     ensures ended { (config : Options) (detail : Detail) (history : List Happening) → length (report_of config detail history) < 2 ^ 64 → AreSteps (ended_report_of config detail history) }
@@ -65,4 +66,12 @@ pub fn the_jobs_give_up_what_they_mapped()
 pub fn the_jobs_touch_what_they_mapped()
     ensures report { (config : Options) (detail : Detail) (history : List Happening) → length (report_of config detail history) < 2 ^ 64 → AreOwn (report_of config detail history) }
     ensures ended { (config : Options) (detail : Detail) (history : List Happening) → length (report_of config detail history) < 2 ^ 64 → AreOwn (ended_report_of config detail history) }
+{}
+
+/// The back writes a response only for a job whose work is over and that gave up what it mapped,
+/// with the status that its work ended with; each reply has a job of its own, is written word by
+/// word into the next slot, pushed, and told at once.
+pub fn the_replies_are_those_of_the_work()
+    ensures report { (config : Options) (detail : Detail) (history : List Happening) → length (report_of config detail history) < 2 ^ 64 → AreReplies (report_of config detail history) }
+    ensures ended { (config : Options) (detail : Detail) (history : List Happening) → length (report_of config detail history) < 2 ^ 64 → AreReplies (ended_report_of config detail history) }
 {}

@@ -1,0 +1,79 @@
+-- What a job answers once its work is over, by its own lines; and the replies that the back wrote.
+use Rattle.std.proofs.Common.{◌≡◌, ℕ, ◌*◌, ◌≤◌, List, [], ◌∷◌, ◌++◌, length}
+use Rattle.std.specs.Prelude.{Option, Some, None, true, false, nat_lt}
+use Rattle.std.specs.List.{count_by}
+use Rattle.blk_base.specs.Options.{Options}
+use Rattle.blk_base.specs.declared.operation.Status.{Status}
+use Rattle.blk_layout.specs.declared.response.Response.{Response}
+use Rattle.blk_layout.specs.Response.{response_words_of}
+use Rattle.blk_back.specs.declared.stage.Reply.{Reply}
+use Rattle.blk_back.specs.declared.stage.Stage.TheVariants as stage
+use Rattle.blk_back.specs.declared.stage.Stage.{Stage}
+use Rattle.blk_back.specs.Ask.{next_reply, response_word}
+use Rattle.blk_back.specs.View.{View, info_of as back_info}
+use Rattle.schedule_text.specs.declared.line.Line.{Line}
+use Rattle.report_rules.specs.declared.work.Task.{Task}
+use Rattle.report_rules.specs.Obeys.{Obeys}
+use Rattle.report_rules.specs.Job.{entry_values}
+use Rattle.report_rules.specs.Work.{work_tasks, work_verdict, status_by, work_response}
+use Rattle.report_rules.specs.Steps.{walk_of, failed_in}
+use Rattle.report_rules.specs.Unmap.{left_to}
+use Rattle.report_rules.specs.Reply.{end_of, values_written, reply_pushed, are_alike, jobs_due, IsReplyAt}
+use Rattle.ring_laws.proofs.Began.{request_at}
+
+-- by these words of entries and these lines of the epoch the work of job k is over, and this is its response
+pub record IsWorkOver (config : Options) (values : List ℕ) (epoch : List Line) (k : ℕ) (r : Response) : Type 0 where
+  pub work : List Task
+  pub served : Status
+  pub first : 1 ≤ k
+  pub read : 28 * k ≤ length values
+  pub names : work_response (request_at values k) r.status ≡ r
+  pub tasks : (indirect : List ℕ) → work_tasks (request_at values k) (back_info config) false indirect ≡ work
+  pub verdict : (indirect : List ℕ) → status_by (work_verdict (request_at values k) (back_info config) indirect) ≡ served
+  pub ended : end_of (failed_in k epoch) (length work) served (walk_of false work k epoch) ≡ Some r.status
+  pub left : left_to k epoch ≡ []
+
+-- a reply that was pushed: the job that it answers, its response, and the producer behind it
+pub record Answered : Type 0 where
+  pub job : ℕ
+  pub response : Response
+  pub producer : ℕ
+
+abbrev pub response_in : Reply → Response
+response_in r = record { id = r.id; op = r.op; status = r.status }
+
+-- what the back wrote for these replies: four words each
+abbrev pub rows_of : List Answered → List ℕ
+rows_of [] = []
+rows_of (a ∷ answered) = response_words_of a.response ++ a.producer ∷ rows_of answered
+
+-- the words of a reply under way that are written, by the stage of the back
+abbrev pub under_way : Stage → List ℕ
+under_way (stage.ReplyHigh r) = response_word r 0 ∷ []
+under_way (stage.ReplyLast r) = response_word r 0 ∷ response_word r 1 ∷ []
+under_way (stage.Producer r) = response_word r 0 ∷ response_word r 1 ∷ response_word r 2 ∷ []
+under_way s = []
+
+-- the reply of which the back writes a word next, and which word
+abbrev pub next_word : Option Reply → Option (Reply × ℕ)
+next_word None = None
+next_word (Some r) = Some (r, 0)
+
+abbrev pub replying : Stage → View → Option (Reply × ℕ)
+replying stage.Loop v = next_word (next_reply v)
+replying (stage.ReplyHigh r) v = Some (r, 1)
+replying (stage.ReplyLast r) v = Some (r, 2)
+replying s v = None
+
+-- fewer replies had the first words of this response, up to this one, than jobs are due such a response
+abbrev pub HasAJob : List Line → List Answered → Response → ℕ → Type 0
+HasAJob before answered r last =
+    nat_lt (count_by (λ (a : Answered). are_alike last (response_words_of r) (response_words_of a.response)) answered)
+    (jobs_due before last (response_words_of r) (length (entry_values before)))
+    ≡ true
+
+-- the lines obey the rule on replies, and tell these replies; none is left to be told
+pub record Writes (before : List Line) (s : Stage) (answered : List Answered) : Type 0 where
+  pub obeys : Obeys IsReplyAt before
+  pub words : values_written before ≡ rows_of answered ++ under_way s
+  pub pushed : reply_pushed before ≡ None

@@ -1,0 +1,237 @@
+-- Whatever happens from the start, the back replies only what a job is due, once.
+use Rattle.std.proofs.Common.{◌≡◌, ℕ, ◌<◌, ◌^◌, Bool, false, if◌then◌else◌, List, [], ◌∷◌, ◌++◌, length, refl, ap, sym, ◌∙◌, subst, append_assoc, append-nil, length-append, arith}
+use Rattle.std.specs.Prelude.{Option, Some, None, is_some}
+use Rattle.std.proofs.lemmas.Option.{none-some}
+use Rattle.blk_base.specs.Options.{Options}
+use Rattle.blk_base.specs.declared.ask.BackAsk.TheVariants as ask
+use Rattle.blk_base.specs.declared.moves.BackMover.TheVariants as mover
+use Rattle.schedule_text.specs.declared.line.Line.{Line}
+use Rattle.schedule_text.specs.declared.line.Line.TheVariants as lines
+use Rattle.schedule_text.specs.declared.line.Detail.{Detail}
+use Rattle.hypervisor.specs.Act.{FrontAct, BackAct, Outcome, Took, back_act}
+use Rattle.report_rules.specs.Job.{entry_values}
+use Rattle.report_rules.specs.Standing.{this_epoch}
+use Rattle.report_rules.specs.Reply.{AreReplies}
+use Rattle.back_jobs.specs.Jobs.{ask_job, asked, place_of, work_of, work_at, told_at as told_works}
+use Rattle.back_jobs.specs.Task.{Work, step_of}
+use Rattle.blk_front.specs.Ask as front_ask
+use Rattle.blk_front.specs.Step as front_step
+use Rattle.blk_front.specs.Submit as front_submit
+use Rattle.blk_front.specs.View as front
+use Rattle.blk_back.specs.Ask.{ask_of}
+use Rattle.blk_back.specs.View as back
+use Rattle.blk_back.specs.Step as back_step
+use Rattle.blk_back.specs.declared.stage.Reply.{Reply}
+use Rattle.blk_back.specs.declared.stage.Stage.TheVariants as stage
+use Rattle.blk_back.specs.declared.stage.Stage.{Stage}
+use Rattle.hypervisor.specs.Hypervisor.{Hypervisor}
+use Rattle.split_model.specs.World.{World, start_of, is_quiet}
+use Rattle.split_model.specs.Happening.{Happening, FrontMoves, BackMoves, JobMoves, Submits, Notifies, Looks, Settles, happens, lines_at, after, lines_of, front_after, front_shows, back_after, back_shows, job_after, job_shows, front_turn, back_turn, job_turn}
+use Rattle.split_model.specs.Report.{report_of, ended_report_of}
+use Rattle.move_laws.specs.Within.{AreWithin}
+use Rattle.move_laws.proofs.Always.{always_within}
+use Rattle.split_model.proofs.SafeAnswers.{backs_of, jobs_of}
+use Rattle.back_jobs.specs.Jobs.{mapping_at}
+use Rattle.ring_laws.proofs.Shows.{Sight}
+use Rattle.ring_laws.proofs.Knows.{KnowsAt, Knows, Follows}
+use Rattle.ring_laws.proofs.Stages.{back_goes}
+use Rattle.ring_laws.proofs.Free.{AreFree, front_free, job_free, job_running, free_front, free_told, free_submit, free_look, free_settle}
+use Rattle.ring_laws.proofs.Works.{AreJobs, job_found, all_second}
+use Rattle.ring_laws.proofs.Bystanders.{AreBystanders, Aside, bystanders_go, bystanders_aside}
+use Rattle.ring_laws.proofs.BackChange.{Changed, change_at, back_by, told_by, front_by, front_told_by}
+use Rattle.ring_laws.proofs.Tells.{Tells, small_number}
+use Rattle.ring_laws.proofs.BackTells.{lines_of_back, told_none}
+use Rattle.ring_laws.proofs.JobTells.{JobTells, job_tells, lines_of_job, low_number, found_number}
+use Rattle.ring_laws.proofs.JobTurn.{After, IsSame, step_same}
+use Rattle.ring_laws.proofs.JobRuns.{Stand, same_values, stand_start, stand_happens, submit_by, look_by, settle_by}
+use Rattle.ring_laws.proofs.MakerTurns.{Made}
+use Rattle.ring_laws.proofs.MakerRuns.{made_happens, made_start, hand_empty}
+use Rattle.ring_laws.proofs.Due.{Answered, Writes, IsWorkOver, response_in}
+use Rattle.ring_laws.proofs.Over.{over_of_done, over_kept, small_op}
+use Rattle.ring_laws.proofs.Owed.{IsOwed, Owes, owes_aside, owes_told, nothing_owed}
+use Rattle.ring_laws.proofs.Replying.{pending, pending_at, IsDone, IsOwing, Finds, OwesThen, owes_at}
+use Rattle.ring_laws.proofs.NextReply.{next_has}
+use Rattle.ring_laws.proofs.WrittenBack.{answered_after, back_writes}
+use Rattle.ring_laws.proofs.Written.{start_writes, end_writes}
+use Rattle.ring_laws.proofs.WrittenElse.{AreElse, other_writes, front_else, job_else, submit_else, look_else, settle_else}
+
+-- the replies that the lines so far tell, and the one under way
+pub record Replies (config : Options) (before : List Line) (v : back.View) : Type 0 where
+  pub answered : List Answered
+  pub job : ℕ
+  pub writes : Writes before v.stage answered
+  pub owes : IsOwing config (entry_values before) (this_epoch before) answered job v
+
+same_owes : (config : Options) (values values' : List ℕ) (epoch epoch' : List Line) (fetched : ℕ) (works : List Work) (owed : List Answered) → values ≡ values' → epoch ≡ epoch' → Owes config values epoch fetched works owed → Owes config values' epoch' fetched works owed
+same_owes config values values' epoch epoch' fetched works owed p q o = subst (λ (ls : List Line). Owes config values' ls fetched works owed) q (subst (λ (vs : List ℕ). Owes config vs epoch fetched works owed) p o)
+
+no_lines : (config : Options) (before : List Line) (v : back.View) → Replies config before v → Replies config (before ++ []) v
+no_lines config before v r = subst (λ (ls : List Line). Replies config ls v) (sym (append-nil before)) r
+
+-- lines of others
+others : (config : Options) (before ys : List Line) (v : back.View) → AreElse ys → AreBystanders ys → entry_values (before ++ ys) ≡ entry_values before → Tells config before v → Replies config before v → Replies config (before ++ ys) v
+others config before ys v elses all same t r =
+    let go : Aside config before ys = bystanders_go config ys before all t.tale t.quiet in
+    record {
+      answered = r.answered;
+      job = r.job;
+      writes = other_writes before ys v.stage r.answered elses r.writes;
+      owes = λ runs. same_owes config (entry_values before ++ []) (entry_values (before ++ ys)) (this_epoch before ++ ys) (this_epoch (before ++ ys)) v.fetched v.jobs.works _ (append-nil (entry_values before) ∙ sym same) (sym go.epoch)
+          (owes_aside config (entry_values before) [] (this_epoch before) ys v.fetched v.jobs.works _ (λ k. bystanders_aside k ys all) (r.owes runs));
+    }
+
+others_free : (config : Options) (w : World) (before ys : List Line) → AreElse ys → AreBystanders ys → AreFree (is_some w.back.halted) ys → Stand config before w → Replies config before w.back → Replies config (before ++ ys) w.back
+others_free config w before ys elses all free s r =
+    let f : Follows config.start [] before w.back = s.ring.follows in
+    others config before ys w.back elses all (same_values (is_some w.back.halted) before ys f.sight free f.shows) s.tells r
+
+front_replies : (config : Options) (w : World) (before : List Line) (act : Option FrontAct) → Stand config before w → front_turn w ≡ act → Replies config before w.back → Replies config (before ++ front_shows w act) w.back
+front_replies config w before None s e r = no_lines config before w.back r
+front_replies config w before (Some a) s e r =
+    let g : front.View = front_step.step_of w.front a.answer in
+    others_free config w before (front_shows w (Some a)) (front_else w.under (front_ask.ask_of w.front) a g.told e) (front_by w.under (front_ask.ask_of w.front) a e, front_told_by g.told)
+    (front_free (is_some w.back.halted) w.under (front_ask.ask_of w.front) a e, free_front (is_some w.back.halted) g.told) s r
+
+front_after_replies : (config : Options) (w : World) (before : List Line) (act : Option FrontAct) → Replies config before w.back → (let n : World = front_after w act in Replies config before n.back)
+front_after_replies config w before None r = r
+front_after_replies config w before (Some a) r = r
+
+-- the job whose reply begins is over
+done_owed : (config : Options) (before : List Line) (v : back.View) (r : Reply) (d : IsDone v.jobs.works r) → is_some v.halted ≡ false → Tells config before v → Made before v → IsOwed config (entry_values before) (this_epoch before) (let t : Work = d.job in pending t.number r)
+done_owed config before v r d runs t made =
+    let job : Work = d.job in
+    let left = hand_empty before v made runs d.place d.job d.found (ap mapping_at d.stage) in
+    subst (λ x. IsWorkOver config (entry_values before) (this_epoch before) job.number x) (sym d.is)
+    (over_of_done config (entry_values before) (this_epoch before) d.job d.status (job_found config (entry_values before) (this_epoch before) v.fetched v.jobs.works d.place d.job d.found (t.jobs runs)) d.stage left)
+
+-- a job that is over stays so behind lines of the back
+over_then : (config : Options) (before ys : List Line) (more : List ℕ) (x : Answered) → AreBystanders ys → entry_values before ++ more ≡ entry_values (before ++ ys) → this_epoch (before ++ ys) ≡ this_epoch before ++ ys → IsOwed config (entry_values before) (this_epoch before) x → IsOwed config (entry_values (before ++ ys)) (this_epoch (before ++ ys)) x
+over_then config before ys more x all grown epoch over =
+    subst (λ (ls : List Line). IsOwed config (entry_values (before ++ ys)) ls x) (sym epoch)
+    (subst (λ (vs : List ℕ). IsOwed config vs (this_epoch before ++ ys) x) grown (over_kept config (entry_values before) more (this_epoch before) ys x.job x.response (bystanders_aside x.job ys all) over))
+
+finds_of : (config : Options) (before ys : List Line) (more : List ℕ) (v new : back.View) (x : Sight) → Knows x v → AreBystanders ys → entry_values before ++ more ≡ entry_values (before ++ ys) → this_epoch (before ++ ys) ≡ this_epoch before ++ ys → is_some v.halted ≡ false → Tells config before v → Tells config (before ++ ys) new → Made before v
+    → Finds config (entry_values (before ++ ys)) (this_epoch (before ++ ys)) v new
+finds_of config before ys more v new x knows all grown epoch runs t behind made = record {
+  small = small_number v.stage v x knows runs;
+  low = let jobs : AreJobs config (entry_values before) (this_epoch before) v.fetched v.jobs.works = t.jobs runs in jobs.low;
+  later = behind.jobs;
+  done = λ r d. over_then config before ys more (let t : Work = d.job in pending t.number r) all grown epoch (done_owed config before v r d runs t made);
+  lower = λ r d. low_number config (entry_values before) (this_epoch before) v.fetched v.jobs.works d.place d.job d.found (t.jobs runs);
+}
+
+-- the operation of the reply whose producer is written
+producer_op : (config : Options) (values : List ℕ) (epoch : List Line) (answered : List Answered) (k : ℕ) (s : Stage) (v : back.View) (x : Sight) → KnowsAt s x v.ring v.page v.seen v.halted v.entry v.fetched → (v.halted ≡ None → Owes config values epoch v.fetched v.jobs.works (answered ++ pending_at s k)) → (r : Reply) → s ≡ stage.Producer r → r.op < 2 ^ 8
+producer_op config values epoch answered k (stage.Producer p) v x knows owes r e =
+    let o : Owes config values epoch v.fetched v.jobs.works (answered ++ pending k p ∷ []) = owes knows.running in
+    let last : IsOwed config values epoch (pending k p) = (all_second (IsOwed config values epoch) answered (pending k p ∷ []) o.each).0 in
+    let small : p.op < 2 ^ 8 = small_op config values epoch k (response_in p) last in
+    subst (λ (q : Reply). q.op < 2 ^ 8) (same_reply p r e) small
+  where
+    same_reply : (p q : Reply) → stage.Producer p ≡ stage.Producer q → p ≡ q
+    same_reply p q e = cc
+producer_op config values epoch answered k s v x knows owes r e = absurd (cc)
+
+runs_on : {X : Type 0} {o : Option X} → o ≡ None → is_some o ≡ false
+runs_on none = ap is_some none
+
+back_replies : (config : Options) (w : World) (before : List Line) (o : Outcome) (act : Option BackAct) → back_turn w o ≡ act → Stand config before w → Stand config (before ++ back_shows w act) (back_after w act) → Made before w.back → Replies config before w.back → (let n : World = back_after w act in Replies config (before ++ back_shows w act) n.back)
+back_replies config w before o None e s stand made r = no_lines config before w.back r
+back_replies config w before o (Some a) e s stand made r =
+    let v : back.View = w.back in
+    let new : back.View = back_step.step_of w.back a.answer in
+    let f : Follows config.start [] before w.back = s.ring.follows in
+    let t : Tells config before w.back = s.tells in
+    let behind : Tells config (before ++ lines_of_back w.back a) (record new { told = None }) = stand.tells in
+    let gone : Follows f.sight.start f.sight.values (before ++ lines_of_back w.back a) (back_step.step_of w.back a.answer) = back_goes before w.under v.stage w.back o a f.sight f.knows f.knows f.shows f.stands s.ring.told e in
+    let c : Changed (length f.sight.values) w.back (back_step.step_of w.back a.answer) = change_at v.stage w.back f.sight a.answer f.knows (told_none v.told s.ring.told) in
+    let all : AreBystanders (lines_of_back w.back a) = (back_by w.under (ask_of w.back) o a (backs_of w.back) e, told_by new.told a.answer v.halted new.halted c.tells) in
+    let go : Aside config before (lines_of_back w.back a) = bystanders_go config (lines_of_back w.back a) before all t.tale t.quiet in
+    let grown : entry_values before ++ gone.more ≡ entry_values (before ++ lines_of_back w.back a) = ap (λ (vs : List ℕ). vs ++ gone.more) f.shows.values ∙ (sym gone.grown ∙ sym gone.shows.values) in
+    let finds = λ (runs : is_some v.halted ≡ false). finds_of config before (lines_of_back w.back a) gone.more w.back (back_step.step_of w.back a.answer) f.sight f.knows all grown go.epoch runs t (record { tale = behind.tale; quiet = behind.quiet; info = behind.info; jobs = behind.jobs; unseen = behind.unseen }) made in
+    let owes = λ (runs : is_some v.halted ≡ false). same_owes config (entry_values before ++ gone.more) (entry_values (before ++ lines_of_back w.back a)) (this_epoch before ++ lines_of_back w.back a) (this_epoch (before ++ lines_of_back w.back a)) v.fetched v.jobs.works (r.answered ++ pending_at v.stage r.job) grown (sym go.epoch)
+    (owes_aside config (entry_values before) gone.more (this_epoch before) (lines_of_back w.back a) v.fetched v.jobs.works _ (λ k. bystanders_aside k (lines_of_back w.back a) all) (r.owes runs)) in
+    let next : OwesThen config (entry_values (before ++ lines_of_back w.back a)) (this_epoch (before ++ lines_of_back w.back a)) (answered_after v.stage r.answered r.job v.ring.prod) (back_step.step_of w.back a.answer) = owes_at config (entry_values (before ++ lines_of_back w.back a)) (this_epoch (before ++ lines_of_back w.back a)) r.answered r.job v.stage w.back f.sight a.answer refl f.knows finds owes in
+    let held = λ (none : v.halted ≡ None). same_owes config (entry_values before) f.sight.values (this_epoch before) (this_epoch before) v.fetched v.jobs.works (r.answered ++ pending_at v.stage r.job) f.shows.values refl (r.owes (runs_on none)) in
+    let done = λ (none : v.halted ≡ None) (q : Reply) (d : IsDone v.jobs.works q). subst (λ (vs : List ℕ). IsOwed config vs (this_epoch before) (let u : Work = d.job in pending u.number q)) f.shows.values (done_owed config before w.back q d (runs_on none) t made) in
+    record {
+      answered = answered_after v.stage r.answered r.job v.ring.prod;
+      job = next.job;
+      writes = back_writes before w.under w.back o a f.sight r.answered r.job f.knows f.knows f.shows s.ring.told r.writes (next_has config before f.sight v.stage w.back r.answered r.job f.knows t.tale f.shows done held) (producer_op config f.sight.values (this_epoch before) r.answered r.job v.stage w.back f.sight f.knows held) e;
+      owes = next.owes;
+    }
+
+-- a job moved: those that were answered are others
+moved_owes : (config : Options) (before : List Line) (h : Hypervisor) (v : back.View) (k : ℕ) (o : Outcome) (a : BackAct) (place : Option ℕ) (found : Option Work) (owed : List Answered) → place_of v.jobs.works k ≡ place → work_at v.jobs.works place ≡ found → back_act h (mover.Job k) (asked found) o ≡ Some a
+    → entry_values (before ++ lines_of_job found a) ≡ entry_values before → JobTells config before (lines_of_job found a) v k (told_works v.jobs.works place found a.answer) → Owes config (entry_values before) (this_epoch before) v.fetched v.jobs.works owed
+    → Owes config (entry_values (before ++ lines_of_job found a)) (this_epoch (before ++ lines_of_job found a)) v.fetched (told_works v.jobs.works place found a.answer) owed
+moved_owes config before h v k o a place None owed at is e same told owes = absurd (none-some a e)
+moved_owes config before h v k o a None (Some t) owed at is e same told owes = absurd (none-some t is)
+moved_owes config before h v k o a (Some place) (Some t) owed at is e same told owes =
+    let behind : After config before (lines_of_job (Some t) a) = told.after in
+    let number : t.number ≡ k = found_number v.jobs.works k place t at is in
+    let kept : IsSame t (step_of t a.answer) = step_same t.stage t a.answer in
+    same_owes config (entry_values before) (entry_values (before ++ lines_of_job (Some t) a)) (this_epoch before ++ lines_of_job (Some t) a) (this_epoch (before ++ lines_of_job (Some t) a)) v.fetched _ owed (sym same) (sym behind.epoch)
+    (owes_told config (entry_values before) (this_epoch before) (lines_of_job (Some t) a) v.fetched v.jobs.works owed place t (step_of t a.answer) is kept.number (λ n other. told.aside n (λ same_k. other (same_k ∙ sym number))) owes)
+
+job_replies : (config : Options) (w : World) (before : List Line) (k : ℕ) (o : Outcome) (act : Option BackAct) → job_turn w k o ≡ act → Stand config before w → Replies config before w.back → (let n : World = job_after w k act in Replies config (before ++ job_shows w k act) n.back)
+job_replies config w before k o None e s r = no_lines config before w.back r
+job_replies config w before k o (Some a) e s r =
+    let v : back.View = w.back in
+    let f : Follows config.start [] before w.back = s.ring.follows in
+    let running : is_some v.halted ≡ false = job_running (is_some w.back.halted) w.under k (ask_job w.back.jobs k) o a e in
+    let asks = ap (λ (b : Bool). back_act w.under (mover.Job k) (if b then ask.Wait else ask_job w.back.jobs k) o) (sym running) ∙ e in
+    let free : AreFree (is_some w.back.halted) (job_shows w k (Some a)) = (job_free (is_some w.back.halted) w.under k (back_step.job_ask_of w.back k) o a running (jobs_of w.back k) e, free_told (is_some w.back.halted) _ a.answer running) in
+    let told = job_tells config config.start before w.under.pages w.under.grants w.under w.back k o a (place_of w.back.jobs.works k) (work_of w.back.jobs.works k) refl refl running f s.memory.tells s.safe.held free s.tells asks in
+    let same : entry_values (before ++ job_shows w k (Some a)) ≡ entry_values before = same_values (is_some w.back.halted) before (job_shows w k (Some a)) f.sight free f.shows in
+    record {
+      answered = r.answered;
+      job = r.job;
+      writes = other_writes before (job_shows w k (Some a)) v.stage r.answered (job_else w.under k (back_step.job_ask_of w.back k) o a _ (jobs_of w.back k) e) r.writes;
+      owes = λ runs. moved_owes config before w.under w.back k o a (place_of w.back.jobs.works k) (work_of w.back.jobs.works k) (r.answered ++ pending_at v.stage r.job) refl refl asks same told (r.owes running);
+    }
+
+replies_happen : (config : Options) (w : World) (h : Happening) (before : List Line) → Stand config before w → Stand config (before ++ lines_at w h) (happens w h) → Made before w.back → Replies config before w.back → (let n : World = happens w h in Replies config (before ++ lines_at w h) n.back)
+replies_happen config w FrontMoves before s t made r = front_after_replies config w (before ++ front_shows w (front_turn w)) (front_turn w) (front_replies config w before (front_turn w) s refl r)
+replies_happen config w BackMoves before s t made r = back_replies config w before Took (back_turn w Took) refl s t made r
+replies_happen config w (JobMoves number outcome) before s t made r = job_replies config w before number outcome (job_turn w number outcome) refl s r
+replies_happen config w (Submits job) before s t made r = others_free config w before (lines_at w (Submits job)) (submit_else job (front_submit.submit_of w.front job).0) (submit_by job (front_submit.submit_of w.front job).0, tt) (free_submit (is_some w.back.halted) job (front_submit.submit_of w.front job).0, tt) s r
+replies_happen config w (Notifies at) before s t made r = no_lines config before w.back r
+replies_happen config w Looks before s t made r = others_free config w before (lines_at w Looks) (look_else (is_quiet w)) (look_by (is_quiet w), tt) (free_look (is_some w.back.halted) (is_quiet w), tt) s r
+replies_happen config w Settles before s t made r = others_free config w before (lines_at w Settles) (settle_else (is_quiet w)) (settle_by (is_quiet w), tt) (free_settle (is_some w.back.halted) (is_quiet w), tt) s r
+
+-- all that the lines so far tell
+record All (config : Options) (before : List Line) (w : World) : Type 0 where
+  stand : Stand config before w
+  made : Made before w.back
+  replies : Replies config before w.back
+
+all_after : (config : Options) (hs : List Happening) (w : World) (before : List Line) → AreWithin hs w → All config before w → length (before ++ lines_of hs w) < 2 ^ 64 → All config (before ++ lines_of hs w) (after hs w)
+all_after config [] w before within all few = subst (λ (ls : List Line). All config ls w) (sym (append-nil before)) all
+all_after config (h ∷ hs) w before within all few =
+    let joined : (before ++ lines_at w h) ++ lines_of hs (happens w h) ≡ before ++ (lines_at w h ++ lines_of hs (happens w h)) = append_assoc before (lines_at w h) (lines_of hs (happens w h)) in
+    let whole : length ((before ++ lines_at w h) ++ lines_of hs (happens w h)) < 2 ^ 64 = subst (λ (ls : List Line). length ls < 2 ^ 64) (sym joined) few in
+    let long = length-append (before ++ lines_at w h) (lines_of hs (happens w h)) in
+    let some : length (before ++ lines_at w h) < 2 ^ 64 = omega arith in
+    let t : Stand config (before ++ lines_at w h) (happens w h) = stand_happens config w h before within.0 all.stand some in
+    let one : All config (before ++ lines_at w h) (happens w h) = record { stand = t; made = made_happens config w h before all.stand t all.made; replies = replies_happen config w h before all.stand t all.made all.replies } in
+    subst (λ (ls : List Line). All config ls (after hs (happens w h))) joined (all_after config hs (happens w h) (before ++ lines_at w h) within.1 one whole)
+
+start_replies : (config : Options) (detail : Detail) → (let w : World = start_of config in Replies config (lines.Begin config detail ∷ []) w.back)
+start_replies config detail = record { answered = []; job = 0; writes = start_writes config detail; owes = λ runs. nothing_owed config (entry_values (lines.Begin config detail ∷ [])) (this_epoch (lines.Begin config detail ∷ [])) 0 }
+
+report_all : (config : Options) (detail : Detail) (history : List Happening) → length (report_of config detail history) < 2 ^ 64 → All config (report_of config detail history) (after history (start_of config))
+report_all config detail history few = all_after config history (start_of config) (lines.Begin config detail ∷ []) (always_within config history) (record { stand = stand_start config detail; made = made_start config detail; replies = start_replies config detail }) few
+
+pub report_replies : (config : Options) (detail : Detail) (history : List Happening) → length (report_of config detail history) < 2 ^ 64 → AreReplies (report_of config detail history)
+report_replies config detail history few =
+    let all : All config (report_of config detail history) (after history (start_of config)) = report_all config detail history few in
+    let replies : Replies config (report_of config detail history) (let w : World = after history (start_of config) in w.back) = all.replies in
+    let writes = replies.writes in
+    writes.obeys
+
+pub ended_replies : (config : Options) (detail : Detail) (history : List Happening) → length (report_of config detail history) < 2 ^ 64 → AreReplies (ended_report_of config detail history)
+ended_replies config detail history few =
+    let all : All config (report_of config detail history) (after history (start_of config)) = report_all config detail history few in
+    let replies : Replies config (report_of config detail history) (let w : World = after history (start_of config) in w.back) = all.replies in
+    end_writes (report_of config detail history) _ replies.answered replies.writes

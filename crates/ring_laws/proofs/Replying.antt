@@ -1,0 +1,195 @@
+-- A move of the back leaves what it answered and is answering different jobs, each of them over.
+use Rattle.std.proofs.Common.{◌≡◌, ℕ, ◌+◌, ◌%◌, ◌^◌, ◌<◌, ◌≤◌, ◌==◌, Bool, true, false, if◌then◌else◌, List, [], ◌∷◌, ◌++◌, remove, refl, sym, ap, ◌∙◌, subst, arith, append-nil}
+use Rattle.std.specs.Prelude.{Option, Some, None, is_some, slice_get, position}
+use Rattle.std.specs.Option.{option_and_then}
+use Rattle.std.specs.List.{AllByRecursion}
+use Rattle.std.proofs.lemmas.Option.{none-some, same_Some}
+use Rattle.std.proofs.lemmas.List.{map-append}
+use Rattle.blk_base.specs.Options.{Options}
+use Rattle.blk_base.specs.declared.operation.Abi.TheVariants.{X64}
+use Rattle.blk_base.specs.declared.operation.Status.{Status}
+use Rattle.blk_base.specs.declared.ask.BackAnswer.TheVariants as answers
+use Rattle.blk_base.specs.declared.ask.BackAnswer.{BackAnswer}
+use Rattle.blk_layout.specs.Entry.{request_of}
+use Rattle.schedule_text.specs.declared.line.Line.{Line}
+use Rattle.segment_list.specs.Verdict.{verdict_of}
+use Rattle.back_jobs.specs.Task.{Work, begun}
+use Rattle.back_jobs.specs.Jobs.{is_done, response_of, response_at, work_at, removed_at}
+use Rattle.back_jobs.specs.declared.stage.Stage.TheVariants as job_stage
+use Rattle.back_jobs.specs.declared.stage.Stage.{Stage as JobStage}
+use Rattle.blk_back.specs.View.{View}
+use Rattle.blk_back.specs.Ask.{next_reply, reply_of}
+use Rattle.blk_back.specs.Step.{at, looked, loop_step, fetched, next_number, step_at}
+use Rattle.blk_back.specs.declared.stage.Reply.{Reply}
+use Rattle.blk_back.specs.declared.stage.Stage.TheVariants as stage
+use Rattle.blk_back.specs.declared.stage.Stage.{Stage}
+use Rattle.ring_words.specs.Ring.{requests_of, overruns, notifies}
+use Rattle.ring_laws.proofs.Knows.{KnowsAt}
+use Rattle.ring_laws.proofs.Shows.{Sight}
+use Rattle.ring_laws.proofs.Began.{IsJobOf}
+use Rattle.ring_laws.proofs.Works.{AreJobs, AreApart, numbers, all_first, all_second, all_both}
+use Rattle.ring_laws.proofs.BackTells.{begun_number}
+use Rattle.ring_laws.proofs.Due.{Answered, response_in}
+use Rattle.ring_laws.proofs.HasJob.{job_of, jobs_of}
+use Rattle.ring_laws.proofs.Owed.{IsOwed, Owes, owes_begun, owes_fetched}
+use Rattle.ring_laws.proofs.WrittenBack.{answered_after}
+
+-- the reply under way, and the job that it answers
+abbrev pub pending : ℕ → Reply → Answered
+pending k r = record { job = k; response = response_in r; producer = 0 }
+
+abbrev pub pending_at : Stage → ℕ → List Answered
+pending_at (stage.ReplyHigh r) k = pending k r ∷ []
+pending_at (stage.ReplyLast r) k = pending k r ∷ []
+pending_at (stage.Producer r) k = pending k r ∷ []
+pending_at s k = []
+
+-- the job whose reply begins
+pub record IsDone (works : List Work) (r : Reply) : Type 0 where
+  pub place : ℕ
+  pub job : Work
+  pub status : Status
+  pub lowest : position (λ (t : Work). is_done t) works ≡ Some place
+  pub found : slice_get works place ≡ Some job
+  pub stage : job.stage ≡ job_stage.Done status
+  pub is : response_in r ≡ record { id = job.id; op = job.op; status = status }
+
+pub done_found : (works : List Work) (r : Reply) → reply_of (option_and_then response_of (work_at works (position (λ (t : Work). is_done t) works))) ≡ Some r → IsDone works r
+done_found works r = by_place (position (λ (t : Work). is_done t) works) refl
+  where
+    by_stage : (i : ℕ) (t : Work) (s : JobStage) → position (λ (u : Work). is_done u) works ≡ Some i → slice_get works i ≡ Some t → t.stage ≡ s → reply_of (response_at s t) ≡ Some r → IsDone works r
+    by_stage i t (job_stage.Done status) p f s e = record { place = i; job = t; status = status; lowest = p; found = f; stage = s; is = ap response_in (sym (same_Some _ r e)) }
+    by_stage i t s p f is e = absurd (none-some r e)
+
+    by_work : (i : ℕ) (found : Option Work) → position (λ (t : Work). is_done t) works ≡ Some i → slice_get works i ≡ found → reply_of (option_and_then response_of found) ≡ Some r → IsDone works r
+    by_work i None p f e = absurd (none-some r e)
+    by_work i (Some t) p f e = by_stage i t t.stage p f refl e
+
+    by_place : (place : Option ℕ) → position (λ (t : Work). is_done t) works ≡ place → reply_of (option_and_then response_of (work_at works place)) ≡ Some r → IsDone works r
+    by_place None p e = absurd (none-some r e)
+    by_place (Some i) p e = by_work i (slice_get works i) p refl e
+
+-- what the back answered and is answering, unless it has halted
+abbrev pub IsOwing : Options → List ℕ → List Line → List Answered → ℕ → View → Type 0
+IsOwing config values epoch answered k v = is_some v.halted ≡ false → Owes config values epoch v.fetched v.jobs.works (answered ++ pending_at v.stage k)
+
+either : (config : Options) (values : List ℕ) (epoch : List Line) (answered : List Answered) (k : ℕ) (b : Bool) (x y : View) → IsOwing config values epoch answered k x → IsOwing config values epoch answered k y → IsOwing config values epoch answered k (if b then x else y)
+either config values epoch answered k true x y p q = p
+either config values epoch answered k false x y p q = q
+
+over : {A : Type 0} (b : Bool) → b ≡ true → b ≡ false → A
+over b p q = absurd (cc)
+
+-- the same, where nothing is under way
+abbrev IsResting : Options → List ℕ → List Line → List Answered → View → Type 0
+IsResting config values epoch answered v = is_some v.halted ≡ false → Owes config values epoch v.fetched v.jobs.works (answered ++ [])
+
+-- the producer was read
+looked_owes : (config : Options) (values : List ℕ) (epoch : List Line) (answered : List Answered) (k : ℕ) (v : View) (word : ℕ) (otherwise : View) → IsResting config values epoch answered v → IsOwing config values epoch answered k otherwise → IsOwing config values epoch answered k (looked v word otherwise)
+looked_owes config values epoch answered k v word otherwise o p =
+    either config values epoch answered k (overruns v.ring word) _ _ (λ runs. over true refl runs)
+    (either config values epoch answered k (word == v.ring.cons) _ _ p (λ runs. o runs))
+
+-- what a move of the back finds, as long as it hasn't halted: the lines behind it tell the jobs that it held, of low numbers, and those that it holds then; and the job whose reply begins is over
+pub record Finds (config : Options) (values : List ℕ) (epoch : List Line) (v : View) (new : View) : Type 0 where
+  pub small : v.fetched < 2 ^ 64
+  pub low : AllByRecursion (λ (n : ℕ). n ≤ v.fetched) (numbers v.jobs.works)
+  pub later : is_some new.halted ≡ false → AreJobs config values epoch new.fetched new.jobs.works
+  pub done : (r : Reply) (d : IsDone v.jobs.works r) → IsOwed config values epoch (let t : Work = d.job in pending t.number r)
+  pub lower : (r : Reply) (d : IsDone v.jobs.works r) → (let t : Work = d.job in t.number ≤ v.fetched)
+
+-- the job of an entry that was read to its end
+begins : (config : Options) (values : List ℕ) (epoch : List Line) (answered : List Answered) (k : ℕ) (v : View) (words : List ℕ) → (is_some v.halted ≡ false → Finds config values epoch v (fetched v words)) → IsResting config values epoch answered v → IsOwing config values epoch answered k (fetched v words)
+begins config values epoch answered k v words finds o runs =
+    let f : Finds config values epoch v (fetched v words) = finds runs in
+    let t : Work = begun (next_number v) (request_of X64 words) v.jobs.info.sectors (verdict_of (request_of X64 words) v.jobs.info) in
+    let number = begun_number (next_number v) v.jobs.info.sectors (request_of X64 words) (verdict_of (request_of X64 words) v.jobs.info) in
+    let jobs = f.later runs in
+    let j : IsJobOf config values epoch (begun (next_number v) (request_of X64 words) v.jobs.info.sectors (verdict_of (request_of X64 words) v.jobs.info)) = (all_second (IsJobOf config values epoch) v.jobs.works (begun (next_number v) (request_of X64 words) v.jobs.info.sectors (verdict_of (request_of X64 words) v.jobs.info) ∷ []) jobs.each).0 in
+    let first : 1 ≤ next_number v = subst (λ (n : ℕ). 1 ≤ n) number j.first in
+    let next : next_number v ≡ v.fetched + 1 = above v.fetched f.small first in
+    subst (λ (n : ℕ). Owes config values epoch n (v.jobs.works ++ begun (next_number v) (request_of X64 words) v.jobs.info.sectors (verdict_of (request_of X64 words) v.jobs.info) ∷ []) (answered ++ [])) (sym next)
+    (owes_fetched config values epoch v.fetched v.jobs.works (answered ++ []) (begun (next_number v) (request_of X64 words) v.jobs.info.sectors (verdict_of (request_of X64 words) v.jobs.info)) (number ∙ next) f.low (o runs))
+  where
+    above : (n : ℕ) → n < 2 ^ 64 → 1 ≤ (n + 1) % 2 ^ 64 → (n + 1) % 2 ^ 64 ≡ n + 1
+    above n lt some = omega arith
+
+-- so it is behind a move, with some job under way
+pub record OwesThen (config : Options) (values : List ℕ) (epoch : List Line) (answered : List Answered) (v : View) : Type 0 where
+  pub job : ℕ
+  pub owes : IsOwing config values epoch answered job v
+
+stays : (config : Options) (values : List ℕ) (epoch : List Line) (answered : List Answered) (k : ℕ) (v : View) → IsOwing config values epoch answered k v → OwesThen config values epoch answered v
+stays config values epoch answered k v o = record { job = k; owes = o }
+
+-- the reply begins
+replies : (config : Options) (values : List ℕ) (epoch : List Line) (answered : List Answered) (v : View) (r : Reply) (a : BackAnswer) → next_reply v ≡ Some r → (is_some v.halted ≡ false → Finds config values epoch v (loop_step v (Some r) a)) → IsResting config values epoch answered v
+    → OwesThen config values epoch answered (loop_step v (Some r) a)
+replies config values epoch answered v r a e finds o =
+    let d : IsDone v.jobs.works r = done_found v.jobs.works r e in
+    let t : Work = d.job in
+    record { job = t.number; owes = λ runs. subst (λ (p : Option ℕ). Owes config values epoch v.fetched (removed_at v.jobs.works p) (answered ++ pending t.number r ∷ [])) (sym d.lowest) (begun_reply d (finds runs) (o runs)) }
+  where
+    begun_reply : (d : IsDone v.jobs.works r) → Finds config values epoch v (loop_step v (Some r) a) → Owes config values epoch v.fetched v.jobs.works (answered ++ []) → (let t : Work = d.job in Owes config values epoch v.fetched (remove v.jobs.works d.place) (answered ++ pending t.number r ∷ []))
+    begun_reply d f rest =
+        let t : Work = d.job in
+        let nothing : Owes config values epoch v.fetched v.jobs.works answered = subst (λ (l : List Answered). Owes config values epoch v.fetched v.jobs.works l) (append-nil answered) rest in
+        owes_begun config values epoch v.fetched v.jobs.works answered d.place d.job (pending t.number r) d.found refl (f.lower r d) (f.done r d) nothing
+
+-- the stage stays
+as_it_was : (config : Options) (values : List ℕ) (epoch : List Line) (answered : List Answered) (k : ℕ) (s : Stage) (v : View) → v.stage ≡ s → Owes config values epoch v.fetched v.jobs.works (answered ++ pending_at s k) → Owes config values epoch v.fetched v.jobs.works (answered ++ pending_at v.stage k)
+as_it_was config values epoch answered k s v here o = subst (λ (q : Stage). Owes config values epoch v.fetched v.jobs.works (answered ++ pending_at q k)) (sym here) o
+
+loop_owes : (config : Options) (values : List ℕ) (epoch : List Line) (answered : List Answered) (k : ℕ) (v : View) (next : Option Reply) (a : BackAnswer) → v.stage ≡ stage.Loop → next_reply v ≡ next → (is_some v.halted ≡ false → Finds config values epoch v (loop_step v next a)) → IsResting config values epoch answered v
+    → OwesThen config values epoch answered (loop_step v next a)
+loop_owes config values epoch answered k v (Some r) a here e finds o = replies config values epoch answered v r a e finds o
+loop_owes config values epoch answered k v None (answers.Word word) here e finds o =
+    stays config values epoch answered k _
+    (either config values epoch answered k (requests_of v.ring v.seen == 0) (looked v word (record v { seen = word; stage = stage.StoreEvent })) (record v { entry = word ∷ []; stage = stage.Fetch 1 })
+    (looked_owes config values epoch answered k v word (record v { seen = word; stage = stage.StoreEvent }) o (λ runs. o runs)) (λ runs. o runs))
+loop_owes config values epoch answered k v None a here e finds o = stays config values epoch answered k (record v { asleep = false }) (λ runs. as_it_was config values epoch answered k stage.Loop v here (o runs))
+
+fetch_owes : (config : Options) (values : List ℕ) (epoch : List Line) (answered : List Answered) (k n word : ℕ) (v : View) (last : Bool) → (is_some v.halted ≡ false → Finds config values epoch v (if last then fetched v (v.entry ++ word ∷ []) else record v { entry = v.entry ++ word ∷ []; stage = stage.Fetch (n + 1) }))
+    → IsResting config values epoch answered v → IsOwing config values epoch answered k (if last then fetched v (v.entry ++ word ∷ []) else record v { entry = v.entry ++ word ∷ []; stage = stage.Fetch (n + 1) })
+fetch_owes config values epoch answered k n word v true finds o = begins config values epoch answered k v (v.entry ++ word ∷ []) finds o
+fetch_owes config values epoch answered k n word v false finds o = λ runs. o runs
+
+-- the reply is pushed: it is told with the producer behind it
+pushed : (config : Options) (values : List ℕ) (epoch : List Line) (answered : List Answered) (k producer fetched : ℕ) (works : List Work) (r : Reply) → Owes config values epoch fetched works (answered ++ pending k r ∷ [])
+    → Owes config values epoch fetched works ((answered ++ record { job = k; response = response_in r; producer = producer } ∷ []) ++ [])
+pushed config values epoch answered k producer fetched works r o =
+    let a : Answered = record { job = k; response = response_in r; producer = producer } in
+    let jobs : jobs_of (answered ++ pending k r ∷ []) ≡ jobs_of ((answered ++ record { job = k; response = response_in r; producer = producer } ∷ []) ++ []) = map-append job_of answered (pending k r ∷ []) ∙ (sym (map-append job_of answered (a ∷ [])) ∙ ap jobs_of (sym (append-nil (answered ++ a ∷ [])))) in
+    let last : IsOwed config values epoch (pending k r) = (all_second (IsOwed config values epoch) answered (pending k r ∷ []) o.each).0 in
+    record {
+      each = all_both (IsOwed config values epoch) (answered ++ a ∷ []) [] (all_both (IsOwed config values epoch) answered (a ∷ []) (all_first (IsOwed config values epoch) answered (pending k r ∷ []) o.each) (last, tt)) tt;
+      apart = subst (λ (ns : List ℕ). AreApart (ns ++ numbers works)) jobs o.apart;
+      low = subst (λ (ns : List ℕ). AllByRecursion (λ (n : ℕ). n ≤ fetched) ns) jobs o.low;
+    }
+
+pub owes_at : (config : Options) (values : List ℕ) (epoch : List Line) (answered : List Answered) (k : ℕ) (s : Stage) (v : View) (x : Sight) (a : BackAnswer) → v.stage ≡ s → KnowsAt s x v.ring v.page v.seen v.halted v.entry v.fetched → (is_some v.halted ≡ false → Finds config values epoch v (step_at s v a))
+    → (is_some v.halted ≡ false → Owes config values epoch v.fetched v.jobs.works (answered ++ pending_at s k)) → OwesThen config values epoch (answered_after s answered k v.ring.prod) (step_at s v a)
+owes_at config values epoch answered k stage.MapRing v x (answers.Mapped m) here knows finds o = stays config values epoch answered k _ (λ runs. o runs)
+owes_at config values epoch answered k stage.MapRing v x (answers.MapRefused status) here knows finds o = stays config values epoch answered k _ (λ runs. over true refl runs)
+owes_at config values epoch answered k stage.Bind v x answers.Done here knows finds o = stays config values epoch answered k _ (λ runs. o runs)
+owes_at config values epoch answered k stage.Bind v x answers.BindRefused here knows finds o = stays config values epoch answered k _ (λ runs. over true refl runs)
+owes_at config values epoch answered k stage.Loop v x a here knows finds o = loop_owes config values epoch answered k v (next_reply v) a here refl finds o
+owes_at config values epoch answered k (stage.Fetch n) v x (answers.Word word) here knows finds o = stays config values epoch answered k _ (fetch_owes config values epoch answered k n word v (n == 27) finds o)
+owes_at config values epoch answered k (stage.ReplyHigh r) v x a here knows finds o = stays config values epoch answered k _ (λ runs. o runs)
+owes_at config values epoch answered k (stage.ReplyLast r) v x a here knows finds o = stays config values epoch answered k _ (λ runs. o runs)
+owes_at config values epoch answered k (stage.Producer r) v x a here knows finds o = stays config values epoch _ k _ (λ runs. pushed config values epoch answered k _ v.fetched v.jobs.works r (o runs))
+owes_at config values epoch answered k (stage.ProducerFence old) v x a here knows finds o = stays config values epoch answered k _ (λ runs. o runs)
+owes_at config values epoch answered k (stage.ResponseEvent old) v x (answers.Word event) here knows finds o = stays config values epoch answered k _ (either_stage (notifies old v.ring.prod event))
+  where
+    either_stage : (b : Bool) → IsOwing config values epoch answered k (at (if b then stage.Send else stage.Loop) v)
+    either_stage true = λ runs. o runs
+    either_stage false = λ runs. o runs
+owes_at config values epoch answered k stage.Send v x a here knows finds o = stays config values epoch answered k _ (λ runs. o runs)
+owes_at config values epoch answered k stage.StoreEvent v x a here knows finds o = stays config values epoch answered k _ (λ runs. o runs)
+owes_at config values epoch answered k stage.EventFence v x a here knows finds o = stays config values epoch answered k _ (λ runs. o runs)
+owes_at config values epoch answered k stage.LookAgain v x (answers.Word word) here knows finds o = stays config values epoch answered k _ (looked_owes config values epoch answered k v word (record v { seen = word; stage = stage.Loop; asleep = true }) o (λ runs. o runs))
+owes_at config values epoch answered k (stage.GiveUp m) v x a here knows finds o = stays config values epoch answered k _ (λ runs. over _ knows.over runs)
+owes_at config values epoch answered k stage.UnmapRing v x a here knows finds o = stays config values epoch answered k _ (λ runs. over _ knows.over runs)
+owes_at config values epoch answered k stage.ClosePort v x a here knows finds o = stays config values epoch answered k _ (λ runs. over _ knows.over runs)
+owes_at config values epoch answered k stage.UnmapUnbound v x a here knows finds o = stays config values epoch answered k _ (λ runs. over _ knows.over runs)
+owes_at config values epoch answered k s v x a here knows finds o = stays config values epoch answered k v (λ runs. as_it_was config values epoch answered k s v here (o runs))

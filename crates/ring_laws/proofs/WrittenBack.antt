@@ -1,0 +1,216 @@
+-- Whatever the back is at, its move keeps the rule on replies.
+use Rattle.std.proofs.Common.{◌≡◌, ℕ, ◌+◌, ◌^◌, ◌<◌, ◌==◌, Bool, true, false, if◌then◌else◌, List, [], ◌∷◌, ◌++◌, refl, ap, sym, ◌∙◌, subst, arith}
+use Rattle.std.specs.Prelude.{Option, Some, None, Result, Ok, Err, IfSome}
+use Rattle.blk_base.specs.declared.parts.Mapping.{Mapping}
+use Rattle.blk_base.specs.declared.parts.Mode.TheVariants.{ReadWrite}
+use Rattle.blk_base.specs.declared.parts.End.TheVariants as end
+use Rattle.blk_base.specs.declared.ask.BackAsk.TheVariants as ask
+use Rattle.blk_base.specs.declared.ask.BackAnswer.{BackAnswer}
+use Rattle.blk_base.specs.declared.ask.BackAnswer.TheVariants as answers
+use Rattle.blk_base.specs.declared.moves.BackMover.TheVariants as back
+use Rattle.blk_base.specs.declared.moves.Mover.TheVariants as mover
+use Rattle.blk_base.specs.declared.moves.Move.{Move}
+use Rattle.blk_base.specs.declared.moves.Move.TheVariants as moves
+use Rattle.grant_table.specs.declared.entry.MapRefusal.{MapRefusal}
+use Rattle.grant_table.specs.Entry.{status_of}
+use Rattle.grant_table.specs.Table.{frame_of, verdict_at}
+use Rattle.event_channel.specs.declared.channels.PortState.{PortState}
+use Rattle.event_channel.specs.declared.channels.PortState.TheVariants as port
+use Rattle.event_channel.specs.Channels.{state_of, is_pending}
+use Rattle.hypervisor.specs.Hypervisor.{Hypervisor}
+use Rattle.hypervisor.specs.Act.{BackAct, Outcome, back_act, map_act, bind_act}
+use Rattle.ring_words.specs.Ring.{next_of, requests_of, overruns, notifies}
+use Rattle.schedule_text.specs.declared.line.Line.{Line}
+use Rattle.schedule_text.specs.declared.line.Line.TheVariants as lines
+use Rattle.report_rules.specs.Reply.{is_reply, value_written}
+use Rattle.back_jobs.specs.Jobs.{first_mapping}
+use Rattle.blk_back.specs.declared.stage.Reply.{Reply}
+use Rattle.blk_back.specs.declared.stage.Stage.{Stage}
+use Rattle.blk_back.specs.declared.stage.Stage.TheVariants as stage
+use Rattle.blk_back.specs.declared.told.BackTold.{BackTold}
+use Rattle.blk_back.specs.declared.told.Halt.{Halt}
+use Rattle.blk_back.specs.View.{View, slot_word}
+use Rattle.blk_back.specs.Ask.{ask_at, ask_of, loop_ask, next_reply, response_word}
+use Rattle.blk_back.specs.Step.{at, giving_up, give_up, overrun, looked, loop_word, loop_step, fetched, fetch_step, replied, step_at, step_of}
+use Rattle.split_model.specs.Shown.{back_lines, halt_lines, halt_line}
+use Rattle.split_model.proofs.SafeActs.{of_back, back_test}
+use Rattle.ring_laws.proofs.Sight.{is_other}
+use Rattle.ring_laws.proofs.Shows.{Sight, Shows, IsOnPages}
+use Rattle.ring_laws.proofs.Touches.{read_on, write_on}
+use Rattle.ring_laws.proofs.Knows.{unhalted, Serves, KnowsAt, Knows}
+use Rattle.ring_laws.proofs.BackTells.{lines_of_back}
+use Rattle.ring_laws.proofs.Due.{Answered, response_in, under_way, next_word, replying, HasAJob, Writes}
+use Rattle.ring_laws.proofs.Written.{Passes, AllPass, passes_other, written_behind, written_still, written_map, unwritten_at, writes_still, writes_all, writes_stage}
+use Rattle.ring_laws.proofs.WrittenWord.{written_event, slot_writes, producer_writes}
+
+-- the replies behind a move: one more where the producer is raised, to job k
+abbrev pub answered_after : Stage → List Answered → ℕ → ℕ → List Answered
+answered_after (stage.Producer r) answered k prod = answered ++ record { job = k; response = response_in r; producer = next_of prod } ∷ []
+answered_after s answered k prod = answered
+
+-- a move of the back, with the lines behind it
+record MoveWrites (before : List Line) (answered : List Answered) (old : View) (answer : BackAnswer) (shown : Move) (new : View) : Type 0 where
+  pub writes : Writes (before ++ lines.Move shown ∷ (back_lines new.told answer ++ halt_lines old.halted new.halted)) new.stage answered
+
+untold : (t : Option BackTold) (answer : BackAnswer) (ls : List Line) → t ≡ None → back_lines t answer ++ ls ≡ ls
+untold t answer ls e = ap (λ (o : Option BackTold). back_lines o answer ++ ls) e
+
+-- a move at which nothing is told and the back does not halt
+alone : (before : List Line) (answered : List Answered) (old : View) (answer : BackAnswer) (shown : Move) (new : View) → new.told ≡ None → new.halted ≡ old.halted → Writes (before ++ lines.Move shown ∷ []) new.stage answered → MoveWrites before answered old answer shown new
+alone before answered old answer shown new told halted w =
+    let none : halt_lines old.halted new.halted ≡ [] = ap (λ (h : Option Halt). halt_lines old.halted h) halted ∙ unhalted old.halted in
+    let all : back_lines new.told answer ++ halt_lines old.halted new.halted ≡ [] = untold new.told answer (halt_lines old.halted new.halted) told ∙ none in
+    record { writes = subst (λ (ls : List Line). Writes (before ++ lines.Move shown ∷ ls) new.stage answered) (sym all) w }
+
+own_passes : (line : Line) → is_other line ≡ true → is_reply line ≡ false → Passes true line
+own_passes line other plain = passes_other true line other plain (λ own. absurd (cc))
+
+read_passes : (number frame word value : ℕ) → Passes true (lines.Move (moves.Read back.Back number frame word value))
+read_passes number frame word value = record { on = read_on number frame word value; unwritten = λ before. refl; untold = refl; foreign = λ own. absurd (cc) }
+
+halt_passes : (old new : Option Halt) → AllPass true (halt_lines old new)
+halt_passes None None = tt
+halt_passes None (Some h) = (own_passes (lines.Halt (halt_line h)) refl refl, tt)
+halt_passes (Some g) new = tt
+
+-- a move between two replies that writes no word of one; the back may halt
+quiet : (before : List Line) (answered : List Answered) (s : Stage) (old : View) (answer : BackAnswer) (shown : Move) (new : View) → Writes before s answered → under_way s ≡ [] → Passes true (lines.Move shown) → new.told ≡ None → under_way new.stage ≡ [] → MoveWrites before answered old answer shown new
+quiet before answered s old answer shown new w none p told still =
+    let tail : AllPass true (back_lines new.told answer ++ halt_lines old.halted new.halted) = subst (λ (ls : List Line). AllPass true ls) (sym (untold new.told answer (halt_lines old.halted new.halted) told)) (halt_passes old.halted new.halted) in
+    record { writes = writes_stage _ s new.stage answered (none ∙ sym still) (writes_all true before (lines.Move shown ∷ (back_lines new.told answer ++ halt_lines old.halted new.halted)) s answered (λ own. none) (p, tail) w) }
+
+either_view : (P : View → Type 0) (b : Bool) (x y : View) → P x → P y → P (if b then x else y)
+either_view P true x y p q = p
+either_view P false x y p q = q
+
+giving_nothing : (m : Option Mapping) → under_way (giving_up m) ≡ []
+giving_nothing None = refl
+giving_nothing (Some m) = refl
+
+two_stages : (b : Bool) → under_way (if b then stage.Send else stage.Loop) ≡ []
+two_stages true = refl
+two_stages false = refl
+
+-- an act of a back at a stage
+abbrev BackWrites : List Line → Stage → List Answered → ℕ → View → BackAct → Type 0
+BackWrites before s answered k v a = MoveWrites before (answered_after s answered k v.ring.prod) v a.answer a.shown (step_at s v a.answer)
+
+-- and of one in its loop, by what it replies
+abbrev Loops : List Line → List Answered → Option Reply → View → BackAct → Type 0
+Loops before answered r v a = MoveWrites before answered v a.answer a.shown (loop_step v r a.answer)
+
+-- the ring's page is mapped, or it isn't
+map_writes : (before : List Line) (h : Hypervisor) (v : View) (x : Sight) (answered : List Answered) (k : ℕ) (verdict : Result ℕ MapRefusal) → x.pages ≡ [] → Shows before x → v.told ≡ None → Writes before stage.MapRing answered → BackWrites before stage.MapRing answered k v (map_act h back.Back 8 ReadWrite verdict)
+map_writes before h v x answered k (Ok frame) none shows told w =
+    let line : Line = lines.Move (moves.Map back.Back 8 ReadWrite (h.grants.made + 1) frame) in
+    alone before answered v _ (moves.Map back.Back 8 ReadWrite (h.grants.made + 1) frame) _ told refl
+    (writes_stage _ stage.MapRing stage.Bind answered refl
+    (writes_still before line stage.MapRing answered w (unwritten_at before line stage.MapRing answered w refl refl (λ own. refl)) (written_map before 8 (h.grants.made + 1) frame ReadWrite x none shows) refl))
+map_writes before h v x answered k (Err refusal) none shows told w =
+    quiet before answered stage.MapRing v _ (moves.MapRefused back.Back 8 ReadWrite (status_of refusal)) _ w refl (own_passes (lines.Move (moves.MapRefused back.Back 8 ReadWrite (status_of refusal))) refl refl) told refl
+
+bind_writes : (before : List Line) (h : Hypervisor) (v : View) (answered : List Answered) (k : ℕ) (state : PortState) → v.told ≡ None → Writes before stage.Bind answered → BackWrites before stage.Bind answered k v (bind_act h 1 state)
+bind_writes before h v answered k port.Unbound told w = quiet before answered stage.Bind v _ (moves.Bind 1) _ w refl (own_passes (lines.Move (moves.Bind 1)) refl refl) told refl
+bind_writes before h v answered k port.Closed told w = quiet before answered stage.Bind v _ (moves.BindRefused 1) _ w refl (own_passes (lines.Move (moves.BindRefused 1)) refl refl) told refl
+bind_writes before h v answered k port.Bound told w = quiet before answered stage.Bind v _ (moves.BindRefused 1) _ w refl (own_passes (lines.Move (moves.BindRefused 1)) refl refl) told refl
+
+-- a word is read, whatever the back makes of it
+read_writes : (before : List Line) (answered : List Answered) (s : Stage) (old : View) (answer : BackAnswer) (frame word value : ℕ) (new : View) → Writes before s answered → under_way s ≡ [] → new.told ≡ None → under_way new.stage ≡ [] → MoveWrites before answered old answer (moves.Read back.Back old.page.number frame word value) new
+read_writes before answered s old answer frame word value new w none told still = quiet before answered s old answer (moves.Read back.Back old.page.number frame word value) new w none (read_passes old.page.number frame word value) told still
+
+looked_writes : (before : List Line) (answered : List Answered) (s : Stage) (v otherwise : View) (answer : BackAnswer) (frame place word : ℕ) → Writes before s answered → under_way s ≡ [] → v.told ≡ None → otherwise.told ≡ None → under_way otherwise.stage ≡ [] → MoveWrites before answered v answer (moves.Read back.Back v.page.number frame place word) (looked v word otherwise)
+looked_writes before answered s v otherwise answer frame place word w none told other still =
+    let P : View → Type 0 = λ (new : View). MoveWrites before answered v answer (moves.Read back.Back v.page.number frame place word) new in
+    either_view P (overruns v.ring word) (overrun v word) _
+    (read_writes before answered s v answer frame place word (overrun v word) w none told (giving_nothing (first_mapping v.jobs.works)))
+    (either_view P (word == v.ring.cons) otherwise (record v { seen = word; stage = stage.Loop })
+    (read_writes before answered s v answer frame place word otherwise w none other still)
+    (read_writes before answered s v answer frame place word (record v { seen = word; stage = stage.Loop }) w none told refl))
+
+loop_word_writes : (before : List Line) (answered : List Answered) (v : View) (answer : BackAnswer) (frame place word : ℕ) → Writes before stage.Loop answered → v.told ≡ None → MoveWrites before answered v answer (moves.Read back.Back v.page.number frame place word) (loop_word v word)
+loop_word_writes before answered v answer frame place word w told =
+    either_view (λ (new : View). MoveWrites before answered v answer (moves.Read back.Back v.page.number frame place word) new) (requests_of v.ring v.seen == 0) (looked v word (record v { seen = word; stage = stage.StoreEvent })) (record v { entry = word ∷ []; stage = stage.Fetch 1 })
+    (looked_writes before answered stage.Loop v (record v { seen = word; stage = stage.StoreEvent }) answer frame place word w refl told told refl)
+    (read_writes before answered stage.Loop v answer frame place word (record v { entry = word ∷ []; stage = stage.Fetch 1 }) w refl told refl)
+
+fetch_writes : (before : List Line) (answered : List Answered) (n : ℕ) (v : View) (answer : BackAnswer) (frame place word : ℕ) → Writes before (stage.Fetch n) answered → v.told ≡ None → MoveWrites before answered v answer (moves.Read back.Back v.page.number frame place word) (fetch_step v n word)
+fetch_writes before answered n v answer frame place word w told =
+    either_view (λ (new : View). MoveWrites before answered v answer (moves.Read back.Back v.page.number frame place word) new) (n == 27) (fetched v (v.entry ++ word ∷ [])) (record v { entry = v.entry ++ word ∷ []; stage = stage.Fetch (n + 1) })
+    (read_writes before answered (stage.Fetch n) v answer frame place word (fetched v (v.entry ++ word ∷ [])) w refl told refl)
+    (read_writes before answered (stage.Fetch n) v answer frame place word (record v { entry = v.entry ++ word ∷ []; stage = stage.Fetch (n + 1) }) w refl told refl)
+
+-- the back waits; its stage stays
+wait_writes : (before : List Line) (answered : List Answered) (s : Stage) (old new : View) (answer : BackAnswer) → Writes before s answered → under_way s ≡ [] → new.told ≡ None → under_way new.stage ≡ under_way s → MoveWrites before answered old answer (moves.Event mover.Back) new
+wait_writes before answered s old new answer w none told same = quiet before answered s old answer (moves.Event mover.Back) new w none (own_passes (lines.Move (moves.Event mover.Back)) refl refl) told (same ∙ none)
+
+idle_writes : (before : List Line) (h : Hypervisor) (v : View) (o : Outcome) (a : BackAct) (answered : List Answered) (asleep none : Bool) → under_way v.stage ≡ [] → v.told ≡ None → Writes before stage.Loop answered
+    → back_act h back.Back (if asleep then ask.Wait else (if none then ask.Read v.page 0 else ask.Read v.page (slot_word v.ring.cons 0))) o ≡ Some a → Loops before answered None v a
+idle_writes before h v o a answered true none same told w e = back_test (Loops before answered None v) (is_pending h.channels end.Back) _ a (wait_writes before answered stage.Loop v (record v { asleep = false }) answers.Event w refl told same) e
+idle_writes before h v o a answered false true same told w e = of_back (Loops before answered None v) _ a (loop_word_writes before answered v _ (frame_of h.grants v.page) 0 _ w told) e
+idle_writes before h v o a answered false false same told w e = of_back (Loops before answered None v) _ a (loop_word_writes before answered v _ (frame_of h.grants v.page) (slot_word v.ring.cons 0) _ w told) e
+
+loop_writes : (before : List Line) (h : Hypervisor) (v : View) (o : Outcome) (a : BackAct) (x : Sight) (answered : List Answered) (r : Option Reply) → Serves 0 x v.ring v.page v.seen v.halted v.entry v.fetched → Shows before x → under_way v.stage ≡ [] → v.told ≡ None → Writes before stage.Loop answered
+    → IfSome (next_word r) (λ (p : Reply × ℕ). HasAJob before answered (response_in p.0) p.1) → back_act h back.Back (loop_ask v r) o ≡ Some a → Loops before answered r v a
+loop_writes before h v o a x answered (Some r) k shows same told w job e =
+    of_back (Loops before answered (Some r) v) _ a
+    (alone before answered v _ _ _ told refl
+    (slot_writes before x v.page.number (frame_of h.grants v.page) v.ring.prod 0 (response_word r 0) (response_in r) stage.Loop (stage.ReplyHigh r) answered k.mapped k.replied shows w refl (omega arith) refl (λ words. refl) job)) e
+loop_writes before h v o a x answered None k shows same told w job e = idle_writes before h v o a answered v.asleep (requests_of v.ring v.seen == 0) same told w e
+
+-- req_event is no word of a reply
+event_writes : (before : List Line) (x : Sight) (v : View) (frame value : ℕ) (answered : List Answered) → Serves 0 x v.ring v.page v.seen v.halted v.entry v.fetched → Shows before x → v.told ≡ None → Writes before stage.StoreEvent answered → MoveWrites before answered v answers.Done (moves.Write back.Back v.page.number frame 1 value) (at stage.EventFence v)
+event_writes before x v frame value answered k shows told w =
+    let line : Line = lines.Move (moves.Write back.Back v.page.number frame 1 value) in
+    let on : IsOnPages (lines.Move (moves.Write back.Back v.page.number frame 1 value)) = write_on v.page.number frame 1 value in
+    let none : value_written before (lines.Move (moves.Write back.Back v.page.number frame 1 value)) ≡ None = written_event before x v.page.number frame value k.mapped shows in
+    alone before answered v answers.Done (moves.Write back.Back v.page.number frame 1 value) (at stage.EventFence v) told refl
+    (writes_stage _ stage.StoreEvent stage.EventFence answered refl
+    (writes_still before line stage.StoreEvent answered w (unwritten_at before line stage.StoreEvent answered w none refl (λ own. refl)) (written_still before line on none) (written_behind before line on ∙ none)))
+
+-- the producer is raised, and the reply told
+raised_writes : (before : List Line) (x : Sight) (v : View) (frame k : ℕ) (r : Reply) (answered : List Answered) → Serves 0 x v.ring v.page v.seen v.halted v.entry v.fetched → Shows before x → r.op < 2 ^ 8 → Writes before (stage.Producer r) answered
+    → MoveWrites before (answered ++ record { job = k; response = response_in r; producer = next_of v.ring.prod } ∷ []) v answers.Done (moves.Write back.Back v.page.number frame 2 (next_of v.ring.prod)) (replied v r)
+raised_writes before x v frame k r answered s shows small w =
+    let all = answered ++ record { job = k; response = response_in r; producer = next_of v.ring.prod } ∷ [] in
+    let behind : List Line → List Line = λ (ls : List Line). before ++ lines.Move (moves.Write back.Back v.page.number frame 2 (next_of v.ring.prod)) ∷ lines.Reply r.id r.status ∷ ls in
+    record { writes = subst (λ (ls : List Line). Writes (behind ls) (stage.ProducerFence v.ring.prod) all) (sym (unhalted v.halted)) (producer_writes before x v.page.number frame v.ring.prod k r answered s.mapped s.replied shows small w) }
+
+writes_at : (before : List Line) (h : Hypervisor) (s : Stage) (v : View) (o : Outcome) (a : BackAct) (x : Sight) (answered : List Answered) (k : ℕ) → KnowsAt s x v.ring v.page v.seen v.halted v.entry v.fetched → Shows before x → under_way v.stage ≡ under_way s → v.told ≡ None → Writes before s answered
+    → IfSome (replying s v) (λ (p : Reply × ℕ). HasAJob before answered (response_in p.0) p.1) → ((r : Reply) → s ≡ stage.Producer r → r.op < 2 ^ 8)
+    → back_act h back.Back (ask_at s v) o ≡ Some a → BackWrites before s answered k v a
+writes_at before h stage.MapRing v o a x answered k n shows same told w job small e = of_back (BackWrites before stage.MapRing answered k v) _ a (map_writes before h v x answered k (verdict_at h.pages 8 ReadWrite) n.unmapped shows told w) e
+writes_at before h stage.Bind v o a x answered k n shows same told w job small e = of_back (BackWrites before stage.Bind answered k v) _ a (bind_writes before h v answered k (state_of h.channels 1) told w) e
+writes_at before h stage.Loop v o a x answered k n shows same told w job small e = loop_writes before h v o a x answered (next_reply v) n shows same told w job e
+writes_at before h (stage.Fetch i) v o a x answered k n shows same told w job small e = of_back (BackWrites before (stage.Fetch i) answered k v) _ a (fetch_writes before answered i v _ (frame_of h.grants v.page) (slot_word v.ring.cons i) _ w told) e
+writes_at before h (stage.ReplyHigh r) v o a x answered k n shows same told w job small e =
+    of_back (BackWrites before (stage.ReplyHigh r) answered k v) _ a
+    (alone before answered v _ _ _ told refl
+    (slot_writes before x v.page.number (frame_of h.grants v.page) v.ring.prod 1 (response_word r 1) (response_in r) (stage.ReplyHigh r) (stage.ReplyLast r) answered n.mapped n.replied shows w refl (omega arith) refl (λ words. refl) job)) e
+writes_at before h (stage.ReplyLast r) v o a x answered k n shows same told w job small e =
+    of_back (BackWrites before (stage.ReplyLast r) answered k v) _ a
+    (alone before answered v _ _ _ told refl
+    (slot_writes before x v.page.number (frame_of h.grants v.page) v.ring.prod 2 (response_word r 2) (response_in r) (stage.ReplyLast r) (stage.Producer r) answered n.mapped n.replied shows w refl (omega arith) refl (λ words. refl) job)) e
+writes_at before h (stage.Producer r) v o a x answered k n shows same told w job small e = of_back (BackWrites before (stage.Producer r) answered k v) _ a (raised_writes before x v (frame_of h.grants v.page) k r answered n shows (small r refl) w) e
+writes_at before h (stage.ProducerFence old) v o a x answered k n shows same told w job small e = of_back (BackWrites before (stage.ProducerFence old) answered k v) _ a (quiet before answered (stage.ProducerFence old) v _ (moves.Fence mover.Back) _ w refl (own_passes (lines.Move (moves.Fence mover.Back)) refl refl) told refl) e
+writes_at before h (stage.ResponseEvent old) v o a x answered k n shows same told w job small e =
+    of_back (BackWrites before (stage.ResponseEvent old) answered k v) _ a
+    (read_writes before answered (stage.ResponseEvent old) v _ (frame_of h.grants v.page) 3 _ (at (if notifies old v.ring.prod _ then stage.Send else stage.Loop) v) w refl told (two_stages (notifies old v.ring.prod _))) e
+writes_at before h stage.Send v o a x answered k n shows same told w job small e = of_back (BackWrites before stage.Send answered k v) _ a (quiet before answered stage.Send v _ (moves.Send mover.Back) _ w refl (own_passes (lines.Move (moves.Send mover.Back)) refl refl) told refl) e
+writes_at before h stage.StoreEvent v o a x answered k n shows same told w job small e = of_back (BackWrites before stage.StoreEvent answered k v) _ a (event_writes before x v (frame_of h.grants v.page) (next_of v.ring.cons) answered n shows told w) e
+writes_at before h stage.EventFence v o a x answered k n shows same told w job small e = of_back (BackWrites before stage.EventFence answered k v) _ a (quiet before answered stage.EventFence v _ (moves.Fence mover.Back) _ w refl (own_passes (lines.Move (moves.Fence mover.Back)) refl refl) told refl) e
+writes_at before h stage.LookAgain v o a x answered k n shows same told w job small e =
+    of_back (BackWrites before stage.LookAgain answered k v) _ a (looked_writes before answered stage.LookAgain v (record v { seen = _; stage = stage.Loop; asleep = true }) _ (frame_of h.grants v.page) 0 _ w refl told told refl) e
+writes_at before h (stage.GiveUp m) v o a x answered k n shows same told w job small e = of_back (BackWrites before (stage.GiveUp m) answered k v) _ a (quiet before answered (stage.GiveUp m) v _ (moves.Unmap back.Back m.number) (give_up v) w refl (own_passes (lines.Move (moves.Unmap back.Back m.number)) refl refl) told (giving_nothing (first_mapping v.jobs.works))) e
+writes_at before h stage.UnmapRing v o a x answered k n shows same told w job small e = of_back (BackWrites before stage.UnmapRing answered k v) _ a (quiet before answered stage.UnmapRing v _ (moves.Unmap back.Back v.page.number) _ w refl (own_passes (lines.Move (moves.Unmap back.Back v.page.number)) refl refl) told refl) e
+writes_at before h stage.ClosePort v o a x answered k n shows same told w job small e = of_back (BackWrites before stage.ClosePort answered k v) _ a (quiet before answered stage.ClosePort v _ (moves.ClosePort mover.Back) _ w refl (own_passes (lines.Move (moves.ClosePort mover.Back)) refl refl) told refl) e
+writes_at before h stage.UnmapUnbound v o a x answered k n shows same told w job small e = of_back (BackWrites before stage.UnmapUnbound answered k v) _ a (quiet before answered stage.UnmapUnbound v _ (moves.Unmap back.Back v.page.number) _ w refl (own_passes (lines.Move (moves.Unmap back.Back v.page.number)) refl refl) told refl) e
+writes_at before h stage.Halted v o a x answered k n shows same told w job small e = back_test (BackWrites before stage.Halted answered k v) (is_pending h.channels end.Back) _ a (wait_writes before answered stage.Halted v v _ w refl told same) e
+
+-- a move of the back, where a job is due the response that it writes
+pub back_writes : (before : List Line) (h : Hypervisor) (v : View) (o : Outcome) (a : BackAct) (x : Sight) (answered : List Answered) (k : ℕ) → KnowsAt v.stage x v.ring v.page v.seen v.halted v.entry v.fetched → Knows x v → Shows before x → v.told ≡ None → Writes before v.stage answered
+    → IfSome (replying v.stage v) (λ (p : Reply × ℕ). HasAJob before answered (response_in p.0) p.1) → ((r : Reply) → v.stage ≡ stage.Producer r → r.op < 2 ^ 8)
+    → back_act h back.Back (ask_of v) o ≡ Some a
+    → (let new : View = step_of v a.answer in Writes (before ++ lines_of_back v a) new.stage (answered_after v.stage answered k v.ring.prod))
+back_writes before h v o a x answered k knows kept shows told w job small e =
+    let gone : MoveWrites before (answered_after v.stage answered k v.ring.prod) v a.answer a.shown (step_at v.stage v a.answer) = writes_at before h v.stage v o a x answered k knows shows refl told w job small e in
+    gone.writes

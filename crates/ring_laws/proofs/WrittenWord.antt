@@ -1,0 +1,174 @@
+-- A word of a reply that the back writes is the next one, of a response that a job is due; behind the producer stands the line that tells of the reply.
+use Rattle.std.proofs.Common.{◌≡◌, ℕ, ◌+◌, ◌-◌, ◌/◌, ◌%◌, ◌^◌, ◌<◌, ◌≤◌, ◌&&◌, ◌==◌, Bool, true, false, if◌then◌else◌, List, [], ◌∷◌, ◌++◌, length, count_by, refl, ap, sym, ◌∙◌, subst, append_assoc, append-nil, length-append, arith}
+use Rattle.std.specs.Prelude.{Option, Some, None, is_some, nat_lt}
+use Rattle.std.specs.Option.{option_to_list}
+use Rattle.std.proofs.lemmas.Bool.Decides.{nat_tests}
+use Rattle.blk_base.specs.declared.moves.BackMover.TheVariants as back
+use Rattle.blk_base.specs.declared.moves.Move.TheVariants as moves
+use Rattle.ring_words.specs.Ring.{next_of}
+use Rattle.ring_words.specs.Shape.{ring_word_of}
+use Rattle.schedule_text.specs.declared.line.Line.{Line}
+use Rattle.schedule_text.specs.declared.line.Line.TheVariants as lines
+use Rattle.blk_layout.specs.declared.response.Response.{Response}
+use Rattle.blk_layout.specs.Response.{response_words_of}
+use Rattle.blk_layout.proofs.ResponseLaid.{response_back}
+use Rattle.report_rules.specs.Obeys.{Obeys}
+use Rattle.report_rules.specs.Ring.{replied_before}
+use Rattle.report_rules.specs.Job.{entry_values}
+use Rattle.report_rules.specs.Reply.{is_event, value_written, values_written, within_reply, row_of, are_alike, replies_like, jobs_due, next_place, is_next_value, is_due_row, reply_pushed, line_of, IsReplyAt}
+use Rattle.report_rules.proofs.Obeys.{obeys_more}
+use Rattle.blk_back.specs.declared.stage.Reply.{Reply}
+use Rattle.blk_back.specs.declared.stage.Stage.{Stage}
+use Rattle.blk_back.specs.declared.stage.Stage.TheVariants as stage
+use Rattle.blk_back.specs.View.{slot_word, shape}
+use Rattle.ring_laws.proofs.Lists.{count_same}
+use Rattle.ring_laws.proofs.Shows.{Sight, Shows, other_on_pages}
+use Rattle.ring_laws.proofs.Touches.{IsPage, page_word, write_on}
+use Rattle.ring_laws.proofs.Entry.{one_shape, high_slot, slot_is}
+use Rattle.ring_laws.proofs.Bystanders.{if_none, if_some, some_and}
+use Rattle.ring_laws.proofs.Due.{Answered, response_in, rows_of, under_way, HasAJob, Writes}
+use Rattle.ring_laws.proofs.WrittenRows.{within_is, replies_are, row_after, rows_more, replies_counted, due_same}
+use Rattle.ring_laws.proofs.Written.{written_behind, written_more, written_still, pushed_more, pushes_none}
+
+-- what the back writes into the ring's page: a word of a reply, but for req_event
+pub written_word : (before : List Line) (x : Sight) (number frame word value : ℕ) → (word == 1) ≡ false → IsPage number x.pages → Shows before x → value_written before (lines.Move (moves.Write back.Back number frame word value)) ≡ Some value
+written_word before x number frame word value other is shows =
+    ap (λ (w : Option ℕ). if is_event w then None else Some value) (page_word before x number word shows is) ∙ ap (λ (b : Bool). if b then None else Some value) other
+
+pub written_event : (before : List Line) (x : Sight) (number frame value : ℕ) → IsPage number x.pages → Shows before x → value_written before (lines.Move (moves.Write back.Back number frame 1 value)) ≡ None
+written_event before x number frame value is shows = ap (λ (w : Option ℕ). if is_event w then None else Some value) (page_word before x number 1 shows is)
+
+not_three : (i : ℕ) → i < 3 → (i == 3) ≡ false
+not_three i small = grind (arith, nat_tests)
+
+not_one : (word : ℕ) → 16 ≤ word → (word == 1) ≡ false
+not_one word high = grind (arith, nat_tests)
+
+not_none : (n k : ℕ) → n ≡ k + 1 → (n == 0) ≡ false
+not_none n k e = grind (arith, nat_tests)
+
+is_same : (n m : ℕ) → n ≡ m → (m == n) ≡ true
+is_same n m e = grind (arith, nat_tests)
+
+-- the next word is that of a response to a job that has no reply yet
+due_word : (before : List Line) (answered : List Answered) (u : List ℕ) (i w : ℕ) (r : Response) → values_written before ≡ rows_of answered ++ u → length u ≡ i → i < 3 → ((words : List ℕ) → are_alike i (row_of (u ++ w ∷ []) 0) words ≡ are_alike i (response_words_of r) words) → HasAJob before answered r i → is_next_value before w ≡ true
+due_word before answered u i w r e long small alike job =
+    let now : List ℕ = values_written before ++ w ∷ [] in
+    let row : List ℕ = row_of (u ++ w ∷ []) 0 in
+    let jobs : ℕ = length (entry_values before) in
+    let last : Bool = w == (replied_before before + 1) % 2 ^ 32 in
+    let within : within_reply before ≡ i = within_is (values_written before) answered u e (omega arith) ∙ long in
+    let other : (i == 3) ≡ false = not_three i small in
+    let replies : length (values_written before) / 4 ≡ length answered = replies_are (values_written before) answered u e (omega arith) in
+    let all : values_written before ++ w ∷ [] ≡ rows_of answered ++ (u ++ w ∷ []) = ap (λ (vs : List ℕ). vs ++ w ∷ []) e ∙ append_assoc (rows_of answered) u (w ∷ []) in
+    ap (λ (n : ℕ). if n == 3 then last else nat_lt (replies_like now n (row_of now (length (values_written before) / 4)) (length (values_written before) / 4)) (jobs_due before n (row_of now (length (values_written before) / 4)) jobs)) within
+    ∙ (ap (λ (b : Bool). if b then last else nat_lt (replies_like now i (row_of now (length (values_written before) / 4)) (length (values_written before) / 4)) (jobs_due before i (row_of now (length (values_written before) / 4)) jobs)) other
+    ∙ (ap (λ (n : ℕ). nat_lt (replies_like now i (row_of now n) n) (jobs_due before i (row_of now n) jobs)) replies
+    ∙ (ap (λ (vs : List ℕ). nat_lt (replies_like vs i (row_of vs (length answered)) (length answered)) (jobs_due before i (row_of vs (length answered)) jobs)) all
+    ∙ (ap (λ (ws : List ℕ). nat_lt (replies_like (rows_of answered ++ (u ++ w ∷ [])) i ws (length answered)) (jobs_due before i ws jobs)) (row_after answered (u ++ w ∷ []))
+    ∙ (ap (λ (n : ℕ). nat_lt n (jobs_due before i row jobs)) (replies_counted answered (u ++ w ∷ []) i row)
+    ∙ (ap (λ (n : ℕ). nat_lt n (jobs_due before i row jobs)) (count_same (λ (a : Answered). are_alike i row (response_words_of a.response)) (λ (a : Answered). are_alike i (response_words_of r) (response_words_of a.response)) (λ a. alike (response_words_of a.response)) answered)
+    ∙ (ap (λ (n : ℕ). nat_lt (count_by (λ (a : Answered). are_alike i (response_words_of r) (response_words_of a.response)) answered) n) (due_same before i row (response_words_of r) alike jobs)
+    ∙ job)))))))
+
+-- its place is in the slot of the back's producer
+slot_place : (before : List Line) (prod i : ℕ) → within_reply before ≡ i → i < 3 → replied_before before ≡ prod → slot_word prod i ≡ next_place before shape
+slot_place before prod i within small replied =
+    let other : (i == 3) ≡ false = not_three i small in
+    slot_is prod i (omega arith) ∙ sym (ap (λ (n : ℕ). if n == 3 then 2 else ring_word_of shape (replied_before before) n) within
+    ∙ (ap (λ (b : Bool). if b then 2 else ring_word_of shape (replied_before before) i) other ∙ ap (λ (n : ℕ). ring_word_of shape n i) replied))
+
+word_allowed : (before : List Line) (x : Sight) (number frame word value : ℕ) → (word == 1) ≡ false → IsPage number x.pages → Shows before x → reply_pushed before ≡ None → word ≡ next_place before shape → is_next_value before value ≡ true → IsReplyAt before (lines.Move (moves.Write back.Back number frame word value))
+word_allowed before x number frame word value other is shows pushed place next =
+    let written : value_written before (lines.Move (moves.Write back.Back number frame word value)) ≡ Some value = written_word before x number frame word value other is shows in
+    record {
+      next = if_some _ written (some_and _ (one_shape before x number shows is) (page_word before x number word shows is ∙ ap (λ (n : ℕ). Some n) place, next));
+      told = if_none _ pushed;
+      only = λ told. absurd (cc);
+      whole = λ own none. absurd (cc);
+    }
+
+-- what was written, with that word
+words_with : (before : List Line) (x : Sight) (number frame word value : ℕ) (answered : List Answered) (u : List ℕ) → (word == 1) ≡ false → IsPage number x.pages → Shows before x → values_written before ≡ rows_of answered ++ u → values_written (before ++ lines.Move (moves.Write back.Back number frame word value) ∷ []) ≡ rows_of answered ++ (u ++ value ∷ [])
+words_with before x number frame word value answered u other is shows e =
+    written_more before (lines.Move (moves.Write back.Back number frame word value)) (write_on number frame word value)
+    ∙ (ap (λ (v : Option ℕ). values_written before ++ option_to_list v) (written_word before x number frame word value other is shows)
+    ∙ (ap (λ (vs : List ℕ). vs ++ value ∷ []) e ∙ append_assoc (rows_of answered) u (value ∷ [])))
+
+no_and : (b : Bool) → (b && false) ≡ false
+no_and true = refl
+no_and false = refl
+
+-- nothing is pushed while words are under way
+amid : (before : List Line) (line : Line) (answered : List Answered) (u : List ℕ) → values_written (before ++ line ∷ []) ≡ rows_of answered ++ u → length u < 4 → (length u == 0) ≡ false → reply_pushed (before ++ line ∷ []) ≡ None
+amid before line answered u e small some =
+    let longer : List Line = before ++ line ∷ [] in
+    let pushed : Option (List ℕ) = Some (row_of (values_written longer) (length (values_written longer) / 4 - 1)) in
+    pushed_more before line
+    ∙ (ap (λ (n : ℕ). if is_some (value_written longer line) && (n == 0) then pushed else None) (within_is (values_written longer) answered u e small)
+    ∙ (ap (λ (b : Bool). if is_some (value_written longer line) && b then pushed else None) some
+    ∙ ap (λ (b : Bool). if b then pushed else None) (no_and (is_some (value_written longer line)))))
+
+-- one of the three words of a response
+pub slot_writes : (before : List Line) (x : Sight) (number frame prod i w : ℕ) (r : Response) (s t : Stage) (answered : List Answered) → IsPage number x.pages → x.replied ≡ prod → Shows before x → Writes before s answered
+    → length (under_way s) ≡ i → i < 3 → under_way s ++ w ∷ [] ≡ under_way t
+    → ((words : List ℕ) → are_alike i (row_of (under_way s ++ w ∷ []) 0) words ≡ are_alike i (response_words_of r) words)
+    → HasAJob before answered r i → Writes (before ++ lines.Move (moves.Write back.Back number frame (slot_word prod i) w) ∷ []) t answered
+slot_writes before x number frame prod i w r s t answered is replied shows writes long small same alike job =
+    let high : 16 ≤ slot_word prod i = high_slot prod i (omega arith) in
+    let other : (slot_word prod i == 1) ≡ false = not_one (slot_word prod i) high in
+    let within : within_reply before ≡ i = within_is (values_written before) answered (under_way s) writes.words (omega arith) ∙ long in
+    let line : Line = lines.Move (moves.Write back.Back number frame (slot_word prod i) w) in
+    let words : values_written (before ++ line ∷ []) ≡ rows_of answered ++ (under_way s ++ w ∷ []) = words_with before x number frame (slot_word prod i) w answered (under_way s) other is shows writes.words in
+    let longer : length (under_way s ++ w ∷ []) ≡ i + 1 = length-append (under_way s) (w ∷ []) ∙ ap (λ (n : ℕ). n + 1) long in
+    record {
+      obeys = obeys_more IsReplyAt before line writes.obeys
+          (word_allowed before x number frame (slot_word prod i) w other is shows writes.pushed (slot_place before prod i within small (shows.replied ∙ replied)) (due_word before answered (under_way s) i w r writes.words long small alike job));
+      words = words ∙ ap (λ (u : List ℕ). rows_of answered ++ u) same;
+      pushed = amid before line answered (under_way s ++ w ∷ []) words (omega arith) (not_none (length (under_way s ++ w ∷ [])) i longer);
+    }
+
+next_value : (before : List Line) (prod : ℕ) → within_reply before ≡ 3 → replied_before before ≡ prod → is_next_value before (next_of prod) ≡ true
+next_value before prod within replied =
+    ap (λ (n : ℕ). if n == 3 then next_of prod == (replied_before before + 1) % 2 ^ 32 else is_due_row before (values_written before ++ next_of prod ∷ []) (row_of (values_written before ++ next_of prod ∷ []) (length (values_written before) / 4))) within
+    ∙ is_same ((replied_before before + 1) % 2 ^ 32) (next_of prod) (ap (λ (n : ℕ). (n + 1) % 2 ^ 32) replied)
+
+-- the producer is raised, and the reply told
+pub producer_writes : (before : List Line) (x : Sight) (number frame prod k : ℕ) (r : Reply) (answered : List Answered) → IsPage number x.pages → x.replied ≡ prod → Shows before x → r.op < 2 ^ 8 → Writes before (stage.Producer r) answered
+    → Writes (before ++ lines.Move (moves.Write back.Back number frame 2 (next_of prod)) ∷ lines.Reply r.id r.status ∷ []) (stage.ProducerFence prod) (answered ++ record { job = k; response = response_in r; producer = next_of prod } ∷ [])
+producer_writes before x number frame prod k r answered is replied shows small writes =
+    let line : Line = lines.Move (moves.Write back.Back number frame 2 (next_of prod)) in
+    let reply : Line = lines.Reply r.id r.status in
+    let longer : List Line = before ++ lines.Move (moves.Write back.Back number frame 2 (next_of prod)) ∷ [] in
+    let a : Answered = record { job = k; response = response_in r; producer = next_of prod } in
+    let u : List ℕ = under_way (stage.Producer r) in
+    let within : within_reply before ≡ 3 = within_is (values_written before) answered u writes.words (omega arith) in
+    let place : 2 ≡ next_place before shape = sym (ap (λ (n : ℕ). if n == 3 then 2 else ring_word_of shape (replied_before before) n) within) in
+    let next : is_next_value before (next_of prod) ≡ true = next_value before prod within (shows.replied ∙ replied) in
+    let behind : values_written longer ≡ rows_of answered ++ (u ++ next_of prod ∷ []) = words_with before x number frame 2 (next_of prod) answered u refl is shows writes.words in
+    let words : values_written longer ≡ rows_of (answered ++ a ∷ []) = behind ∙ sym (rows_more answered a) in
+    let flat : values_written longer ≡ rows_of (answered ++ a ∷ []) ++ [] = words ∙ sym (append-nil (rows_of (answered ++ a ∷ []))) in
+    let written : value_written longer line ≡ Some (next_of prod) = written_behind before line (write_on number frame 2 (next_of prod)) ∙ written_word before x number frame 2 (next_of prod) refl is shows in
+    let replies = replies_are (values_written longer) (answered ++ a ∷ []) [] flat (omega arith) in
+    let more = length-append answered (a ∷ []) in
+    let count : length (values_written longer) / 4 - 1 ≡ length answered = omega arith in
+    let pushed : reply_pushed longer ≡ Some (response_words_of (response_in r)) =
+    pushed_more before line
+    ∙ (ap (λ (v : Option ℕ). if is_some v && (within_reply longer == 0) then Some (row_of (values_written longer) (length (values_written longer) / 4 - 1)) else None) written
+    ∙ (ap (λ (n : ℕ). if n == 0 then Some (row_of (values_written longer) (length (values_written longer) / 4 - 1)) else None) (within_is (values_written longer) (answered ++ a ∷ []) [] flat (omega arith))
+    ∙ (ap (λ (n : ℕ). Some (row_of (values_written longer) n)) count
+    ∙ (ap (λ (vs : List ℕ). Some (row_of vs (length answered))) behind
+    ∙ ap (λ (ws : List ℕ). Some ws) (row_after answered (u ++ next_of prod ∷ [])))))) in
+    let one : Obeys IsReplyAt longer = obeys_more IsReplyAt before line writes.obeys (word_allowed before x number frame 2 (next_of prod) refl is shows writes.pushed place next) in
+    let two : IsReplyAt longer reply = record {
+      next = tt;
+      told = if_some _ pushed (ap line_of (response_back (response_in r) small));
+      only = λ told none. absurd (cc);
+      whole = λ own none. absurd (cc);
+    } in
+    subst (λ (ls : List Line). Writes ls (stage.ProducerFence prod) (answered ++ a ∷ [])) (append_assoc before (line ∷ []) (reply ∷ []))
+    (record {
+      obeys = obeys_more IsReplyAt longer reply one two;
+      words = written_still longer reply (other_on_pages reply refl) refl ∙ flat;
+      pushed = pushes_none longer reply refl;
+    })
