@@ -70,13 +70,14 @@ joined_lines part p q mid rest a b e f =
     behind part p q (text_of a) mid (text_of b) rest e f ∙ ap (λ (t : List ℕ). t ++ rest) (sym (text_on a b))
 
 -- nothing was taken
-pub carries_nothing : (detail : Detail) (s : Standing) → IsUnbroken s.part → Carries detail [] s s
-carries_nothing detail s u = record {
+pub carries_nothing : (detail : Detail) (s : Standing) → IsUnbroken s.part → length s.part ≤ 128 → Carries detail [] s s
+carries_nothing detail s u fits = record {
   whole = [];
   asked = [];
   all = append-nil s.part;
   are_lines = refl;
   unbroken = u;
+  fits = fits;
   lines = omega arith;
   events = omega arith;
   leads = events_lead_nowhere detail s.at s.at refl;
@@ -90,6 +91,7 @@ carries_on detail p q s t u a b = record {
   all = joined_lines s.part p q t.part u.part a.whole b.whole a.all b.all;
   are_lines = lines_on a.whole b.whole a.asked b.asked a.are_lines b.are_lines;
   unbroken = b.unbroken;
+  fits = b.fits;
   lines = let e = length-append a.whole b.whole in let f = a.lines in let g = b.lines in omega arith;
   events = let e = length-append a.asked b.asked in let f = a.events in let g = b.events in omega arith;
   leads = events_lead_on detail a.asked b.asked s.at t.at u.at a.leads b.leads;
@@ -206,6 +208,7 @@ feed_carried detail byte s t feed u none lines a = record {
   all = feed_text s.part t.part byte feed none;
   are_lines = lines_one s.part a.read u a.is_line;
   unbroken = subst IsUnbroken (sym none) (All-nil (λ (b : ℕ). b ≢ 10));
+  fits = let e : length t.part ≡ 0 = ap length none in omega arith;
   lines = lines;
   events = a.counted;
   leads = a.leads;
@@ -258,13 +261,14 @@ feed_stopped detail byte s a b stop.Sink new feed u h = (h.0, stop_here detail (
 feed_stopped detail byte s a b stop.OutOfMemory new feed u h = stop_here detail (byte ∷ []) s new h
 
 -- another byte came
-pub byte_taken : (detail : Detail) (byte : ℕ) (s t : Standing) → byte ≢ 10 → IsUnbroken s.part → t.part ≡ s.part ++ byte ∷ [] → t.lines ≡ s.lines → t.events ≡ s.events → t.at ≡ s.at → Carries detail (byte ∷ []) s t
-byte_taken detail byte s t other u part lines events at = record {
+pub byte_taken : (detail : Detail) (byte : ℕ) (s t : Standing) → byte ≢ 10 → IsUnbroken s.part → length s.part < 128 → t.part ≡ s.part ++ byte ∷ [] → t.lines ≡ s.lines → t.events ≡ s.events → t.at ≡ s.at → Carries detail (byte ∷ []) s t
+byte_taken detail byte s t other u room part lines events at = record {
   whole = [];
   asked = [];
   all = sym part;
   are_lines = refl;
   unbroken = subst IsUnbroken (sym part) (All-push (λ (b : ℕ). b ≢ 10) s.part byte u other);
+  fits = let e : length t.part ≡ length (s.part ++ byte ∷ []) = ap length part in let f = length-append s.part (byte ∷ []) in omega arith;
   lines = omega arith;
   events = omega arith;
   leads = events_lead_nowhere detail s.at t.at at;

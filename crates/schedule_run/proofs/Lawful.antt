@@ -13,6 +13,7 @@ use Rattle.move_laws.proofs.Recorded.{report_kept, ended_kept}
 use Rattle.move_laws.proofs.Runs.{report_obeys, ended_obeys, coherent_of, answers_of, touches_of, grantable_of}
 use Rattle.ring_laws.proofs.JobRuns.{report_rules, ended_rules, steps_of, data_of, effects_of}
 use Rattle.ring_laws.proofs.MakerRuns.{report_unmaps, ended_unmaps, report_own, ended_own}
+use Rattle.ring_laws.proofs.ReplyRuns.{report_replies, ended_replies}
 use Rattle.schedule_run.proofs.Lengths.{kept_long}
 use Rattle.ring_laws.proofs.Runs.{report_overruns, ended_overruns, report_stretches, ended_stretches}
 use Rattle.disk_laws.specs.Run.{IsRun}
@@ -94,13 +95,13 @@ whole_work : (config : Options) (history : List Happening) → length (report_of
 whole_work config history few =
     let obeys = report_rules config Moves history few in
     let report = report_of config Moves history in
-    record { steps = steps_of report obeys; data_given = data_of report obeys; effects = effects_of report obeys; unmaps = report_unmaps config Moves history few; own = report_own config Moves history few }
+    record { steps = steps_of report obeys; data_given = data_of report obeys; effects = effects_of report obeys; unmaps = report_unmaps config Moves history few; own = report_own config Moves history few; replies = report_replies config Moves history few }
 
 ended_work : (config : Options) (history : List Happening) → length (report_of config Moves history) < 2 ^ 64 → ShowsWork (ended_report_of config Moves history)
 ended_work config history few =
     let obeys = ended_rules config Moves history few in
     let report = ended_report_of config Moves history in
-    record { steps = steps_of report obeys; data_given = data_of report obeys; effects = effects_of report obeys; unmaps = ended_unmaps config Moves history few; own = ended_own config Moves history few }
+    record { steps = steps_of report obeys; data_given = data_of report obeys; effects = effects_of report obeys; unmaps = ended_unmaps config Moves history few; own = ended_own config Moves history few; replies = ended_replies config Moves history few }
 
 worked : (detail : Detail) (config : Options) (history : List Happening) → detail ≡ Moves → length (kept_of detail (report_of config detail history)) < 2 ^ 64 → ShowsWork (kept_of detail (report_of config detail history))
 worked detail config history same =
@@ -120,6 +121,7 @@ work_before report more h = record {
   effects = obeys_before _ report more h.effects;
   unmaps = obeys_before _ report more h.unmaps;
   own = obeys_before _ report more h.own;
+  replies = obeys_before _ report more h.replies;
 }
 
 moves_before : (report more : List Line) → ObeysMoves (report ++ more) → ObeysMoves report

@@ -49,15 +49,15 @@ pub record HasTaken (detail : Detail) (left now : Option (List ℕ)) (limit room
   pub size : length done + room ≡ limit
   pub carried : Carries detail done old new
 
-pub unbroken_none : (part : List ℕ) → part ≡ [] → IsUnbroken part
+unbroken_none : (part : List ℕ) → part ≡ [] → IsUnbroken part
 unbroken_none part none = subst IsUnbroken (sym none) (All-nil (λ (b : ℕ). b ≢ 10))
 
-pub taken_none : (detail : Detail) (left : Option (List ℕ)) (limit : ℕ) (s : Standing) → IsUnbroken s.part → HasTaken detail left left limit limit s s
-taken_none detail left limit s u = record {
+pub taken_none : (detail : Detail) (left : Option (List ℕ)) (limit : ℕ) (s : Standing) → s.part ≡ [] → HasTaken detail left left limit limit s s
+taken_none detail left limit s none = record {
   done = [];
   so_far = so_far_none left;
   size = omega arith;
-  carried = carries_nothing detail s u;
+  carried = carries_nothing detail s (unbroken_none s.part none) (let e : length s.part ≡ 0 = ap length none in omega arith);
 }
 
 pub taken_more : (detail detail' : Detail) (left now after : Option (List ℕ)) (limit room room' n : ℕ) (buffer : List ℕ) (s t u : Standing) → detail' ≡ detail → n ≤ length buffer → room' + n ≡ room → IsRead n now after buffer → HasTaken detail left now limit room s t → Carries detail' (take n buffer) t u → HasTaken detail left after limit room' s u
@@ -98,6 +98,7 @@ read_too_long detail left now limit room s t none full h = record {
         all = subst (λ n. take n (h.done ++ rest) ≡ text_of h.carried.whole ++ t.part) size (take_front h.done rest ∙ whole_of detail h.done s t none h.carried);
         are_lines = h.carried.are_lines;
         unbroken = h.carried.unbroken;
+        fits = h.carried.fits;
       });
   leads = h.carried.leads;
 }

@@ -1,20 +1,21 @@
 -- What the recorder kept back was handed on, or couldn't be.
-use Rattle.std.proofs.Common.{◌≡◌, ℕ, ◌≤◌, List, ◌++◌, arith, drop, Option, Some, None, Result, Ok, Err, OnErr, inl, inr, sym, ap, ◌∙◌, subst, append_assoc}
+use Rattle.std.proofs.Common.{◌≡◌, ◌≢◌, ℕ, ◌≤◌, List, [], ◌++◌, arith, drop, Option, Some, None, Result, Ok, Err, OnOk, IfErr, inl, inr, refl, sym, ap, ◌∙◌, subst, append_assoc}
 use Rattle.std.proofs.lemmas.List.{take-append-drop}
 use Rattle.blk_io.specs.Outside.{Rose}
-use Rattle.blk_io.specs.declared.failed.Failed.{Failed}
+use Rattle.blk_base.specs.Options.{Options}
 use Rattle.schedule_text.specs.declared.event.Event.{Event}
 use Rattle.schedule_text.specs.declared.line.Detail.{Detail}
-use Rattle.schedule_text.specs.Recorder.{Told}
-use Rattle.split_model.specs.Leads.{Moment}
-use Rattle.split_model.specs.World.{World}
-use Rattle.schedule_run.specs.Machine.{Run, moment}
-use Rattle.schedule_run.specs.Outcome.{stop_after}
+use Rattle.schedule_text.specs.declared.line.Line.TheVariants.{Begin}
+use Rattle.schedule_text.specs.Recorder.{Told, gained}
+use Rattle.schedule_text.proofs.Gaining.{gained_none}
+use Rattle.schedule_run.specs.Machine.{Run}
+use Rattle.schedule_run.specs.Outcome.{Outside, IsDone, IsStopped, StopsAtBegin}
 use Rattle.schedule_run.specs.Reading.{text_of, HasBadLine, IsTooLong, HasBegun, Tells}
-use Rattle.schedule_run.specs.Carrying.{Standing, standing, ReadStops}
+use Rattle.schedule_run.specs.Carrying.{Standing, standing}
 use Rattle.schedule_run.specs.declared.schedule.RunStop.{RunStop}
 use Rattle.schedule_run.specs.declared.schedule.RunStop.TheVariants as stop
 use Rattle.schedule_run.proofs.Carrying.{rose_on}
+use Rattle.schedule_run.proofs.Ending.{done_unsent}
 use Rattle.schedule_run.proofs.Taking.{HasTaken}
 
 -- the recorder handed on what it kept back, and tells what it told
@@ -34,30 +35,62 @@ begun_long limit (Some bytes) events h = record {
   are_lines = h.are_lines;
 }
 
--- reading stopped, and then what the recorder kept back could not be handed on
-unsent : (detail : Detail) (limit : ℕ) (left : Option (List ℕ)) (source source' a b c : ℕ) (why : RunStop) (old new : Moment) → Rose b c → ReadStops detail limit left source source' a b why old new → a ≤ b → ReadStops detail limit left source source' a c stop.Sink old new
-unsent detail limit left source source' a b c (stop.BadLine number) old new rose h le = (rose_on a b c le rose, inr (record { events = h.events; schedule = begun_bad limit left h.events number h.schedule; leads = h.leads }))
-unsent detail limit left source source' a b c stop.Source old new rose h le = (rose_on a b c le rose, inr h.1)
-unsent detail limit left source source' a b c stop.TooLong old new rose h le = (rose_on a b c le rose, inr (record { events = h.events; schedule = begun_long limit left h.events h.schedule; leads = h.leads }))
-unsent detail limit left source source' a b c stop.Sink old new rose h le = (rose_on a b c le rose, h.1)
-unsent detail limit left source source' a b c stop.OutOfMemory old new rose h le = (rose_on a b c le rose, inl h)
+-- nothing was told, and then what the recorder kept back from before could not be handed on
+nothing_told : (detail : Detail) (config : Options) (old new : Outside) → new ≡ old → StopsAtBegin detail config old new
+nothing_told detail config old new same =
+    let told : new.told ≡ gained old.told [] = ap (λ (o : Outside). o.told) same ∙ sym (gained_none old.told) in
+    record {
+      told = record {
+        said = [];
+        cut = Begin config detail;
+        rest = [];
+        all = refl;
+        stops = record {
+          lines = ap (λ (t : Told). t.lines) told;
+          tally = ap (λ (t : Told). t.tally) told;
+          text = (0, omega arith, ap (λ (t : Told). t.text) (told ∙ sym (gained_none (gained old.told []))));
+        };
+      };
+      content = ap (λ (o : Outside). o.content) same;
+    }
 
+-- a run stopped, and then what the recorder kept back could not be handed on
+unsent : (detail : Detail) (config : Options) (limit : ℕ) (left : Option (List ℕ)) (source source' a b c : ℕ) (why : RunStop) (old new : Outside) → a ≤ b → Rose b c → IsStopped detail config limit left source source' a b why old new → IsStopped detail config limit left source source' a c stop.Sink old new
+unsent detail config limit left source source' a b c (stop.BadLine number) old new le rose h = (rose_on a b c le rose, inr (inl (h.0, begun_bad limit left h.0 number h.1, h.2)))
+unsent detail config limit left source source' a b c stop.Source old new le rose h = (rose_on a b c le rose, inr (inl h.1))
+unsent detail config limit left source source' a b c stop.TooLong old new le rose h = (rose_on a b c le rose, inr (inl (h.0, begun_long limit left h.0 h.1, h.2)))
+unsent detail config limit left source source' a b c stop.Sink old new le rose h = (rose_on a b c le rose, h.1)
+unsent detail config limit left source source' a b c stop.OutOfMemory old new le rose (inl same) = (rose_on a b c le rose, inl (inl (nothing_told detail config old new same)))
+unsent detail config limit left source source' a b c stop.OutOfMemory old new le rose (inr cut) = (rose_on a b c le rose, inl cut)
+
+-- or it was
 rose_up : (a b c : ℕ) → a ≤ b → b ≤ c → Rose a b → Rose a c
 rose_up a b c le more rose = grind arith
 
-later_stop : (detail : Detail) (limit : ℕ) (left : Option (List ℕ)) (source source' a b c : ℕ) (why : RunStop) (old new : Moment) → a ≤ b → b ≤ c → ReadStops detail limit left source source' a b why old new → ReadStops detail limit left source source' a c why old new
-later_stop detail limit left source source' a b c (stop.BadLine number) old new le more h = h
-later_stop detail limit left source source' a b c stop.Source old new le more h = h
-later_stop detail limit left source source' a b c stop.TooLong old new le more h = h
-later_stop detail limit left source source' a b c stop.Sink old new le more h = (rose_up a b c le more h.0, h.1)
-later_stop detail limit left source source' a b c stop.OutOfMemory old new le more h = h
+later_stop : (detail : Detail) (config : Options) (limit : ℕ) (left : Option (List ℕ)) (source source' a b c : ℕ) (why : RunStop) (old new : Outside) → a ≤ b → b ≤ c → IsStopped detail config limit left source source' a b why old new → IsStopped detail config limit left source source' a c why old new
+later_stop detail config limit left source source' a b c (stop.BadLine number) old new le more h = h
+later_stop detail config limit left source source' a b c stop.Source old new le more h = h
+later_stop detail config limit left source source' a b c stop.TooLong old new le more h = h
+later_stop detail config limit left source source' a b c stop.Sink old new le more h = (rose_up a b c le more h.0, h.1)
+later_stop detail config limit left source source' a b c stop.OutOfMemory old new le more h = h
 
-stop_flushed : (detail : Detail) (limit : ℕ) (left : Option (List ℕ)) (source source' a b c : ℕ) (why : RunStop) (sent : Result (Unit {0}) Failed) (old new : Moment) → a ≤ b → b ≤ c → OnErr sent (Rose b c) → ReadStops detail limit left source source' a b why old new → ReadStops detail limit left source source' a c (stop_after why sent) old new
-stop_flushed detail limit left source source' a b c why (Ok done) old new le more rose h = later_stop detail limit left source source' a b c why old new le more h
-stop_flushed detail limit left source source' a b c why (Err failed) old new le more rose h = unsent detail limit left source source' a b c why old new rose h le
+-- a run ended, and then what the recorder kept back was handed on
+pub stopped_sent : (detail : Detail) (config : Options) (limit : ℕ) (left : Option (List ℕ)) (source source' a b c : ℕ) (ended : Result (Unit {0}) RunStop) (old : Outside) (content : Option (List (List ℕ))) (told told' : Told) → a ≤ b → b ≤ c → told' ≡ told → IfErr ended (λ why. IsStopped detail config limit left source source' a b why old (record { content = content; told = told })) → IfErr ended (λ why. IsStopped detail config limit left source source' a c why old (record { content = content; told = told' }))
+stopped_sent detail config limit left source source' a b c (Ok done) old content told told' le more same h = tt
+stopped_sent detail config limit left source source' a b c (Err why) old content told told' le more same h =
+    subst (λ t. IsStopped detail config limit left source source' a c why old (record { content = content; told = t })) (sym same)
+    (later_stop detail config limit left source source' a b c why old (record { content = content; told = told }) le more h)
 
--- reading stopped, and then what the recorder kept back was handed on, or couldn't be
-pub after_flush : (detail : Detail) (limit : ℕ) (left : Option (List ℕ)) (source source' a b c : ℕ) (why : RunStop) (sent : Result (Unit {0}) Failed) (old : Moment) (w : World) (content : Option (List (List ℕ))) (told told' : Told) → a ≤ b → b ≤ c → OnErr sent (Rose b c) → told' ≡ told → ReadStops detail limit left source source' a b why old (moment w content told) → ReadStops detail limit left source source' a c (stop_after why sent) old (moment w content told')
-after_flush detail limit left source source' a b c why sent old w content told told' le more rose same h =
-    subst (λ t. ReadStops detail limit left source source' a c (stop_after why sent) old (moment w content t)) (sym same)
-    (stop_flushed detail limit left source source' a b c why sent old (moment w content told) le more rose h)
+-- a run ended, and then what the recorder kept back could not be handed on
+pub ended_unsent : (detail : Detail) (config : Options) (limit : ℕ) (left : Option (List ℕ)) (source source' a b c : ℕ) (ended : Result (Unit {0}) RunStop) (old : Outside) (content : Option (List (List ℕ))) (told told' : Told) → a ≤ b → Rose b c → told' ≡ told → OnOk ended (IsDone detail config limit left old (record { content = content; told = told })) → IfErr ended (λ why. IsStopped detail config limit left source source' a b why old (record { content = content; told = told })) → IsStopped detail config limit left source source' a c stop.Sink old (record { content = content; told = told' })
+ended_unsent detail config limit left source source' a b c ended old content told told' le rose same done stopped =
+    subst (λ t. IsStopped detail config limit left source source' a c stop.Sink old (record { content = content; told = t })) (sym same) (by ended done stopped)
+  where
+    by : (ended : Result (Unit {0}) RunStop) → OnOk ended (IsDone detail config limit left old (record { content = content; told = told })) → IfErr ended (λ why. IsStopped detail config limit left source source' a b why old (record { content = content; told = told })) → IsStopped detail config limit left source source' a c stop.Sink old (record { content = content; told = told })
+    by (Ok all) done stopped = done_unsent detail config limit left source source' a b c old (record { content = content; told = told }) le rose done
+    by (Err why) done stopped = unsent detail config limit left source source' a b c why old (record { content = content; told = told }) le rose stopped
+
+-- what is so however a run ended
+pub sent : {P : Type 0} → (ended : Result (Unit {0}) RunStop) → P → IfErr ended (λ why. why ≢ stop.Sink → P)
+sent (Ok done) p = tt
+sent (Err why) p = λ other. p

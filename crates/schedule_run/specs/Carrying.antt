@@ -60,6 +60,7 @@ pub record Carries (detail : Detail) (piece : List ℕ) (old new : Standing) : T
   pub all : old.part ++ piece ≡ text_of whole ++ new.part
   pub are_lines : AreLinesOf whole asked
   pub unbroken : IsUnbroken new.part
+  pub fits : length new.part ≤ 128
   pub lines : new.lines ≡ old.lines + length whole
   pub events : new.events ≡ old.events + length asked
   pub leads : EventsLead detail asked old.at new.at

@@ -19,6 +19,7 @@ use Rattle.report_rules.specs.Data.{AreData}
 use Rattle.report_rules.specs.Effect.{AreEffects}
 use Rattle.report_rules.specs.Unmap.{AreUnmaps}
 use Rattle.report_rules.specs.Own.{AreOwn}
+use Rattle.report_rules.specs.Reply.{AreReplies}
 use Rattle.move_laws.specs.Grantable.{AreGrantable}
 use Rattle.disk_laws.specs.Plain.{IsPlain}
 use Rattle.disk_laws.specs.Allowed.{AreAllowed}
@@ -42,13 +43,14 @@ pub record ObeysMoves (report : List Line) : Type 0 where
   pub overruns : IsOverrunRule report
   pub stretches : AreStretches report
 
--- the work that a report shows: each job's moves are in order the steps of the work of its entry as its words were read; each word that it writes to the guest is the one that the disk gave; what came of a move of the disk stands behind it, and nowhere else; a job reads, writes and unmaps only through what it mapped itself
+-- the work that a report shows: each job's moves are in order the steps of the work of its entry as its words were read; each word that it writes to the guest is the one that the disk gave; what came of a move of the disk stands behind it, and nowhere else; a job reads, writes and unmaps only through what it mapped itself; and each reply is the response of a job whose work is over and that had none yet, pushed and told once it is whole
 pub record ShowsWork (report : List Line) : Type 0 where
   pub steps : AreSteps report
   pub data_given : AreData report
   pub effects : AreEffects report
   pub unmaps : AreUnmaps report
   pub own : AreOwn report
+  pub replies : AreReplies report
 
 -- a report is a run of the plain disk, from what the disk held to what it holds; it answers these submissions, one line each, as the lines before say; each request has at most one answer, and at each `quiet` line all have theirs; no line of it is a breach of the protocol; and where it shows the moves, they obey the rules. Jobs have numbers of 64 bits, so what it shows of their work is so of fewer than 2 ^ 64 lines
 pub record IsLawful (config : Options) (detail : Detail) (jobs : List Job) (before now : Option (List (List ℕ))) (report : List Line) : Type 0 where

@@ -1,6 +1,5 @@
 -- How a run may end, and what then stands.
-use Rattle.std.specs.Prelude.{◌≡◌, ℕ, ◌⊎◌, List, [], ◌∷◌, Option, Result, Ok, Err}
-use Rattle.blk_io.specs.declared.failed.Failed.{Failed}
+use Rattle.std.specs.Prelude.{◌≡◌, ℕ, ◌⊎◌, List, [], ◌∷◌, Option}
 use Rattle.blk_base.specs.Options.{Options}
 use Rattle.blk_io.specs.Outside.{Rose}
 use Rattle.schedule_text.specs.declared.event.Event.{Event}
@@ -86,11 +85,6 @@ IsStopped detail config limit left source source' recorder recorder' stop.Sink o
     Rose recorder recorder' × (IsCut detail config limit left old new ⊎ IsKeptBack detail config limit left old new)
 IsStopped detail config limit left source source' recorder recorder' stop.OutOfMemory old new =
     (new ≡ old) ⊎ IsCut detail config limit left old new
-
--- why the run stops, once what the recorder kept back was handed on, or couldn't be
-abbrev pub stop_after : RunStop → Result (Unit {0}) Failed → RunStop
-stop_after why (Ok done) = why
-stop_after why (Err failed) = stop.Sink
 
 -- why the run stops where the recorder does
 abbrev pub stop_of : RecordStop → RunStop

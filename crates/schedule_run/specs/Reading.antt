@@ -59,7 +59,7 @@ pub record HasBadLine (limit : ℕ) (bytes : List ℕ) (events : List Event) (nu
   pub is_number : number ≡ length lines + 1
   pub before : (length bytes < limit) ⊎ (length (text_of lines) + min (length (first_line rest) + 1) 129 ≤ limit)
 
--- the source had the limit's bytes or more; of the first of them the whole lines ask for these events
+-- the source had the limit's bytes or more; of the first of them the whole lines ask for these events, and the line that is begun behind those shows no byte past the 128 that a line has at most, at which it would be refused before its end is seen
 pub record IsTooLong (limit : ℕ) (bytes : List ℕ) (events : List Event) : Type 0 where
   pub lines : List (List ℕ)
   pub part : List ℕ
@@ -67,6 +67,7 @@ pub record IsTooLong (limit : ℕ) (bytes : List ℕ) (events : List Event) : Ty
   pub all : take limit bytes ≡ text_of lines ++ part
   pub are_lines : AreLinesOf lines events
   pub unbroken : IsUnbroken part
+  pub fits : length part ≤ 128
 
 -- whole lines from the beginning on ask for these events
 pub record HasBegun (bytes : List ℕ) (events : List Event) : Type 0 where

@@ -1,8 +1,8 @@
 // A whole schedule.
-ghost use Rattle.std.specs.Prelude.{◌≡◌, ◌≤◌, Some, OnOk, IfErr};
+ghost use Rattle.std.specs.Prelude.{◌≡◌, ◌≢◌, ◌≤◌, Some, OnOk, IfErr};
 ghost use Rattle.blk_io.specs.Disk.{HasLength};
 ghost use Rattle.disk_laws.specs.Plain.{IsPlain};
-ghost use Rattle.schedule_run.specs.Outcome.{IsDone, IsStopped, stop_after, stop_of};
+ghost use Rattle.schedule_run.specs.Outcome.{IsDone, IsStopped, stop_of};
 ghost use Rattle.schedule_run.specs.Lawful.{IsLawfulRun, IsLawfulStop};
 
 mod reading;
@@ -61,7 +61,9 @@ pub fn run<S: Source, D: SectorDisk, R: Recorder>(
     ensures lawful { IsPlain config → HasLength (D.content disk.old) config.sectors → OnOk result (IsLawfulRun (R.detail recorder.old) config bytes_limit (S.left source.old) (record { content = D.content disk.old; told = R.told recorder.old }) (record { content = D.content disk.new; told = R.told recorder.new })) }
     // So are the lines that were told whole before a stop.
     ensures lawful_so_far { IsPlain config → IfErr result (λ stop. IsLawfulStop (R.detail recorder.old) bytes_limit (S.left source.old) (record { content = D.content disk.old; told = R.told recorder.old }) (record { content = D.content disk.new; told = R.told recorder.new })) }
+    // However the run ended, but where the recorder failed, it keeps back nothing of what it was told.
     ensures handed_on { OnOk result (R.kept_back recorder.new ≡ 0) }
+    ensures handed_on_so_far { IfErr result (λ stop. stop ≢ RunStop.Sink → R.kept_back recorder.new ≡ 0) }
     ensures attached { D.attached disk.new ≡ D.attached disk.old }
     ensures source_later { S.faults source.old ≤ S.faults source.new }
     ensures disk_later { D.faults disk.old ≤ D.faults disk.new }
@@ -72,7 +74,7 @@ pub fn run<S: Source, D: SectorDisk, R: Recorder>(
     carry_out(alloc, config, bytes_limit, source, disk, recorder)
 }
 
-// Carries out a schedule from its first line to its last, with the first and the last line of its report.
+// Carries out a schedule, and hands on what the recorder kept back, whatever ended it.
 fn carry_out<S: Source, D: SectorDisk, R: Recorder>(
     alloc: Global,
     config: Config,
@@ -86,6 +88,34 @@ fn carry_out<S: Source, D: SectorDisk, R: Recorder>(
     ensures done { OnOk result (IsDone (R.detail recorder.old) config bytes_limit (S.left source.old) (record { content = D.content disk.old; told = R.told recorder.old }) (record { content = D.content disk.new; told = R.told recorder.new })) }
     ensures stopped { IfErr result (λ stop. IsStopped (R.detail recorder.old) config bytes_limit (S.left source.old) (S.faults source.old) (S.faults source.new) (R.faults recorder.old) (R.faults recorder.new) stop (record { content = D.content disk.old; told = R.told recorder.old }) (record { content = D.content disk.new; told = R.told recorder.new })) }
     ensures handed_on { OnOk result (R.kept_back recorder.new ≡ 0) }
+    ensures handed_on_so_far { IfErr result (λ stop. stop ≢ RunStop.Sink → R.kept_back recorder.new ≡ 0) }
+    ensures attached { D.attached disk.new ≡ D.attached disk.old }
+    ensures source_later { S.faults source.old ≤ S.faults source.new }
+    ensures disk_later { D.faults disk.old ≤ D.faults disk.new }
+    ensures same_detail { R.detail recorder.new ≡ R.detail recorder.old }
+    ensures same_lender { R.lender recorder.new ≡ R.lender recorder.old }
+    ensures later { R.faults recorder.old ≤ R.faults recorder.new }
+{
+    let ended = tell(alloc, config, bytes_limit, source, disk, recorder);
+    match recorder.flush() {
+        Ok(()) => ended,
+        Err(Failed) => Err(RunStop::Sink),
+    }
+}
+
+// Carries out a schedule from its first line to its last, with the first and the last line of its report.
+fn tell<S: Source, D: SectorDisk, R: Recorder>(
+    alloc: Global,
+    config: Config,
+    bytes_limit: u64,
+    source: &mut S,
+    disk: &mut D,
+    recorder: &mut R,
+) -> Result<(), RunStop>
+    requires limit { bytes_limit ≤ 4294967296 }
+    requires attached { D.attached disk.old ≡ Some config.sectors }
+    ensures done { OnOk result (IsDone (R.detail recorder.old) config bytes_limit (S.left source.old) (record { content = D.content disk.old; told = R.told recorder.old }) (record { content = D.content disk.new; told = R.told recorder.new })) }
+    ensures stopped { IfErr result (λ stop. IsStopped (R.detail recorder.old) config bytes_limit (S.left source.old) (S.faults source.old) (S.faults source.new) (R.faults recorder.old) (R.faults recorder.new) stop (record { content = D.content disk.old; told = R.told recorder.old }) (record { content = D.content disk.new; told = R.told recorder.new })) }
     ensures attached { D.attached disk.new ≡ D.attached disk.old }
     ensures source_later { S.faults source.old ≤ S.faults source.new }
     ensures disk_later { D.faults disk.old ≤ D.faults disk.new }
@@ -103,26 +133,11 @@ fn carry_out<S: Source, D: SectorDisk, R: Recorder>(
         part: ArrayVec::new(),
         lines: 0,
     };
-    if let Err(stop) = reader.read_all(bytes_limit, source, disk, recorder) {
-        return Err(stop_after(stop, recorder.flush()));
-    }
+    reader.read_all(bytes_limit, source, disk, recorder)?;
     if let Err(stop) = say(recorder, &Line::End) {
         return Err(stop_of(stop));
     }
-    match recorder.flush() {
-        Ok(()) => Ok(()),
-        Err(Failed) => Err(RunStop::Sink),
-    }
-}
-
-// Why the run stopped, once what the recorder kept back was handed on, or couldn't be.
-fn stop_after(stop: RunStop, flushed: Result<(), Failed>) -> RunStop
-    ensures { result ≡ stop_after stop flushed }
-{
-    match flushed {
-        Ok(()) => stop,
-        Err(Failed) => RunStop::Sink,
-    }
+    Ok(())
 }
 
 // Why the run stopped, where the recorder did.

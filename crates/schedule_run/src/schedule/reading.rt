@@ -98,6 +98,7 @@ impl Reader {
         recorder: &mut R,
     ) -> Result<(), RunStop>
         requires unbroken { IsUnbroken self.old.part.items }
+        requires fits { length self.old.part.items ≤ 128 }
         requires few { 5 * self.old.machine.events + length self.old.part.items + length piece.now ≤ 4294967296 }
         requires lines { self.old.lines + length self.old.part.items + length piece.now ≤ 4294967296 }
         requires attached { D.attached disk.old ≡ Some self.old.machine.world.front.sectors }

@@ -2,7 +2,7 @@ use Rattle.std.proofs.Common.{rules, inr, ℕ, List, refl, ◌≡◌, ◌≤◌,
 use Rattle.std.proofs.lemmas.List.{length-take, length-replicate}
 use Rattle.blk_io.specs.Outside.{Rose}
 use Rattle.schedule_run.proofs.Carrying.{so_of_error, rose_on}
-use Rattle.schedule_run.proofs.Taking.{taken_none, taken_front, stopped_front, done_at_end, stopped_at_end, read_failed, read_too_long, few_taken, few_lines_taken, few_piece, few_lines_piece, unbroken_none}
+use Rattle.schedule_run.proofs.Taking.{taken_none, taken_front, stopped_front, done_at_end, stopped_at_end, read_failed, read_too_long, few_taken, few_lines_taken, few_piece, few_lines_piece}
 use Rattle.schedule_run.proofs.Unsent.{flushed}
 use Rattle.schedule_run.proofs.schedule.reading.Reader.read_all.Goals as goal
 
@@ -28,7 +28,7 @@ less room count fits = omega arith
 
 pub loop-room-init : goal.loop-room-init
 loop-room-init g c = record {
-  taken = taken_none _ _ _ _ (unbroken_none _ c.requires.part);
+  taken = taken_none _ _ _ _ c.requires.part;
   size = length-replicate {A = ℕ} 4096 0;
   sectors = refl;
   attached = refl;

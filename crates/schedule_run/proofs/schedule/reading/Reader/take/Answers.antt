@@ -4,7 +4,7 @@ use Rattle.schedule_run.proofs.schedule.reading.Reader.take.Goals as goal
 
 pub loop-byte-init : goal.loop-byte-init
 loop-byte-init g c = record {
-  carried = carries_nothing _ _ c.requires.unbroken;
+  carried = carries_nothing _ _ c.requires.unbroken c.requires.fits;
   sectors = refl;
   attached = refl;
   disk_later = omega arith;

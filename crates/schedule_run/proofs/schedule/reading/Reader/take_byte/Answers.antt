@@ -1,4 +1,4 @@
-use Rattle.std.proofs.Common.{refl, ◌≡◌, length, arith}
+use Rattle.std.proofs.Common.{refl, ◌≡◌, ◌<◌, length, arith}
 use Rattle.std.proofs.lemmas.Bool.Decides.{nat_tests}
 use Rattle.schedule_run.proofs.Carrying.{fed_ok, fed_err, byte_refused, byte_taken}
 use Rattle.schedule_run.proofs.schedule.reading.Reader.take_byte.Goals as goal
@@ -17,4 +17,9 @@ returns-then-is_full-clause-stopped g c =
     byte_refused _ _ _ _ c.if-byte-eq10.false c.requires.unbroken full refl
 
 pub returns-clause-carried : goal.returns-clause-carried
-returns-clause-carried g c = byte_taken _ _ _ _ c.if-byte-eq10.false c.requires.unbroken c.push.ensures.items refl refl refl
+returns-clause-carried g c =
+    let t = c.if-is_full.false in
+    let v = c.is_full.ensures.value in
+    let f = c.is_full.ensures.fits in
+    let room : length c.args.self.now.part.items < 128 = grind (arith, nat_tests) in
+    byte_taken _ _ _ _ c.if-byte-eq10.false c.requires.unbroken room c.push.ensures.items refl refl refl
