@@ -1,5 +1,5 @@
 -- Why a command stopped.
-use Rattle.std.proofs.Common.{◌≡◌, ℕ, List, Option, Result, Ok, Err, IfErr, inr, sym, subst, ◌≤◌, length, arith}
+use Rattle.std.proofs.Common.{◌≡◌, ◌≢◌, ℕ, List, Option, Result, Ok, Err, IfErr, inr, sym, ap, ◌∙◌, subst, ◌≤◌, length, arith}
 use Rattle.std.proofs.lemmas.List.{take_all}
 use Rattle.blk_io.specs.Outside.{Rose, IsPartlyWritten, written}
 use Rattle.ring_inspect.specs.Stop.{IsShown}
@@ -10,6 +10,7 @@ use Rattle.schedule_run.specs.declared.schedule.RunStop.TheVariants as run
 use Rattle.commands.specs.declared.words.Command.TheVariants.{Inspect}
 use Rattle.commands.specs.declared.status.Stop.{Stop}
 use Rattle.commands.specs.declared.status.Stop.TheVariants.{Sink}
+use Rattle.commands.specs.Status.{status_of}
 use Rattle.commands.specs.Ending.{Scene, HasStopped, RunStops, Stops, run_stop}
 
 -- the program stops where the run did
@@ -22,6 +23,21 @@ run_stops detail left old new why said same h = subst (λ (s : Stop). RunStops d
     stops_at run.TooLong h = h
     stops_at run.Sink h = h
     stops_at run.OutOfMemory h = inr h
+
+-- what the output then held and how often it had failed, as the run left it
+pub run_stops_there : (detail : Detail) (left : Option (List ℕ)) (old new : Scene) (out : Option (List ℕ)) (faults : ℕ) (why : RunStop) (said : Stop) → new.out ≡ out → new.out_faults ≡ faults → said ≡ run_stop why → HasStopped detail left old (record new { out = out; out_faults = faults }) why → RunStops detail left old new said
+run_stops_there detail left old new out faults why said held failed same h =
+    run_stops detail left old new why said same
+    (subst (λ (o : Option (List ℕ)). HasStopped detail left old (record new { out = o }) why) (sym held)
+    (subst (λ (n : ℕ). HasStopped detail left old (record new { out = out; out_faults = n }) why) (sym failed) h))
+
+-- a run that stopped left nothing kept back, unless the output failed
+pub run_kept : (why : RunStop) (said : Stop) (kept kept' before : ℕ) → kept' ≡ kept → said ≡ run_stop why → (why ≢ run.Sink → kept ≡ 0) → said ≢ Sink → kept' ≤ before
+run_kept why said kept kept' before same says none other = let e = none (λ f. other (says ∙ ap run_stop f)) in omega arith
+
+-- another status than that of a failed output is that of another reason
+pub other_reason : (status : ℕ) (stop : Stop) → status ≡ status_of stop → status ≢ 5 → stop ≢ Sink
+other_reason status stop same other e = other (same ∙ ap status_of e)
 
 whole : (before after : Option (List ℕ)) (piece : List ℕ) → after ≡ written before piece → IsPartlyWritten before piece after
 whole before after piece same = (length piece, omega arith, subst (λ (p : List ℕ). after ≡ written before p) (sym (take_all (length piece) piece (omega arith))) same)

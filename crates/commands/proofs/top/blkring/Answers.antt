@@ -1,4 +1,5 @@
 use Rattle.commands.proofs.Echoed.{done_echoed}
+use Rattle.commands.proofs.Stopping.{other_reason}
 use Rattle.commands.proofs.SoFar.{stopped_so_far}
 use Rattle.commands.proofs.top.blkring.Goals as goal
 
@@ -7,3 +8,6 @@ returns-in-Ok-clause-reported g c detail gives zero = done_echoed _ _ _ _ c.in-O
 
 pub returns-in-Err-clause-reported_so_far : goal.returns-in-Err-clause-reported_so_far
 returns-in-Err-clause-reported_so_far g c detail gives other = stopped_so_far _ _ _ _ _ c.in-Err.ensures.stopped detail gives
+
+pub returns-in-Err-clause-handed_on_so_far : goal.returns-in-Err-clause-handed_on_so_far
+returns-in-Err-clause-handed_on_so_far g c detail gives other = c.in-Err.ensures.handed_on_so_far detail gives (other_reason _ c.in-Err.stop c.give_up.ensures.status other)

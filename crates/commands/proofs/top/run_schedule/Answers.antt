@@ -1,9 +1,11 @@
 use Rattle.std.proofs.Common.{rules, ◌≡◌}
-use Rattle.commands.proofs.Stopping.{run_stops}
+use Rattle.commands.proofs.Stopping.{run_stops_there, run_kept}
 use Rattle.commands.proofs.top.run_schedule.Goals as goal
 
 pub returns-in-Err-clause-stopped : goal.returns-in-Err-clause-stopped
 returns-in-Err-clause-stopped g c =
     let same : g.D.SectorDisk.content c.attach.new.self ≡ g.D.SectorDisk.content c.args.disk.now = search rules in
-    let out : c.out-1.given.0 ≡ c.run.new.recorder.sink.now = search rules in
-    rw (← same, out) (run_stops _ _ _ _ c.in-Err.stop _ c.run_stop.ensures (c.in-Ok.sectors, c.in-Ok.ensures.sized, search rules, c.in-Err.ensures.stopped))
+    rw (← same) (run_stops_there _ _ _ _ (g.O.Sink.held c.run.new.recorder.sink.now) (g.O.Sink.faults c.run.new.recorder.sink.now) c.in-Err.stop _ (search rules) (search rules) c.run_stop.ensures (c.in-Ok.sectors, c.in-Ok.ensures.sized, search rules, c.in-Err.ensures.stopped))
+
+pub returns-in-Err-clause-handed_on_so_far : goal.returns-in-Err-clause-handed_on_so_far
+returns-in-Err-clause-handed_on_so_far g c = run_kept c.in-Err.stop _ (g.O.Sink.kept_back c.run.new.recorder.sink.now) _ _ (search rules) c.run_stop.ensures c.in-Err.ensures.handed_on_so_far
