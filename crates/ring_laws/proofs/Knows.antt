@@ -83,7 +83,7 @@ pub record Follows (start : ℕ) (values : List ℕ) (before : List Line) (v : V
 abbrev pub BackGoes : ℕ → List ℕ → List Line → View → View → BackAnswer → Move → Type 0
 BackGoes start values before old new answer shown = Follows start values (before ++ lines.Move shown ∷ (back_lines new.told answer ++ halt_lines old.halted new.halted)) new
 
-untold : (t : Option BackTold) (answer : BackAnswer) (ls : List Line) → t ≡ None → back_lines t answer ++ ls ≡ ls
+pub untold : (t : Option BackTold) (answer : BackAnswer) (ls : List Line) → t ≡ None → back_lines t answer ++ ls ≡ ls
 untold t answer ls e = ap (λ (o : Option BackTold). back_lines o answer ++ ls) e
 
 pub unhalted : (old : Option Halt) → halt_lines old old ≡ []

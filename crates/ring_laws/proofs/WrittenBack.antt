@@ -37,7 +37,7 @@ use Rattle.split_model.proofs.SafeActs.{of_back, back_test}
 use Rattle.ring_laws.proofs.Sight.{is_other}
 use Rattle.ring_laws.proofs.Shows.{Sight, Shows, IsOnPages}
 use Rattle.ring_laws.proofs.Touches.{read_on, write_on}
-use Rattle.ring_laws.proofs.Knows.{unhalted, Serves, KnowsAt, Knows}
+use Rattle.ring_laws.proofs.Knows.{untold, unhalted, Serves, KnowsAt, Knows}
 use Rattle.ring_laws.proofs.BackTells.{lines_of_back}
 use Rattle.ring_laws.proofs.Due.{Answered, response_in, under_way, next_word, replying, HasAJob, Writes}
 use Rattle.ring_laws.proofs.Written.{Passes, AllPass, passes_other, written_behind, written_still, written_map, unwritten_at, writes_still, writes_all, writes_stage}
@@ -51,9 +51,6 @@ answered_after s answered k prod = answered
 -- a move of the back, with the lines behind it
 record MoveWrites (before : List Line) (answered : List Answered) (old : View) (answer : BackAnswer) (shown : Move) (new : View) : Type 0 where
   pub writes : Writes (before ++ lines.Move shown ∷ (back_lines new.told answer ++ halt_lines old.halted new.halted)) new.stage answered
-
-untold : (t : Option BackTold) (answer : BackAnswer) (ls : List Line) → t ≡ None → back_lines t answer ++ ls ≡ ls
-untold t answer ls e = ap (λ (o : Option BackTold). back_lines o answer ++ ls) e
 
 -- a move at which nothing is told and the back does not halt
 alone : (before : List Line) (answered : List Answered) (old : View) (answer : BackAnswer) (shown : Move) (new : View) → new.told ≡ None → new.halted ≡ old.halted → Writes (before ++ lines.Move shown ∷ []) new.stage answered → MoveWrites before answered old answer shown new

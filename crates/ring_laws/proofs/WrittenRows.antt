@@ -46,13 +46,14 @@ row_behind xs ys m n e =
 pub row_after : (answered : List Answered) (u : List ℕ) → row_of (rows_of answered ++ u) (length answered) ≡ row_of u 0
 row_after answered u = let rows = rows_long answered in row_behind (rows_of answered) u (length answered) 0 (omega arith)
 
-replies_shift : (w0 w1 w2 p : ℕ) (values : List ℕ) (last : ℕ) (row : List ℕ) (n : ℕ) → replies_like (w0 ∷ w1 ∷ w2 ∷ p ∷ values) last row (suc n) ≡ one_if (are_alike last row (w0 ∷ w1 ∷ w2 ∷ [])) + replies_like values last row n
-replies_shift w0 w1 w2 p values last row zero = omega arith
-replies_shift w0 w1 w2 p values last row (suc n) =
-    let before = replies_shift w0 w1 w2 p values last row n in
-    let here : one_if (are_alike last row (row_of (w0 ∷ w1 ∷ w2 ∷ p ∷ values) (suc n))) ≡ one_if (are_alike last row (row_of values n)) = ap (λ (r : List ℕ). one_if (are_alike last row r)) (row_behind (w0 ∷ w1 ∷ w2 ∷ p ∷ []) values (suc n) n (omega arith)) in
-    ap (λ (m : ℕ). m + one_if (are_alike last row (row_of (w0 ∷ w1 ∷ w2 ∷ p ∷ values) (suc n)))) before
-    ∙ (ap (λ (m : ℕ). one_if (are_alike last row (w0 ∷ w1 ∷ w2 ∷ [])) + replies_like values last row n + m) here ∙ flat (one_if (are_alike last row (w0 ∷ w1 ∷ w2 ∷ []))) (replies_like values last row n) (one_if (are_alike last row (row_of values n))))
+-- one reply more before them
+replies_shift : (first second third producer : ℕ) (values : List ℕ) (last : ℕ) (row : List ℕ) (n : ℕ) → replies_like (first ∷ second ∷ third ∷ producer ∷ values) last row (suc n) ≡ one_if (are_alike last row (first ∷ second ∷ third ∷ [])) + replies_like values last row n
+replies_shift first second third producer values last row zero = omega arith
+replies_shift first second third producer values last row (suc n) =
+    let before = replies_shift first second third producer values last row n in
+    let here : one_if (are_alike last row (row_of (first ∷ second ∷ third ∷ producer ∷ values) (suc n))) ≡ one_if (are_alike last row (row_of values n)) = ap (λ (r : List ℕ). one_if (are_alike last row r)) (row_behind (first ∷ second ∷ third ∷ producer ∷ []) values (suc n) n (omega arith)) in
+    ap (λ (m : ℕ). m + one_if (are_alike last row (row_of (first ∷ second ∷ third ∷ producer ∷ values) (suc n)))) before
+    ∙ (ap (λ (m : ℕ). one_if (are_alike last row (first ∷ second ∷ third ∷ [])) + replies_like values last row n + m) here ∙ flat (one_if (are_alike last row (first ∷ second ∷ third ∷ []))) (replies_like values last row n) (one_if (are_alike last row (row_of values n))))
   where
     flat : (a b c : ℕ) → a + b + c ≡ a + (b + c)
     flat a b c = omega arith
