@@ -251,12 +251,11 @@ fn guess(held: &[Held], number: u64) -> Option<usize>
     requires { IsAscending 0 held.now }
     ensures { IfSome result (IsPlace held.now number) }
 {
-    let last = held.len().checked_sub(1)?;
-    let since = held[last].mapping.number.checked_sub(number)?;
-    if since > last as u64 {
+    let newest = held.last()?.mapping.number;
+    if number > newest || newest - number >= held.len() as u64 {
         return None;
     }
-    let place = last - since as usize;
+    let place = held.len() - 1 - (newest - number) as usize;
     if held[place].mapping.number == number {
         Some(place)
     } else {
