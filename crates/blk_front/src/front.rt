@@ -236,6 +236,7 @@ impl<'a> Endpoint<'a> for Front {
         }
     }
 
+    #[inline(always)]
     fn tell(&mut self, answer: &FrontAnswer<'a>) -> Result<(), OutOfMemory>
         requires { IsAnswer (ask_of self.old) answer.now × (self.old.told ≡ None) }
         ensures told { self.new ≡ step_of self.old answer.now }

@@ -99,7 +99,10 @@ impl Front {
         ensures told { result ≡ self.old.told }
         ensures taken { self.new ≡ record self.old { told = None } }
     {
-        self.told.take()
+        match self.told {
+            None => None,
+            Some(_) => self.told.take(),
+        }
     }
 }
 
