@@ -87,6 +87,10 @@ abbrev pub is_wait : BackAsk → Bool
 is_wait Wait = true
 is_wait ask = false
 
+-- the back asks for nothing but an event
+abbrev pub is_waiting : View → Bool
+is_waiting v = is_wait (ask_of v)
+
 -- and no job is held
 abbrev pub is_idle : View → Bool
-is_idle v = is_wait (ask_of v) && length v.jobs.works == 0
+is_idle v = is_waiting v && length v.jobs.works == 0

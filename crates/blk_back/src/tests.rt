@@ -90,6 +90,15 @@ fn write(rt: &impl Abort, back: &mut Back, word: u32, value: u32) -> Result<(), 
 }
 
 #[test]
+fn a_new_back_maps_its_ring_and_does_not_wait(rt: HostRuntime) -> Result<(), Fail> {
+    let mut back = back(rt.alloc())?;
+    assert!(rt; !back.waits());
+    connect(&rt, &mut back)?;
+    assert!(rt; !back.waits());
+    Ok(())
+}
+
+#[test]
 fn an_entry_is_copied_once_and_replied_to(rt: HostRuntime) -> Result<(), Fail> {
     let mut back = back(rt.alloc())?;
     connect(&rt, &mut back)?;
@@ -137,6 +146,7 @@ fn it_sleeps_after_a_second_look_and_an_event_wakes_it(rt: HostRuntime) -> Resul
     let _ = tell(&mut back, BackAnswer::Done)?;
     assert!(rt; !back.idle());
     read(&rt, &mut back, 0, 0)?;
+    assert!(rt; back.waits());
     assert!(rt; back.idle());
     let _ = tell(&mut back, BackAnswer::Event)?;
     assert_eq!(rt;

@@ -1,6 +1,6 @@
 // The back's jobs, and what it tells.
-ghost use Rattle.std.specs.Prelude.{◌≡◌, ◌<◌, ◌≤◌, None, IfSome, length};
-ghost use Rattle.blk_back.specs.Ask.{is_idle};
+ghost use Rattle.std.specs.Prelude.{◌≡◌, ◌<◌, ◌≤◌, None, Some, IfSome, length};
+ghost use Rattle.blk_back.specs.Ask.{is_waiting, is_idle};
 ghost use Rattle.blk_back.specs.Step.{job_step, told_effect, job_ask_of, next_job_of};
 ghost use Rattle.blk_back.specs.Hands.{hands_of};
 ghost use Rattle.back_jobs.specs.Task.{IsAnswer};
@@ -15,6 +15,7 @@ use blk_base::{BackAnswer, BackAsk, Endpoint};
 impl Back {
     /// What the job of the `number`-th request that was fetched in this epoch asks next; `Wait` also
     /// where there is none, and for every job after a halt.
+    #[inline(always)]
     pub fn job_ask(&self, number: u64) -> BackAsk<'_>
         ensures value { result ≡ job_ask_of self.now number }
         ensures within { IsWithin self.now.jobs.info.sectors result }
@@ -28,6 +29,7 @@ impl Back {
     }
 
     /// Tells the job of a number the answer to what it asks.
+    #[inline(always)]
     pub fn job_tell(&mut self, number: u64, answer: &BackAnswer)
         requires answer { IsAnswer (job_ask_of self.old number) answer.now }
         requires told { self.old.told ≡ None }
@@ -38,11 +40,14 @@ impl Back {
         if let Some(_) = self.halted {
             unreachable!();
         }
-        self.told = told_effect(self.jobs.tell(number, answer));
+        if let Some(effect) = self.jobs.tell(number, answer) {
+            self.told = Some(told_effect(effect));
+        }
     }
 
     /// The least number above this one of a job that is held; `None` exactly where there is none, and
     /// always after a halt. At most 32 are held.
+    #[inline(always)]
     pub fn next_job(&self, after: u64) -> Option<u64>
         ensures value { result ≡ next_job_of self.now after }
         ensures above { IfSome result (λ next. after < next) }
@@ -54,19 +59,31 @@ impl Back {
         }
     }
 
+    /// Whether it asks for nothing but an event.
+    #[inline(always)]
+    pub fn waits(&self) -> bool
+        ensures { result ≡ is_waiting self.now }
+    {
+        matches!(self.ask(), BackAsk::Wait)
+    }
+
     /// Whether it asks for nothing but an event, and no job is held.
     pub fn idle(&self) -> bool
         ensures { result ≡ is_idle self.now }
     {
-        matches!(self.ask(), BackAsk::Wait) && self.jobs.count() == 0
+        self.waits() && self.jobs.count() == 0
     }
 
     /// What happened in the last move, once; `None` exactly where nothing is left to tell.
+    #[inline(always)]
     pub fn take_told(&mut self) -> Option<BackTold>
         ensures told { result ≡ self.old.told }
         ensures taken { self.new ≡ record self.old { told = None } }
     {
-        self.told.take()
+        match self.told {
+            None => None,
+            Some(_) => self.told.take(),
+        }
     }
 
     /// Why it halted; `None` exactly where it didn't.
@@ -77,18 +94,14 @@ impl Back {
     }
 }
 
-// What a job's move tells.
-fn told_effect(effect: Option<Effect>) -> Option<BackTold>
-    ensures { result ≡ told_effect effect }
+// What a job's effect tells.
+fn told_effect(effect: Effect) -> BackTold
+    ensures { Some result ≡ told_effect (Some effect) }
 {
-    match effect {
-        None => None,
-        Some(Effect { id, index, failed }) => {
-            if failed {
-                Some(BackTold::Fault { id, index })
-            } else {
-                Some(BackTold::Effect { id, index })
-            }
-        }
+    let Effect { id, index, failed } = effect;
+    if failed {
+        BackTold::Fault { id, index }
+    } else {
+        BackTold::Effect { id, index }
     }
 }
