@@ -1,6 +1,6 @@
 -- The lowest job that is done stays known.
 use Rattle.std.proofs.Common.{◌≡◌, ℕ, zero, suc, ◌+◌, ◌<◌, ◌≤◌, Bool, true, false, cond, List, [], ◌∷◌, ◌++◌, length, refl, sym, ap, ◌∙◌, arith}
-use Rattle.std.specs.Prelude.{Some, None, slice_index_or, slice_get, slice_set, position, not, nat_lt, ◌==◌, if◌then◌else◌}
+use Rattle.std.specs.Prelude.{Some, None, slice_index_or, slice_get, slice_set, position, not, nat_lt, min, ◌==◌, if◌then◌else◌}
 use Rattle.std.specs.List.{position_or_len}
 use Rattle.std.proofs.lemmas.Bool.Decides.{nat_tests}
 use Rattle.std.proofs.lemmas.Bool.{false≢true}
@@ -12,7 +12,7 @@ use Rattle.back_jobs.specs.declared.stage.Stage.TheVariants as stage
 use Rattle.back_jobs.specs.Task.{Work, ask_of, ask_at, IsAnswer}
 use Rattle.back_jobs.specs.Jobs.{work_at, is_done, is_done_at}
 use Rattle.back_jobs.specs.Sound.{done_place}
-use Rattle.back_jobs.specs.Order.{done_with, done_after}
+use Rattle.back_jobs.specs.Order.{done_with}
 
 one_more_at : (b e : Bool) (n m : ℕ) → cond e (n + cond b 0 1) m ≡ (if e then (if b then n else n + 1) else m)
 one_more_at true true n m = grind (arith)
@@ -27,6 +27,11 @@ pub began_done : (works : List Work) (t : Work) (done now count : ℕ) (b : Bool
 began_done works t done now count b same counted test told =
     let more = one_more works t in
     cc
+
+-- the place of the lowest once the job at this place is done, or not yet
+abbrev pub done_after : ℕ → ℕ → Bool → ℕ
+done_after done place true = min done place
+done_after done place false = done
 
 first_told : (b c : Bool) (n : ℕ) → c ≡ false → cond (not b) (1 + n) 0 ≡ done_after (cond (not c) (1 + n) 0) 0 b
 first_told true true n h = grind (arith)

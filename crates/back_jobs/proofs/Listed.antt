@@ -9,7 +9,7 @@ use Rattle.std.proofs.lemmas.Option.{none-some}
 use Rattle.back_jobs.specs.Task.{Work}
 use Rattle.back_jobs.specs.Jobs.{is_done}
 use Rattle.back_jobs.specs.Sound.{AreAscending, done_place, done_numbers}
-use Rattle.back_jobs.specs.Order.{IsFirstFrom, number_at, put, noted}
+use Rattle.back_jobs.specs.Order.{IsFirstFrom, number_at, put}
 use Rattle.back_jobs.proofs.Finding.{guessed, numbered, first_place}
 use Rattle.back_jobs.proofs.Numbers.{Above, above_at}
 
@@ -59,6 +59,10 @@ put_first_at false n t ended above rest = rest
 put_first : (n : ℕ) (works : List Work) → Above n works → put n (done_numbers works) ≡ n ∷ done_numbers works
 put_first n [] all = refl
 put_first n (t ∷ works) all = put_first_at (is_done t) n t (Ended works) all.0 (put_first n works all.1)
+
+-- the number of a job that is done is put, and that of another isn't
+abbrev pub noted : Bool → ℕ → List ℕ → List ℕ
+noted is_noted n ms = if is_noted then put n ms else ms
 
 noted_first : (b c : Bool) (u t : Work) (ended : List Work) → c ≡ false → put u.number (numbers_of ended) ≡ u.number ∷ numbers_of ended → numbers_of (cond b (u ∷ ended) ended) ≡ noted b u.number (numbers_of (cond c (t ∷ ended) ended))
 noted_first b true u t ended h first = absurd (false≢true (sym h))
@@ -181,11 +185,6 @@ pub put_parted : (ms : List ℕ) (n k : ℕ) → k ≤ length ms → IsPartition
 put_parted ms n k within parts = put_between ms n k within
     (λ j d low high. lower_number (slice_index_or ms j d) n (parts.0 j d low high))
     (λ j d low high. upper_number (slice_index_or ms j d) n (parts.1 j d low high))
-
--- a number that is to be noted is put
-pub noted_so : (b : Bool) (n : ℕ) (ms : List ℕ) → b ≡ true → put n ms ≡ noted b n ms
-noted_so true n ms h = refl
-noted_so false n ms h = absurd (false≢true h)
 
 -- what was listed, with what was noted, is what is listed now
 pub noting : (b c : Bool) (n m : ℕ) (was listed now is : List ℕ) → b ≡ c → n ≡ m → was ≡ listed → now ≡ noted b n was → is ≡ noted c m listed → now ≡ is

@@ -7,9 +7,8 @@ use Rattle.blk_base.specs.declared.ask.BackAnswer.{BackAnswer}
 use Rattle.back_jobs.specs.Task.{Work, ask_of, step_of, IsAnswer}
 use Rattle.back_jobs.specs.Jobs.{place_of, work_at, work_of, told_at, is_done}
 use Rattle.back_jobs.specs.Sound.{AreSized, IsKept, done_numbers}
-use Rattle.back_jobs.specs.Order.{noted, done_after}
-use Rattle.back_jobs.proofs.Done.{told_done, undone}
-use Rattle.back_jobs.proofs.Listed.{told_listed, listed_fewer, noting}
+use Rattle.back_jobs.proofs.Done.{done_after, told_done, undone}
+use Rattle.back_jobs.proofs.Listed.{noted, told_listed, listed_fewer, noting}
 use Rattle.back_jobs.proofs.Numbers.{set_ascending}
 use Rattle.back_jobs.proofs.Sizes.{step_number, told_sized}
 

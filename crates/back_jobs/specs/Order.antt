@@ -1,5 +1,5 @@
 -- Finding jobs whose numbers ascend, and the lowest that is done.
-use Rattle.std.specs.Prelude.{◌≡◌, ℕ, ◌+◌, ◌-◌, ◌<◌, ◌≤◌, Bool, true, false, List, [], ◌∷◌, length, Option, Some, None, slice_get, slice_index_or, nat_lt, ◌==◌, min, if◌then◌else◌}
+use Rattle.std.specs.Prelude.{◌≡◌, ℕ, ◌+◌, ◌-◌, ◌<◌, ◌≤◌, Bool, true, List, [], ◌∷◌, length, Option, Some, None, slice_get, slice_index_or, nat_lt, ◌==◌, if◌then◌else◌}
 use Rattle.std.specs.List.{AllWithin}
 use Rattle.std.specs.Option.{option_map}
 use Rattle.back_jobs.specs.Task.{Work}
@@ -25,20 +25,19 @@ is_above_last (Some t) number = nat_lt t.number number
 abbrev pub is_above : List Work → ℕ → Bool
 is_above works number = is_above_last (slice_get works (length works - 1)) number
 
+-- whether a number is below that of the first job
+abbrev pub is_below_first : Option Work → ℕ → Bool
+is_below_first None number = true
+is_below_first (Some t) number = nat_lt number t.number
+
+abbrev pub is_below : List Work → ℕ → Bool
+is_below works number = is_below_first (slice_get works 0) number
+
 -- a number is put among numbers that ascend
 abbrev pub put : ℕ → List ℕ → List ℕ
 put n [] = n ∷ []
 put n (m ∷ ms) = if nat_lt m n then m ∷ put n ms else n ∷ m ∷ ms
 
--- it is, or nothing is
-abbrev pub noted : Bool → ℕ → List ℕ → List ℕ
-noted is_noted n ms = if is_noted then put n ms else ms
-
 -- the place of the lowest job that is done, once one more is held
 abbrev pub done_with : ℕ → ℕ → Bool → ℕ
 done_with done count is_done = if done == count then (if is_done then count else count + 1) else done
-
--- and once the job at this place is done, or not yet
-abbrev pub done_after : ℕ → ℕ → Bool → ℕ
-done_after done place true = min done place
-done_after done place false = done

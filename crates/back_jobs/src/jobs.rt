@@ -3,7 +3,7 @@ ghost use Rattle.std.specs.Prelude.{◌≡◌, ◌<◌, ◌≤◌, ◌+◌, ◌�
 ghost use Rattle.std.specs.Option.{option_map};
 ghost use Rattle.std.specs.Prelude.{◌&&◌, true, drop, option_and_then, position};
 ghost use Rattle.std.specs.List.Sorted.{IsNonDecreasing};
-ghost use Rattle.back_jobs.specs.Order.{IsFirstFrom, IsNumberAt, number_at, is_above, noted, done_with, done_after};
+ghost use Rattle.back_jobs.specs.Order.{IsFirstFrom, IsNumberAt, number_at, is_above, is_below, put, done_with};
 ghost use Rattle.back_jobs.specs.Task.{IsAnswer, step_of};
 ghost use Rattle.back_jobs.specs.Sound.{IsWithin, AreAscending, done_place, done_numbers};
 ghost use Rattle.back_jobs.specs.Hands.{hands_in, Names};
@@ -68,6 +68,7 @@ impl Jobs {
     }
 
     // Where the job of a number stands.
+    #[inline(always)]
     fn place(&self, number: u64) -> Option<usize>
         ensures place { result ≡ place_of self.now.works number }
         ensures within { IfSome result (λ place. place < length self.now.works) }
@@ -76,7 +77,10 @@ impl Jobs {
         if !self.ascending {
             return place_in(tasks, number);
         }
-        let place = first_from(tasks, number);
+        if let Some(place) = guess(tasks, number) {
+            return Some(place);
+        }
+        let place = by_halves(tasks, number);
         match number_at(tasks, place) {
             Some(found) if found == number => Some(place),
             _ => None,
@@ -93,11 +97,14 @@ impl Jobs {
         let is_done = task.is_done();
         self.done = done_with(self.done, self.tasks.len(), is_done);
         self.ascending = goes_on_ascending(self.ascending, self.tasks.as_slice(), number);
-        note(&mut self.finished, number, self.ascending, is_done);
         let _ = self.tasks.push(task);
+        if is_done {
+            note(&mut self.finished, number, self.ascending);
+        }
     }
 
     /// What the job of a number asks next; `Wait` also where none has it.
+    #[inline(always)]
     pub fn ask(&self, number: u64) -> BackAsk<'_>
         ensures value { result ≡ ask_job self.now number }
         ensures within { IsWithin self.now.info.sectors result }
@@ -111,6 +118,7 @@ impl Jobs {
 
     /// Tells the job of a number the answer to what it asks, and gives what that does to its request;
     /// `None` also where none has that number.
+    #[inline(always)]
     pub fn tell(&mut self, number: u64, answer: &BackAnswer) -> Option<Effect>
         requires { IsAnswer (ask_job self.old number) answer.now }
         ensures told { self.new ≡ tell_job self.old number answer.now }
@@ -120,9 +128,10 @@ impl Jobs {
         let task = &mut self.tasks[place];
         let effect = task.effect(answer);
         task.tell(answer);
-        let is_done = task.is_done();
-        self.done = done_after(self.done, place, is_done);
-        note(&mut self.finished, task.number(), self.ascending, is_done);
+        if task.is_done() {
+            self.done = self.done.min(place);
+            note(&mut self.finished, task.number(), self.ascending);
+        }
         effect
     }
 
@@ -138,6 +147,7 @@ impl Jobs {
     }
 
     /// The least number above this one; `None` exactly where there is none.
+    #[inline(always)]
     pub fn next_after(&self, number: u64) -> Option<u64>
         ensures { result ≡ next_after self.now number }
     {
@@ -243,6 +253,7 @@ fn next_in(tasks: &[Task], number: u64) -> Option<u64>
 }
 
 // The number of the job at a place.
+#[inline(always)]
 fn number_at(tasks: &[Task], place: usize) -> Option<u64>
     ensures { result ≡ number_at tasks.now place }
 {
@@ -259,25 +270,47 @@ fn first_from(tasks: &[Task], number: u64) -> usize
     requires { AreAscending tasks.now }
     ensures { IsFirstFrom number tasks.now result }
 {
-    if let Some(place) = guess(tasks, number) {
-        return place;
+    match guess(tasks, number) {
+        Some(place) => place,
+        None => by_halves(tasks, number),
     }
+}
+
+// The same, found by halves.
+fn by_halves(tasks: &[Task], number: u64) -> usize
+    requires { AreAscending tasks.now }
+    ensures { IsFirstFrom number tasks.now result }
+{
     tasks.partition_point(|t| t.number() < number)
 }
 
-// The place of the first job whose number is above this one, in the same way.
+// The place of the first job whose number is above this one, among such jobs.
 fn first_above(tasks: &[Task], number: u64) -> usize
     requires { AreAscending tasks.now }
     ensures { IsFirstFrom (number + 1) tasks.now result }
 {
+    if is_below(tasks, number) {
+        return 0;
+    }
     if let Some(place) = guess(tasks, number) {
         return place + 1;
     }
     tasks.partition_point(|t| t.number() <= number)
 }
 
+// Whether a number is below that of the first job; also where there is no job.
+fn is_below(tasks: &[Task], number: u64) -> bool
+    ensures { result ≡ is_below tasks.now number }
+{
+    match tasks.first() {
+        None => true,
+        Some(task) => number < task.number(),
+    }
+}
+
 // The place of the job of a number where all jobs from the first one's number to it are held, as they
 // mostly are.
+#[inline(always)]
 fn guess(tasks: &[Task], number: u64) -> Option<usize>
     ensures { IfSome result (λ place. IsNumberAt number tasks.now place) }
 {
@@ -320,13 +353,13 @@ fn lowest_done(tasks: &[Task], ascending: bool, finished: &[u64]) -> usize
 
 // Where numbers ascend, puts the number of a job that is done among those of the others. There is
 // room for it.
-fn note(numbers: &mut Vec<u64>, number: u64, ascending: bool, is_done: bool)
+fn note(numbers: &mut Vec<u64>, number: u64, ascending: bool)
     requires ascending { ascending ≡ true → IsNonDecreasing numbers.old.items }
     requires has_room { ascending ≡ true → length numbers.old.items < vec_capacity numbers.old }
-    ensures items { ascending ≡ true → numbers.new.items ≡ noted is_done number numbers.old.items }
+    ensures items { ascending ≡ true → numbers.new.items ≡ put number numbers.old.items }
     ensures capacity { vec_capacity numbers.old ≤ vec_capacity numbers.new }
 {
-    if ascending && is_done {
+    if ascending {
         let place = numbers.as_slice().partition_point(|n| *n < number);
         let _ = numbers.insert(place, number);
     }
@@ -371,11 +404,4 @@ fn done_with(done: usize, count: usize, is_done: bool) -> usize
     } else {
         count + 1
     }
-}
-
-// The place of the lowest job that is done after one that wasn't was told an answer, and is now or not.
-fn done_after(done: usize, place: usize, is_done: bool) -> usize
-    ensures { result ≡ done_after done place is_done }
-{
-    if is_done { done.min(place) } else { done }
 }

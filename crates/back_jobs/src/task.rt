@@ -104,6 +104,7 @@ impl Task {
     }
 
     /// What the answer to its ask does to its request.
+    #[inline(always)]
     pub fn effect(&self, answer: &BackAnswer) -> Option<Effect>
         ensures { result ≡ effect_at self.now.stage self.now answer.now }
     {
@@ -137,6 +138,7 @@ impl Task {
     }
 
     /// What the job asks next.
+    #[inline(always)]
     pub fn ask(&self) -> BackAsk<'_>
         ensures value { result ≡ ask_of self.now }
         ensures within { IsWithin self.now.size result }
@@ -182,6 +184,7 @@ impl Task {
     }
 
     /// Tells the job the answer to what it asks.
+    #[inline(always)]
     pub fn tell(&mut self, answer: &BackAnswer)
         requires { IsAnswer (ask_of self.old) answer.now }
         ensures { self.new ≡ step_of self.old answer.now }
@@ -225,6 +228,7 @@ impl Task {
         }
     }
 
+    #[inline(always)]
     fn read_word(&mut self, mapping: Mapping, k: u32, word: u32)
         requires stage { self.old.stage ≡ stage.ReadWord mapping k }
         requires placed { k < 128 }

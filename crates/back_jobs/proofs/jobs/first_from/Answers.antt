@@ -1,14 +1,5 @@
-use Rattle.std.proofs.Common.{rules}
-use Rattle.std.specs.Prelude.{nat_lt}
-use Rattle.std.proofs.lemmas.List.Sorted.{IsPartitionPoint-from_clause}
-use Rattle.back_jobs.proofs.Finding.{parted, lower, guessed}
+use Rattle.back_jobs.proofs.Finding.{guessed}
 use Rattle.back_jobs.proofs.jobs.first_from.Goals as goal
 
 pub returns-in-Some : goal.returns-in-Some
 returns-in-Some c = guessed c.args.tasks.now c.args.number c.in-Some.place c.requires c.in-Some.ensures
-
-pub returns : goal.returns
-returns c =
-    let works = c.args.tasks.now in
-    parted works c.args.number c.partition_point.result c.partition_point.ensures.bound
-    (IsPartitionPoint-from_clause (λ t. nat_lt t.number c.args.number) works c.partition_point.result c.partition_point.ensures.partitioned (lower works c.args.number c.requires) (λ a r f called. search rules))

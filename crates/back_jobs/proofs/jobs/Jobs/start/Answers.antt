@@ -1,17 +1,19 @@
-use Rattle.std.proofs.Common.{◌≡◌, ◌<◌, ◌++◌, ◌∷◌, [], true, arith, rules, sym, ap, ◌∙◌, subst, length}
+use Rattle.std.proofs.Common.{◌≡◌, ◌<◌, ◌≤◌, ◌++◌, ◌∷◌, ℕ, List, [], true, false, Bool, refl, arith, rules, sym, ap, ◌∙◌, subst, length, vec_capacity}
 use Rattle.std.proofs.Math.ListN.{length-append}
 use Rattle.segment_list.specs.Verdict.{verdict_of}
 use Rattle.back_jobs.specs.Jobs.{Held, is_done}
 use Rattle.back_jobs.specs.Order.{is_above}
-use Rattle.back_jobs.specs.Sound.{done_numbers}
+use Rattle.back_jobs.specs.Sound.{IsKept, done_numbers}
 use Rattle.back_jobs.proofs.Done.{began_done}
-use Rattle.back_jobs.proofs.Listed.{began_listed, kept_rise, listed_fits, noting, was_ascending}
+use Rattle.back_jobs.proofs.Listed.{noted, began_listed, kept_rise, listed_fits, noting, was_ascending}
 use Rattle.back_jobs.proofs.Numbers.{began_ascending}
 use Rattle.back_jobs.proofs.Sizes.{begun_number, begun_size, started_sized}
+use Rattle.back_jobs.proofs.jobs.Jobs.start.Goals.{After-push}
 use Rattle.back_jobs.proofs.jobs.Jobs.start.Goals as goal
 
-pub invariant_of-self : goal.invariant_of-self
-invariant_of-self c =
+-- what is known of the jobs stays true, where the number is listed if its job is done
+kept : (c : After-push) (b : Bool) (now : List ℕ) (listed : ℕ) → b ≡ c.is_done-is_done.result → (c.goes_on_ascending-self-inside.result ≡ true → now ≡ noted b c.args.number c.self.inside.finished.items) → vec_capacity c.self.inside.finished ≤ listed → IsKept c.goes_on_ascending-self-inside.result now c.done_with-self-inside.result c.self.inside.room (vec_capacity c.push.new.self) listed c.self.inside.info.sectors c.push.new.self.items
+kept c b now listed test noted_now more =
     let works = c.self.inside.tasks.items in
     let size = c.self.inside.info.sectors in
     let v = verdict_of c.args.request.now c.self.inside.info in
@@ -23,13 +25,19 @@ invariant_of-self c =
     let ordered = began_ascending c.self.inside.ascending c.goes_on_ascending-self-inside.result works c.as_slice.result.now t c.args.number c.self.invariant.in_order c.as_slice.ensures.value numbered c.goes_on_ascending-self-inside.ensures in
     record {
       has_room = omega arith;
-      has_list_room = omega (arith, c.self.invariant.has_list_room, c.note.ensures.capacity);
+      has_list_room = omega (arith, c.self.invariant.has_list_room, more);
       held = rw grown (simp length-append (omega (arith, below)));
       sized = rw grown (started_sized size true works t c.self.invariant.sized known);
-      in_order = λ test. rw grown (ordered test);
-      is_listed = λ test. rw grown (noting c.is_done-is_done.result (is_done t) c.args.number t.number c.self.inside.finished.items (done_numbers works) c.note.new.numbers.items (done_numbers (works ++ t ∷ [])) c.is_done-is_done.ensures (sym numbered) (c.self.invariant.is_listed (was_ascending c.self.inside.ascending c.goes_on_ascending-self-inside.result (is_above c.as_slice.result.now c.args.number) c.goes_on_ascending-self-inside.ensures test)) (c.note.ensures.items test) (began_listed works t (ordered test)));
+      in_order = λ in_order. rw grown (ordered in_order);
+      is_listed = λ in_order. rw grown (noting b (is_done t) c.args.number t.number c.self.inside.finished.items (done_numbers works) now (done_numbers (works ++ t ∷ [])) (test ∙ c.is_done-is_done.ensures) (sym numbered) (c.self.invariant.is_listed (was_ascending c.self.inside.ascending c.goes_on_ascending-self-inside.result (is_above c.as_slice.result.now c.args.number) c.goes_on_ascending-self-inside.ensures in_order)) (noted_now in_order) (began_listed works t (ordered in_order)));
       is_done = rw grown (began_done works t c.self.inside.done c.done_with-self-inside.result c.len.result c.is_done-is_done.result c.self.invariant.is_done (c.len.ensures ∙ (sym c.as_slice.ensures.len ∙ ap length c.as_slice.ensures.value)) c.is_done-is_done.ensures c.done_with-self-inside.ensures);
     }
+
+pub invariant_of-self : goal.invariant_of-self
+invariant_of-self c = kept (goal.at.invariant_of-self c).After-push true c.note.new.numbers.items (vec_capacity c.note.new.numbers) (sym c.if-is_done.true) c.note.ensures.items c.note.ensures.capacity
+
+pub invariant_of-self-else-is_done : goal.invariant_of-self-else-is_done
+invariant_of-self-else-is_done c = kept (goal.at.invariant_of-self-else-is_done c).After-push false c.self.inside.finished.items (vec_capacity c.self.inside.finished) (sym c.if-is_done.false) (λ in_order. refl) (omega arith)
 
 pub note-requires-clause-ascending : goal.note-requires-clause-ascending
 note-requires-clause-ascending c = λ test.

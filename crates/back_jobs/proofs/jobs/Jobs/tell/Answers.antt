@@ -1,61 +1,71 @@
-use Rattle.std.proofs.Common.{◌≡◌, ◌<◌, length, vec_capacity, rules, refl, sym, ap, ◌∙◌, subst}
-use Rattle.std.specs.Prelude.{Some, slice_get}
+use Rattle.std.proofs.Common.{◌≡◌, ◌<◌, ℕ, List, length, vec_capacity, true, false, rules, refl, sym, ap, ◌∙◌, subst, arith}
+use Rattle.std.specs.Prelude.{Some, slice_get, slice_set}
 use Rattle.std.proofs.lemmas.Option.{slice_get_read}
-use Rattle.back_jobs.specs.Task.{IsAnswer, ask_of}
-use Rattle.back_jobs.specs.Jobs.{Held, place_of, asked, effect_of}
+use Rattle.segment_list.specs.declared.verdict.DiskInfo.{DiskInfo}
+use Rattle.back_jobs.specs.Task.{Work, IsAnswer, ask_of}
+use Rattle.back_jobs.specs.Jobs.{Held, place_of, work_of, tell_job, asked, effect_of}
 use Rattle.back_jobs.proofs.Listed.{kept_rise}
 use Rattle.back_jobs.proofs.Telling.{work_there, told_there, told_kept, told_room}
+use Rattle.back_jobs.proofs.jobs.Jobs.tell.Goals.{After-is_done}
 use Rattle.back_jobs.proofs.jobs.Jobs.tell.Goals as goal
 
-pub invariant_of-self : goal.invariant_of-self
-invariant_of-self c =
+same : (c : After-is_done) → c.self.inside.tasks.items ≡ c.args.self.now.works
+same c = ap (λ (h : Held). h.works) c.self.view_is
+
+found : (c : After-is_done) → place_of c.self.inside.tasks.items c.args.number ≡ Some c.in_ok-place.place
+found c =
+    let there : place_of c.args.self.now.works c.args.number ≡ Some c.in_ok-place.place = search rules in
+    ap (λ works. place_of works c.args.number) (same c) ∙ there
+
+here : (c : After-is_done) → slice_get c.self.inside.tasks.items c.in_ok-place.place ≡ Some c.index_mut-task.result.now
+here c =
     let works = c.self.inside.tasks.items in
-    let place = c.in_ok-place.place in
-    let t = c.index_mut-task.result.now in
-    let same : works ≡ c.args.self.now.works = ap (λ (h : Held). h.works) c.self.view_is in
-    let found : place_of c.args.self.now.works c.args.number ≡ Some place = search rules in
-    let within : place < length works = search rules in
-    let here : slice_get works place ≡ Some t = slice_get_read works (length works) place t refl within c.index_mut-task.ensures.value in
-    let there = work_there works c.args.number place t (ap (λ w. place_of w c.args.number) same ∙ found) here in
-    let allowed : IsAnswer (ask_of t) c.args.answer.now = subst (λ w. IsAnswer (asked w) c.args.answer.now) there (rw same c.requires) in
-    told_kept c.self.inside.ascending c.self.inside.finished.items c.note.new.numbers.items c.self.inside.done c.done_after-self-inside.result c.self.inside.room c.self.inside.tasks.cap (vec_capacity c.self.inside.finished) (vec_capacity c.note.new.numbers) c.self.inside.info.sectors works place c.number.result t c.tell.new.self c.args.answer.now c.is_done-is_done.result c.self.invariant here allowed c.tell.ensures c.is_done-is_done.ensures c.done_after-self-inside.ensures c.number.ensures c.note.ensures.items c.note.ensures.capacity
+    let within : c.in_ok-place.place < length works = search rules in
+    slice_get_read works (length works) c.in_ok-place.place c.index_mut-task.result.now refl within c.index_mut-task.ensures.value
+
+there : (c : After-is_done) → work_of c.self.inside.tasks.items c.args.number ≡ Some c.index_mut-task.result.now
+there c = work_there c.self.inside.tasks.items c.args.number c.in_ok-place.place c.index_mut-task.result.now (found c) (here c)
+
+allowed : (c : After-is_done) → IsAnswer (ask_of c.index_mut-task.result.now) c.args.answer.now
+allowed c = subst (λ w. IsAnswer (asked w) c.args.answer.now) (there c) (rw (same c) c.requires)
+
+abbrev held : ℕ → DiskInfo → List Work → Held
+held room info works = record { works = works; room = room; info = info }
+
+told : (c : After-is_done) → held c.self.inside.room c.self.inside.info (slice_set c.self.inside.tasks.items c.in_ok-place.place c.tell.new.self) ≡ tell_job c.args.self.now c.args.number c.args.answer.now
+told c =
+    let there = told_there c.self.inside.tasks.items c.args.number c.in_ok-place.place c.index_mut-task.result.now c.args.answer.now (found c) (here c) in
+    rw c.tell.ensures (ap (held c.self.inside.room c.self.inside.info) (sym there)) ∙ ap (λ (h : Held). tell_job h c.args.number c.args.answer.now) c.self.view_is
+
+effect : (c : After-is_done) → c.effect-effect.result ≡ effect_of (work_of c.args.self.now.works c.args.number) c.args.answer.now
+effect c = rw (← same c) (c.effect-effect.ensures ∙ ap (λ w. effect_of w c.args.answer.now) (sym (there c)))
 
 pub note-requires-clause-ascending : goal.note-requires-clause-ascending
 note-requires-clause-ascending c = λ test. kept_rise c.self.inside.tasks.items c.self.inside.finished.items (c.self.invariant.in_order test) (c.self.invariant.is_listed test)
 
 pub note-requires-clause-has_room : goal.note-requires-clause-has_room
 note-requires-clause-has_room c =
-    let works = c.self.inside.tasks.items in
-    let place = c.in_ok-place.place in
-    let t = c.index_mut-task.result.now in
-    let same : works ≡ c.args.self.now.works = ap (λ (h : Held). h.works) c.self.view_is in
-    let found : place_of c.args.self.now.works c.args.number ≡ Some place = search rules in
-    let within : place < length works = search rules in
-    let here : slice_get works place ≡ Some t = slice_get_read works (length works) place t refl within c.index_mut-task.ensures.value in
-    let there = work_there works c.args.number place t (ap (λ w. place_of w c.args.number) same ∙ found) here in
-    let allowed : IsAnswer (ask_of t) c.args.answer.now = subst (λ w. IsAnswer (asked w) c.args.answer.now) there (rw same c.requires) in
-    λ test. told_room c.self.inside.ascending c.self.inside.finished.items c.self.inside.done c.self.inside.room c.self.inside.tasks.cap (vec_capacity c.self.inside.finished) c.self.inside.info.sectors works place t c.args.answer.now c.self.invariant here allowed test
+    let w = (goal.at.note-requires-clause-has_room c).After-is_done in
+    λ test. told_room c.self.inside.ascending c.self.inside.finished.items c.self.inside.done c.self.inside.room c.self.inside.tasks.cap (vec_capacity c.self.inside.finished) c.self.inside.info.sectors c.self.inside.tasks.items c.in_ok-place.place c.index_mut-task.result.now c.args.answer.now c.self.invariant (here w) (allowed w) test
 
-pub returns-clause-told : goal.returns-clause-told
-returns-clause-told c =
-    let works = c.self.inside.tasks.items in
-    let place = c.in_ok-place.place in
-    let t = c.index_mut-task.result.now in
-    let same : works ≡ c.args.self.now.works = ap (λ (h : Held). h.works) c.self.view_is in
-    let found : place_of c.args.self.now.works c.args.number ≡ Some place = search rules in
-    let within : place < length works = search rules in
-    let here : slice_get works place ≡ Some t = slice_get_read works (length works) place t refl within c.index_mut-task.ensures.value in
-    let told = told_there works c.args.number place t c.args.answer.now (ap (λ w. place_of w c.args.number) same ∙ found) here in
-    rw (← c.self.view_is, c.tell.ensures) (ap (λ w. record { works = w; room = c.self.inside.room; info = c.self.inside.info }) (sym told))
+pub invariant_of-self : goal.invariant_of-self
+invariant_of-self c =
+    let w = (goal.at.invariant_of-self c).After-is_done in
+    told_kept c.self.inside.ascending c.self.inside.finished.items c.note.new.numbers.items c.self.inside.done c.min-self-inside.result c.self.inside.room c.self.inside.tasks.cap (vec_capacity c.self.inside.finished) (vec_capacity c.note.new.numbers) c.self.inside.info.sectors c.self.inside.tasks.items c.in_ok-place.place c.number.result c.index_mut-task.result.now c.tell.new.self c.args.answer.now true c.self.invariant (here w) (allowed w) c.tell.ensures (sym c.if-is_done.true ∙ c.is_done.ensures) c.min-self-inside.ensures c.number.ensures c.note.ensures.items c.note.ensures.capacity
 
-pub returns-clause-effect : goal.returns-clause-effect
-returns-clause-effect c =
-    let works = c.self.inside.tasks.items in
-    let place = c.in_ok-place.place in
-    let t = c.index_mut-task.result.now in
-    let same : works ≡ c.args.self.now.works = ap (λ (h : Held). h.works) c.self.view_is in
-    let found : place_of c.args.self.now.works c.args.number ≡ Some place = search rules in
-    let within : place < length works = search rules in
-    let here : slice_get works place ≡ Some t = slice_get_read works (length works) place t refl within c.index_mut-task.ensures.value in
-    let there = work_there works c.args.number place t (ap (λ w. place_of w c.args.number) same ∙ found) here in
-    rw (← same) (c.effect-effect.ensures ∙ ap (λ w. effect_of w c.args.answer.now) (sym there))
+pub invariant_of-self-else-is_done : goal.invariant_of-self-else-is_done
+invariant_of-self-else-is_done c =
+    let w = (goal.at.invariant_of-self-else-is_done c).After-is_done in
+    told_kept c.self.inside.ascending c.self.inside.finished.items c.self.inside.finished.items c.self.inside.done c.self.inside.done c.self.inside.room c.self.inside.tasks.cap (vec_capacity c.self.inside.finished) (vec_capacity c.self.inside.finished) c.self.inside.info.sectors c.self.inside.tasks.items c.in_ok-place.place c.tell.new.self.number c.index_mut-task.result.now c.tell.new.self c.args.answer.now false c.self.invariant (here w) (allowed w) c.tell.ensures (sym c.if-is_done.false ∙ c.is_done.ensures) refl refl (λ test. refl) (omega arith)
+
+pub returns-then-is_done-clause-told : goal.returns-then-is_done-clause-told
+returns-then-is_done-clause-told c = told (goal.at.returns-then-is_done-clause-told c).After-is_done
+
+pub returns-then-is_done-clause-effect : goal.returns-then-is_done-clause-effect
+returns-then-is_done-clause-effect c = effect (goal.at.returns-then-is_done-clause-effect c).After-is_done
+
+pub returns-else-is_done-clause-told : goal.returns-else-is_done-clause-told
+returns-else-is_done-clause-told c = told (goal.at.returns-else-is_done-clause-told c).After-is_done
+
+pub returns-else-is_done-clause-effect : goal.returns-else-is_done-clause-effect
+returns-else-is_done-clause-effect c = effect (goal.at.returns-else-is_done-clause-effect c).After-is_done
