@@ -82,6 +82,21 @@ front_act h (front_ask.GetKey path) = None
 front_act h (front_ask.SetKey path text) = None
 front_act h (front_ask.Watch path) = None
 
+-- the move that a report shows, by what the front asked and was answered
+abbrev pub front_shown : FrontAsk → FrontAnswer → Move
+front_shown front_ask.Fence answer = moves.Fence mover.Front
+front_shown (front_ask.Read frame word) (front_answer.Word value) = moves.FrontRead frame word value
+front_shown (front_ask.Write frame word value) answer = moves.FrontWrite frame word value
+front_shown (front_ask.Cas frame word old new) (front_answer.Word seen) = moves.FrontCas frame word old new seen
+front_shown front_ask.NewPort (front_answer.Port port) = moves.FrontPort port
+front_shown front_ask.Send answer = moves.Send mover.Front
+front_shown front_ask.ClosePort answer = moves.ClosePort mover.Front
+front_shown ask answer = moves.Event mover.Front
+
+-- what the front was answered, with the move that a report shows
+abbrev pub front_with_move : FrontAsk → Option FrontAnswer → Option (FrontAnswer × Move)
+front_with_move ask answer = option_map (λ (a : FrontAnswer). (a, front_shown ask a)) answer
+
 -- what is told and shown of an act
 abbrev pub front_seen : Option FrontAct → Option (FrontAnswer × Move)
 front_seen act = option_map (λ (a : FrontAct). (a.answer, a.shown)) act
@@ -161,6 +176,28 @@ back_act h who (back_ask.DiskWrite sector words) outcome = disk_act h (moves.Dis
 back_act h who back_ask.Flush outcome = disk_act h (moves.DiskFlush (job_of who)) outcome
 back_act h who (back_ask.Trim sector count) outcome = disk_act h (moves.DiskTrim (job_of who) sector count) outcome
 
+-- the move that a report shows, by what the back or a job asked and was answered, and what lies under the ends after it
+abbrev pub back_shown : Hypervisor → BackMover → BackAsk → BackAnswer → Move
+back_shown h who back_ask.Fence answer = moves.Fence (mover_of who)
+back_shown h who (back_ask.Read m word) (back_answer.Word value) = moves.Read who m.number (frame_of h.grants m) word value
+back_shown h who (back_ask.Write m word value) answer = moves.Write who m.number (frame_of h.grants m) word value
+back_shown h who (back_ask.Map gref mode) (back_answer.Mapped m) = moves.Map who gref mode m.number (frame_of h.grants m)
+back_shown h who (back_ask.Map gref mode) (back_answer.MapRefused status) = moves.MapRefused who gref mode status
+back_shown h who (back_ask.Unmap m) answer = moves.Unmap who m.number
+back_shown h who (back_ask.Bind p) back_answer.BindRefused = moves.BindRefused p
+back_shown h who (back_ask.Bind p) answer = moves.Bind p
+back_shown h who back_ask.Send answer = moves.Send (mover_of who)
+back_shown h who back_ask.ClosePort answer = moves.ClosePort (mover_of who)
+back_shown h who (back_ask.DiskRead sector) answer = moves.DiskRead (job_of who) sector
+back_shown h who (back_ask.DiskWrite sector words) answer = moves.DiskWrite (job_of who) sector
+back_shown h who back_ask.Flush answer = moves.DiskFlush (job_of who)
+back_shown h who (back_ask.Trim sector count) answer = moves.DiskTrim (job_of who) sector count
+back_shown h who ask answer = moves.Event (mover_of who)
+
+-- what the back or a job was answered, with the move that a report shows
+abbrev pub back_with_move : Hypervisor → BackMover → BackAsk → Option BackAnswer → Option (BackAnswer × Move)
+back_with_move h who ask answer = option_map (λ (a : BackAnswer). (a, back_shown h who ask a)) answer
+
 -- what is told and shown of an act
 abbrev pub back_seen : Option BackAct → Option (BackAnswer × Move)
 back_seen act = option_map (λ (a : BackAct). (a.answer, a.shown)) act
@@ -176,6 +213,6 @@ outcome_told (back_answer.Sector words) = Gave words
 outcome_told back_answer.DiskFailed = Failed
 outcome_told answer = Took
 
-abbrev pub outcome_of : Option (BackAnswer × Move) → Outcome
+abbrev pub outcome_of : Option BackAnswer → Outcome
 outcome_of None = Took
-outcome_of (Some seen) = outcome_told seen.0
+outcome_of (Some answer) = outcome_told answer

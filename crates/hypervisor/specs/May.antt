@@ -5,6 +5,8 @@ use Rattle.blk_base.specs.declared.ask.FrontAsk.{FrontAsk}
 use Rattle.blk_base.specs.declared.ask.FrontAsk.TheVariants as front_ask
 use Rattle.blk_base.specs.declared.ask.BackAsk.{BackAsk}
 use Rattle.blk_base.specs.declared.ask.BackAsk.TheVariants as back_ask
+use Rattle.blk_base.specs.declared.ask.BackAnswer.{BackAnswer}
+use Rattle.blk_base.specs.declared.ask.BackAnswer.TheVariants as back_answer
 use Rattle.blk_io.specs.Disk.{IsIn, AreIn}
 use Rattle.grant_table.specs.Table.{GrantTable, IsLive}
 use Rattle.event_channel.specs.Channels.{ChannelState}
@@ -49,3 +51,17 @@ IsCall back_ask.Fence = ⊥
 IsCall (back_ask.Read m word) = ⊥
 IsCall (back_ask.Write m word value) = ⊥
 IsCall ask = Unit {0}
+
+-- a move that names a frame is shown while its mapping lives
+abbrev pub MayShow : Hypervisor → BackAsk → BackAnswer → Type 0
+MayShow h (back_ask.Read m word) answer = IsLive h.grants m
+MayShow h (back_ask.Write m word value) answer = IsLive h.grants m
+MayShow h (back_ask.Map gref mode) (back_answer.Mapped m) = IsLive h.grants m
+MayShow h ask answer = Unit {0}
+
+-- neither a word read or written through a mapping, nor a frame mapped
+abbrev pub NamesNoFrame : BackAsk → BackAnswer → Type 0
+NamesNoFrame (back_ask.Read m word) (back_answer.Word value) = ⊥
+NamesNoFrame (back_ask.Write m word value) answer = ⊥
+NamesNoFrame (back_ask.Map gref mode) (back_answer.Mapped m) = ⊥
+NamesNoFrame ask answer = Unit {0}

@@ -12,6 +12,9 @@ use xen_pages::Pages;
 
 mod back;
 mod front;
+mod shown;
+
+pub use shown::front_shown;
 
 /// The memory of the domains, the back's mappings, and the event channels. Only `new` takes memory.
 #[derive(Drop)]

@@ -8,4 +8,4 @@ mod hypervisor;
 #[cfg(test)]
 mod tests;
 
-pub use hypervisor::Hypervisor;
+pub use hypervisor::{Hypervisor, front_shown};

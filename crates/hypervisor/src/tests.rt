@@ -1,16 +1,32 @@
 // What lies under the ends, as the machine uses it.
-use crate::Hypervisor;
-use blk_base::{
-    BackAnswer, BackAsk, BackMover, End, FrontAnswer, FrontAsk, Mode, Move, Mover, SmallMove,
-};
+ghost use Rattle.std.specs.Prelude.{IfSome};
+ghost use Rattle.hypervisor.specs.May.{MayShow};
+
+use crate::{Hypervisor, front_shown};
+use blk_base::{BackAnswer, BackAsk, BackMover, End, FrontAnswer, FrontAsk, Mode, Move, Mover};
 use image_disk::MemoryDisk;
 use std::test::Fail;
 
-// What was answered, and the move as a report shows it.
-fn as_shown<A>(done: Option<(A, SmallMove)>) -> Option<(A, Move)> {
-    match done {
+// The front's move as a report shows it, if it made one.
+fn of_front(ask: &FrontAsk, answer: &Option<FrontAnswer>) -> Option<Move> {
+    match answer {
         None => None,
-        Some((answer, one)) => Some((answer, one.shown())),
+        Some(answer) => Some(front_shown(ask, answer)),
+    }
+}
+
+// The move of the back or a job as a report shows it, if it made one.
+fn of_back(
+    under: &Hypervisor,
+    who: BackMover,
+    ask: &BackAsk,
+    answer: &Option<BackAnswer>,
+) -> Option<Move>
+    requires { IfSome answer.now (λ a. MayShow under.now ask.now a) }
+{
+    match answer {
+        None => None,
+        Some(answer) => Some(under.back_shown(who, ask, answer)),
     }
 }
 
@@ -21,19 +37,21 @@ fn an_event_is_sent_through_a_bound_port_and_taken_once(rt: HostRuntime) -> Resu
     let mut disk = MemoryDisk::new(alloc, Vec::new(alloc))?;
     let mut room = [0; 128];
     let made = under.front(&FrontAsk::NewPort);
+    assert_eq!(rt; made, Some(FrontAnswer::Port(1)));
     assert_eq!(rt;
-        as_shown(made),
-        Some((FrontAnswer::Port(1), Move::FrontPort { port: 1 }))
+        of_front(&FrontAsk::NewPort, &made),
+        Some(Move::FrontPort { port: 1 })
     );
-    let bound = under.back(BackMover::Back, &BackAsk::Bind(1), &mut disk, &mut room);
-    assert_eq!(rt;
-        as_shown(bound),
-        Some((BackAnswer::Done, Move::Bind { port: 1 }))
-    );
+    let ask = BackAsk::Bind(1);
+    let bound = under.back(BackMover::Back, &ask, &mut disk, &mut room);
+    assert_eq!(rt; bound, Some(BackAnswer::Done));
+    let shown = of_back(&under, BackMover::Back, &ask, &bound);
+    assert_eq!(rt; shown, Some(Move::Bind { port: 1 }));
     let sent = under.front(&FrontAsk::Send);
+    assert_eq!(rt; sent, Some(FrontAnswer::Done));
     assert_eq!(rt;
-        as_shown(sent),
-        Some((FrontAnswer::Done, Move::Send(Mover::Front)))
+        of_front(&FrontAsk::Send, &sent),
+        Some(Move::Send(Mover::Front))
     );
     assert_eq!(rt;
         (under.pending(End::Back), under.pending(End::Front)),
@@ -42,10 +60,9 @@ fn an_event_is_sent_through_a_bound_port_and_taken_once(rt: HostRuntime) -> Resu
     let waited = under.back(BackMover::Job(1), &BackAsk::Wait, &mut disk, &mut room);
     assert!(rt; waited.is_none());
     let taken = under.back(BackMover::Back, &BackAsk::Wait, &mut disk, &mut room);
-    assert_eq!(rt;
-        as_shown(taken),
-        Some((BackAnswer::Event, Move::Event(Mover::Back)))
-    );
+    assert_eq!(rt; taken, Some(BackAnswer::Event));
+    let shown = of_back(&under, BackMover::Back, &BackAsk::Wait, &taken);
+    assert_eq!(rt; shown, Some(Move::Event(Mover::Back)));
     let waited = under.back(BackMover::Back, &BackAsk::Wait, &mut disk, &mut room);
     assert!(rt; waited.is_none());
     Ok(())
@@ -55,17 +72,20 @@ fn an_event_is_sent_through_a_bound_port_and_taken_once(rt: HostRuntime) -> Resu
 fn a_word_is_written_read_and_exchanged(rt: HostRuntime) -> Result<(), Fail> {
     let mut under = Hypervisor::new(rt.alloc())?;
     let (frame, word) = (18, 3);
+    under.write_front(frame, word, 5);
     let _ = under.front(&FrontAsk::Write {
         frame,
         word,
         value: 7,
     });
-    let seen = under.front(&FrontAsk::Cas {
+    let ask = FrontAsk::Cas {
         frame,
         word,
         old: 7,
         new: 9,
-    });
+    };
+    let seen = under.front(&ask);
+    assert_eq!(rt; seen, Some(FrontAnswer::Word(7)));
     let shown = Move::FrontCas {
         frame,
         word,
@@ -73,14 +93,16 @@ fn a_word_is_written_read_and_exchanged(rt: HostRuntime) -> Result<(), Fail> {
         new: 9,
         seen: 7,
     };
-    assert_eq!(rt; as_shown(seen), Some((FrontAnswer::Word(7), shown)));
-    let read = under.front(&FrontAsk::Read { frame, word });
+    assert_eq!(rt; of_front(&ask, &seen), Some(shown));
+    let ask = FrontAsk::Read { frame, word };
+    let read = under.front(&ask);
+    assert_eq!(rt; read, Some(FrontAnswer::Word(9)));
     let shown = Move::FrontRead {
         frame,
         word,
         value: 9,
     };
-    assert_eq!(rt; as_shown(read), Some((FrontAnswer::Word(9), shown)));
+    assert_eq!(rt; of_front(&ask, &read), Some(shown));
     Ok(())
 }
 
@@ -92,16 +114,43 @@ fn a_reference_that_grants_nothing_is_refused(rt: HostRuntime) -> Result<(), Fai
     let mut room = [0; 128];
     let (gref, mode) = (24, Mode::ReadWrite);
     let who = BackMover::Job(1);
-    let refused = under.back(who, &BackAsk::Map { gref, mode }, &mut disk, &mut room);
+    let ask = BackAsk::Map { gref, mode };
+    let refused = under.back(who, &ask, &mut disk, &mut room);
+    assert_eq!(rt; refused, Some(BackAnswer::MapRefused(-1)));
     let shown = Move::MapRefused {
         who,
         gref,
         mode,
         status: -1,
     };
-    assert_eq!(rt;
-        as_shown(refused),
-        Some((BackAnswer::MapRefused(-1), shown))
-    );
+    assert_eq!(rt; of_back(&under, who, &ask, &refused), Some(shown));
+    Ok(())
+}
+
+#[test]
+fn a_mapped_word_is_read_and_shown_with_its_frame(rt: HostRuntime) -> Result<(), Fail> {
+    let alloc = rt.alloc();
+    let mut under = Hypervisor::new(alloc)?;
+    let mut disk = MemoryDisk::new(alloc, Vec::new(alloc))?;
+    let mut room = [0; 128];
+    // Reference 24 grants frame 18: words 48 and 49 of frame 0.
+    under.write_front(0, 49, 18);
+    under.write_front(0, 48, 1);
+    under.write_front(18, 3, 7);
+    let (gref, mode) = (24, Mode::ReadOnly);
+    let ask = BackAsk::Map { gref, mode };
+    let mapped = under.back(BackMover::Job(1), &ask, &mut disk, &mut room);
+    let shown = of_back(&under, BackMover::Job(1), &ask, &mapped);
+    let wanted = Move::Map {
+        who: BackMover::Job(1),
+        gref,
+        mode,
+        mapping: 1,
+        frame: 18,
+    };
+    assert_eq!(rt; shown, Some(wanted));
+    if let Some(BackAnswer::Mapped(mapping)) = mapped {
+        assert_eq!(rt; under.read(mapping, 3), 7);
+    }
     Ok(())
 }

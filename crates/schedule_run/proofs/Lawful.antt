@@ -1,12 +1,11 @@
 -- The laws of the machine, of what a recorder keeps of a history's report.
-use Rattle.std.proofs.Common.{◌≡◌, ℕ, ◌+◌, ◌^◌, ◌<◌, ◌≤◌, length, length-append, arith, List, [], ◌∷◌, ◌++◌, Option, Some, None, refl, ap, sym, ◌∙◌, subst}
+use Rattle.std.proofs.Common.{◌≡◌, ℕ, ◌+◌, ◌^◌, ◌<◌, ◌≤◌, length, length-append, arith, List, [], ◌∷◌, ◌++◌, Option, ap, sym, ◌∙◌, subst}
 use Rattle.blk_base.specs.Options.{Options}
-use Rattle.blk_base.specs.declared.config.Job.{Job}
 use Rattle.blk_io.specs.Disk.{HasLength}
 use Rattle.schedule_text.specs.declared.line.Detail.{Detail}
 use Rattle.schedule_text.specs.declared.line.Detail.TheVariants.{Moves}
 use Rattle.schedule_text.specs.declared.line.Line.{Line}
-use Rattle.schedule_text.specs.declared.line.Line.TheVariants.{Begin, End}
+use Rattle.schedule_text.specs.declared.line.Line.TheVariants.{End}
 use Rattle.report_rules.specs.Obeys.{Obeys}
 use Rattle.report_rules.proofs.Obeys.{obeys_before}
 use Rattle.move_laws.proofs.Recorded.{report_kept, ended_kept}
@@ -27,7 +26,7 @@ use Rattle.split_model.specs.Report.{report_of, ended_report_of}
 use Rattle.split_model.proofs.Running.{kept_of-append}
 use Rattle.disk_laws.specs.Plain.{IsPlain}
 use Rattle.disk_laws.specs.Allowed.{AreAllowed}
-use Rattle.disk_laws.specs.Submissions.{submitted_of, IsAnswerAt, AreAnswered}
+use Rattle.disk_laws.specs.Submissions.{submitted_of, IsAnswerAt}
 use Rattle.disk_laws.specs.Unbroken.{IsUnbroken}
 use Rattle.disk_laws.proofs.Runs.{reports_run, ended_reports_run, begun_run}
 use Rattle.disk_laws.proofs.Reports.{reports_answered, ended_answered, reports_unbroken, ended_unbroken}

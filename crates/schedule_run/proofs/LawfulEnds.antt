@@ -10,24 +10,23 @@ use Rattle.schedule_text.specs.declared.line.Line.TheVariants.{Begin, End}
 use Rattle.schedule_text.specs.Recorder.{Told, gained, recorded, StopsWithin}
 use Rattle.schedule_text.proofs.Gaining.{gained_none, gained_on}
 use Rattle.split_model.specs.World.{World, start_of}
-use Rattle.split_model.specs.Happening.{Happening, after, lines_at, lines_of, DiskRuns}
+use Rattle.split_model.specs.Happening.{Happening, after, lines_at, lines_of}
 use Rattle.split_model.specs.Kind.{AreOfAll, AreOfSoFar}
-use Rattle.split_model.specs.Leads.{kept_of, Leads, LeadsToStop, StopsAmong}
+use Rattle.split_model.specs.Leads.{kept_of}
 use Rattle.split_model.specs.Report.{report_of, ended_report_of}
-use Rattle.split_model.proofs.Running.{after-append, lines_of-append, kept_of-append}
+use Rattle.split_model.proofs.Running.{lines_of-append, kept_of-append}
 use Rattle.disk_laws.specs.Plain.{IsPlain}
 use Rattle.disk_laws.specs.Allowed.{AreAllowed}
 use Rattle.disk_laws.specs.Submissions.{jobs_of, submitted_of}
 use Rattle.disk_laws.proofs.KindsFront.{Connects, start_connects, connects_after}
 use Rattle.disk_laws.proofs.KindsEvents.{allowed_append, event_so_far_allowed, events_allowed}
 use Rattle.disk_laws.proofs.SubmissionsOf.{events_submit, events_so_far_submit}
-use Rattle.schedule_run.specs.Machine.{moment}
-use Rattle.schedule_run.specs.Outcome.{Outside, begun, Carried, HasCarried, IsDone, StopsAtBegin, StopsInEvent, StopsAtEnd, IsCut, IsKeptBack, IsStopped}
+use Rattle.schedule_run.specs.Outcome.{Outside, begun, HasCarried, IsDone, StopsAtBegin, StopsInEvent, StopsAtEnd, IsCut, IsKeptBack, IsStopped}
 use Rattle.schedule_run.specs.declared.schedule.RunStop.{RunStop}
 use Rattle.schedule_run.specs.declared.schedule.RunStop.TheVariants as stop
-use Rattle.schedule_run.specs.Lawful.{IsLawful, IsLawfulSoFar, IsLawfulRun, IsLawfulStop, IsToldSoFar}
+use Rattle.schedule_run.specs.Lawful.{IsLawful, IsLawfulSoFar, IsLawfulRun, IsLawfulStop}
 use Rattle.schedule_run.specs.Reading.{IsWholeSchedule, HasBadLine, IsTooLong, HasBegun, HasComeTo, IsReadSoFar, Tells, text_of}
-use Rattle.std.specs.Prelude.{drop, take}
+use Rattle.std.specs.Prelude.{drop}
 use Rattle.std.proofs.lemmas.List.{take-append-drop}
 use Rattle.schedule_run.proofs.Lengths.{lines_few}
 use Rattle.schedule_run.proofs.Lawful.{ended_lawful, begun_lawful}

@@ -3,3 +3,4 @@ pub mod Reading
 pub mod Outcome
 pub mod Carrying
 pub mod Lawful
+pub mod Following

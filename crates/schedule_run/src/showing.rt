@@ -3,78 +3,25 @@ ghost use Rattle.std.specs.Prelude.{◌≡◌, ◌≤◌, ◌∷◌, ◌++◌, [
 ghost use Rattle.blk_io.specs.Outside.{Rose};
 ghost use Rattle.split_model.specs.Leads.{Shows};
 ghost use Rattle.split_model.specs.Happening.{submit_line};
+ghost use Rattle.hypervisor.specs.Act.{front_shown, back_shown};
+ghost use Rattle.hypervisor.specs.May.{MayShow};
+ghost use Rattle.schedule_run.specs.Following.{Follows, FailsSince};
 ghost use Rattle.split_model.specs.Shown.{front_lines, back_lines, halt_lines, halt_line, effect_line, refusal_word};
 
 use blk_back::{BackTold, Halt};
-use blk_base::{BackAnswer, Job, SmallMove};
+use blk_base::{BackAnswer, BackAsk, BackMover, FrontAnswer, FrontAsk, Job, Move};
 use blk_front::{Refusal, Told};
+use hypervisor::{Hypervisor, front_shown};
 use schedule_text::{Detail, Halt as HaltLine, Line, RecordStop, Recorder, Refusal as RefusalWord};
 
-/// Shows a move of the front, and what it made happen there.
+/// Shows a move of the front, where moves are shown.
+#[inline(always)]
 pub fn show_front<R: Recorder>(
     recorder: &mut R,
-    shown: &SmallMove,
-    told: Option<Told>,
+    ask: &FrontAsk,
+    answer: &FrontAnswer,
 ) -> Result<(), RecordStop>
-    ensures shown { Shows (R.detail recorder.old) (Line.Move shown.now ∷ front_lines told) result (R.told recorder.old) (R.told recorder.new) }
-    ensures same_detail { R.detail recorder.new ≡ R.detail recorder.old }
-    ensures same_lender { R.lender recorder.new ≡ R.lender recorder.old }
-    ensures later { R.faults recorder.old ≤ R.faults recorder.new }
-    ensures failed { result ≡ Err RecordStop.Failed → Rose (R.faults recorder.old) (R.faults recorder.new) }
-{
-    show_move(recorder, shown)?;
-    match told {
-        None => Ok(()),
-        Some(told) => say_front(recorder, told),
-    }
-}
-
-/// Shows a move of the back, what it made happen there, and the halt where it made the back halt.
-pub fn show_back<R: Recorder>(
-    recorder: &mut R,
-    shown: &SmallMove,
-    told: Option<BackTold>,
-    answer: &BackAnswer,
-    before: Option<Halt>,
-    after: Option<Halt>,
-) -> Result<(), RecordStop>
-    ensures shown { Shows (R.detail recorder.old) (Line.Move shown.now ∷ back_lines told answer.now ++ halt_lines before after) result (R.told recorder.old) (R.told recorder.new) }
-    ensures same_detail { R.detail recorder.new ≡ R.detail recorder.old }
-    ensures same_lender { R.lender recorder.new ≡ R.lender recorder.old }
-    ensures later { R.faults recorder.old ≤ R.faults recorder.new }
-    ensures failed { result ≡ Err RecordStop.Failed → Rose (R.faults recorder.old) (R.faults recorder.new) }
-{
-    show_job(recorder, shown, told, answer)?;
-    match (before, after) {
-        (None, Some(halt)) => say_halt(recorder, halt),
-        _ => Ok(()),
-    }
-}
-
-/// Shows a move of a job, and what it made happen to its request.
-pub fn show_job<R: Recorder>(
-    recorder: &mut R,
-    shown: &SmallMove,
-    told: Option<BackTold>,
-    answer: &BackAnswer,
-) -> Result<(), RecordStop>
-    ensures shown { Shows (R.detail recorder.old) (Line.Move shown.now ∷ back_lines told answer.now) result (R.told recorder.old) (R.told recorder.new) }
-    ensures same_detail { R.detail recorder.new ≡ R.detail recorder.old }
-    ensures same_lender { R.lender recorder.new ≡ R.lender recorder.old }
-    ensures later { R.faults recorder.old ≤ R.faults recorder.new }
-    ensures failed { result ≡ Err RecordStop.Failed → Rose (R.faults recorder.old) (R.faults recorder.new) }
-{
-    show_move(recorder, shown)?;
-    match told {
-        None => Ok(()),
-        Some(told) => say_back(recorder, told, answer),
-    }
-}
-
-// Shows a move, where moves are shown. Lines have much room and few moves have one else, so whatever
-// makes a line stands in a function of its own.
-fn show_move<R: Recorder>(recorder: &mut R, shown: &SmallMove) -> Result<(), RecordStop>
-    ensures shown { Shows (R.detail recorder.old) (Line.Move shown.now ∷ []) result (R.told recorder.old) (R.told recorder.new) }
+    ensures shown { Shows (R.detail recorder.old) (Line.Move (front_shown ask.now answer.now) ∷ []) result (R.told recorder.old) (R.told recorder.new) }
     ensures same_detail { R.detail recorder.new ≡ R.detail recorder.old }
     ensures same_lender { R.lender recorder.new ≡ R.lender recorder.old }
     ensures later { R.faults recorder.old ≤ R.faults recorder.new }
@@ -82,19 +29,107 @@ fn show_move<R: Recorder>(recorder: &mut R, shown: &SmallMove) -> Result<(), Rec
 {
     match recorder.detail() {
         Detail::Lines => Ok(()),
-        Detail::Moves => say_move(recorder, shown),
+        Detail::Moves => say_move(recorder, front_shown(ask, answer)),
     }
 }
 
-#[inline(never)]
-fn say_move<R: Recorder>(recorder: &mut R, shown: &SmallMove) -> Result<(), RecordStop>
-    ensures shown { Shows (R.detail recorder.old) (Line.Move shown.now ∷ []) result (R.told recorder.old) (R.told recorder.new) }
+/// Shows a move of the back or of a job, where moves are shown.
+#[inline(always)]
+pub fn show_back<R: Recorder>(
+    recorder: &mut R,
+    under: &Hypervisor,
+    who: BackMover,
+    ask: &BackAsk,
+    answer: &BackAnswer,
+) -> Result<(), RecordStop>
+    requires { MayShow under.now ask.now answer.now }
+    ensures shown { Shows (R.detail recorder.old) (Line.Move (back_shown under.now who ask.now answer.now) ∷ []) result (R.told recorder.old) (R.told recorder.new) }
     ensures same_detail { R.detail recorder.new ≡ R.detail recorder.old }
     ensures same_lender { R.lender recorder.new ≡ R.lender recorder.old }
     ensures later { R.faults recorder.old ≤ R.faults recorder.new }
     ensures failed { result ≡ Err RecordStop.Failed → Rose (R.faults recorder.old) (R.faults recorder.new) }
 {
-    say(recorder, &Line::Move(shown.shown()))
+    match recorder.detail() {
+        Detail::Lines => Ok(()),
+        Detail::Moves => say_move(recorder, under.back_shown(who, ask, answer)),
+    }
+}
+
+/// Shows what a move of the front made happen there, after the move.
+#[inline(always)]
+pub fn follow_front<R: Recorder>(
+    recorder: &mut R,
+    shown: Result<(), RecordStop>,
+    told: Option<Told>,
+) -> Result<(), RecordStop>
+    ensures shown { Follows (R.detail recorder.old) (front_lines told) shown result (R.told recorder.old) (R.told recorder.new) }
+    ensures same_detail { R.detail recorder.new ≡ R.detail recorder.old }
+    ensures same_lender { R.lender recorder.new ≡ R.lender recorder.old }
+    ensures later { R.faults recorder.old ≤ R.faults recorder.new }
+    ensures failed { FailsSince shown result (R.faults recorder.old) (R.faults recorder.new) }
+{
+    shown?;
+    match told {
+        None => Ok(()),
+        Some(told) => say_front(recorder, told),
+    }
+}
+
+/// Shows what a move of the back made happen there, after the move, and the halt where it made the
+/// back halt.
+pub fn follow_back<R: Recorder>(
+    recorder: &mut R,
+    shown: Result<(), RecordStop>,
+    told: Option<BackTold>,
+    answer: &BackAnswer,
+    before: Option<Halt>,
+    after: Option<Halt>,
+) -> Result<(), RecordStop>
+    ensures shown { Follows (R.detail recorder.old) (back_lines told answer.now ++ halt_lines before after) shown result (R.told recorder.old) (R.told recorder.new) }
+    ensures same_detail { R.detail recorder.new ≡ R.detail recorder.old }
+    ensures same_lender { R.lender recorder.new ≡ R.lender recorder.old }
+    ensures later { R.faults recorder.old ≤ R.faults recorder.new }
+    ensures failed { FailsSince shown result (R.faults recorder.old) (R.faults recorder.new) }
+{
+    follow_job(recorder, shown, told, answer)?;
+    match (before, after) {
+        (None, Some(halt)) => say_halt(recorder, halt),
+        _ => Ok(()),
+    }
+}
+
+/// Shows what a move of a job made happen to its request, after the move.
+#[inline(always)]
+pub fn follow_job<R: Recorder>(
+    recorder: &mut R,
+    shown: Result<(), RecordStop>,
+    told: Option<BackTold>,
+    answer: &BackAnswer,
+) -> Result<(), RecordStop>
+    ensures shown { Follows (R.detail recorder.old) (back_lines told answer.now) shown result (R.told recorder.old) (R.told recorder.new) }
+    ensures same_detail { R.detail recorder.new ≡ R.detail recorder.old }
+    ensures same_lender { R.lender recorder.new ≡ R.lender recorder.old }
+    ensures later { R.faults recorder.old ≤ R.faults recorder.new }
+    ensures failed { FailsSince shown result (R.faults recorder.old) (R.faults recorder.new) }
+{
+    shown?;
+    match told {
+        None => Ok(()),
+        Some(told) => say_back(recorder, told, answer),
+    }
+}
+
+// Lines have much room and few moves have one else, so whatever makes a line stands in a function of
+// its own.
+#[inline(never)]
+fn say_move<R: Recorder>(recorder: &mut R, shown: Move) -> Result<(), RecordStop>
+    ensures shown { Shows (R.detail recorder.old) (Line.Move shown ∷ []) result (R.told recorder.old) (R.told recorder.new) }
+    ensures same_detail { R.detail recorder.new ≡ R.detail recorder.old }
+    ensures same_lender { R.lender recorder.new ≡ R.lender recorder.old }
+    ensures later { R.faults recorder.old ≤ R.faults recorder.new }
+    ensures failed { result ≡ Err RecordStop.Failed → Rose (R.faults recorder.old) (R.faults recorder.new) }
+{
+    say(recorder, &Line::Move(shown))
 }
 
 #[inline(never)]

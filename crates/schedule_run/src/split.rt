@@ -2,15 +2,24 @@
 ghost use Rattle.std.specs.Prelude.{◌≡◌, ◌+◌, ◌<◌, ◌≤◌, ◌^◌, ◌∷◌, [], List, ℕ, Option, Some, None, Err, IfOk};
 ghost use Rattle.blk_io.specs.Outside.{Rose};
 ghost use Rattle.schedule_text.specs.Range.{JobHasWidths};
+ghost use Rattle.grant_table.specs.Table.{IsLive};
+ghost use Rattle.hypervisor.specs.May.{IsPlace};
+ghost use Rattle.blk_front.specs.Ask.{ask_of as front_asks};
+ghost use Rattle.blk_back.specs.Step.{job_ask_of};
 ghost use Rattle.split_model.specs.World.{start_of, is_quiet};
 ghost use Rattle.split_model.specs.Happening.{FrontMoves, BackMoves, Submits, Notifies, happens};
 ghost use Rattle.split_model.specs.Kind.{IsJobMove};
 ghost use Rattle.split_model.specs.Leads.{Goes, Is};
 ghost use Rattle.schedule_run.specs.Machine.{moment};
 
-use crate::showing::{say, show_back, show_front, show_job, submit_line};
+use crate::showing::{
+    follow_back, follow_front, follow_job, say, show_back, show_front, submit_line,
+};
 use blk_back::Back;
-use blk_base::{BackMover, Config, End, Endpoint, Job, OutOfMemory, SectorWords};
+use blk_base::{
+    BackAnswer, BackAsk, BackMover, Config, End, Endpoint, FrontAnswer, FrontAsk, Job, Mapping,
+    OutOfMemory, SectorWords,
+};
 use blk_front::Front;
 use blk_io::SectorDisk;
 use hypervisor::Hypervisor;
@@ -55,6 +64,7 @@ impl Split {
     }
 
     /// A move of the front, if it has one.
+    #[inline(always)]
     pub fn front_move<R: Recorder>(&mut self, recorder: &mut R) -> Result<(), RecordStop>
         ensures goes { (content : Option (List (List ℕ))) → Goes (R.detail recorder.old) (Is (FrontMoves ∷ [])) (Is (FrontMoves ∷ [])) result (moment self.old content (R.told recorder.old)) (moment self.new content (R.told recorder.new)) }
         ensures made { self.new.under.grants ≡ self.old.under.grants }
@@ -64,18 +74,90 @@ impl Split {
         ensures later { R.faults recorder.old ≤ R.faults recorder.new }
         ensures failed { result ≡ Err RecordStop.Failed → Rose (R.faults recorder.old) (R.faults recorder.new) }
     {
-        let ask = self.front.ask();
-        let Some((answer, shown)) = self.under.front(&ask) else {
-            return Ok(());
-        };
+        if let FrontAsk::Write { frame, word, value } = self.front.ask() {
+            return self.front_writes(frame, word, value, recorder);
+        }
+        self.front_acts(recorder)
+    }
+
+    // The front writes a word, as it asks: most of its moves are of this kind.
+    #[inline(always)]
+    fn front_writes<R: Recorder>(
+        &mut self,
+        frame: u32,
+        word: u32,
+        value: u32,
+        recorder: &mut R,
+    ) -> Result<(), RecordStop>
+        requires asked { FrontAsk.Write frame word value ≡ front_asks self.old.front }
+        requires place { IsPlace frame word }
+        ensures goes { (content : Option (List (List ℕ))) → Goes (R.detail recorder.old) (Is (FrontMoves ∷ [])) (Is (FrontMoves ∷ [])) result (moment self.old content (R.told recorder.old)) (moment self.new content (R.told recorder.new)) }
+        ensures made { self.new.under.grants ≡ self.old.under.grants }
+        ensures sectors { self.new.front.sectors ≡ self.old.front.sectors }
+        ensures same_detail { R.detail recorder.new ≡ R.detail recorder.old }
+        ensures same_lender { R.lender recorder.new ≡ R.lender recorder.old }
+        ensures later { R.faults recorder.old ≤ R.faults recorder.new }
+        ensures failed { result ≡ Err RecordStop.Failed → Rose (R.faults recorder.old) (R.faults recorder.new) }
+    {
+        let answer = FrontAnswer::Done;
         // A front takes no memory once it is made.
         let _ = self.front.tell(&answer);
         let told = self.front.take_told();
-        show_front(recorder, &shown, told)
+        self.under.write_front(frame, word, value);
+        let shown = show_front(recorder, &FrontAsk::Write { frame, word, value }, &answer);
+        follow_front(recorder, shown, told)
+    }
+
+    // The front's move, whatever it asks.
+    #[inline(never)]
+    fn front_acts<R: Recorder>(&mut self, recorder: &mut R) -> Result<(), RecordStop>
+        ensures goes { (content : Option (List (List ℕ))) → Goes (R.detail recorder.old) (Is (FrontMoves ∷ [])) (Is (FrontMoves ∷ [])) result (moment self.old content (R.told recorder.old)) (moment self.new content (R.told recorder.new)) }
+        ensures made { self.new.under.grants ≡ self.old.under.grants }
+        ensures sectors { self.new.front.sectors ≡ self.old.front.sectors }
+        ensures same_detail { R.detail recorder.new ≡ R.detail recorder.old }
+        ensures same_lender { R.lender recorder.new ≡ R.lender recorder.old }
+        ensures later { R.faults recorder.old ≤ R.faults recorder.new }
+        ensures failed { result ≡ Err RecordStop.Failed → Rose (R.faults recorder.old) (R.faults recorder.new) }
+    {
+        let ask = self.front.ask();
+        let Some(answer) = self.under.front(&ask) else {
+            return Ok(());
+        };
+        let shown = show_front(recorder, &ask, &answer);
+        // A front takes no memory once it is made.
+        let _ = self.front.tell(&answer);
+        let told = self.front.take_told();
+        follow_front(recorder, shown, told)
     }
 
     /// A move of the back, if it has one.
+    #[inline(always)]
     pub fn back_move<D: SectorDisk, R: Recorder>(
+        &mut self,
+        disk: &mut D,
+        recorder: &mut R,
+    ) -> Result<(), RecordStop>
+        requires attached { D.attached disk.old ≡ Some self.old.front.sectors }
+        requires left { self.old.under.grants.made + 1 < 2 ^ 64 }
+        ensures goes { Goes (R.detail recorder.old) (Is (BackMoves ∷ [])) (Is (BackMoves ∷ [])) result (moment self.old (D.content disk.old) (R.told recorder.old)) (moment self.new (D.content disk.new) (R.told recorder.new)) }
+        ensures made { self.new.under.grants.made ≤ self.old.under.grants.made + 1 }
+        ensures sectors { self.new.front.sectors ≡ self.old.front.sectors }
+        ensures attached { D.attached disk.new ≡ D.attached disk.old }
+        ensures disk_later { D.faults disk.old ≤ D.faults disk.new }
+        ensures same_detail { R.detail recorder.new ≡ R.detail recorder.old }
+        ensures same_lender { R.lender recorder.new ≡ R.lender recorder.old }
+        ensures later { R.faults recorder.old ≤ R.faults recorder.new }
+        ensures failed { result ≡ Err RecordStop.Failed → Rose (R.faults recorder.old) (R.faults recorder.new) }
+    {
+        if self.back.waits() && !self.under.pending(End::Back) {
+            return Ok(());
+        }
+        self.back_acts(disk, recorder)
+    }
+
+    // The back's move, whatever it asks.
+    #[inline(never)]
+    fn back_acts<D: SectorDisk, R: Recorder>(
         &mut self,
         disk: &mut D,
         recorder: &mut R,
@@ -94,16 +176,17 @@ impl Split {
     {
         let ask = self.back.ask();
         let before = self.back.halted();
-        let Some((answer, shown)) = self.under.back(BackMover::Back, &ask, disk, &mut self.room)
-        else {
+        let Some(answer) = self.under.back(BackMover::Back, &ask, disk, &mut self.room) else {
             return Ok(());
         };
+        let shown = show_back(recorder, &self.under, BackMover::Back, &ask, &answer);
         let _ = self.back.tell(&answer);
         let told = self.back.take_told();
-        show_back(recorder, &shown, told, &answer, before, self.back.halted())
+        follow_back(recorder, shown, told, &answer, before, self.back.halted())
     }
 
     /// A move of the job of a number, if it has one.
+    #[inline(always)]
     pub fn job_move<D: SectorDisk, R: Recorder>(
         &mut self,
         number: u64,
@@ -122,16 +205,70 @@ impl Split {
         ensures later { R.faults recorder.old ≤ R.faults recorder.new }
         ensures failed { result ≡ Err RecordStop.Failed → Rose (R.faults recorder.old) (R.faults recorder.new) }
     {
-        let ask = self.back.job_ask(number);
-        let Some((answer, shown)) = self
-            .under
-            .back(BackMover::Job(number), &ask, disk, &mut self.room)
-        else {
-            return Ok(());
-        };
+        if let BackAsk::Read { mapping, word } = self.back.job_ask(number) {
+            return self.job_reads(number, mapping, word, recorder);
+        }
+        self.job_acts(number, disk, recorder)
+    }
+
+    // The job of a number reads a word, as it asks: most of its moves are of this kind.
+    #[inline(always)]
+    fn job_reads<R: Recorder>(
+        &mut self,
+        number: u64,
+        mapping: Mapping,
+        word: u32,
+        recorder: &mut R,
+    ) -> Result<(), RecordStop>
+        requires asked { BackAsk.Read mapping word ≡ job_ask_of self.old.back number }
+        requires live { IsLive self.old.under.grants mapping }
+        requires word_in { word < 1024 }
+        ensures goes { (content : Option (List (List ℕ))) → Goes (R.detail recorder.old) (IsJobMove number) (IsJobMove number) result (moment self.old content (R.told recorder.old)) (moment self.new content (R.told recorder.new)) }
+        ensures made { self.new.under ≡ self.old.under }
+        ensures sectors { self.new.front.sectors ≡ self.old.front.sectors }
+        ensures same_detail { R.detail recorder.new ≡ R.detail recorder.old }
+        ensures same_lender { R.lender recorder.new ≡ R.lender recorder.old }
+        ensures later { R.faults recorder.old ≤ R.faults recorder.new }
+        ensures failed { result ≡ Err RecordStop.Failed → Rose (R.faults recorder.old) (R.faults recorder.new) }
+    {
+        let who = BackMover::Job(number);
+        let answer = BackAnswer::Word(self.under.read(mapping, word));
         self.back.job_tell(number, &answer);
         let told = self.back.take_told();
-        show_job(recorder, &shown, told, &answer)
+        let ask = BackAsk::Read { mapping, word };
+        let shown = show_back(recorder, &self.under, who, &ask, &answer);
+        follow_job(recorder, shown, told, &answer)
+    }
+
+    // The move of the job of a number, whatever it asks.
+    #[inline(never)]
+    fn job_acts<D: SectorDisk, R: Recorder>(
+        &mut self,
+        number: u64,
+        disk: &mut D,
+        recorder: &mut R,
+    ) -> Result<(), RecordStop>
+        requires attached { D.attached disk.old ≡ Some self.old.front.sectors }
+        requires left { self.old.under.grants.made + 1 < 2 ^ 64 }
+        ensures goes { Goes (R.detail recorder.old) (IsJobMove number) (IsJobMove number) result (moment self.old (D.content disk.old) (R.told recorder.old)) (moment self.new (D.content disk.new) (R.told recorder.new)) }
+        ensures made { self.new.under.grants.made ≤ self.old.under.grants.made + 1 }
+        ensures sectors { self.new.front.sectors ≡ self.old.front.sectors }
+        ensures attached { D.attached disk.new ≡ D.attached disk.old }
+        ensures disk_later { D.faults disk.old ≤ D.faults disk.new }
+        ensures same_detail { R.detail recorder.new ≡ R.detail recorder.old }
+        ensures same_lender { R.lender recorder.new ≡ R.lender recorder.old }
+        ensures later { R.faults recorder.old ≤ R.faults recorder.new }
+        ensures failed { result ≡ Err RecordStop.Failed → Rose (R.faults recorder.old) (R.faults recorder.new) }
+    {
+        let who = BackMover::Job(number);
+        let ask = self.back.job_ask(number);
+        let Some(answer) = self.under.back(who, &ask, disk, &mut self.room) else {
+            return Ok(());
+        };
+        let shown = show_back(recorder, &self.under, who, &ask, &answer);
+        self.back.job_tell(number, &answer);
+        let told = self.back.take_told();
+        follow_job(recorder, shown, told, &answer)
     }
 
     /// A request is handed to the front.
@@ -164,6 +301,7 @@ impl Split {
     }
 
     /// Whether both ends wait, no job is held and no event is pending.
+    #[inline(always)]
     pub fn is_quiet(&self) -> bool
         ensures { result ≡ is_quiet self.now }
     {

@@ -77,6 +77,7 @@ impl Split {
     }
 
     // A move of the front; its first one connects both ends.
+    #[inline(always)]
     fn front_turn<D: SectorDisk, R: Recorder>(
         &mut self,
         disk: &mut D,
@@ -179,6 +180,7 @@ impl Split {
     }
 
     // One move of each job, by number.
+    #[inline(always)]
     fn each_job<D: SectorDisk, R: Recorder>(
         &mut self,
         disk: &mut D,
@@ -205,6 +207,7 @@ impl Split {
     }
 
     // A round: a move of the front, one of the back, then one of each job.
+    #[inline(always)]
     fn round<D: SectorDisk, R: Recorder>(
         &mut self,
         disk: &mut D,

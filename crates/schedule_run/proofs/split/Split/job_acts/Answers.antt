@@ -2,11 +2,12 @@ use Rattle.std.proofs.Common.{refl}
 use Rattle.std.proofs.lemmas.List.{append-nil}
 use Rattle.split_model.specs.Shown.{back_lines}
 use Rattle.blk_base.specs.declared.moves.BackMover.TheVariants.{Job}
-use Rattle.hypervisor.specs.Act.{outcome_told, Took}
+use Rattle.schedule_text.specs.declared.line.Line.TheVariants.{Move}
+use Rattle.hypervisor.specs.Act.{back_shown, outcome_told, Took}
 use Rattle.blk_back.specs.Step.{job_ask_of, job_step}
 use Rattle.split_model.specs.World.{World}
 use Rattle.split_model.proofs.Moving.{back_asked, back_unasked, back_left, back_did_disk, back_stepped, back_said, job_told, job_safe, job_goes, job_rests, back_made, job_asked_may}
-use Rattle.schedule_run.proofs.split.Split.job_move.Goals as goal
+use Rattle.schedule_run.proofs.split.Split.job_acts.Goals as goal
 
 pub back-requires : goal.back-requires
 back-requires g c =
@@ -24,27 +25,30 @@ returns-in_default-clause-goes g c =
 pub job_tell-requires-clause-answer : goal.job_tell-requires-clause-answer
 job_tell-requires-clause-answer g c =
     let w : World = record { front = c.self.inside.front; back = c.self.inside.back; under = c.self.inside.under } in
-    job_told w c.args.number (c.in-Some.answer, c.in-Some.shown)
-    (back_asked w.under (Job c.args.number) c.job_ask-ask.result (job_ask_of w.back c.args.number) (c.in-Some.answer, c.in-Some.shown) c.job_ask-ask.ensures.value c.in-Some.ensures.acted)
+    job_told w c.args.number (c.in-Some.answer, back_shown c.back.new.self (Job c.args.number) c.job_ask-ask.result c.in-Some.answer)
+    (back_asked w.under (Job c.args.number) c.job_ask-ask.result (job_ask_of w.back c.args.number) (c.in-Some.answer, back_shown c.back.new.self (Job c.args.number) c.job_ask-ask.result c.in-Some.answer) c.job_ask-ask.ensures.value c.in-Some.ensures.acted)
 
 pub invariant_of-self-2 : goal.invariant_of-self-2
 invariant_of-self-2 g c =
     let w : World = record { front = c.self.inside.front; back = c.self.inside.back; under = c.self.inside.under } in
-    job_safe w c.args.number (c.in-Some.answer, c.in-Some.shown) c.take_told-told.new.self c.back.new.self c.self.invariant
-    (back_asked w.under (Job c.args.number) c.job_ask-ask.result (job_ask_of w.back c.args.number) (c.in-Some.answer, c.in-Some.shown) c.job_ask-ask.ensures.value c.in-Some.ensures.acted)
+    job_safe w c.args.number (c.in-Some.answer, back_shown c.back.new.self (Job c.args.number) c.job_ask-ask.result c.in-Some.answer) c.take_told-told.new.self c.back.new.self c.self.invariant
+    (back_asked w.under (Job c.args.number) c.job_ask-ask.result (job_ask_of w.back c.args.number) (c.in-Some.answer, back_shown c.back.new.self (Job c.args.number) c.job_ask-ask.result c.in-Some.answer) c.job_ask-ask.ensures.value c.in-Some.ensures.acted)
     (back_left w.under (Job c.args.number) c.job_ask-ask.result (job_ask_of w.back c.args.number) (outcome_told c.in-Some.answer) c.back.new.self c.job_ask-ask.ensures.value c.in-Some.ensures.under)
     (back_stepped c.job_tell.new.self c.take_told-told.new.self (job_step w.back c.args.number c.in-Some.answer) c.job_tell.ensures.stepped c.take_told-told.ensures.taken)
 
 pub returns-clause-goes : goal.returns-clause-goes
 returns-clause-goes g c =
     let w : World = record { front = c.self.inside.front; back = c.self.inside.back; under = c.self.inside.under } in
-    rw (← c.self.view_is) (job_goes _ w c.args.number (c.in-Some.answer, c.in-Some.shown) c.take_told-told.new.self c.back.new.self (back_lines c.take_told-told.result c.in-Some.answer) _ _ _ _ c.show_job.result
-    (back_asked w.under (Job c.args.number) c.job_ask-ask.result (job_ask_of w.back c.args.number) (c.in-Some.answer, c.in-Some.shown) c.job_ask-ask.ensures.value c.in-Some.ensures.acted)
+    rw (← c.self.view_is) (job_goes _ w c.args.number (c.in-Some.answer, back_shown c.back.new.self (Job c.args.number) c.job_ask-ask.result c.in-Some.answer) c.take_told-told.new.self c.back.new.self (back_lines c.take_told-told.result c.in-Some.answer) _ _ _ _ c.follow_job.result
+    (back_asked w.under (Job c.args.number) c.job_ask-ask.result (job_ask_of w.back c.args.number) (c.in-Some.answer, back_shown c.back.new.self (Job c.args.number) c.job_ask-ask.result c.in-Some.answer) c.job_ask-ask.ensures.value c.in-Some.ensures.acted)
     (back_left w.under (Job c.args.number) c.job_ask-ask.result (job_ask_of w.back c.args.number) (outcome_told c.in-Some.answer) c.back.new.self c.job_ask-ask.ensures.value c.in-Some.ensures.under)
     (back_did_disk c.job_ask-ask.result (job_ask_of w.back c.args.number) (outcome_told c.in-Some.answer) _ _ c.job_ask-ask.ensures.value c.in-Some.ensures.disk)
     (back_stepped c.job_tell.new.self c.take_told-told.new.self (job_step w.back c.args.number c.in-Some.answer) c.job_tell.ensures.stepped c.take_told-told.ensures.taken)
     (back_said c.job_tell.new.self (job_step w.back c.args.number c.in-Some.answer) c.in-Some.answer c.take_told-told.result (back_lines c.take_told-told.result c.in-Some.answer) c.job_tell.ensures.stepped c.take_told-told.ensures.told refl)
-    (rw (append-nil (back_lines c.take_told-told.result c.in-Some.answer)) c.show_job.ensures.shown))
+    (rw (append-nil (back_lines c.take_told-told.result c.in-Some.answer)) (c.follow_job.ensures.shown _ (Move (back_shown c.back.new.self (Job c.args.number) c.job_ask-ask.result c.in-Some.answer)) _ c.show_back-shown.ensures.same_detail c.show_back-shown.ensures.shown)))
 
 pub returns-clause-made : goal.returns-clause-made
 returns-clause-made g c = rw (← c.self.view_is) (back_made (record { front = c.self.inside.front; back = c.self.inside.back; under = c.self.inside.under }) (Job c.args.number) c.job_ask-ask.result _ c.back.new.self c.in-Some.ensures.under)
+
+pub returns-clause-failed : goal.returns-clause-failed
+returns-clause-failed g c = c.follow_job.ensures.failed _ c.show_back-shown.ensures.later c.show_back-shown.ensures.failed
