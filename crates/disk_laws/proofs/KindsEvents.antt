@@ -7,7 +7,6 @@ use Rattle.blk_base.specs.declared.config.Job.TheVariants as jobs
 use Rattle.blk_base.specs.Options.{Options}
 use Rattle.schedule_text.specs.declared.event.Event.{Event}
 use Rattle.schedule_text.specs.declared.event.Event.TheVariants as events
-use Rattle.schedule_text.specs.Event.{EventHasWidths}
 use Rattle.schedule_text.specs.Range.{JobHasWidths}
 use Rattle.plain_disk.specs.Disk.{Disk}
 use Rattle.blk_front.specs.declared.stage.Stage.{Stage as FrontStage}
@@ -16,7 +15,7 @@ use Rattle.blk_front.specs.Submit.{is_connected}
 use Rattle.blk_back.specs.declared.stage.Stage.{Stage as BackStage}
 use Rattle.split_model.specs.World.{World, is_quiet}
 use Rattle.split_model.specs.Happening.{Happening, FrontMoves, BackMoves, Submits, Notifies, Looks, Settles, happens, after}
-use Rattle.split_model.specs.Kind.{is_carried_job, is_carried, front_move, front_moves, back_moves, AreJobMoves, AreEachJobs, round_start, IsBeginning, IsRoundSoFar, AreRounds, never, settle_bound, AreRoundsSoFar, IsSettling, IsSettlingSoFar, AreOf, AreOfSoFar, AreOfAll}
+use Rattle.split_model.specs.Kind.{is_carried_job, front_move, front_moves, back_moves, AreJobMoves, AreEachJobs, round_start, IsBeginning, IsRoundSoFar, AreRounds, never, settle_bound, AreRoundsSoFar, IsSettling, IsSettlingSoFar, AreOf, AreOfSoFar, AreOfAll}
 use Rattle.disk_laws.specs.Allowed.{IsOneWrite, IsAllowed, AreAllowed}
 use Rattle.disk_laws.proofs.Flow.{Flow}
 use Rattle.disk_laws.proofs.Holds.{Holds}

@@ -27,7 +27,6 @@ use Rattle.back_jobs.specs.Jobs.{first_mapping}
 use Rattle.blk_back.specs.declared.stage.Reply.{Reply}
 use Rattle.blk_back.specs.declared.stage.Stage.{Stage}
 use Rattle.blk_back.specs.declared.stage.Stage.TheVariants as stage
-use Rattle.blk_back.specs.declared.told.BackTold.{BackTold}
 use Rattle.blk_back.specs.declared.told.Halt.{Halt}
 use Rattle.blk_back.specs.View.{View, slot_word}
 use Rattle.blk_back.specs.Ask.{ask_at, ask_of, loop_ask, next_reply, response_word}
