@@ -1,5 +1,4 @@
 pub mod Distance
 pub mod Kinds
-pub mod Moves
 pub mod Operation
 pub mod Options

@@ -12,7 +12,6 @@ mod lent;
 mod moves;
 mod operation;
 mod parts;
-mod small_move;
 
 pub use ask::{BackAnswer, BackAsk, FrontAnswer, FrontAsk, Path, Text};
 pub use config::{Config, Job, SectorCount};
@@ -22,7 +21,6 @@ pub use lent::Lent;
 pub use moves::{BackMover, Move, Mover};
 pub use operation::{Abi, Op, Status};
 pub use parts::{End, Mapping, Mode, SectorWords};
-pub use small_move::{KeylessMove, SmallMove};
 
 #[cfg(test)]
 mod tests;
