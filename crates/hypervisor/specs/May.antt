@@ -1,5 +1,6 @@
 -- What may be asked: words of memory that are there, mappings that live, sectors of the disk.
-use Rattle.std.specs.Prelude.{◌≡◌, ℕ, ◌+◌, ◌^◌, ◌<◌, length, Option}
+use Rattle.std.specs.Prelude.{◌≡◌, ℕ, ◌+◌, ◌^◌, ◌<◌, length, Option, Some, None, IfSome}
+use Rattle.blk_base.specs.declared.parts.Mapping.{Mapping}
 use Rattle.blk_base.specs.declared.parts.Mode.TheVariants.{ReadWrite}
 use Rattle.blk_base.specs.declared.ask.FrontAsk.{FrontAsk}
 use Rattle.blk_base.specs.declared.ask.FrontAsk.TheVariants as front_ask
@@ -52,16 +53,13 @@ IsCall (back_ask.Read m word) = ⊥
 IsCall (back_ask.Write m word value) = ⊥
 IsCall ask = Unit {0}
 
--- a move that names a frame is shown while its mapping lives
-abbrev pub MayShow : Hypervisor → BackAsk → BackAnswer → Type 0
-MayShow h (back_ask.Read m word) answer = IsLive h.grants m
-MayShow h (back_ask.Write m word value) answer = IsLive h.grants m
-MayShow h (back_ask.Map gref mode) (back_answer.Mapped m) = IsLive h.grants m
-MayShow h ask answer = Unit {0}
+-- the mapping whose frame is in a move as a report shows it
+abbrev pub mapping_shown : BackAsk → BackAnswer → Option Mapping
+mapping_shown (back_ask.Read m word) (back_answer.Word value) = Some m
+mapping_shown (back_ask.Write m word value) answer = Some m
+mapping_shown (back_ask.Map gref mode) (back_answer.Mapped m) = Some m
+mapping_shown ask answer = None
 
--- neither a word read or written through a mapping, nor a frame mapped
-abbrev pub NamesNoFrame : BackAsk → BackAnswer → Type 0
-NamesNoFrame (back_ask.Read m word) (back_answer.Word value) = ⊥
-NamesNoFrame (back_ask.Write m word value) answer = ⊥
-NamesNoFrame (back_ask.Map gref mode) (back_answer.Mapped m) = ⊥
-NamesNoFrame ask answer = Unit {0}
+-- that mapping lives, where there is one
+abbrev pub MayShow : Hypervisor → BackAsk → BackAnswer → Type 0
+MayShow h ask answer = IfSome (mapping_shown ask answer) (λ (m : Mapping). IsLive h.grants m)

@@ -1,8 +1,8 @@
 // The moves that a report shows.
-ghost use Rattle.std.specs.Prelude.{◌≡◌};
+ghost use Rattle.std.specs.Prelude.{◌≡◌, None};
 ghost use Rattle.hypervisor.specs.Act.{front_shown, back_shown, mover_of, job_of};
 ghost use Rattle.hypervisor.specs.Hypervisor.{Hypervisor};
-ghost use Rattle.hypervisor.specs.May.{MayShow, NamesNoFrame};
+ghost use Rattle.hypervisor.specs.May.{MayShow, mapping_shown};
 
 use super::Hypervisor;
 use blk_base::{BackAnswer, BackAsk, BackMover, FrontAnswer, FrontAsk, Move, Mover};
@@ -47,8 +47,9 @@ pub fn front_shown(ask: &FrontAsk, answer: &FrontAnswer) -> Move
 }
 
 impl Hypervisor {
-    /// The move of the back or of a job as a report shows it, by what was asked and answered, before
-    /// anything else is asked.
+    /// The move of the back or of a job as a report shows it, by what was asked and answered. Where
+    /// the move names a frame, its mapping must live still: what `back` answers may be shown until the
+    /// next ask.
     #[inline(always)]
     pub fn back_shown(&self, who: BackMover, ask: &BackAsk, answer: &BackAnswer) -> Move
         requires { MayShow self.now ask.now answer.now }
@@ -90,7 +91,7 @@ impl Hypervisor {
 
 // The move where it names no frame.
 fn call_shown(who: BackMover, ask: &BackAsk, answer: &BackAnswer) -> Move
-    requires { NamesNoFrame ask.now answer.now }
+    requires { mapping_shown ask.now answer.now ≡ None }
     ensures { (under : Hypervisor) → result ≡ back_shown under who ask.now answer.now }
 {
     match (ask, answer) {
