@@ -1,20 +1,21 @@
 // All jobs of the back.
-ghost use Rattle.std.specs.Prelude.{◌≡◌, ◌<◌, ◌≤◌, ◌+◌, ◌↔◌, IfOk, IfSome, IsSome, IsTrue, length, vec_capacity};
+ghost use Rattle.std.specs.Prelude.{◌≡◌, ◌<◌, ◌≤◌, ◌+◌, ◌↔◌, IfOk, IfSome, IsSome, IsTrue, length, vec_capacity, option_and_then};
 ghost use Rattle.std.specs.Option.{option_map};
-ghost use Rattle.std.specs.Prelude.{◌&&◌, true, drop, option_and_then, position};
-ghost use Rattle.std.specs.List.Sorted.{IsNonDecreasing};
-ghost use Rattle.back_jobs.specs.Order.{IsFirstFrom, IsNumberAt, number_at, is_above, is_below, put, done_with};
-ghost use Rattle.back_jobs.specs.Task.{IsAnswer, step_of};
-ghost use Rattle.back_jobs.specs.Sound.{IsWithin, AreAscending, done_place, done_numbers};
+ghost use Rattle.back_jobs.specs.Task.{IsAnswer, Work};
+ghost use Rattle.back_jobs.specs.Sound.{IsWithin};
 ghost use Rattle.back_jobs.specs.Hands.{hands_in, Names};
-ghost use Rattle.back_jobs.specs.Jobs.{none_held, place_of, work_of, ask_job, tell_job, start_job, without_done, first_mapping, behind_mapping, effect_of, done_of, is_done, response_of, next_in, next_after};
-ghost use Rattle.back_jobs.specs.Task.{Work};
+ghost use Rattle.back_jobs.specs.Jobs.{none_held, place_of, work_of, ask_job, tell_job, start_job, without_done, first_mapping, behind_mapping, effect_of, done_of, response_of, next_after};
 ghost use Rattle.ring_words.specs.Shape.{entries_of};
+
+mod finding;
+mod finished;
 
 use crate::effect::Effect;
 use crate::task::Task;
 use blk_base::{BackAnswer, BackAsk, Mapping, OutOfMemory, Status};
 use blk_layout::RawRequest;
+use finding::{by_halves, first_above, goes_on_ascending, guess, next_in, number_at, place_in};
+use finished::{done_with, drop_first, first_done, lowest_done, note};
 use ring_words::RingShape;
 use segment_list::DiskInfo;
 use std::alloc::Global;
@@ -232,176 +233,4 @@ fn give_up_first(tasks: &mut Vec<Task>) -> Option<Mapping>
         }
     }
     None
-}
-
-// Where the job of a number stands.
-fn place_in(tasks: &[Task], number: u64) -> Option<usize>
-    ensures place { result ≡ place_of tasks.now number }
-    ensures within { IfSome result (λ place. place < length tasks.now) }
-{
-    tasks.iter().position(|t| t.number() == number)
-}
-
-// The least number above this one.
-fn next_in(tasks: &[Task], number: u64) -> Option<u64>
-    ensures { result ≡ next_in tasks.now number }
-{
-    match tasks.iter().find(|t| number < t.number()) {
-        None => None,
-        Some(task) => Some(task.number()),
-    }
-}
-
-// The number of the job at a place.
-#[inline(always)]
-fn number_at(tasks: &[Task], place: usize) -> Option<u64>
-    ensures { result ≡ number_at tasks.now place }
-{
-    if place < tasks.len() {
-        Some(tasks[place].number())
-    } else {
-        None
-    }
-}
-
-// The place of the first job whose number isn't below this one, among jobs whose numbers ascend; how
-// many there are where there is none.
-fn first_from(tasks: &[Task], number: u64) -> usize
-    requires { AreAscending tasks.now }
-    ensures { IsFirstFrom number tasks.now result }
-{
-    match guess(tasks, number) {
-        Some(place) => place,
-        None => by_halves(tasks, number),
-    }
-}
-
-// The same, found by halves.
-fn by_halves(tasks: &[Task], number: u64) -> usize
-    requires { AreAscending tasks.now }
-    ensures { IsFirstFrom number tasks.now result }
-{
-    tasks.partition_point(|t| t.number() < number)
-}
-
-// The place of the first job whose number is above this one, among such jobs.
-fn first_above(tasks: &[Task], number: u64) -> usize
-    requires { AreAscending tasks.now }
-    ensures { IsFirstFrom (number + 1) tasks.now result }
-{
-    if is_below(tasks, number) {
-        return 0;
-    }
-    if let Some(place) = guess(tasks, number) {
-        return place + 1;
-    }
-    tasks.partition_point(|t| t.number() <= number)
-}
-
-// Whether a number is below that of the first job; also where there is no job.
-fn is_below(tasks: &[Task], number: u64) -> bool
-    ensures { result ≡ is_below tasks.now number }
-{
-    match tasks.first() {
-        None => true,
-        Some(task) => number < task.number(),
-    }
-}
-
-// The place of the job of a number where all jobs from the first one's number to it are held, as they
-// mostly are.
-#[inline(always)]
-fn guess(tasks: &[Task], number: u64) -> Option<usize>
-    ensures { IfSome result (λ place. IsNumberAt number tasks.now place) }
-{
-    let first = tasks.first()?.number();
-    if number < first || number - first >= tasks.len() as u64 {
-        return None;
-    }
-    let place = (number - first) as usize;
-    match number_at(tasks, place) {
-        Some(found) if found == number => Some(place),
-        _ => None,
-    }
-}
-
-// Whether numbers that ascended, or not, ascend with this one behind them.
-fn goes_on_ascending(ascending: bool, tasks: &[Task], number: u64) -> bool
-    ensures { result ≡ (ascending && is_above tasks.now number) }
-{
-    match tasks.last() {
-        None => ascending,
-        Some(task) => ascending && task.number() < number,
-    }
-}
-
-// The place of the lowest job that is done, where these are the numbers of those that are; by a walk
-// where numbers don't ascend.
-fn lowest_done(tasks: &[Task], ascending: bool, finished: &[u64]) -> usize
-    requires in_order { ascending ≡ true → AreAscending tasks.now }
-    requires listed { ascending ≡ true → finished.now ≡ done_numbers tasks.now }
-    ensures { result ≡ done_place tasks.now }
-{
-    if !ascending {
-        return first_done(tasks);
-    }
-    match finished.first() {
-        None => tasks.len(),
-        Some(number) => first_from(tasks, *number),
-    }
-}
-
-// Where numbers ascend, puts the number of a job that is done among those of the others. There is
-// room for it.
-fn note(numbers: &mut Vec<u64>, number: u64, ascending: bool)
-    requires ascending { ascending ≡ true → IsNonDecreasing numbers.old.items }
-    requires has_room { ascending ≡ true → length numbers.old.items < vec_capacity numbers.old }
-    ensures items { ascending ≡ true → numbers.new.items ≡ put number numbers.old.items }
-    ensures capacity { vec_capacity numbers.old ≤ vec_capacity numbers.new }
-{
-    if ascending {
-        let place = numbers.as_slice().partition_point(|n| *n < number);
-        let _ = numbers.insert(place, number);
-    }
-}
-
-// Drops the first number.
-fn drop_first(numbers: &mut Vec<u64>)
-    ensures items { numbers.new.items ≡ drop 1 numbers.old.items }
-    ensures capacity { vec_capacity numbers.new ≡ vec_capacity numbers.old }
-{
-    if !numbers.is_empty() {
-        let _ = numbers.remove(0);
-    }
-}
-
-// The place of the lowest job that is done; how many there are where none is.
-fn first_done(tasks: &[Task]) -> usize
-    ensures { result ≡ done_place tasks.now }
-{
-    match done_in(tasks) {
-        None => tasks.len(),
-        Some(place) => place,
-    }
-}
-
-// Where the lowest job that is done stands.
-fn done_in(tasks: &[Task]) -> Option<usize>
-    ensures { result ≡ position (λ (t : Work). is_done t) tasks.now }
-{
-    tasks.iter().position(|t| t.is_done())
-}
-
-// The place of the lowest job that is done after one more was begun, which is done at once or not.
-fn done_with(done: usize, count: usize, is_done: bool) -> usize
-    requires { count < 4294967296 }
-    ensures { result ≡ done_with done count is_done }
-{
-    if done != count {
-        done
-    } else if is_done {
-        count
-    } else {
-        count + 1
-    }
 }

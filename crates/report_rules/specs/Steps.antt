@@ -19,9 +19,9 @@ use Rattle.schedule_text.specs.declared.line.Line.{Line}
 use Rattle.schedule_text.specs.declared.line.Line.TheVariants as lines
 use Rattle.report_rules.specs.declared.work.Task.{Task}
 use Rattle.report_rules.specs.declared.work.Task.TheVariants as tasks
-use Rattle.report_rules.specs.declared.step.Spot.{Spot}
-use Rattle.report_rules.specs.declared.step.Keeping.{Keeping}
-use Rattle.report_rules.specs.declared.step.Serving.{Serving}
+use Rattle.report_rules.specs.declared.walk.Spot.{Spot}
+use Rattle.report_rules.specs.declared.published.Keeping.{Keeping}
+use Rattle.report_rules.specs.declared.published.Serving.{Serving}
 use Rattle.report_rules.specs.declared.step.Step.{Step}
 use Rattle.report_rules.specs.declared.step.Step.TheVariants as steps
 use Rattle.report_rules.specs.Obeys.{Obeys}

@@ -3,9 +3,9 @@ ghost use Rattle.std.specs.Prelude.{◌≡◌};
 ghost use Rattle.std.specs.Bool.{Decides};
 ghost use Rattle.report_rules.specs.Own.{is_kept_mapping, may_touch, IsOwnAt, AreOwn};
 
+use crate::published::is_persistent;
 use crate::ring::page_in;
 use crate::standing::{numbered_behind, this_epoch};
-use crate::step::is_persistent;
 use crate::unmap::is_held;
 use blk_base::{BackMover, Mode, Move};
 use schedule_text::Line;

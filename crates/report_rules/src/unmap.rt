@@ -5,8 +5,9 @@ ghost use Rattle.std.specs.List.{list_all};
 ghost use Rattle.report_rules.specs.Standing.{unless_unmapped, numbered};
 ghost use Rattle.report_rules.specs.Unmap.{made_by, left_to, may_be_kept, gave_up, IsUnmapAt, AreUnmaps};
 
+use crate::published::is_persistent;
 use crate::standing::{Standing, is_unmapped, this_epoch};
-use crate::step::{is_persistent, job_of};
+use crate::walk::job_of;
 use blk_base::{BackMover, Mode, Move};
 use schedule_text::Line;
 

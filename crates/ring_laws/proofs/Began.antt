@@ -24,7 +24,7 @@ use Rattle.segment_list.specs.declared.verdict.Verdict.TheVariants as verdict
 use Rattle.segment_list.specs.Segments.{IsSound, length_of, sectors_of}
 use Rattle.segment_list.specs.Verdict.{transfer_verdict, flush_verdict, verdict_of}
 use Rattle.segment_list.proofs.Served.{IsTransfer, transfer_served}
-use Rattle.report_rules.specs.declared.step.Spot.{Spot}
+use Rattle.report_rules.specs.declared.walk.Spot.{Spot}
 use Rattle.report_rules.specs.declared.work.Task.{Task}
 use Rattle.report_rules.specs.Work.{stores_of, loads_of, planned_tasks, served_tasks, settled, work_verdict, indirect_tasks, work_tasks, status_by, response_to, work_response}
 use Rattle.report_rules.specs.Job.{words_of_job, id_of}

@@ -11,7 +11,7 @@ use Rattle.blk_base.specs.declared.moves.Move.{Move}
 use Rattle.schedule_text.specs.declared.line.Line.{Line}
 use Rattle.blk_layout.specs.declared.segment.Segment.{Segment}
 use Rattle.segment_list.specs.Segments.{IsSound, length_of, sectors_of}
-use Rattle.report_rules.specs.declared.step.Spot.{Spot}
+use Rattle.report_rules.specs.declared.walk.Spot.{Spot}
 use Rattle.report_rules.specs.declared.work.Task.{Task}
 use Rattle.report_rules.specs.declared.work.Task.TheVariants as tasks
 use Rattle.report_rules.specs.Work.{stores_of, loads_of}

@@ -1,0 +1,14 @@
+use Rattle.std.proofs.Common.{rules}
+use Rattle.std.specs.Prelude.{nat_le}
+use Rattle.std.proofs.lemmas.List.Sorted.{IsPartitionPoint-from_clause}
+use Rattle.back_jobs.proofs.Finding.{parted_above, not_above, guessed_above}
+use Rattle.back_jobs.proofs.jobs.finding.first_above.Goals as goal
+
+pub returns-in-Some : goal.returns-in-Some
+returns-in-Some c = guessed_above c.args.tasks.now c.args.number c.in-Some.place c.requires c.in-Some.ensures
+
+pub returns : goal.returns
+returns c =
+    let works = c.args.tasks.now in
+    parted_above works c.args.number c.partition_point.result c.partition_point.ensures.bound
+    (IsPartitionPoint-from_clause (λ t. nat_le t.number c.args.number) works c.partition_point.result c.partition_point.ensures.partitioned (not_above works c.args.number c.requires) (λ a r f called. search rules))

@@ -1,0 +1,10 @@
+use Rattle.std.proofs.Common.{◌≡◌, ◌-◌, rules}
+use Rattle.std.specs.Prelude.{Some}
+use Rattle.back_jobs.specs.Order.{number_at}
+use Rattle.back_jobs.proofs.Finding.{numbered}
+use Rattle.back_jobs.proofs.jobs.finding.guess.Goals as goal
+
+pub returns-in-Some : goal.returns-in-Some
+returns-in-Some c =
+    let at : number_at c.args.tasks.now (c.args.number - c.number-first.result) ≡ Some c.args.number = search rules in
+    numbered c.args.tasks.now (c.args.number - c.number-first.result) c.args.number at

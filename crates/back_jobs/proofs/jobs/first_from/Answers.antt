@@ -1,5 +1,0 @@
-use Rattle.back_jobs.proofs.Finding.{guessed}
-use Rattle.back_jobs.proofs.jobs.first_from.Goals as goal
-
-pub returns-in-Some : goal.returns-in-Some
-returns-in-Some c = guessed c.args.tasks.now c.args.number c.in-Some.place c.requires c.in-Some.ensures

@@ -1,0 +1,114 @@
+// What an answer makes of a job.
+ghost use Rattle.std.specs.Prelude.{◌≡◌, ◌<◌};
+ghost use Rattle.back_jobs.specs.Task.{step_at, next_sector, next_segment, counted, sector_stage, rest_of, last_of, IsUnmap};
+ghost use Rattle.back_jobs.specs.Sound.{IsInMode};
+ghost use Rattle.back_jobs.specs.declared.stage.Stage.TheVariants as stage;
+ghost use Rattle.blk_base.specs.declared.ask.BackAnswer.TheVariants.{Word, Done};
+
+use super::Task;
+use crate::stage::Stage;
+use blk_base::{Mapping, SectorWords, Status};
+use blk_layout::Segment;
+
+impl Task {
+    // The present segment's frame is mapped.
+    pub(super) fn begin_sector(&mut self, mapping: Mapping)
+        requires stage { self.old.stage ≡ stage.Map }
+        requires mode { IsInMode mapping self.old }
+        ensures { self.new ≡ record self.old { stage = sector_stage self.old.writes mapping } }
+    {
+        self.stage = sector_stage(self.writes, mapping);
+    }
+
+    #[inline(always)]
+    pub(super) fn read_word(&mut self, mapping: Mapping, k: u32, word: u32)
+        requires stage { self.old.stage ≡ stage.ReadWord mapping k }
+        requires placed { k < 128 }
+        ensures { self.new ≡ step_at (stage.ReadWord mapping k) self.old (Word word) }
+    {
+        self.words[k as usize] = word;
+        if k == 127 {
+            self.stage = Stage::DiskWrite(mapping);
+        } else {
+            self.stage = Stage::ReadWord(mapping, k + 1);
+        }
+    }
+
+    pub(super) fn wrote_sector(&mut self, mapping: Mapping)
+        requires { self.old.stage ≡ stage.DiskWrite mapping }
+        ensures { self.new ≡ next_sector (counted self.old) mapping }
+    {
+        let last = last_of(self.rest.as_slice());
+        self.disk += 1;
+        self.moved = self.moved.wrapping_add(1);
+        if self.within == last {
+            self.stage = Stage::Unmap(mapping);
+        } else {
+            self.within += 1;
+            self.stage = sector_stage(self.writes, mapping);
+        }
+    }
+
+    pub(super) fn got_sector(&mut self, mapping: Mapping, words: &SectorWords)
+        requires { self.old.stage ≡ stage.DiskRead mapping }
+        ensures { self.new ≡ record (counted self.old) { words = words.now; stage = stage.WriteWord mapping 0 } }
+    {
+        self.disk += 1;
+        self.moved = self.moved.wrapping_add(1);
+        self.words = *words;
+        self.stage = Stage::WriteWord(mapping, 0);
+    }
+
+    pub(super) fn wrote_word(&mut self, mapping: Mapping, k: u32)
+        requires stage { self.old.stage ≡ stage.WriteWord mapping k }
+        requires placed { k < 128 }
+        ensures { self.new ≡ step_at (stage.WriteWord mapping k) self.old Done }
+    {
+        if k != 127 {
+            self.stage = Stage::WriteWord(mapping, k + 1);
+        } else if self.within == last_of(self.rest.as_slice()) {
+            self.stage = Stage::Unmap(mapping);
+        } else {
+            self.within += 1;
+            self.stage = sector_stage(self.writes, mapping);
+        }
+    }
+
+    // The present segment is done, and its frame given up.
+    pub(super) fn next_segment(&mut self)
+        requires { IsUnmap self.old.stage }
+        ensures { self.new ≡ next_segment self.old (rest_of self.old.rest) }
+    {
+        if self.rest.len() > 0 {
+            self.rest.remove(0);
+        }
+        match self.rest.as_slice().first() {
+            None => self.stage = Stage::Done(Status::Okay),
+            Some(segment) => {
+                self.within = u32::from(segment.first);
+                self.stage = Stage::Map;
+            }
+        }
+    }
+}
+
+// The last sector of the present segment.
+fn last_of(rest: &[Segment]) -> u32
+    ensures { result ≡ last_of rest.now }
+{
+    match rest.first() {
+        None => 0,
+        Some(segment) => u32::from(segment.last),
+    }
+}
+
+// A sector is begun.
+fn sector_stage(writes: bool, mapping: Mapping) -> Stage
+    ensures { result ≡ sector_stage writes mapping }
+{
+    if writes {
+        Stage::ReadWord(mapping, 0)
+    } else {
+        Stage::DiskRead(mapping)
+    }
+}

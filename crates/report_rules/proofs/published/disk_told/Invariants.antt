@@ -1,0 +1,7 @@
+use Rattle.std.proofs.Common.{◌≡◌, fold, take}
+use Rattle.report_rules.specs.Steps.{info_told, no_disk}
+use Rattle.report_rules.proofs.published.disk_told.Given as goal
+
+-- the disk that the lines so far tell
+abbrev pub invariant-loop-line : goal.invariant-loop-line
+invariant-loop-line l = l.info ≡ fold info_told no_disk (take l.line-index l.before)

@@ -1,0 +1,205 @@
+// What both ends published in this epoch.
+ghost use Rattle.std.specs.Prelude.{◌≡◌, ℕ, ◌==◌, fold};
+ghost use Rattle.std.specs.List.{list_all};
+ghost use Rattle.blk_base.specs.declared.moves.Mover.TheVariants as mover;
+ghost use Rattle.blk_base.specs.declared.moves.Move.TheVariants as moves;
+ghost use Rattle.schedule_text.specs.declared.line.Line.TheVariants as lines;
+ghost use Rattle.report_rules.specs.Steps.{info_of, info_told, no_disk, is_offer, serving_after, served_by, disk_of, is_one, says_one, keeping_after, is_persistent};
+
+use crate::standing::this_epoch;
+use blk_base::{Config, Move, Mover, Path, Text};
+use schedule_text::Line;
+use segment_list::DiskInfo;
+
+// Whether both ends published persistent grants.
+#[derive(Clone, Copy)]
+struct Keeping {
+    offered: bool,
+    asked: bool,
+}
+
+// What the back published that it serves beside reads and writes.
+#[derive(Clone, Copy)]
+struct Serving {
+    barrier: bool,
+    flush: bool,
+    discard: bool,
+    indirect: bool,
+}
+
+fn info_of(config: &Config) -> DiskInfo
+    ensures { result ≡ info_of config.now }
+{
+    DiskInfo {
+        sectors: config.sectors,
+        read_only: config.read_only,
+        barrier: !config.read_only,
+        flush: !config.read_only,
+        discard: !config.read_only,
+        max_indirect: config.indirect,
+    }
+}
+
+fn info_told(info: DiskInfo, line: &Line) -> DiskInfo
+    ensures { result ≡ info_told info line.now }
+{
+    match line {
+        Line::Begin { config, .. } => info_of(config),
+        _ => info,
+    }
+}
+
+// The disk that the options let the back publish.
+fn disk_told(before: &[Line]) -> DiskInfo
+    ensures { result ≡ fold info_told no_disk before.now }
+{
+    let mut info = DiskInfo {
+        sectors: 0,
+        read_only: false,
+        barrier: false,
+        flush: false,
+        discard: false,
+        max_indirect: 0,
+    };
+    for line in before {
+        info = info_told(info, line);
+    }
+    info
+}
+
+// Whether the key of a feature offers it.
+fn is_offer(digits: &[u8]) -> bool
+    ensures { result ≡ is_offer digits.now }
+{
+    !are_zeros(digits)
+}
+
+fn serving_after(s: Serving, line: &Line) -> Serving
+    ensures { result ≡ serving_after s line.now }
+{
+    match line {
+        Line::Move(Move::SetKey(Mover::Back, path, text)) => serving_by(s, path, text),
+        _ => s,
+    }
+}
+
+fn serving_by(s: Serving, path: &Path, text: &Text) -> Serving
+    ensures { result ≡ serving_after s (lines.Move (moves.SetKey mover.Back path.now text.now)) }
+{
+    let offer = is_offer(text.as_bytes());
+    let key = path.as_str();
+    if key == "/local/domain/0/backend/vbd/1/51712/feature-barrier" {
+        Serving {
+            barrier: offer,
+            ..s
+        }
+    } else if key == "/local/domain/0/backend/vbd/1/51712/feature-flush-cache" {
+        Serving { flush: offer, ..s }
+    } else if key == "/local/domain/0/backend/vbd/1/51712/feature-discard" {
+        Serving {
+            discard: offer,
+            ..s
+        }
+    } else if key == "/local/domain/0/backend/vbd/1/51712/feature-max-indirect-segments" {
+        Serving {
+            indirect: offer,
+            ..s
+        }
+    } else {
+        s
+    }
+}
+
+fn served_by(before: &[Line]) -> Serving
+    ensures { result ≡ served_by before.now }
+{
+    let mut s = Serving {
+        barrier: false,
+        flush: false,
+        discard: false,
+        indirect: false,
+    };
+    for line in this_epoch(before) {
+        s = serving_after(s, line);
+    }
+    s
+}
+
+/// The disk as the options give it, with what the back published of it.
+pub fn disk_of(before: &[Line]) -> DiskInfo
+    ensures { result ≡ disk_of before.now }
+{
+    let s = served_by(before);
+    let info = disk_told(before);
+    DiskInfo {
+        sectors: info.sectors,
+        read_only: info.read_only,
+        barrier: s.barrier,
+        flush: s.flush,
+        discard: s.discard,
+        max_indirect: if s.indirect { info.max_indirect } else { 0 },
+    }
+}
+
+fn are_zeros(digits: &[u8]) -> bool
+    ensures { result ≡ list_all (λ (d : ℕ). d == 48) digits.now }
+{
+    digits.iter().all(|d| *d == 48)
+}
+
+// Whether digits are the number 1.
+fn is_one(digits: &[u8]) -> bool
+    ensures { result ≡ is_one digits.now }
+{
+    let count = digits.len();
+    if count == 0 || count > 10 {
+        return false;
+    }
+    let zeros = are_zeros(&digits[..count - 1]);
+    zeros && digits[count - 1] == 49
+}
+
+fn says_one(text: &Option<Text>) -> bool
+    ensures { result ≡ says_one text.now }
+{
+    match text {
+        None => false,
+        Some(text) => is_one(text.as_bytes()),
+    }
+}
+
+fn keeping_after(s: Keeping, line: &Line) -> Keeping
+    ensures { result ≡ keeping_after s line.now }
+{
+    match line {
+        Line::Move(Move::SetKey(Mover::Back, path, text))
+            if path.as_str() == "/local/domain/0/backend/vbd/1/51712/feature-persistent" => {
+            Keeping {
+                offered: is_one(text.as_bytes()),
+                asked: s.asked,
+            }
+        }
+        Line::Move(Move::GetKey(Mover::Back, path, text))
+            if path.as_str() == "/local/domain/1/device/vbd/51712/feature-persistent" => {
+            Keeping {
+                offered: s.offered,
+                asked: says_one(text),
+            }
+        }
+        _ => s,
+    }
+}
+
+/// Whether grants are persistent in this epoch.
+pub fn is_persistent(before: &[Line]) -> bool
+    ensures { result ≡ is_persistent before.now }
+{
+    let mut s = Keeping {
+        offered: false,
+        asked: false,
+    };
+    for line in this_epoch(before) {
+        s = keeping_after(s, line);
+    }
+    s.offered && s.asked
+}

@@ -1,0 +1,205 @@
+// How far a job came.
+ghost use Rattle.std.specs.Prelude.{◌≡◌, ◌<◌, ◌^◌, IfOk};
+ghost use Rattle.schedule_text.specs.declared.line.Line.TheVariants as lines;
+ghost use Rattle.report_rules.specs.Job.{is_job};
+ghost use Rattle.report_rules.specs.Steps.{may_be_kept, gref_of, is_refusal, spot_behind, advanced, job_of, job_in, stepper, job_step, walked, walk_of, value_read, values_read};
+
+use crate::standing::this_epoch;
+use crate::step::{is_step_at, later_step};
+use crate::work::Task;
+use blk_base::{BackMover, Move, Mover, OutOfMemory};
+use schedule_text::Line;
+use std::alloc::Global;
+
+/// How far a job came: so many tasks are done, and the next step is at that place of the next one.
+/// `refused` says that a map of it was, and `gref` which reference its last step touched.
+#[derive(Clone, Copy)]
+pub struct Spot {
+    pub done: usize,
+    pub place: u64,
+    pub refused: bool,
+    pub gref: u32,
+}
+
+fn may_be_kept(task: &Task) -> bool
+    ensures { result ≡ may_be_kept task.now }
+{
+    matches!(*task, Task::Store { .. } | Task::Load { .. })
+}
+
+fn gref_of(task: &Task) -> u32
+    ensures { result ≡ gref_of task.now }
+{
+    match *task {
+        Task::Page { gref, .. } => gref,
+        Task::Store { gref, .. } => gref,
+        Task::Load { gref, .. } => gref,
+        Task::Flush => 0,
+        Task::Trim { .. } => 0,
+    }
+}
+
+fn is_refusal(made: &Move) -> bool
+    ensures { result ≡ is_refusal made.now }
+{
+    matches!(*made, Move::MapRefused { .. })
+}
+
+// How far a job came behind the step at a place of a task.
+fn spot_behind(done: usize, task: &Task, place: u64, made: &Move) -> Spot
+    requires { done < 2 ^ 63 }
+    ensures { result ≡ spot_behind done task.now place made.now }
+{
+    let refused = is_refusal(made);
+    let gref = gref_of(task);
+    match later_step(task, place) {
+        None => Spot {
+            done: done + 1,
+            place: 0,
+            refused,
+            gref,
+        },
+        Some(_) => Spot {
+            done,
+            place: place + 1,
+            refused,
+            gref,
+        },
+    }
+}
+
+// A move takes a job one step on.
+pub fn advanced(persistent: bool, work: &[Task], made: &Move, s: Spot) -> Option<Spot>
+    ensures { result ≡ advanced persistent work.now made.now s }
+{
+    if s.refused || s.done >= work.len() {
+        return None;
+    }
+    let task = &work[s.done];
+    if is_step_at(task, s.place, made) {
+        Some(spot_behind(s.done, task, s.place, made))
+    } else if persistent && may_be_kept(task) && s.place == 0 && is_step_at(task, 1, made) {
+        Some(spot_behind(s.done, task, 1, made))
+    } else {
+        None
+    }
+}
+
+/// The job that makes a move of the back.
+pub fn job_of(who: BackMover) -> Option<u64>
+    ensures { result ≡ job_of who }
+{
+    match who {
+        BackMover::Back => None,
+        BackMover::Job(k) => Some(k),
+    }
+}
+
+fn job_in(who: Mover) -> Option<u64>
+    ensures { result ≡ job_in who }
+{
+    match who {
+        Mover::Job(k) => Some(k),
+        _ => None,
+    }
+}
+
+// The job whose move is made, apart from unmaps.
+fn stepper_of(made: &Move) -> Option<u64>
+    ensures { result ≡ stepper (lines.Move made.now) }
+{
+    match made {
+        Move::Read { who, .. } => job_of(*who),
+        Move::Write { who, .. } => job_of(*who),
+        Move::Map { who, .. } => job_of(*who),
+        Move::MapRefused { who, .. } => job_of(*who),
+        Move::DiskRead { job, .. } => Some(*job),
+        Move::DiskWrite { job, .. } => Some(*job),
+        Move::DiskFlush { job } => Some(*job),
+        Move::DiskTrim { job, .. } => Some(*job),
+        Move::Fence(who) => job_in(*who),
+        Move::Send(who) => job_in(*who),
+        Move::ClosePort(who) => job_in(*who),
+        Move::Event(who) => job_in(*who),
+        Move::Watch(who, _) => job_in(*who),
+        Move::Watched(who, _) => job_in(*who),
+        Move::GetKey(who, _, _) => job_in(*who),
+        Move::SetKey(who, _, _) => job_in(*who),
+        _ => None,
+    }
+}
+
+pub fn stepper(line: &Line) -> Option<u64>
+    ensures { result ≡ stepper line.now }
+{
+    match line {
+        Line::Move(made) => stepper_of(made),
+        _ => None,
+    }
+}
+
+fn is_stepper(k: u64, line: &Line) -> bool
+    ensures { result ≡ is_job k (stepper line.now) }
+{
+    match stepper(line) {
+        None => false,
+        Some(job) => job == k,
+    }
+}
+
+// How far a job came by a line more.
+fn walked(persistent: bool, work: &[Task], k: u64, line: &Line, s: Option<Spot>) -> Option<Spot>
+    ensures { result ≡ walked persistent work.now (job_step k line.now) s }
+{
+    if !is_stepper(k, line) {
+        return s;
+    }
+    match (line, s) {
+        (Line::Move(made), Some(spot)) => advanced(persistent, work, made, spot),
+        (_, s) => s,
+    }
+}
+
+/// How far a job came by these lines.
+pub fn walk_of(persistent: bool, work: &[Task], k: u64, epoch: &[Line]) -> Option<Spot>
+    ensures { result ≡ walk_of persistent work.now k epoch.now }
+{
+    let mut s = Some(Spot {
+        done: 0,
+        place: 0,
+        refused: false,
+        gref: 0,
+    });
+    for line in epoch {
+        s = walked(persistent, work, k, line, s);
+    }
+    s
+}
+
+fn value_read(k: u64, line: &Line) -> Option<u32>
+    ensures { result ≡ value_read k line.now }
+{
+    match *line {
+        Line::Move(
+            Move::Read {
+                who: BackMover::Job(job),
+                value,
+                ..
+            },
+        ) if job == k => Some(value),
+        _ => None,
+    }
+}
+
+/// The words that a job read in this epoch.
+pub fn values_read(alloc: Global, before: &[Line], k: u64) -> Result<Vec<u32>, OutOfMemory>
+    ensures { IfOk result (λ values. values.items ≡ values_read before.now k) }
+{
+    let mut values = Vec::new(alloc);
+    for line in this_epoch(before) {
+        if let Some(value) = value_read(k, line) {
+            values.push(value)?;
+        }
+    }
+    Ok(values)
+}
