@@ -1,5 +1,5 @@
 -- Whatever happens from the start, the lines keep the rules on jobs.
-use Rattle.std.proofs.Common.{◌≡◌, ℕ, ◌<◌, ◌^◌, Bool, true, false, if◌then◌else◌, List, [], ◌∷◌, ◌++◌, length, refl, ap, sym, ◌∙◌, subst, append_assoc, append-nil, length-append, arith}
+use Rattle.std.proofs.Common.{◌≡◌, ℕ, ◌<◌, ◌^◌, Bool, true, false, if◌then◌else◌, List, [], ◌∷◌, ◌++◌, length, refl, ap, sym, ◌∙◌, subst, append-nil}
 use Rattle.std.specs.Prelude.{Option, Some, None, is_some, Result, Ok, Err}
 use Rattle.blk_base.specs.Options.{Options}
 use Rattle.blk_base.specs.declared.config.Job.{Job}
@@ -24,12 +24,12 @@ use Rattle.blk_front.specs.View as front
 use Rattle.blk_back.specs.View as back
 use Rattle.blk_back.specs.Step as back_step
 use Rattle.split_model.specs.World.{World, start_of, is_quiet}
-use Rattle.split_model.specs.Happening.{Happening, FrontMoves, BackMoves, JobMoves, Submits, Notifies, Looks, Settles, happens, lines_at, after, lines_of, front_after, front_shows, back_after, back_shows, job_after, job_shows, front_turn, back_turn, job_turn, submit_line}
+use Rattle.split_model.specs.Happening.{Happening, FrontMoves, BackMoves, JobMoves, Submits, Notifies, Looks, Settles, happens, lines_at, after, front_after, front_shows, back_after, back_shows, job_after, job_shows, front_turn, back_turn, job_turn, submit_line}
 use Rattle.split_model.specs.Safe.{IsSafe}
 use Rattle.split_model.proofs.Safe.{safe_start, safe_happens}
 use Rattle.split_model.proofs.SafeAnswers.{jobs_of}
 use Rattle.split_model.specs.Report.{report_of, ended_report_of}
-use Rattle.move_laws.specs.Within.{IsWithin, AreWithin}
+use Rattle.move_laws.specs.Within.{IsWithin}
 use Rattle.move_laws.proofs.Always.{always_within}
 use Rattle.move_laws.proofs.Runs as memory
 use Rattle.ring_laws.proofs.Shows.{Sight, Shows}
@@ -43,6 +43,7 @@ use Rattle.ring_laws.proofs.Tells.{Tells, tells_aside, shows_free}
 use Rattle.ring_laws.proofs.BackTells.{back_tells}
 use Rattle.ring_laws.proofs.JobTells.{JobTells, job_tells}
 use Rattle.ring_laws.proofs.JobTurn.{After}
+use Rattle.ring_laws.proofs.After.{kept_after}
 
 -- all that the lines so far tell, side by side with the machine
 pub record Stand (config : Options) (before : List Line) (w : World) : Type 0 where
@@ -117,16 +118,6 @@ stand_happens config w h before within s few = record {
   tells = tells_happens config w h before s few;
 }
 
-stand_after : (config : Options) (hs : List Happening) (w : World) (before : List Line) → AreWithin hs w → Stand config before w → length (before ++ lines_of hs w) < 2 ^ 64 → Stand config (before ++ lines_of hs w) (after hs w)
-stand_after config [] w before within s few = subst (λ (ls : List Line). Stand config ls w) (sym (append-nil before)) s
-stand_after config (h ∷ hs) w before within s few =
-    let joined : (before ++ lines_at w h) ++ lines_of hs (happens w h) ≡ before ++ (lines_at w h ++ lines_of hs (happens w h)) = append_assoc before (lines_at w h) (lines_of hs (happens w h)) in
-    let all : length ((before ++ lines_at w h) ++ lines_of hs (happens w h)) < 2 ^ 64 = subst (λ (ls : List Line). length ls < 2 ^ 64) (sym joined) few in
-    let long = length-append (before ++ lines_at w h) (lines_of hs (happens w h)) in
-    let some : length (before ++ lines_at w h) < 2 ^ 64 = omega arith in
-    subst (λ (ls : List Line). Stand config ls (after hs (happens w h))) joined
-    (stand_after config hs (happens w h) (before ++ lines_at w h) within.1 (stand_happens config w h before within.0 s some) all)
-
 begin_rule : (config : Options) (detail : Detail) → IsRule [] (lines.Begin config detail)
 begin_rule config detail = record { step = tt; moved = tt; effect = no_effect [] (lines.Begin config detail) refl refl }
 
@@ -145,7 +136,7 @@ stand_start config detail = record {
 }
 
 report_stands : (config : Options) (detail : Detail) (history : List Happening) → length (report_of config detail history) < 2 ^ 64 → Stand config (report_of config detail history) (after history (start_of config))
-report_stands config detail history few = stand_after config history (start_of config) (lines.Begin config detail ∷ []) (always_within config history) (stand_start config detail) few
+report_stands config detail history few = kept_after (Stand config) (stand_happens config) history (start_of config) (lines.Begin config detail ∷ []) (always_within config history) (stand_start config detail) few
 
 pub report_rules : (config : Options) (detail : Detail) (history : List Happening) → length (report_of config detail history) < 2 ^ 64 → Obeys IsRule (report_of config detail history)
 report_rules config detail history few = (report_stands config detail history few).tells.tale.obeys

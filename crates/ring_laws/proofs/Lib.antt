@@ -36,6 +36,7 @@ pub mod Standings
 pub mod Tells
 pub mod BackTells
 pub mod JobTells
+pub mod After
 pub mod JobRuns
 pub mod Makers
 pub mod MakerLines

@@ -1,5 +1,5 @@
 -- Whatever happens from the start, jobs unmap only what they made, and nothing is left to them but what they have in their hands.
-use Rattle.std.proofs.Common.{◌≡◌, ℕ, ◌+◌, ◌<◌, ◌≤◌, ◌^◌, Bool, false, if◌then◌else◌, List, [], ◌∷◌, ◌++◌, length, refl, ap, sym, ◌∙◌, subst, append_assoc, append-nil, length-append, arith}
+use Rattle.std.proofs.Common.{◌≡◌, ℕ, ◌+◌, ◌<◌, ◌≤◌, ◌^◌, Bool, false, if◌then◌else◌, List, [], ◌∷◌, ◌++◌, length, refl, ap, sym, ◌∙◌, subst, append-nil, arith}
 use Rattle.std.specs.Prelude.{Option, Some, None, is_some, slice_get}
 use Rattle.std.specs.List.{AllByRecursion}
 use Rattle.blk_base.specs.Options.{Options}
@@ -27,11 +27,11 @@ use Rattle.blk_back.specs.Ask.{ask_of}
 use Rattle.blk_back.specs.View as back
 use Rattle.blk_back.specs.Step as back_step
 use Rattle.split_model.specs.World.{World, start_of, is_quiet}
-use Rattle.split_model.specs.Happening.{Happening, FrontMoves, BackMoves, JobMoves, Submits, Notifies, Looks, Settles, happens, lines_at, after, lines_of, front_after, front_shows, back_after, back_shows, job_after, job_shows, front_turn, back_turn, job_turn}
+use Rattle.split_model.specs.Happening.{Happening, FrontMoves, BackMoves, JobMoves, Submits, Notifies, Looks, Settles, happens, lines_at, after, front_after, front_shows, back_after, back_shows, job_after, job_shows, front_turn, back_turn, job_turn}
 use Rattle.split_model.specs.Report.{report_of, ended_report_of}
 use Rattle.split_model.specs.Shown.{back_lines, halt_lines}
 use Rattle.split_model.proofs.SafeAnswers.{backs_of}
-use Rattle.move_laws.specs.Within.{AreWithin}
+use Rattle.move_laws.specs.Within.{IsWithin}
 use Rattle.move_laws.proofs.Always.{always_within}
 use Rattle.ring_laws.proofs.Knows.{Follows}
 use Rattle.ring_laws.proofs.Free.{job_running}
@@ -42,6 +42,7 @@ use Rattle.ring_laws.proofs.BackTells.{told_none}
 use Rattle.ring_laws.proofs.Tells.{small_number}
 use Rattle.ring_laws.proofs.Standings.{in_hand}
 use Rattle.ring_laws.proofs.Runs.{FollowsTo}
+use Rattle.ring_laws.proofs.After.{kept_after}
 use Rattle.ring_laws.proofs.JobRuns.{Stand, stand_start, stand_happens}
 use Rattle.ring_laws.proofs.Makers.{Holds, IsMine, open_more}
 use Rattle.ring_laws.proofs.MakerLines.{calm_quiet, calm_open, front_lines_calm, submit_calm, look_calm, settle_calm, told_calm, Does, back_does, serving_asks}
@@ -110,20 +111,21 @@ hand_empty before v m runs place t is empty =
     let parts : AllByRecursion (IsMadeBy (this_epoch before)) (among.front ++ t ∷ among.rest) = subst (λ (ws : List Work). AllByRecursion (IsMadeBy (this_epoch before)) ws) among.is (m.hands runs) in
     subst (λ (o : Option Mapping). Holds o (left_to t.number (this_epoch before))) empty (all_second (IsMadeBy (this_epoch before)) among.front (t ∷ among.rest) parts).0
 
-made_after : (config : Options) (hs : List Happening) (w : World) (before : List Line) → AreWithin hs w → Stand config before w → Made before w.back → length (before ++ lines_of hs w) < 2 ^ 64 → (let n : World = after hs w in Made (before ++ lines_of hs w) n.back)
-made_after config [] w before within s m few = no_lines before w.back m
-made_after config (h ∷ hs) w before within s m few =
-    let joined : (before ++ lines_at w h) ++ lines_of hs (happens w h) ≡ before ++ (lines_at w h ++ lines_of hs (happens w h)) = append_assoc before (lines_at w h) (lines_of hs (happens w h)) in
-    let all : length ((before ++ lines_at w h) ++ lines_of hs (happens w h)) < 2 ^ 64 = subst (λ (ls : List Line). length ls < 2 ^ 64) (sym joined) few in
-    let long = length-append (before ++ lines_at w h) (lines_of hs (happens w h)) in
-    let some : length (before ++ lines_at w h) < 2 ^ 64 = omega arith in
-    let t : Stand config (before ++ lines_at w h) (happens w h) = stand_happens config w h before within.0 s some in
-    let n : World = after hs (happens w h) in
-    subst (λ (ls : List Line). Made ls n.back) joined (made_after config hs (happens w h) (before ++ lines_at w h) within.1 t (made_happens config w h before s t m) all)
+-- all that the lines so far tell of what jobs made
+record StandMade (config : Options) (before : List Line) (w : World) : Type 0 where
+  stand : Stand config before w
+  made : Made before w.back
+
+stand_made_happens : (config : Options) (w : World) (h : Happening) (before : List Line) → IsWithin w h → StandMade config before w → length (before ++ lines_at w h) < 2 ^ 64 → StandMade config (before ++ lines_at w h) (happens w h)
+stand_made_happens config w h before within s few =
+    let t : Stand config (before ++ lines_at w h) (happens w h) = stand_happens config w h before within s.stand few in
+    record { stand = t; made = made_happens config w h before s.stand t s.made }
 
 report_made : (config : Options) (detail : Detail) (history : List Happening) → length (report_of config detail history) < 2 ^ 64 → Obeys IsMine (report_of config detail history)
 report_made config detail history few =
-    (made_after config history (start_of config) (lines.Begin config detail ∷ []) (always_within config history) (stand_start config detail) (made_start config detail) few).obeys
+    let all : StandMade config (report_of config detail history) (after history (start_of config)) = kept_after (StandMade config) (stand_made_happens config) history (start_of config) (lines.Begin config detail ∷ []) (always_within config history) (record { stand = stand_start config detail; made = made_start config detail }) few in
+    let made : Made (report_of config detail history) (let w : World = after history (start_of config) in w.back) = all.made in
+    made.obeys
 
 ended_made : (config : Options) (detail : Detail) (history : List Happening) → length (report_of config detail history) < 2 ^ 64 → Obeys IsMine (ended_report_of config detail history)
 ended_made config detail history few = obeys_more IsMine (report_of config detail history) lines.End (report_made config detail history few) (record { unmap = tt; touch = tt })

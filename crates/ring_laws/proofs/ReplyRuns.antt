@@ -1,5 +1,5 @@
 -- Whatever happens from the start, the back replies only what a job is due, once.
-use Rattle.std.proofs.Common.{◌≡◌, ℕ, ◌<◌, ◌^◌, Bool, false, if◌then◌else◌, List, [], ◌∷◌, ◌++◌, length, refl, ap, sym, ◌∙◌, subst, append_assoc, append-nil, length-append, arith}
+use Rattle.std.proofs.Common.{◌≡◌, ℕ, ◌<◌, ◌^◌, Bool, false, if◌then◌else◌, List, [], ◌∷◌, ◌++◌, length, refl, ap, sym, ◌∙◌, subst, append-nil}
 use Rattle.std.specs.Prelude.{Option, Some, None, is_some}
 use Rattle.std.proofs.lemmas.Option.{none-some}
 use Rattle.blk_base.specs.Options.{Options}
@@ -26,9 +26,9 @@ use Rattle.blk_back.specs.declared.stage.Stage.TheVariants as stage
 use Rattle.blk_back.specs.declared.stage.Stage.{Stage}
 use Rattle.hypervisor.specs.Hypervisor.{Hypervisor}
 use Rattle.split_model.specs.World.{World, start_of, is_quiet}
-use Rattle.split_model.specs.Happening.{Happening, FrontMoves, BackMoves, JobMoves, Submits, Notifies, Looks, Settles, happens, lines_at, after, lines_of, front_after, front_shows, back_after, back_shows, job_after, job_shows, front_turn, back_turn, job_turn}
+use Rattle.split_model.specs.Happening.{Happening, FrontMoves, BackMoves, JobMoves, Submits, Notifies, Looks, Settles, happens, lines_at, after, front_after, front_shows, back_after, back_shows, job_after, job_shows, front_turn, back_turn, job_turn}
 use Rattle.split_model.specs.Report.{report_of, ended_report_of}
-use Rattle.move_laws.specs.Within.{AreWithin}
+use Rattle.move_laws.specs.Within.{IsWithin}
 use Rattle.move_laws.proofs.Always.{always_within}
 use Rattle.split_model.proofs.SafeAnswers.{backs_of, jobs_of}
 use Rattle.back_jobs.specs.Jobs.{mapping_at}
@@ -43,6 +43,7 @@ use Rattle.ring_laws.proofs.Tells.{Tells, small_number}
 use Rattle.ring_laws.proofs.BackTells.{lines_of_back, told_none}
 use Rattle.ring_laws.proofs.JobTells.{JobTells, job_tells, lines_of_job, low_number, found_number}
 use Rattle.ring_laws.proofs.JobTurn.{After, IsSame, step_same}
+use Rattle.ring_laws.proofs.After.{kept_after}
 use Rattle.ring_laws.proofs.JobRuns.{Stand, same_values, stand_start, stand_happens, submit_by, look_by, settle_by}
 use Rattle.ring_laws.proofs.MakerTurns.{Made}
 use Rattle.ring_laws.proofs.MakerRuns.{made_happens, made_start, hand_empty}
@@ -206,22 +207,16 @@ record All (config : Options) (before : List Line) (w : World) : Type 0 where
   made : Made before w.back
   replies : Replies config before w.back
 
-all_after : (config : Options) (hs : List Happening) (w : World) (before : List Line) → AreWithin hs w → All config before w → length (before ++ lines_of hs w) < 2 ^ 64 → All config (before ++ lines_of hs w) (after hs w)
-all_after config [] w before within all few = subst (λ (ls : List Line). All config ls w) (sym (append-nil before)) all
-all_after config (h ∷ hs) w before within all few =
-    let joined : (before ++ lines_at w h) ++ lines_of hs (happens w h) ≡ before ++ (lines_at w h ++ lines_of hs (happens w h)) = append_assoc before (lines_at w h) (lines_of hs (happens w h)) in
-    let whole : length ((before ++ lines_at w h) ++ lines_of hs (happens w h)) < 2 ^ 64 = subst (λ (ls : List Line). length ls < 2 ^ 64) (sym joined) few in
-    let long = length-append (before ++ lines_at w h) (lines_of hs (happens w h)) in
-    let some : length (before ++ lines_at w h) < 2 ^ 64 = omega arith in
-    let t : Stand config (before ++ lines_at w h) (happens w h) = stand_happens config w h before within.0 all.stand some in
-    let one : All config (before ++ lines_at w h) (happens w h) = record { stand = t; made = made_happens config w h before all.stand t all.made; replies = replies_happen config w h before all.stand t all.made all.replies } in
-    subst (λ (ls : List Line). All config ls (after hs (happens w h))) joined (all_after config hs (happens w h) (before ++ lines_at w h) within.1 one whole)
+all_happens : (config : Options) (w : World) (h : Happening) (before : List Line) → IsWithin w h → All config before w → length (before ++ lines_at w h) < 2 ^ 64 → All config (before ++ lines_at w h) (happens w h)
+all_happens config w h before within all few =
+    let t : Stand config (before ++ lines_at w h) (happens w h) = stand_happens config w h before within all.stand few in
+    record { stand = t; made = made_happens config w h before all.stand t all.made; replies = replies_happen config w h before all.stand t all.made all.replies }
 
 start_replies : (config : Options) (detail : Detail) → (let w : World = start_of config in Replies config (lines.Begin config detail ∷ []) w.back)
 start_replies config detail = record { answered = []; job = 0; writes = start_writes config detail; owes = λ runs. nothing_owed config (entry_values (lines.Begin config detail ∷ [])) (this_epoch (lines.Begin config detail ∷ [])) 0 }
 
 report_all : (config : Options) (detail : Detail) (history : List Happening) → length (report_of config detail history) < 2 ^ 64 → All config (report_of config detail history) (after history (start_of config))
-report_all config detail history few = all_after config history (start_of config) (lines.Begin config detail ∷ []) (always_within config history) (record { stand = stand_start config detail; made = made_start config detail; replies = start_replies config detail }) few
+report_all config detail history few = kept_after (All config) (all_happens config) history (start_of config) (lines.Begin config detail ∷ []) (always_within config history) (record { stand = stand_start config detail; made = made_start config detail; replies = start_replies config detail }) few
 
 pub report_replies : (config : Options) (detail : Detail) (history : List Happening) → length (report_of config detail history) < 2 ^ 64 → AreReplies (report_of config detail history)
 report_replies config detail history few =
