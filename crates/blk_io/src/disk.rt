@@ -60,6 +60,8 @@ pub trait SectorDisk {
         ensures content { content self.new ≡ content self.old }
         ensures durable { durable self.new ≡ durable self.old }
         ensures refused { OnErr result (attached self.new ≡ attached self.old) }
+        ensures unfailed { OnOk result (faults self.new ≡ faults self.old) }
+        ensures memory { IfErr result (λ stop. stop ≡ AttachStop.OutOfMemory → faults self.new ≡ faults self.old) }
         ensures later { faults self.old ≤ faults self.new }
         ensures failed { IfErr result (λ stop. stop ≡ AttachStop.Failed → Rose (faults self.old) (faults self.new)) };
 
@@ -70,6 +72,7 @@ pub trait SectorDisk {
         ensures attached { attached self.new ≡ attached self.old }
         ensures content { content self.new ≡ content self.old }
         ensures durable { durable self.new ≡ durable self.old }
+        ensures unfailed { OnOk result (faults self.new ≡ faults self.old) }
         ensures later { faults self.old ≤ faults self.new }
         ensures failed { OnErr result (Rose (faults self.old) (faults self.new)) };
 
@@ -81,6 +84,7 @@ pub trait SectorDisk {
         ensures others { OnErr result (SameBut sector 1 (content self.old) (content self.new)) }
         ensures durable_others { OnErr result (SameBut sector 1 (durable self.old) (durable self.new)) }
         ensures attached { attached self.new ≡ attached self.old }
+        ensures unfailed { OnOk result (faults self.new ≡ faults self.old) }
         ensures later { faults self.old ≤ faults self.new }
         ensures failed { OnErr result (Rose (faults self.old) (faults self.new)) };
 
@@ -91,6 +95,7 @@ pub trait SectorDisk {
         ensures durable { OnErr result (durable self.new ≡ durable self.old) }
         ensures content { content self.new ≡ content self.old }
         ensures attached { attached self.new ≡ attached self.old }
+        ensures unfailed { OnOk result (faults self.new ≡ faults self.old) }
         ensures later { faults self.old ≤ faults self.new }
         ensures failed { OnErr result (Rose (faults self.old) (faults self.new)) };
 
@@ -102,6 +107,7 @@ pub trait SectorDisk {
         ensures others { OnErr result (SameBut sector count (content self.old) (content self.new)) }
         ensures durable_others { OnErr result (SameBut sector count (durable self.old) (durable self.new)) }
         ensures attached { attached self.new ≡ attached self.old }
+        ensures unfailed { OnOk result (faults self.new ≡ faults self.old) }
         ensures later { faults self.old ≤ faults self.new }
         ensures failed { OnErr result (Rose (faults self.old) (faults self.new)) };
 }

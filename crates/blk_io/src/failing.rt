@@ -51,6 +51,7 @@ impl<S: Source> Source for FailsAt<S> {
         ensures fits { IfOk result (λ n. n ≤ length buf.new) }
         ensures read { IfOk result (λ n. IsRead n (S.left self.old.inside) (S.left self.new.inside) buf.new) }
         ensures kept { OnErr result (S.left self.new.inside ≡ S.left self.old.inside) }
+        ensures unfailed { OnOk result (self.new.faults ≡ self.old.faults) }
         ensures later { self.old.faults ≤ self.new.faults }
         ensures failed { OnErr result (Rose self.old.faults self.new.faults) }
         ensures listed { Contains self.old.listed.items ((self.old.calls + 1) % 2 ^ 64) → IsErr result × (self.new.inside ≡ self.old.inside) }
@@ -80,6 +81,7 @@ impl<S: Sink> Sink for FailsAt<S> {
     fn write(&mut self, piece: &[u8]) -> Result<(), Failed>
         ensures ok { OnOk result (S.held self.new.inside ≡ written (S.held self.old.inside) piece.now) }
         ensures err { OnErr result (IsPartlyWritten (S.held self.old.inside) piece.now (S.held self.new.inside)) }
+        ensures unfailed { OnOk result (self.new.faults ≡ self.old.faults) }
         ensures later { self.old.faults ≤ self.new.faults }
         ensures failed { OnErr result (Rose self.old.faults self.new.faults) }
         ensures listed { Contains self.old.listed.items ((self.old.calls + 1) % 2 ^ 64) → IsErr result × (self.new.inside ≡ self.old.inside) }
@@ -101,6 +103,7 @@ impl<S: Sink> Sink for FailsAt<S> {
     fn flush(&mut self) -> Result<(), Failed>
         ensures held { S.held self.new.inside ≡ S.held self.old.inside }
         ensures handed_on { OnOk result (S.kept_back self.new.inside ≡ 0) }
+        ensures unfailed { OnOk result (self.new.faults ≡ self.old.faults) }
         ensures later { self.old.faults ≤ self.new.faults }
         ensures failed { OnErr result (Rose self.old.faults self.new.faults) }
         ensures listed { Contains self.old.listed.items ((self.old.calls + 1) % 2 ^ 64) → IsErr result × (self.new.inside ≡ self.old.inside) }

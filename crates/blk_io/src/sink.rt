@@ -19,6 +19,7 @@ pub trait Sink {
     fn write(&mut self, piece: &[u8]) -> Result<(), Failed>
         ensures ok { OnOk result (held self.new ≡ written (held self.old) piece.now) }
         ensures err { OnErr result (IsPartlyWritten (held self.old) piece.now (held self.new)) }
+        ensures unfailed { OnOk result (faults self.new ≡ faults self.old) }
         ensures later { faults self.old ≤ faults self.new }
         ensures failed { OnErr result (Rose (faults self.old) (faults self.new)) };
 
@@ -26,6 +27,7 @@ pub trait Sink {
     fn flush(&mut self) -> Result<(), Failed>
         ensures held { held self.new ≡ held self.old }
         ensures handed_on { OnOk result (kept_back self.new ≡ 0) }
+        ensures unfailed { OnOk result (faults self.new ≡ faults self.old) }
         ensures later { faults self.old ≤ faults self.new }
         ensures failed { OnErr result (Rose (faults self.old) (faults self.new)) };
 }

@@ -1,5 +1,5 @@
 // Where bytes come from.
-ghost use Rattle.std.specs.Prelude.{◌≡◌, ℕ, ◌≤◌, List, Option, OnErr, IfOk, length};
+ghost use Rattle.std.specs.Prelude.{◌≡◌, ℕ, ◌≤◌, List, Option, OnOk, OnErr, IfOk, length};
 ghost use Rattle.blk_io.specs.Outside.{IsRead, Rose};
 
 use crate::failed::Failed;
@@ -18,6 +18,7 @@ pub trait Source {
         ensures fits { IfOk result (λ n. n ≤ length buf.new) }
         ensures read { IfOk result (λ n. IsRead n (left self.old) (left self.new) buf.new) }
         ensures kept { OnErr result (left self.new ≡ left self.old) }
+        ensures unfailed { OnOk result (faults self.new ≡ faults self.old) }
         ensures later { faults self.old ≤ faults self.new }
         ensures failed { OnErr result (Rose (faults self.old) (faults self.new)) };
 }

@@ -1,5 +1,5 @@
 // The trusted edge: real streams, which tell nothing of what they hold.
-ghost use Rattle.std.specs.Prelude.{◌≡◌, ◌≤◌, [], None, OnErr};
+ghost use Rattle.std.specs.Prelude.{◌≡◌, ◌≤◌, [], None, OnOk, OnErr};
 ghost use Rattle.blk_io.specs.Outside.{Rose};
 
 use crate::failed::Failed;
@@ -102,6 +102,7 @@ impl<S: Sink> BufferedSink<S> {
     // Hands on what was kept back.
     fn hand_on(&mut self) -> Result<(), Failed>
         ensures empty { self.new.kept.items ≡ [] }
+        ensures unfailed { OnOk result (S.faults self.new.inside ≡ S.faults self.old.inside) }
         ensures later { S.faults self.old.inside ≤ S.faults self.new.inside }
         ensures failed { OnErr result (Rose (S.faults self.old.inside) (S.faults self.new.inside)) }
     {

@@ -31,13 +31,21 @@ run_stops_there detail left old new out faults why said held failed same h =
     (subst (λ (o : Option (List ℕ)). HasStopped detail left old (record new { out = o }) why) (sym held)
     (subst (λ (n : ℕ). HasStopped detail left old (record new { out = out; out_faults = n }) why) (sym failed) h))
 
+-- what a run says of its reason holds of the program's
+pub unless_run : {P : Type 0} → (reason why : RunStop) (said : Stop) → said ≡ run_stop why → (why ≢ reason → P) → said ≢ run_stop reason → P
+unless_run reason why said says p other = p (λ f. other (says ∙ ap run_stop f))
+
 -- a run that stopped left nothing kept back, unless the output failed
 pub run_kept : (why : RunStop) (said : Stop) (kept kept' before : ℕ) → kept' ≡ kept → said ≡ run_stop why → (why ≢ run.Sink → kept ≡ 0) → said ≢ Sink → kept' ≤ before
-run_kept why said kept kept' before same says none other = let e = none (λ f. other (says ∙ ap run_stop f)) in omega arith
+run_kept why said kept kept' before same says none other = let e = unless_run run.Sink why said says none other in omega arith
 
--- another status than that of a failed output is that of another reason
-pub other_reason : (status : ℕ) (stop : Stop) → status ≡ status_of stop → status ≢ 5 → stop ≢ Sink
-other_reason status stop same other e = other (same ∙ ap status_of e)
+-- nor did the output fail, as the run left it
+pub run_unfailed : (why : RunStop) (said : Stop) (faults faults' before : ℕ) → faults' ≡ faults → said ≡ run_stop why → (why ≢ run.Sink → faults ≡ before) → said ≢ Sink → faults' ≡ before
+run_unfailed why said faults faults' before same says unfailed other = same ∙ unless_run run.Sink why said says unfailed other
+
+-- another status than that of a reason is that of another reason
+pub other_reason : (reason : Stop) (status : ℕ) (stop : Stop) → status ≡ status_of stop → status ≢ status_of reason → stop ≢ reason
+other_reason reason status stop same other e = other (same ∙ ap status_of e)
 
 whole : (before after : Option (List ℕ)) (piece : List ℕ) → after ≡ written before piece → IsPartlyWritten before piece after
 whole before after piece same = (length piece, omega arith, subst (λ (p : List ℕ). after ≡ written before p) (sym (take_all (length piece) piece (omega arith))) same)

@@ -1,5 +1,5 @@
 -- What the program leaves, and what it says, at each of its statuses.
-use Rattle.std.specs.Prelude.{◌≡◌, ◌≢◌, ℕ, ◌^◌, ◌<◌, ◌⊎◌, List, Option, None, false}
+use Rattle.std.specs.Prelude.{◌≡◌, ◌≢◌, ℕ, ◌^◌, ◌<◌, ◌⊎◌, List, Option, None, false, Result, OnOk, IfErr}
 use Rattle.blk_base.specs.Options.{Options}
 use Rattle.blk_base.specs.declared.operation.Abi.TheVariants.{X64}
 use Rattle.blk_io.specs.Outside.{Rose, written, IsPartlyWritten}
@@ -114,7 +114,7 @@ abbrev pub RunStops : Detail → Option (List ℕ) → Scene → Scene → Stop 
 RunStops detail left old new (BadLine number) = HasStopped detail left old new (run.BadLine number)
 RunStops detail left old new Source = HasStopped detail left old new run.Source
 RunStops detail left old new Sink = HasStopped detail left old new run.Sink
-RunStops detail left old new OutOfMemory = IsUntouched old new ⊎ HasStopped detail left old new run.OutOfMemory
+RunStops detail left old new OutOfMemory = ((new.disk_faults ≡ old.disk_faults) × IsUntouched old new) ⊎ HasStopped detail left old new run.OutOfMemory
 RunStops detail left old new Image = Rose old.disk_faults new.disk_faults × IsUntouched old new
 RunStops detail left old new TooLong = HasStopped detail left old new run.TooLong
 RunStops detail left old new stop = ⊥
@@ -142,3 +142,11 @@ run_stop run.Source = Source
 run_stop run.TooLong = TooLong
 run_stop run.Sink = Sink
 run_stop run.OutOfMemory = OutOfMemory
+
+-- unless the reason is the output, that failed no more often than before
+abbrev pub UnfailedOutput : Result (Unit {0}) Stop → (before after : ℕ) → Type 0
+UnfailedOutput ended before after = OnOk ended (after ≡ before) × IfErr ended (λ why. why ≢ Sink → after ≡ before)
+
+-- nor did the source, unless that is the reason, or an output that failed in the end
+abbrev pub UnfailedSource : Result (Unit {0}) Stop → (before after : ℕ) → Type 0
+UnfailedSource ended before after = OnOk ended (after ≡ before) × IfErr ended (λ why. why ≢ Source → why ≢ Sink → after ≡ before)

@@ -4,7 +4,7 @@ ghost use Rattle.std.specs.String.{string_bytes};
 ghost use Rattle.blk_io.specs.Outside.{Rose};
 ghost use Rattle.commands.specs.Words.{Gives, GivesNone};
 ghost use Rattle.commands.specs.Status.{status_of, line_of};
-ghost use Rattle.commands.specs.Ending.{IsDone, IsReported, IsReportedSoFar, IsSaid, IsStopped, Stops, Makes, HasEnded, run_stop};
+ghost use Rattle.commands.specs.Ending.{IsDone, IsReported, IsReportedSoFar, IsSaid, IsStopped, Stops, Makes, HasEnded, UnfailedOutput, UnfailedSource, run_stop};
 
 use crate::status::Stop;
 use crate::words::{Command, read_command};
@@ -54,6 +54,9 @@ pub fn blkring<S: Source, D: SectorDisk, O: Sink, E: Sink>(
     ensures handed_on_so_far { (detail : Detail) → Gives (map string_bytes words.now) (Command.Run detail) → result ≢ 5 → O.kept_back out.new ≤ O.kept_back out.old }
     ensures bad_words { (result ≡ 2) ↔ GivesNone (map string_bytes words.now) }
     ensures nothing_done { result ≡ 2 → (src.new ≡ src.old) × (out.new ≡ out.old) × (disk.new ≡ disk.old) }
+    // Unless the status says that the source or the output failed, that failed no more often than before.
+    ensures source_unfailed { result ≢ 4 → result ≢ 5 → S.faults src.new ≡ S.faults src.old }
+    ensures output_unfailed { result ≢ 5 → O.faults out.new ≡ O.faults out.old }
     ensures source_later { S.faults src.old ≤ S.faults src.new }
     ensures disk_later { D.faults disk.old ≤ D.faults disk.new }
     ensures output_later { O.faults out.old ≤ O.faults out.new }
@@ -89,6 +92,8 @@ fn carry_out<S: Source, D: SectorDisk, O: Sink>(
     ensures handed_on { OnOk result (O.kept_back out.new ≡ 0) }
     ensures handed_on_so_far { (detail : Detail) → Gives (map string_bytes words.now) (Command.Run detail) → IfErr result (λ stop. stop ≢ Stop.Sink → O.kept_back out.new ≤ O.kept_back out.old) }
     ensures unread { IfErr result (λ stop. stop ≡ Stop.Words → (src.new ≡ src.old) × (out.new ≡ out.old) × (disk.new ≡ disk.old)) }
+    ensures source_unfailed { UnfailedSource result (S.faults src.old) (S.faults src.new) }
+    ensures output_unfailed { UnfailedOutput result (O.faults out.old) (O.faults out.new) }
     ensures source_later { S.faults src.old ≤ S.faults src.new }
     ensures disk_later { D.faults disk.old ≤ D.faults disk.new }
     ensures output_later { O.faults out.old ≤ O.faults out.new }
@@ -124,6 +129,8 @@ fn show_ring<S: Source, D: SectorDisk, O: Sink>(
     ensures stopped { IfErr result (Stops (Command.Inspect abi order) (S.left src.old) (record { content = D.content disk.old; out = O.held out.old; source_faults = S.faults src.old; disk_faults = D.faults disk.old; out_faults = O.faults out.old }) (record { content = D.content disk.new; out = O.held out.new; source_faults = S.faults src.new; disk_faults = D.faults disk.new; out_faults = O.faults out.new })) }
     ensures handed_on { OnOk result (O.kept_back out.new ≡ 0) }
     ensures disk { disk.new ≡ disk.old }
+    ensures source_unfailed { UnfailedSource result (S.faults src.old) (S.faults src.new) }
+    ensures output_unfailed { UnfailedOutput result (O.faults out.old) (O.faults out.new) }
     ensures source_later { S.faults src.old ≤ S.faults src.new }
     ensures output_later { O.faults out.old ≤ O.faults out.new }
 {
@@ -143,6 +150,7 @@ fn show_ring<S: Source, D: SectorDisk, O: Sink>(
 fn hand_on<O: Sink>(out: &mut O) -> Result<(), Stop>
     ensures held { O.held out.new ≡ O.held out.old }
     ensures handed_on { OnOk result (O.kept_back out.new ≡ 0) }
+    ensures unfailed { OnOk result (O.faults out.new ≡ O.faults out.old) }
     ensures later { O.faults out.old ≤ O.faults out.new }
     ensures failed { IfErr result (λ stop. (stop ≡ Stop.Sink) × Rose (O.faults out.old) (O.faults out.new)) }
 {
@@ -165,6 +173,8 @@ fn run_schedule<S: Source, D: SectorDisk, O: Sink>(
     ensures stopped { IfErr result (Stops (Command.Run detail) (S.left src.old) (record { content = D.content disk.old; out = O.held out.old; source_faults = S.faults src.old; disk_faults = D.faults disk.old; out_faults = O.faults out.old }) (record { content = D.content disk.new; out = O.held out.new; source_faults = S.faults src.new; disk_faults = D.faults disk.new; out_faults = O.faults out.new })) }
     ensures handed_on { OnOk result (O.kept_back out.new ≡ 0) }
     ensures handed_on_so_far { IfErr result (λ stop. stop ≢ Stop.Sink → O.kept_back out.new ≤ O.kept_back out.old) }
+    ensures source_unfailed { UnfailedSource result (S.faults src.old) (S.faults src.new) }
+    ensures output_unfailed { UnfailedOutput result (O.faults out.old) (O.faults out.new) }
     ensures source_later { S.faults src.old ≤ S.faults src.new }
     ensures disk_later { D.faults disk.old ≤ D.faults disk.new }
     ensures output_later { O.faults out.old ≤ O.faults out.new }

@@ -83,9 +83,10 @@ impl<D: SectorDisk> SectorDisk for FailsAtCalls<D> {
         }
         match self.inside.attach(name, writable) {
             Ok(sectors) => Ok(sectors),
-            Err(stop) => {
+            Err(AttachStop::OutOfMemory) => Err(AttachStop::OutOfMemory),
+            Err(AttachStop::Failed) => {
                 self.faults = self.faults.saturating_add(1);
-                Err(stop)
+                Err(AttachStop::Failed)
             }
         }
     }

@@ -1,5 +1,5 @@
 // A disk over a real file: the trusted edge.
-ghost use Rattle.std.specs.Prelude.{◌≤◌, None, OnErr};
+ghost use Rattle.std.specs.Prelude.{◌≡◌, ◌≤◌, None, OnOk, OnErr};
 ghost use Rattle.blk_io.specs.Outside.{Rose};
 
 use blk_base::SectorWords;
@@ -51,6 +51,7 @@ fn open<R: Files>(files: &R, name: &str, writable: bool) -> io::Result<(R::File,
 
 // Counts an error of the file as a fault.
 fn counted(outcome: io::Result<()>, faults: &mut u64) -> Result<(), Failed>
+    ensures unfailed { OnOk result (faults.new ≡ faults.old) }
     ensures later { faults.old ≤ faults.new }
     ensures failed { OnErr result (Rose faults.old faults.new) }
 {

@@ -1,5 +1,5 @@
 // A ring's text, line by line.
-ghost use Rattle.std.specs.Prelude.{◌≡◌, ◌+◌, ◌*◌, ◌%◌, ◌^◌, ◌<◌, ◌≤◌, ◌++◌, OnOk, OnErr, IfErr, length};
+ghost use Rattle.std.specs.Prelude.{◌≡◌, ◌≢◌, ◌+◌, ◌*◌, ◌%◌, ◌^◌, ◌<◌, ◌≤◌, ◌++◌, OnOk, OnErr, IfErr, length};
 ghost use Rattle.std.specs.List.{flat_map};
 ghost use Rattle.blk_io.specs.Outside.{Rose, written, IsPartlyWritten};
 ghost use Rattle.ring_words.specs.Shape.{entry_words_of, ring_word_of};
@@ -30,6 +30,9 @@ pub fn inspect<S: Source, O: Sink>(
     requires { order ≤ 4 }
     ensures shown { OnOk result (IsShown (S.left source.old) (record { abi = abi; order = order }) (O.held sink.old) (O.held sink.new)) }
     ensures stopped { IfErr result (Stopped (S.left source.old) (record { abi = abi; order = order }) (S.faults source.old) (S.faults source.new) (O.faults sink.old) (O.faults sink.new) (O.held sink.old) (O.held sink.new)) }
+    // Unless it says that the source or the sink failed, that failed no more often than before.
+    ensures source_unfailed { OnOk result (S.faults source.new ≡ S.faults source.old) × IfErr result (λ stop. stop ≢ InspectStop.Source → S.faults source.new ≡ S.faults source.old) }
+    ensures sink_unfailed { OnOk result (O.faults sink.new ≡ O.faults sink.old) × IfErr result (λ stop. stop ≢ InspectStop.Sink → O.faults sink.new ≡ O.faults sink.old) }
     ensures source_later { S.faults source.old ≤ S.faults source.new }
     ensures sink_later { O.faults sink.old ≤ O.faults sink.new }
 {
@@ -51,6 +54,7 @@ fn print_ring<O: Sink>(
     requires size { length bytes.now ≡ bytes_of shape.now.order }
     ensures ok { OnOk result (O.held sink.new ≡ written (O.held sink.old) (ring_text shape.now bytes.now)) }
     ensures err { OnErr result (IsPartlyWritten (O.held sink.old) (ring_text shape.now bytes.now) (O.held sink.new)) }
+    ensures unfailed { OnOk result (O.faults sink.new ≡ O.faults sink.old) }
     ensures later { O.faults sink.old ≤ O.faults sink.new }
     ensures failed { OnErr result (Rose (O.faults sink.old) (O.faults sink.new)) }
 {
@@ -67,6 +71,7 @@ fn print_ring<O: Sink>(
 fn print<O: Sink>(sink: &mut O, line: &Line) -> Result<(), Failed>
     ensures ok { OnOk result (O.held sink.new ≡ written (O.held sink.old) line.now.bytes) }
     ensures err { OnErr result (IsPartlyWritten (O.held sink.old) line.now.bytes (O.held sink.new)) }
+    ensures unfailed { OnOk result (O.faults sink.new ≡ O.faults sink.old) }
     ensures later { O.faults sink.old ≤ O.faults sink.new }
     ensures failed { OnErr result (Rose (O.faults sink.old) (O.faults sink.new)) }
 {
@@ -85,6 +90,7 @@ fn print_body<O: Sink>(
     requires size { length bytes.now ≡ bytes_of shape.now.order }
     ensures ok { OnOk result (O.held sink.new ≡ written (O.held sink.old) (body_text shape.now bytes.now rsp_prod count)) }
     ensures err { OnErr result (IsPartlyWritten (O.held sink.old) (body_text shape.now bytes.now rsp_prod count) (O.held sink.new)) }
+    ensures unfailed { OnOk result (O.faults sink.new ≡ O.faults sink.old) }
     ensures later { O.faults sink.old ≤ O.faults sink.new }
     ensures failed { OnErr result (Rose (O.faults sink.old) (O.faults sink.new)) }
 {
@@ -107,6 +113,7 @@ fn print_requests<O: Sink>(
     requires size { length bytes.now ≡ bytes_of shape.now.order }
     ensures ok { OnOk result (O.held sink.new ≡ written (O.held sink.old) (listed shape.now bytes.now from count)) }
     ensures err { OnErr result (IsPartlyWritten (O.held sink.old) (listed shape.now bytes.now from count) (O.held sink.new)) }
+    ensures unfailed { OnOk result (O.faults sink.new ≡ O.faults sink.old) }
     ensures later { O.faults sink.old ≤ O.faults sink.new }
     ensures failed { OnErr result (Rose (O.faults sink.old) (O.faults sink.new)) }
 {
@@ -121,6 +128,7 @@ fn print_requests<O: Sink>(
 fn print_request<O: Sink>(sink: &mut O, index: u32, request: &RawRequest) -> Result<(), Failed>
     ensures ok { OnOk result (O.held sink.new ≡ written (O.held sink.old) (request_text index request.now)) }
     ensures err { OnErr result (IsPartlyWritten (O.held sink.old) (request_text index request.now) (O.held sink.new)) }
+    ensures unfailed { OnOk result (O.faults sink.new ≡ O.faults sink.old) }
     ensures later { O.faults sink.old ≤ O.faults sink.new }
     ensures failed { OnErr result (Rose (O.faults sink.old) (O.faults sink.new)) }
 {
@@ -132,6 +140,7 @@ fn print_request<O: Sink>(sink: &mut O, index: u32, request: &RawRequest) -> Res
 fn print_named<O: Sink>(sink: &mut O, request: &RawRequest) -> Result<(), Failed>
     ensures ok { OnOk result (O.held sink.new ≡ written (O.held sink.old) (named_lines request.now)) }
     ensures err { OnErr result (IsPartlyWritten (O.held sink.old) (named_lines request.now) (O.held sink.new)) }
+    ensures unfailed { OnOk result (O.faults sink.new ≡ O.faults sink.old) }
     ensures later { O.faults sink.old ≤ O.faults sink.new }
     ensures failed { OnErr result (Rose (O.faults sink.old) (O.faults sink.new)) }
 {
@@ -155,6 +164,7 @@ fn print_named<O: Sink>(sink: &mut O, request: &RawRequest) -> Result<(), Failed
 fn print_segments<O: Sink>(sink: &mut O, segments: &[Segment]) -> Result<(), Failed>
     ensures ok { OnOk result (O.held sink.new ≡ written (O.held sink.old) (flat_map segment_text segments.now)) }
     ensures err { OnErr result (IsPartlyWritten (O.held sink.old) (flat_map segment_text segments.now) (O.held sink.new)) }
+    ensures unfailed { OnOk result (O.faults sink.new ≡ O.faults sink.old) }
     ensures later { O.faults sink.old ≤ O.faults sink.new }
     ensures failed { OnErr result (Rose (O.faults sink.old) (O.faults sink.new)) }
 {
@@ -167,6 +177,7 @@ fn print_segments<O: Sink>(sink: &mut O, segments: &[Segment]) -> Result<(), Fai
 fn print_pages<O: Sink>(sink: &mut O, pages: &[u32]) -> Result<(), Failed>
     ensures ok { OnOk result (O.held sink.new ≡ written (O.held sink.old) (flat_map page_text pages.now)) }
     ensures err { OnErr result (IsPartlyWritten (O.held sink.old) (flat_map page_text pages.now) (O.held sink.new)) }
+    ensures unfailed { OnOk result (O.faults sink.new ≡ O.faults sink.old) }
     ensures later { O.faults sink.old ≤ O.faults sink.new }
     ensures failed { OnErr result (Rose (O.faults sink.old) (O.faults sink.new)) }
 {

@@ -1,5 +1,5 @@
 // A ring's bytes from a source.
-ghost use Rattle.std.specs.Prelude.{◌≡◌, ◌≢◌, ◌+◌, ◌<◌, ◌≤◌, ◌^◌, IfOk, IfErr, length};
+ghost use Rattle.std.specs.Prelude.{◌≡◌, ◌≢◌, ◌+◌, ◌<◌, ◌≤◌, ◌^◌, OnOk, IfOk, IfErr, length};
 ghost use Rattle.blk_io.specs.Outside.{Rose};
 ghost use Rattle.ring_inspect.specs.Stop.{AreAll, IsNoRing};
 
@@ -20,6 +20,7 @@ pub fn read_ring<S: Source>(
     ensures size { IfOk result (λ bytes. length bytes.items ≡ size) }
     ensures all { IfOk result (λ bytes. AreAll (S.left source.old) bytes.items) }
     ensures stopped { IfErr result (IsNoRing (S.left source.old) size (S.faults source.old) (S.faults source.new)) }
+    ensures unfailed { OnOk result (S.faults source.new ≡ S.faults source.old) × IfErr result (λ stop. stop ≢ InspectStop.Source → S.faults source.new ≡ S.faults source.old) }
     ensures later { S.faults source.old ≤ S.faults source.new }
 {
     let mut bytes = Vec::with_capacity(alloc, size + CHUNK)?;

@@ -5,7 +5,7 @@ use Rattle.schedule_text.specs.declared.line.Detail.{Detail}
 use Rattle.schedule_text.specs.declared.line.Line.{Line}
 use Rattle.schedule_text.specs.declared.recorder.RecordStop.{RecordStop}
 use Rattle.schedule_text.specs.declared.recorder.RecordStop.TheVariants.{Failed}
-use Rattle.schedule_text.specs.Recorder.{Told}
+use Rattle.schedule_text.specs.Recorder.{Told, Unfailed}
 use Rattle.split_model.specs.Leads.{Shows}
 
 -- these lines follow one that was shown, or at which the recorder stopped
@@ -17,3 +17,7 @@ Follows detail more shown result between after =
 abbrev pub FailsSince : (shown result : Result (Unit {0}) RecordStop) → (between after : ℕ) → Type 0
 FailsSince shown result between after =
     (before : ℕ) → before ≤ between → (shown ≡ Err Failed → Rose before between) → result ≡ Err Failed → Rose before after
+
+-- unless it is said to have failed, it failed no more often than before
+abbrev pub UnfailedSince : (shown result : Result (Unit {0}) RecordStop) → (between after : ℕ) → Type 0
+UnfailedSince shown result between after = (before : ℕ) → Unfailed shown before between → Unfailed result before after

@@ -1,5 +1,5 @@
 -- How a run may end, and what then stands.
-use Rattle.std.specs.Prelude.{◌≡◌, ℕ, ◌⊎◌, List, [], ◌∷◌, Option}
+use Rattle.std.specs.Prelude.{◌≡◌, ◌≢◌, ℕ, ◌⊎◌, List, [], ◌∷◌, Option, Result, OnOk, IfErr}
 use Rattle.blk_base.specs.Options.{Options}
 use Rattle.blk_io.specs.Outside.{Rose}
 use Rattle.schedule_text.specs.declared.event.Event.{Event}
@@ -90,3 +90,11 @@ IsStopped detail config limit left source source' recorder recorder' stop.OutOfM
 abbrev pub stop_of : RecordStop → RunStop
 stop_of record_stop.Failed = stop.Sink
 stop_of record_stop.OutOfMemory = stop.OutOfMemory
+
+-- unless the run is said to have stopped at the recorder, that failed no more often than before
+abbrev pub UnfailedRecorder : Result (Unit {0}) RunStop → (before after : ℕ) → Type 0
+UnfailedRecorder ended before after = OnOk ended (after ≡ before) × IfErr ended (λ why. why ≢ stop.Sink → after ≡ before)
+
+-- nor did the source, unless the run is said to have stopped there, or at a recorder that failed in the end
+abbrev pub UnfailedSource : Result (Unit {0}) RunStop → (before after : ℕ) → Type 0
+UnfailedSource ended before after = OnOk ended (after ≡ before) × IfErr ended (λ why. why ≢ stop.Source → why ≢ stop.Sink → after ≡ before)

@@ -1,6 +1,7 @@
 // The machine, an event at a time.
 ghost use Rattle.std.specs.Prelude.{◌≡◌, ◌+◌, ◌*◌, ◌<◌, ◌≤◌, ◌^◌, true, Some, Err, IfOk};
 ghost use Rattle.blk_io.specs.Outside.{Rose};
+ghost use Rattle.schedule_text.specs.Recorder.{Unfailed};
 ghost use Rattle.split_model.specs.World.{start_of};
 ghost use Rattle.split_model.specs.Kind.{AreOf, AreOfSoFar, is_carried, is_carried_job};
 ghost use Rattle.split_model.specs.Leads.{Goes};
@@ -73,6 +74,7 @@ impl Machine {
         ensures same_detail { R.detail recorder.new ≡ R.detail recorder.old }
         ensures same_lender { R.lender recorder.new ≡ R.lender recorder.old }
         ensures later { R.faults recorder.old ≤ R.faults recorder.new }
+        ensures unfailed { Unfailed result (R.faults recorder.old) (R.faults recorder.new) }
         ensures failed { result ≡ Err RecordStop.Failed → Rose (R.faults recorder.old) (R.faults recorder.new) }
     {
         self.carry_out(event, disk, recorder)
@@ -96,6 +98,7 @@ impl Machine {
         ensures same_detail { R.detail recorder.new ≡ R.detail recorder.old }
         ensures same_lender { R.lender recorder.new ≡ R.lender recorder.old }
         ensures later { R.faults recorder.old ≤ R.faults recorder.new }
+        ensures unfailed { Unfailed result (R.faults recorder.old) (R.faults recorder.new) }
         ensures failed { result ≡ Err RecordStop.Failed → Rose (R.faults recorder.old) (R.faults recorder.new) }
     {
         self.events += 1;

@@ -2,7 +2,7 @@
 ghost use Rattle.std.specs.Prelude.{◌≡◌, ◌≢◌, ◌≤◌, Some, OnOk, IfErr};
 ghost use Rattle.blk_io.specs.Disk.{HasLength};
 ghost use Rattle.disk_laws.specs.Plain.{IsPlain};
-ghost use Rattle.schedule_run.specs.Outcome.{IsDone, IsStopped, stop_of};
+ghost use Rattle.schedule_run.specs.Outcome.{IsDone, IsStopped, UnfailedRecorder, UnfailedSource, stop_of};
 ghost use Rattle.schedule_run.specs.Lawful.{IsLawfulRun, IsLawfulStop};
 
 mod reading;
@@ -69,6 +69,8 @@ pub fn run<S: Source, D: SectorDisk, R: Recorder>(
     ensures disk_later { D.faults disk.old ≤ D.faults disk.new }
     ensures same_detail { R.detail recorder.new ≡ R.detail recorder.old }
     ensures same_lender { R.lender recorder.new ≡ R.lender recorder.old }
+    ensures unfailed { UnfailedRecorder result (R.faults recorder.old) (R.faults recorder.new) }
+    ensures source_unfailed { UnfailedSource result (S.faults source.old) (S.faults source.new) }
     ensures later { R.faults recorder.old ≤ R.faults recorder.new }
 {
     carry_out(alloc, config, bytes_limit, source, disk, recorder)
@@ -94,6 +96,8 @@ fn carry_out<S: Source, D: SectorDisk, R: Recorder>(
     ensures disk_later { D.faults disk.old ≤ D.faults disk.new }
     ensures same_detail { R.detail recorder.new ≡ R.detail recorder.old }
     ensures same_lender { R.lender recorder.new ≡ R.lender recorder.old }
+    ensures unfailed { UnfailedRecorder result (R.faults recorder.old) (R.faults recorder.new) }
+    ensures source_unfailed { UnfailedSource result (S.faults source.old) (S.faults source.new) }
     ensures later { R.faults recorder.old ≤ R.faults recorder.new }
 {
     let ended = tell(alloc, config, bytes_limit, source, disk, recorder);
@@ -121,6 +125,8 @@ fn tell<S: Source, D: SectorDisk, R: Recorder>(
     ensures disk_later { D.faults disk.old ≤ D.faults disk.new }
     ensures same_detail { R.detail recorder.new ≡ R.detail recorder.old }
     ensures same_lender { R.lender recorder.new ≡ R.lender recorder.old }
+    ensures unfailed { UnfailedRecorder result (R.faults recorder.old) (R.faults recorder.new) }
+    ensures source_unfailed { UnfailedSource result (S.faults source.old) (S.faults source.new) }
     ensures later { R.faults recorder.old ≤ R.faults recorder.new }
 {
     let machine = Machine::new(alloc, &config)?;

@@ -1,11 +1,12 @@
 // The lines that a move shows.
 ghost use Rattle.std.specs.Prelude.{◌≡◌, ◌≤◌, ◌∷◌, ◌++◌, [], Err, Some, None};
 ghost use Rattle.blk_io.specs.Outside.{Rose};
+ghost use Rattle.schedule_text.specs.Recorder.{Unfailed};
 ghost use Rattle.split_model.specs.Leads.{Shows};
 ghost use Rattle.split_model.specs.Happening.{submit_line};
 ghost use Rattle.hypervisor.specs.Act.{front_shown, back_shown};
 ghost use Rattle.hypervisor.specs.May.{MayShow};
-ghost use Rattle.schedule_run.specs.Following.{Follows, FailsSince};
+ghost use Rattle.schedule_run.specs.Following.{Follows, FailsSince, UnfailedSince};
 ghost use Rattle.split_model.specs.Shown.{front_lines, back_lines, halt_lines, halt_line, effect_line, refusal_word};
 
 use blk_back::{BackTold, Halt};
@@ -25,6 +26,7 @@ pub fn show_front<R: Recorder>(
     ensures same_detail { R.detail recorder.new ≡ R.detail recorder.old }
     ensures same_lender { R.lender recorder.new ≡ R.lender recorder.old }
     ensures later { R.faults recorder.old ≤ R.faults recorder.new }
+    ensures unfailed { Unfailed result (R.faults recorder.old) (R.faults recorder.new) }
     ensures failed { result ≡ Err RecordStop.Failed → Rose (R.faults recorder.old) (R.faults recorder.new) }
 {
     match recorder.detail() {
@@ -47,6 +49,7 @@ pub fn show_back<R: Recorder>(
     ensures same_detail { R.detail recorder.new ≡ R.detail recorder.old }
     ensures same_lender { R.lender recorder.new ≡ R.lender recorder.old }
     ensures later { R.faults recorder.old ≤ R.faults recorder.new }
+    ensures unfailed { Unfailed result (R.faults recorder.old) (R.faults recorder.new) }
     ensures failed { result ≡ Err RecordStop.Failed → Rose (R.faults recorder.old) (R.faults recorder.new) }
 {
     match recorder.detail() {
@@ -66,6 +69,7 @@ pub fn follow_front<R: Recorder>(
     ensures same_detail { R.detail recorder.new ≡ R.detail recorder.old }
     ensures same_lender { R.lender recorder.new ≡ R.lender recorder.old }
     ensures later { R.faults recorder.old ≤ R.faults recorder.new }
+    ensures unfailed { UnfailedSince shown result (R.faults recorder.old) (R.faults recorder.new) }
     ensures failed { FailsSince shown result (R.faults recorder.old) (R.faults recorder.new) }
 {
     shown?;
@@ -89,6 +93,7 @@ pub fn follow_back<R: Recorder>(
     ensures same_detail { R.detail recorder.new ≡ R.detail recorder.old }
     ensures same_lender { R.lender recorder.new ≡ R.lender recorder.old }
     ensures later { R.faults recorder.old ≤ R.faults recorder.new }
+    ensures unfailed { UnfailedSince shown result (R.faults recorder.old) (R.faults recorder.new) }
     ensures failed { FailsSince shown result (R.faults recorder.old) (R.faults recorder.new) }
 {
     follow_job(recorder, shown, told, answer)?;
@@ -110,6 +115,7 @@ pub fn follow_job<R: Recorder>(
     ensures same_detail { R.detail recorder.new ≡ R.detail recorder.old }
     ensures same_lender { R.lender recorder.new ≡ R.lender recorder.old }
     ensures later { R.faults recorder.old ≤ R.faults recorder.new }
+    ensures unfailed { UnfailedSince shown result (R.faults recorder.old) (R.faults recorder.new) }
     ensures failed { FailsSince shown result (R.faults recorder.old) (R.faults recorder.new) }
 {
     shown?;
@@ -127,6 +133,7 @@ fn say_move<R: Recorder>(recorder: &mut R, shown: Move) -> Result<(), RecordStop
     ensures same_detail { R.detail recorder.new ≡ R.detail recorder.old }
     ensures same_lender { R.lender recorder.new ≡ R.lender recorder.old }
     ensures later { R.faults recorder.old ≤ R.faults recorder.new }
+    ensures unfailed { Unfailed result (R.faults recorder.old) (R.faults recorder.new) }
     ensures failed { result ≡ Err RecordStop.Failed → Rose (R.faults recorder.old) (R.faults recorder.new) }
 {
     say(recorder, &Line::Move(shown))
@@ -138,6 +145,7 @@ fn say_front<R: Recorder>(recorder: &mut R, told: Told) -> Result<(), RecordStop
     ensures same_detail { R.detail recorder.new ≡ R.detail recorder.old }
     ensures same_lender { R.lender recorder.new ≡ R.lender recorder.old }
     ensures later { R.faults recorder.old ≤ R.faults recorder.new }
+    ensures unfailed { Unfailed result (R.faults recorder.old) (R.faults recorder.new) }
     ensures failed { result ≡ Err RecordStop.Failed → Rose (R.faults recorder.old) (R.faults recorder.new) }
 {
     say(recorder, &front_line(told))
@@ -153,6 +161,7 @@ fn say_back<R: Recorder>(
     ensures same_detail { R.detail recorder.new ≡ R.detail recorder.old }
     ensures same_lender { R.lender recorder.new ≡ R.lender recorder.old }
     ensures later { R.faults recorder.old ≤ R.faults recorder.new }
+    ensures unfailed { Unfailed result (R.faults recorder.old) (R.faults recorder.new) }
     ensures failed { result ≡ Err RecordStop.Failed → Rose (R.faults recorder.old) (R.faults recorder.new) }
 {
     say(recorder, &back_line(told, answer))
@@ -164,6 +173,7 @@ fn say_halt<R: Recorder>(recorder: &mut R, halt: Halt) -> Result<(), RecordStop>
     ensures same_detail { R.detail recorder.new ≡ R.detail recorder.old }
     ensures same_lender { R.lender recorder.new ≡ R.lender recorder.old }
     ensures later { R.faults recorder.old ≤ R.faults recorder.new }
+    ensures unfailed { Unfailed result (R.faults recorder.old) (R.faults recorder.new) }
     ensures failed { result ≡ Err RecordStop.Failed → Rose (R.faults recorder.old) (R.faults recorder.new) }
 {
     say(recorder, &Line::Halt(halt_word(halt)))
@@ -175,6 +185,7 @@ pub fn say<R: Recorder>(recorder: &mut R, line: &Line) -> Result<(), RecordStop>
     ensures same_detail { R.detail recorder.new ≡ R.detail recorder.old }
     ensures same_lender { R.lender recorder.new ≡ R.lender recorder.old }
     ensures later { R.faults recorder.old ≤ R.faults recorder.new }
+    ensures unfailed { Unfailed result (R.faults recorder.old) (R.faults recorder.new) }
     ensures failed { result ≡ Err RecordStop.Failed → Rose (R.faults recorder.old) (R.faults recorder.new) }
 {
     recorder.add(line)

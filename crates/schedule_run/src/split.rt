@@ -1,6 +1,7 @@
 // Both ends in their machine, and the moves of each.
 ghost use Rattle.std.specs.Prelude.{◌≡◌, ◌+◌, ◌<◌, ◌≤◌, ◌^◌, ◌∷◌, [], List, ℕ, Option, Some, None, Err, IfOk};
 ghost use Rattle.blk_io.specs.Outside.{Rose};
+ghost use Rattle.schedule_text.specs.Recorder.{Unfailed};
 ghost use Rattle.schedule_text.specs.Range.{JobHasWidths};
 ghost use Rattle.grant_table.specs.Table.{IsLive};
 ghost use Rattle.hypervisor.specs.May.{IsPlace};
@@ -72,6 +73,7 @@ impl Split {
         ensures same_detail { R.detail recorder.new ≡ R.detail recorder.old }
         ensures same_lender { R.lender recorder.new ≡ R.lender recorder.old }
         ensures later { R.faults recorder.old ≤ R.faults recorder.new }
+        ensures unfailed { Unfailed result (R.faults recorder.old) (R.faults recorder.new) }
         ensures failed { result ≡ Err RecordStop.Failed → Rose (R.faults recorder.old) (R.faults recorder.new) }
     {
         if let FrontAsk::Write { frame, word, value } = self.front.ask() {
@@ -97,6 +99,7 @@ impl Split {
         ensures same_detail { R.detail recorder.new ≡ R.detail recorder.old }
         ensures same_lender { R.lender recorder.new ≡ R.lender recorder.old }
         ensures later { R.faults recorder.old ≤ R.faults recorder.new }
+        ensures unfailed { Unfailed result (R.faults recorder.old) (R.faults recorder.new) }
         ensures failed { result ≡ Err RecordStop.Failed → Rose (R.faults recorder.old) (R.faults recorder.new) }
     {
         let answer = FrontAnswer::Done;
@@ -117,6 +120,7 @@ impl Split {
         ensures same_detail { R.detail recorder.new ≡ R.detail recorder.old }
         ensures same_lender { R.lender recorder.new ≡ R.lender recorder.old }
         ensures later { R.faults recorder.old ≤ R.faults recorder.new }
+        ensures unfailed { Unfailed result (R.faults recorder.old) (R.faults recorder.new) }
         ensures failed { result ≡ Err RecordStop.Failed → Rose (R.faults recorder.old) (R.faults recorder.new) }
     {
         let ask = self.front.ask();
@@ -147,6 +151,7 @@ impl Split {
         ensures same_detail { R.detail recorder.new ≡ R.detail recorder.old }
         ensures same_lender { R.lender recorder.new ≡ R.lender recorder.old }
         ensures later { R.faults recorder.old ≤ R.faults recorder.new }
+        ensures unfailed { Unfailed result (R.faults recorder.old) (R.faults recorder.new) }
         ensures failed { result ≡ Err RecordStop.Failed → Rose (R.faults recorder.old) (R.faults recorder.new) }
     {
         if self.back.waits() && !self.under.pending(End::Back) {
@@ -172,6 +177,7 @@ impl Split {
         ensures same_detail { R.detail recorder.new ≡ R.detail recorder.old }
         ensures same_lender { R.lender recorder.new ≡ R.lender recorder.old }
         ensures later { R.faults recorder.old ≤ R.faults recorder.new }
+        ensures unfailed { Unfailed result (R.faults recorder.old) (R.faults recorder.new) }
         ensures failed { result ≡ Err RecordStop.Failed → Rose (R.faults recorder.old) (R.faults recorder.new) }
     {
         let ask = self.back.ask();
@@ -203,6 +209,7 @@ impl Split {
         ensures same_detail { R.detail recorder.new ≡ R.detail recorder.old }
         ensures same_lender { R.lender recorder.new ≡ R.lender recorder.old }
         ensures later { R.faults recorder.old ≤ R.faults recorder.new }
+        ensures unfailed { Unfailed result (R.faults recorder.old) (R.faults recorder.new) }
         ensures failed { result ≡ Err RecordStop.Failed → Rose (R.faults recorder.old) (R.faults recorder.new) }
     {
         if let BackAsk::Read { mapping, word } = self.back.job_ask(number) {
@@ -229,6 +236,7 @@ impl Split {
         ensures same_detail { R.detail recorder.new ≡ R.detail recorder.old }
         ensures same_lender { R.lender recorder.new ≡ R.lender recorder.old }
         ensures later { R.faults recorder.old ≤ R.faults recorder.new }
+        ensures unfailed { Unfailed result (R.faults recorder.old) (R.faults recorder.new) }
         ensures failed { result ≡ Err RecordStop.Failed → Rose (R.faults recorder.old) (R.faults recorder.new) }
     {
         let who = BackMover::Job(number);
@@ -258,6 +266,7 @@ impl Split {
         ensures same_detail { R.detail recorder.new ≡ R.detail recorder.old }
         ensures same_lender { R.lender recorder.new ≡ R.lender recorder.old }
         ensures later { R.faults recorder.old ≤ R.faults recorder.new }
+        ensures unfailed { Unfailed result (R.faults recorder.old) (R.faults recorder.new) }
         ensures failed { result ≡ Err RecordStop.Failed → Rose (R.faults recorder.old) (R.faults recorder.new) }
     {
         let who = BackMover::Job(number);
@@ -280,6 +289,7 @@ impl Split {
         ensures same_detail { R.detail recorder.new ≡ R.detail recorder.old }
         ensures same_lender { R.lender recorder.new ≡ R.lender recorder.old }
         ensures later { R.faults recorder.old ≤ R.faults recorder.new }
+        ensures unfailed { Unfailed result (R.faults recorder.old) (R.faults recorder.new) }
         ensures failed { result ≡ Err RecordStop.Failed → Rose (R.faults recorder.old) (R.faults recorder.new) }
     {
         // The job is handed over, and then shown: a reference lets it be read twice.

@@ -1,11 +1,13 @@
 -- What a recorder tells of the lines that it was given.
-use Rattle.std.specs.Prelude.{◌≡◌, ℕ, ◌+◌, ◌-◌, ◌^◌, min, List, [], ◌∷◌, ◌++◌, fold, Option, Some, None}
+use Rattle.std.specs.Prelude.{◌≡◌, ℕ, ◌+◌, ◌-◌, ◌^◌, min, List, [], ◌∷◌, ◌++◌, fold, Option, Some, None, Result, Err, OnOk}
 use Rattle.std.specs.List.{flat_map}
 use Rattle.blk_io.specs.Outside.{written, IsPartlyWritten}
 use Rattle.schedule_text.specs.declared.line.Detail.{Detail}
 use Rattle.schedule_text.specs.declared.line.Detail.TheVariants.{Lines}
 use Rattle.schedule_text.specs.declared.line.Line.{Line}
 use Rattle.schedule_text.specs.declared.line.Line.TheVariants.{Begin, Submit, Refuse, Effect, EffectRead, Answer, Quiet, Unsettled, Move}
+use Rattle.schedule_text.specs.declared.recorder.RecordStop.{RecordStop}
+use Rattle.schedule_text.specs.declared.recorder.RecordStop.TheVariants.{OutOfMemory}
 use Rattle.schedule_text.specs.declared.recorder.Tally.{Tally}
 use Rattle.schedule_text.specs.declared.recorder.Verdict.TheVariants as verdict
 use Rattle.schedule_text.specs.Line.{text_of}
@@ -67,3 +69,7 @@ pub record StopsWithin (old : Told) (more : List Line) (new : Told) : Type 0 whe
   pub lines : new.lines ≡ old.lines
   pub tally : new.tally ≡ old.tally
   pub text : IsPartlyWritten old.text (report_text more) new.text
+
+-- unless the recorder is said to have failed, it failed no more often than before
+abbrev pub Unfailed : Result (Unit {0}) RecordStop → (before after : ℕ) → Type 0
+Unfailed result before after = OnOk result (after ≡ before) × (result ≡ Err OutOfMemory → after ≡ before)

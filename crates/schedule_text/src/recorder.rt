@@ -1,6 +1,6 @@
 // Who keeps a report's lines.
 ghost use Rattle.std.specs.Prelude.{◌≡◌, ℕ, ◌≤◌, Err, OnOk, OnErr};
-ghost use Rattle.schedule_text.specs.Recorder.{Told, gained, recorded, StopsWithin};
+ghost use Rattle.schedule_text.specs.Recorder.{Told, gained, recorded, StopsWithin, Unfailed};
 ghost use Rattle.blk_io.specs.Outside.{Rose};
 
 use crate::line::{Detail, Line};
@@ -66,6 +66,7 @@ pub trait Recorder {
         ensures stopped { OnErr result (StopsWithin (told self.old) (recorded (detail self.old) line.now) (told self.new)) }
         ensures same_detail { detail self.new ≡ detail self.old }
         ensures same_lender { lender self.new ≡ lender self.old }
+        ensures unfailed { Unfailed result (faults self.old) (faults self.new) }
         ensures later { faults self.old ≤ faults self.new }
         ensures failed { result ≡ Err RecordStop.Failed → Rose (faults self.old) (faults self.new) };
 
@@ -75,6 +76,7 @@ pub trait Recorder {
         ensures handed_on { OnOk result (kept_back self.new ≡ 0) }
         ensures same_detail { detail self.new ≡ detail self.old }
         ensures same_lender { lender self.new ≡ lender self.old }
+        ensures unfailed { OnOk result (faults self.new ≡ faults self.old) }
         ensures later { faults self.old ≤ faults self.new }
         ensures failed { OnErr result (Rose (faults self.old) (faults self.new)) };
 }

@@ -131,6 +131,8 @@ impl<'a, S: Sink> Recorder for LineSink<'a, S> {
 fn write<S: Sink>(sink: &mut S, line: &Line) -> Result<(), RecordStop>
     ensures ok { OnOk result (S.held sink.new ≡ written (S.held sink.old) (line_bytes line.now)) }
     ensures err { OnErr result (IsPartlyWritten (S.held sink.old) (line_bytes line.now) (S.held sink.new)) }
+    ensures unfailed { OnOk result (S.faults sink.new ≡ S.faults sink.old) }
+    ensures only { result ≢ Err RecordStop.OutOfMemory }
     ensures later { S.faults sink.old ≤ S.faults sink.new }
     ensures failed { OnErr result (Rose (S.faults sink.old) (S.faults sink.new)) }
 {
@@ -148,6 +150,8 @@ fn write<S: Sink>(sink: &mut S, line: &Line) -> Result<(), RecordStop>
 fn write_begin<S: Sink>(sink: &mut S, config: &Config, detail: Detail) -> Result<(), RecordStop>
     ensures ok { OnOk result (S.held sink.new ≡ written (S.held sink.old) (line_bytes (Line.Begin config.now detail))) }
     ensures err { OnErr result (IsPartlyWritten (S.held sink.old) (line_bytes (Line.Begin config.now detail)) (S.held sink.new)) }
+    ensures unfailed { OnOk result (S.faults sink.new ≡ S.faults sink.old) }
+    ensures only { result ≢ Err RecordStop.OutOfMemory }
     ensures later { S.faults sink.old ≤ S.faults sink.new }
     ensures failed { OnErr result (Rose (S.faults sink.old) (S.faults sink.new)) }
 {

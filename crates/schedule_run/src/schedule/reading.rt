@@ -1,6 +1,7 @@
 // The schedule's bytes as they come.
 ghost use Rattle.std.specs.Prelude.{◌≡◌, ◌+◌, ◌*◌, ◌<◌, ◌≤◌, ◌^◌, ◌∷◌, [], Some, OnOk, OnErr, IfOk, IfErr, length};
 ghost use Rattle.schedule_run.specs.Machine.{moment};
+ghost use Rattle.schedule_run.specs.Outcome.{UnfailedRecorder, UnfailedSource};
 ghost use Rattle.schedule_run.specs.Reading.{IsUnbroken, IsWholeSchedule, IsLineOf, IsBadLine};
 ghost use Rattle.schedule_run.specs.Carrying.{standing, CarriesLine, CarriesLast, StopsAtLine, Carries, Halts, Reads, ReadStops};
 
@@ -38,10 +39,12 @@ impl Reader {
         ensures done { OnOk result (Reads (IsWholeSchedule bytes_limit) (R.detail recorder.old) (S.left source.old) (moment self.old.machine.world (D.content disk.old) (R.told recorder.old)) (moment self.new.machine.world (D.content disk.new) (R.told recorder.new))) }
         ensures stopped { IfErr result (λ stop. ReadStops (R.detail recorder.old) bytes_limit (S.left source.old) (S.faults source.old) (S.faults source.new) (R.faults recorder.old) (R.faults recorder.new) stop (moment self.old.machine.world (D.content disk.old) (R.told recorder.old)) (moment self.new.machine.world (D.content disk.new) (R.told recorder.new))) }
         ensures attached { D.attached disk.new ≡ D.attached disk.old }
+        ensures source_unfailed { UnfailedSource result (S.faults source.old) (S.faults source.new) }
         ensures source_later { S.faults source.old ≤ S.faults source.new }
         ensures disk_later { D.faults disk.old ≤ D.faults disk.new }
         ensures same_detail { R.detail recorder.new ≡ R.detail recorder.old }
         ensures same_lender { R.lender recorder.new ≡ R.lender recorder.old }
+        ensures unfailed { UnfailedRecorder result (R.faults recorder.old) (R.faults recorder.new) }
         ensures later { R.faults recorder.old ≤ R.faults recorder.new }
     {
         let mut piece = [0; PIECE];
@@ -82,6 +85,7 @@ impl Reader {
         ensures disk_later { D.faults disk.old ≤ D.faults disk.new }
         ensures same_detail { R.detail recorder.new ≡ R.detail recorder.old }
         ensures same_lender { R.lender recorder.new ≡ R.lender recorder.old }
+        ensures unfailed { UnfailedRecorder result (R.faults recorder.old) (R.faults recorder.new) }
         ensures later { R.faults recorder.old ≤ R.faults recorder.new }
     {
         if self.part.is_empty() {
@@ -109,6 +113,7 @@ impl Reader {
         ensures disk_later { D.faults disk.old ≤ D.faults disk.new }
         ensures same_detail { R.detail recorder.new ≡ R.detail recorder.old }
         ensures same_lender { R.lender recorder.new ≡ R.lender recorder.old }
+        ensures unfailed { UnfailedRecorder result (R.faults recorder.old) (R.faults recorder.new) }
         ensures later { R.faults recorder.old ≤ R.faults recorder.new }
     {
         for byte in piece {
@@ -135,6 +140,7 @@ impl Reader {
         ensures disk_later { D.faults disk.old ≤ D.faults disk.new }
         ensures same_detail { R.detail recorder.new ≡ R.detail recorder.old }
         ensures same_lender { R.lender recorder.new ≡ R.lender recorder.old }
+        ensures unfailed { UnfailedRecorder result (R.faults recorder.old) (R.faults recorder.new) }
         ensures later { R.faults recorder.old ≤ R.faults recorder.new }
     {
         if byte == b'\n' {
@@ -165,6 +171,7 @@ impl Reader {
         ensures disk_later { D.faults disk.old ≤ D.faults disk.new }
         ensures same_detail { R.detail recorder.new ≡ R.detail recorder.old }
         ensures same_lender { R.lender recorder.new ≡ R.lender recorder.old }
+        ensures unfailed { UnfailedRecorder result (R.faults recorder.old) (R.faults recorder.new) }
         ensures later { R.faults recorder.old ≤ R.faults recorder.new }
     {
         let number = self.lines + 1;

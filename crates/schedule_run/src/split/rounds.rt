@@ -1,6 +1,7 @@
 // Many moves: of one end, of a job, and in rounds.
 ghost use Rattle.std.specs.Prelude.{◌≡◌, ◌+◌, ◌*◌, ◌<◌, ◌≤◌, ◌^◌, ◌∷◌, [], List, ℕ, Option, Some, None, Err, replicate};
 ghost use Rattle.blk_io.specs.Outside.{Rose};
+ghost use Rattle.schedule_text.specs.Recorder.{Unfailed};
 ghost use Rattle.split_model.specs.World.{is_quiet};
 ghost use Rattle.split_model.specs.Happening.{FrontMoves, BackMoves, Looks};
 ghost use Rattle.split_model.specs.Kind.{connecting, front_move, front_moves, back_moves, IsBeginning, AreSomeJobMoves, AreFewJobMoves, AreAllJobs, HasEachJobs, IsRound, IsRoundSoFar, AreRounds, never, AreRoundsSoFar, AreRoundsUntilQuiet, IsSettling, IsSettlingSoFar};
@@ -21,6 +22,7 @@ impl Split {
         ensures same_detail { R.detail recorder.new ≡ R.detail recorder.old }
         ensures same_lender { R.lender recorder.new ≡ R.lender recorder.old }
         ensures later { R.faults recorder.old ≤ R.faults recorder.new }
+        ensures unfailed { Unfailed result (R.faults recorder.old) (R.faults recorder.new) }
         ensures failed { result ≡ Err RecordStop.Failed → Rose (R.faults recorder.old) (R.faults recorder.new) }
     {
         for _ in 0..count {
@@ -46,6 +48,7 @@ impl Split {
         ensures same_detail { R.detail recorder.new ≡ R.detail recorder.old }
         ensures same_lender { R.lender recorder.new ≡ R.lender recorder.old }
         ensures later { R.faults recorder.old ≤ R.faults recorder.new }
+        ensures unfailed { Unfailed result (R.faults recorder.old) (R.faults recorder.new) }
         ensures failed { result ≡ Err RecordStop.Failed → Rose (R.faults recorder.old) (R.faults recorder.new) }
     {
         for _ in 0..count {
@@ -70,6 +73,7 @@ impl Split {
         ensures same_detail { R.detail recorder.new ≡ R.detail recorder.old }
         ensures same_lender { R.lender recorder.new ≡ R.lender recorder.old }
         ensures later { R.faults recorder.old ≤ R.faults recorder.new }
+        ensures unfailed { Unfailed result (R.faults recorder.old) (R.faults recorder.new) }
         ensures failed { result ≡ Err RecordStop.Failed → Rose (R.faults recorder.old) (R.faults recorder.new) }
     {
         self.repeat_front(20, recorder)?;
@@ -93,6 +97,7 @@ impl Split {
         ensures same_detail { R.detail recorder.new ≡ R.detail recorder.old }
         ensures same_lender { R.lender recorder.new ≡ R.lender recorder.old }
         ensures later { R.faults recorder.old ≤ R.faults recorder.new }
+        ensures unfailed { Unfailed result (R.faults recorder.old) (R.faults recorder.new) }
         ensures failed { result ≡ Err RecordStop.Failed → Rose (R.faults recorder.old) (R.faults recorder.new) }
     {
         if self.front.is_connected() {
@@ -119,6 +124,7 @@ impl Split {
         ensures same_detail { R.detail recorder.new ≡ R.detail recorder.old }
         ensures same_lender { R.lender recorder.new ≡ R.lender recorder.old }
         ensures later { R.faults recorder.old ≤ R.faults recorder.new }
+        ensures unfailed { Unfailed result (R.faults recorder.old) (R.faults recorder.new) }
         ensures failed { result ≡ Err RecordStop.Failed → Rose (R.faults recorder.old) (R.faults recorder.new) }
     {
         if count == 0 {
@@ -145,6 +151,7 @@ impl Split {
         ensures same_detail { R.detail recorder.new ≡ R.detail recorder.old }
         ensures same_lender { R.lender recorder.new ≡ R.lender recorder.old }
         ensures later { R.faults recorder.old ≤ R.faults recorder.new }
+        ensures unfailed { Unfailed result (R.faults recorder.old) (R.faults recorder.new) }
         ensures failed { result ≡ Err RecordStop.Failed → Rose (R.faults recorder.old) (R.faults recorder.new) }
     {
         if !self.front.is_connected() {
@@ -171,6 +178,7 @@ impl Split {
         ensures same_detail { R.detail recorder.new ≡ R.detail recorder.old }
         ensures same_lender { R.lender recorder.new ≡ R.lender recorder.old }
         ensures later { R.faults recorder.old ≤ R.faults recorder.new }
+        ensures unfailed { Unfailed result (R.faults recorder.old) (R.faults recorder.new) }
         ensures failed { result ≡ Err RecordStop.Failed → Rose (R.faults recorder.old) (R.faults recorder.new) }
     {
         for _ in 0..count {
@@ -196,6 +204,7 @@ impl Split {
         ensures same_detail { R.detail recorder.new ≡ R.detail recorder.old }
         ensures same_lender { R.lender recorder.new ≡ R.lender recorder.old }
         ensures later { R.faults recorder.old ≤ R.faults recorder.new }
+        ensures unfailed { Unfailed result (R.faults recorder.old) (R.faults recorder.new) }
         ensures failed { result ≡ Err RecordStop.Failed → Rose (R.faults recorder.old) (R.faults recorder.new) }
     {
         let mut last = 0;
@@ -223,6 +232,7 @@ impl Split {
         ensures same_detail { R.detail recorder.new ≡ R.detail recorder.old }
         ensures same_lender { R.lender recorder.new ≡ R.lender recorder.old }
         ensures later { R.faults recorder.old ≤ R.faults recorder.new }
+        ensures unfailed { Unfailed result (R.faults recorder.old) (R.faults recorder.new) }
         ensures failed { result ≡ Err RecordStop.Failed → Rose (R.faults recorder.old) (R.faults recorder.new) }
     {
         self.front_turn(disk, recorder)?;
@@ -247,6 +257,7 @@ impl Split {
         ensures same_detail { R.detail recorder.new ≡ R.detail recorder.old }
         ensures same_lender { R.lender recorder.new ≡ R.lender recorder.old }
         ensures later { R.faults recorder.old ≤ R.faults recorder.new }
+        ensures unfailed { Unfailed result (R.faults recorder.old) (R.faults recorder.new) }
         ensures failed { result ≡ Err RecordStop.Failed → Rose (R.faults recorder.old) (R.faults recorder.new) }
     {
         for _ in 0..count {
@@ -272,6 +283,7 @@ impl Split {
         ensures same_detail { R.detail recorder.new ≡ R.detail recorder.old }
         ensures same_lender { R.lender recorder.new ≡ R.lender recorder.old }
         ensures later { R.faults recorder.old ≤ R.faults recorder.new }
+        ensures unfailed { Unfailed result (R.faults recorder.old) (R.faults recorder.new) }
         ensures failed { result ≡ Err RecordStop.Failed → Rose (R.faults recorder.old) (R.faults recorder.new) }
     {
         for _ in 0..bound {
@@ -299,6 +311,7 @@ impl Split {
         ensures same_detail { R.detail recorder.new ≡ R.detail recorder.old }
         ensures same_lender { R.lender recorder.new ≡ R.lender recorder.old }
         ensures later { R.faults recorder.old ≤ R.faults recorder.new }
+        ensures unfailed { Unfailed result (R.faults recorder.old) (R.faults recorder.new) }
         ensures failed { result ≡ Err RecordStop.Failed → Rose (R.faults recorder.old) (R.faults recorder.new) }
     {
         let (requests, _) = self.front.owed();
@@ -319,6 +332,7 @@ impl Split {
         ensures same_detail { R.detail recorder.new ≡ R.detail recorder.old }
         ensures same_lender { R.lender recorder.new ≡ R.lender recorder.old }
         ensures later { R.faults recorder.old ≤ R.faults recorder.new }
+        ensures unfailed { Unfailed result (R.faults recorder.old) (R.faults recorder.new) }
         ensures failed { result ≡ Err RecordStop.Failed → Rose (R.faults recorder.old) (R.faults recorder.new) }
     {
         let line = if self.is_quiet() {

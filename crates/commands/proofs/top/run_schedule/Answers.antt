@@ -1,5 +1,6 @@
 use Rattle.std.proofs.Common.{rules, ◌≡◌}
-use Rattle.commands.proofs.Stopping.{run_stops_there, run_kept}
+use Rattle.schedule_run.specs.declared.schedule.RunStop.TheVariants as run
+use Rattle.commands.proofs.Stopping.{run_stops_there, run_kept, run_unfailed, unless_run}
 use Rattle.commands.proofs.top.run_schedule.Goals as goal
 
 pub returns-in-Err-clause-stopped : goal.returns-in-Err-clause-stopped
@@ -9,3 +10,10 @@ returns-in-Err-clause-stopped g c =
 
 pub returns-in-Err-clause-handed_on_so_far : goal.returns-in-Err-clause-handed_on_so_far
 returns-in-Err-clause-handed_on_so_far g c = run_kept c.in-Err.stop _ (g.O.Sink.kept_back c.run.new.recorder.sink.now) _ _ (search rules) c.run_stop.ensures c.in-Err.ensures.handed_on_so_far
+
+pub returns-in-Err-clause-source_unfailed : goal.returns-in-Err-clause-source_unfailed
+returns-in-Err-clause-source_unfailed g c =
+    (tt, λ no_source no_sink. unless_run run.Source c.in-Err.stop _ c.run_stop.ensures (λ at_source. unless_run run.Sink c.in-Err.stop _ c.run_stop.ensures (c.in-Err.ensures.source_unfailed.1 at_source) no_sink) no_source)
+
+pub returns-in-Err-clause-output_unfailed : goal.returns-in-Err-clause-output_unfailed
+returns-in-Err-clause-output_unfailed g c = (tt, run_unfailed c.in-Err.stop _ (g.O.Sink.faults c.run.new.recorder.sink.now) _ _ (search rules) c.run_stop.ensures c.in-Err.ensures.unfailed.1)

@@ -8,5 +8,6 @@ use Rattle.ring_inspect.proofs.print.print_pages.Given as goal
 abbrev pub invariant-loop-page : goal.invariant-loop-page
 invariant-loop-page g l = record {
   held : g.O.Sink.held l.sink ≡ written (g.O.Sink.held l.fn.sink) (flat_map page_text (take l.page-index l.pages));
+  unfailed : g.O.Sink.faults l.sink ≡ g.O.Sink.faults l.fn.sink;
   later : g.O.Sink.faults l.fn.sink ≤ g.O.Sink.faults l.sink;
 }

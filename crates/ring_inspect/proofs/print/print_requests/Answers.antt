@@ -1,4 +1,4 @@
-use Rattle.std.proofs.Common.{◌+◌, ◌%◌, ◌^◌, ap, sym, subst, arith, ◌∙◌}
+use Rattle.std.proofs.Common.{◌+◌, ◌%◌, ◌^◌, refl, ap, sym, subst, arith, ◌∙◌}
 use Rattle.blk_io.specs.Outside.{written, IsPartlyWritten}
 use Rattle.ring_inspect.specs.Text.{request_text}
 use Rattle.ring_inspect.proofs.Pieces.{on_any, written_none, listed-zero, listed_one_more, partly_listed}
@@ -7,6 +7,7 @@ use Rattle.ring_inspect.proofs.print.print_requests.Goals as goal
 pub loop-i-init : goal.loop-i-init
 loop-i-init g c = record {
   held = written_none _ ∙ ap (written (g.O.Sink.held c.args.sink.now)) (sym (listed-zero c.args.shape.now c.args.bytes.now c.args.from));
+  unfailed = refl;
   later = omega arith;
 }
 
@@ -18,5 +19,6 @@ returns-in_err-print_request-clause-err g c =
 pub loop-i-preserved : goal.loop-i-preserved
 loop-i-preserved g c = record {
   held = listed_one_more c.args.shape.now c.args.bytes.now c.args.from c.loop-i.i _ _ _ c.loop-i.invariant.held (c.in_ok-print_request.ensures.ok ∙ ap (λ r. written (g.O.Sink.held c.loop-i.sink) (request_text ((c.args.from + c.loop-i.i) % 2 ^ 32) r)) c.request-request.ensures);
+  unfailed = c.in_ok-print_request.ensures.unfailed ∙ c.loop-i.invariant.unfailed;
   later = let a = c.loop-i.invariant.later in let b = c.in_ok-print_request.ensures.later in omega arith;
 }

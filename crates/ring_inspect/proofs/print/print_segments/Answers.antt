@@ -12,5 +12,6 @@ returns-in_err-print-clause-err g c =
 pub loop-segment-preserved : goal.loop-segment-preserved
 loop-segment-preserved g c = record {
   held = one_more segment_text c.args.segments.now c.loop-segment.segment-index (record { gref = 0; first = 0; last = 0 }) _ _ _ c.loop-segment-test.true c.loop-segment.invariant.held (c.in_ok-print.ensures.ok ∙ ap (written (g.O.Sink.held c.loop-segment.sink)) c.segment.ensures);
+  unfailed = c.in_ok-print.ensures.unfailed ∙ c.loop-segment.invariant.unfailed;
   later = let a = c.loop-segment.invariant.later in let b = c.in_ok-print.ensures.later in omega arith;
 }

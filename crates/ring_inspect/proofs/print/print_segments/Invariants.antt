@@ -8,5 +8,6 @@ use Rattle.ring_inspect.proofs.print.print_segments.Given as goal
 abbrev pub invariant-loop-segment : goal.invariant-loop-segment
 invariant-loop-segment g l = record {
   held : g.O.Sink.held l.sink ≡ written (g.O.Sink.held l.fn.sink) (flat_map segment_text (take l.segment-index l.segments));
+  unfailed : g.O.Sink.faults l.sink ≡ g.O.Sink.faults l.fn.sink;
   later : g.O.Sink.faults l.fn.sink ≤ g.O.Sink.faults l.sink;
 }

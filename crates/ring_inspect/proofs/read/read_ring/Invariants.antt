@@ -1,4 +1,4 @@
-use Rattle.std.proofs.Common.{◌+◌, ◌-◌, ◌≤◌, vec_len}
+use Rattle.std.proofs.Common.{◌≡◌, ◌+◌, ◌-◌, ◌≤◌, vec_len}
 use Rattle.ring_inspect.proofs.Reading.{SoFar}
 use Rattle.ring_inspect.proofs.read.read_ring.Given as goal
 
@@ -6,6 +6,7 @@ use Rattle.ring_inspect.proofs.read.read_ring.Given as goal
 abbrev pub invariant-loop-chunk : goal.invariant-loop-chunk
 invariant-loop-chunk g l = record {
   so_far : SoFar (g.S.Source.left l.fn.source) (g.S.Source.left l.source) l.bytes.items;
+  unfailed : g.S.Source.faults l.source ≡ g.S.Source.faults l.fn.source;
   later : g.S.Source.faults l.fn.source ≤ g.S.Source.faults l.source;
 }
 

@@ -38,7 +38,7 @@ loop-number-preserved g c =
       c.in_ok-job_move.ensures.sectors ∙ c.loop-number.invariant.3,
       c.in_ok-job_move.ensures.same_detail ∙ c.loop-number.invariant.4,
       c.in_ok-job_move.ensures.same_lender ∙ c.loop-number.invariant.5,
-      omega (arith, c.loop-number.invariant.6, c.in_ok-job_move.ensures.later),
+      c.in_ok-job_move.ensures.unfailed.0 ∙ c.loop-number.invariant.6,
       c.in_ok-job_move.ensures.attached ∙ c.loop-number.invariant.7,
       omega (arith, c.loop-number.invariant.8, c.in_ok-job_move.ensures.disk_later),
     )

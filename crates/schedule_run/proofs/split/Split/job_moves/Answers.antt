@@ -17,7 +17,7 @@ loop-preserved g c = (
   c.in_ok-job_move.ensures.sectors ∙ c.loop.invariant.3,
   c.in_ok-job_move.ensures.same_detail ∙ c.loop.invariant.4,
   c.in_ok-job_move.ensures.same_lender ∙ c.loop.invariant.5,
-  omega (arith, c.loop.invariant.6, c.in_ok-job_move.ensures.later),
+  c.in_ok-job_move.ensures.unfailed.0 ∙ c.loop.invariant.6,
   c.in_ok-job_move.ensures.attached ∙ c.loop.invariant.7,
   omega (arith, c.loop.invariant.8, c.in_ok-job_move.ensures.disk_later),
 )

@@ -13,6 +13,6 @@ invariant-loop g l =
     × (l.self.front.sectors ≡ l.fn.self.front.sectors)
     × (g.R.Recorder.detail l.recorder ≡ g.R.Recorder.detail l.fn.recorder)
     × (g.R.Recorder.lender l.recorder ≡ g.R.Recorder.lender l.fn.recorder)
-    × (g.R.Recorder.faults l.fn.recorder ≤ g.R.Recorder.faults l.recorder)
+    × (g.R.Recorder.faults l.recorder ≡ g.R.Recorder.faults l.fn.recorder)
     × (g.D.SectorDisk.attached l.disk ≡ g.D.SectorDisk.attached l.fn.disk)
     × (g.D.SectorDisk.faults l.fn.disk ≤ g.D.SectorDisk.faults l.disk)

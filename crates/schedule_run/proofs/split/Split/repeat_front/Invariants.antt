@@ -13,4 +13,4 @@ invariant-loop g l =
     × (l.self.front.sectors ≡ l.fn.self.front.sectors)
     × (g.R.Recorder.detail l.recorder ≡ g.R.Recorder.detail l.fn.recorder)
     × (g.R.Recorder.lender l.recorder ≡ g.R.Recorder.lender l.fn.recorder)
-    × (g.R.Recorder.faults l.fn.recorder ≤ g.R.Recorder.faults l.recorder)
+    × (g.R.Recorder.faults l.recorder ≡ g.R.Recorder.faults l.fn.recorder)

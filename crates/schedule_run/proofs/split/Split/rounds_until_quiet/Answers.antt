@@ -24,7 +24,7 @@ loop-preserved g c =
       c.in_ok-round.ensures.sectors ∙ c.loop.invariant.3,
       c.in_ok-round.ensures.same_detail ∙ c.loop.invariant.4,
       c.in_ok-round.ensures.same_lender ∙ c.loop.invariant.5,
-      omega (arith, c.loop.invariant.6, c.in_ok-round.ensures.later),
+      c.in_ok-round.ensures.unfailed.0 ∙ c.loop.invariant.6,
       c.in_ok-round.ensures.attached ∙ c.loop.invariant.7,
       omega (arith, c.loop.invariant.8, c.in_ok-round.ensures.disk_later),
     )

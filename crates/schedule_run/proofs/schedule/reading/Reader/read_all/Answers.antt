@@ -36,6 +36,8 @@ loop-room-init g c = record {
   disk_later = omega arith;
   same_detail = refl;
   same_lender = refl;
+  unfailed = refl;
+  source_unfailed = refl;
   later = omega arith;
 }
 
@@ -69,6 +71,7 @@ take-requires-clause-lines g c =
 
 pub loop-room-preserved : goal.loop-room-preserved
 loop-room-preserved g c =
+    let flush_unfailed : g.R.Recorder.faults c.flush.new.self ≡ g.R.Recorder.faults c.loop-room.recorder = search rules in
     let fits = count_fits _ _ _ _ _ c.loop-room.invariant.size c.min-most.ensures c.in-Ok.ensures.fits c.read.auto.buf in
     record {
       taken = taken_front _ _ _ _ _ _ _ _ _ _ _ _ _ _ (c.flush.ensures.same_detail ∙ c.loop-room.invariant.same_detail) c.in-Ok.ensures.fits (less _ _ fits) c.in-Ok.ensures.read (flushed _ _ _ _ _ _ _ _ _ _ _ _ c.flush.ensures.told c.loop-room.invariant.taken) c.in_ok-take.ensures.carried;
@@ -79,6 +82,8 @@ loop-room-preserved g c =
       disk_later = let a = c.take.ensures.disk_later in let b = c.loop-room.invariant.disk_later in omega arith;
       same_detail = c.take.ensures.same_detail ∙ (c.flush.ensures.same_detail ∙ c.loop-room.invariant.same_detail);
       same_lender = c.take.ensures.same_lender ∙ (c.flush.ensures.same_lender ∙ c.loop-room.invariant.same_lender);
+      unfailed = c.in_ok-take.ensures.unfailed.0 ∙ (flush_unfailed ∙ c.loop-room.invariant.unfailed);
+      source_unfailed = c.in-Ok.ensures.unfailed ∙ c.loop-room.invariant.source_unfailed;
       later = let a = c.take.ensures.later in let b = (up_to _ _ _ c.loop-room.invariant.later c.flush.ensures.later) in omega arith;
     }
 

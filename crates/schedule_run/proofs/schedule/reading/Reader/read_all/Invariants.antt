@@ -16,6 +16,8 @@ invariant-loop-room g l = record {
   disk_later : g.D.SectorDisk.faults l.fn.disk ≤ g.D.SectorDisk.faults l.disk;
   same_detail : g.R.Recorder.detail l.recorder ≡ g.R.Recorder.detail l.fn.recorder;
   same_lender : g.R.Recorder.lender l.recorder ≡ g.R.Recorder.lender l.fn.recorder;
+  unfailed : g.R.Recorder.faults l.recorder ≡ g.R.Recorder.faults l.fn.recorder;
+  source_unfailed : g.S.Source.faults l.source ≡ g.S.Source.faults l.fn.source;
   later : g.R.Recorder.faults l.fn.recorder ≤ g.R.Recorder.faults l.recorder;
 }
 

@@ -10,6 +10,7 @@ loop-byte-init g c = record {
   disk_later = omega arith;
   same_detail = refl;
   same_lender = refl;
+  unfailed = refl;
   later = omega arith;
 }
 
@@ -32,5 +33,6 @@ loop-byte-preserved g c = record {
   disk_later = let a = c.take_byte.ensures.disk_later in let b = c.loop-byte.invariant.disk_later in omega arith;
   same_detail = c.take_byte.ensures.same_detail ∙ c.loop-byte.invariant.same_detail;
   same_lender = c.take_byte.ensures.same_lender ∙ c.loop-byte.invariant.same_lender;
+  unfailed = c.in_ok-take_byte.ensures.unfailed.0 ∙ c.loop-byte.invariant.unfailed;
   later = let a = c.take_byte.ensures.later in let b = c.loop-byte.invariant.later in omega arith;
 }
