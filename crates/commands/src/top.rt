@@ -50,8 +50,8 @@ pub fn blkring<S: Source, D: SectorDisk, O: Sink, E: Sink>(
     ensures stopped { result ≢ 0 → HasEnded (map string_bytes words.now) (S.left src.old) (record { content = D.content disk.old; out = O.held out.old; source_faults = S.faults src.old; disk_faults = D.faults disk.old; out_faults = O.faults out.old }) (record { content = D.content disk.new; out = O.held out.new; source_faults = S.faults src.new; disk_faults = D.faults disk.new; out_faults = O.faults out.new }) result (E.held err.old) (E.held err.new) (E.faults err.old) (E.faults err.new) }
     // What was written was handed on.
     ensures handed_on { result ≡ 0 → O.kept_back out.new ≡ 0 }
-    // So was what a run that stopped wrote, unless the output failed.
-    ensures handed_on_so_far { (detail : Detail) → Gives (map string_bytes words.now) (Command.Run detail) → result ≢ 5 → O.kept_back out.new ≤ O.kept_back out.old }
+    // So was what was written before a stop, unless the output failed.
+    ensures handed_on_so_far { result ≢ 5 → O.kept_back out.new ≤ O.kept_back out.old }
     ensures bad_words { (result ≡ 2) ↔ GivesNone (map string_bytes words.now) }
     ensures nothing_done { result ≡ 2 → (src.new ≡ src.old) × (out.new ≡ out.old) × (disk.new ≡ disk.old) }
     // Unless the status says that the source or the output failed, that failed no more often than before.
@@ -90,7 +90,7 @@ fn carry_out<S: Source, D: SectorDisk, O: Sink>(
     ensures done { OnOk result (IsDone (map string_bytes words.now) (S.left src.old) (record { content = D.content disk.old; out = O.held out.old; source_faults = S.faults src.old; disk_faults = D.faults disk.old; out_faults = O.faults out.old }) (record { content = D.content disk.new; out = O.held out.new; source_faults = S.faults src.new; disk_faults = D.faults disk.new; out_faults = O.faults out.new })) }
     ensures stopped { IfErr result (IsStopped (map string_bytes words.now) (S.left src.old) (record { content = D.content disk.old; out = O.held out.old; source_faults = S.faults src.old; disk_faults = D.faults disk.old; out_faults = O.faults out.old }) (record { content = D.content disk.new; out = O.held out.new; source_faults = S.faults src.new; disk_faults = D.faults disk.new; out_faults = O.faults out.new })) }
     ensures handed_on { OnOk result (O.kept_back out.new ≡ 0) }
-    ensures handed_on_so_far { (detail : Detail) → Gives (map string_bytes words.now) (Command.Run detail) → IfErr result (λ stop. stop ≢ Stop.Sink → O.kept_back out.new ≤ O.kept_back out.old) }
+    ensures handed_on_so_far { IfErr result (λ stop. stop ≢ Stop.Sink → O.kept_back out.new ≤ O.kept_back out.old) }
     ensures unread { IfErr result (λ stop. stop ≡ Stop.Words → (src.new ≡ src.old) × (out.new ≡ out.old) × (disk.new ≡ disk.old)) }
     ensures source_unfailed { UnfailedSource result (S.faults src.old) (S.faults src.new) }
     ensures output_unfailed { UnfailedOutput result (O.faults out.old) (O.faults out.new) }
@@ -128,6 +128,7 @@ fn show_ring<S: Source, D: SectorDisk, O: Sink>(
     ensures done { OnOk result (Makes (Command.Inspect abi order) (S.left src.old) (record { content = D.content disk.old; out = O.held out.old; source_faults = S.faults src.old; disk_faults = D.faults disk.old; out_faults = O.faults out.old }) (record { content = D.content disk.new; out = O.held out.new; source_faults = S.faults src.new; disk_faults = D.faults disk.new; out_faults = O.faults out.new })) }
     ensures stopped { IfErr result (Stops (Command.Inspect abi order) (S.left src.old) (record { content = D.content disk.old; out = O.held out.old; source_faults = S.faults src.old; disk_faults = D.faults disk.old; out_faults = O.faults out.old }) (record { content = D.content disk.new; out = O.held out.new; source_faults = S.faults src.new; disk_faults = D.faults disk.new; out_faults = O.faults out.new })) }
     ensures handed_on { OnOk result (O.kept_back out.new ≡ 0) }
+    ensures handed_on_so_far { IfErr result (λ stop. stop ≢ Stop.Sink → O.kept_back out.new ≤ O.kept_back out.old) }
     ensures disk { disk.new ≡ disk.old }
     ensures source_unfailed { UnfailedSource result (S.faults src.old) (S.faults src.new) }
     ensures output_unfailed { UnfailedOutput result (O.faults out.old) (O.faults out.new) }

@@ -30,9 +30,10 @@ pub fn inspect<S: Source, O: Sink>(
     requires { order ≤ 4 }
     ensures shown { OnOk result (IsShown (S.left source.old) (record { abi = abi; order = order }) (O.held sink.old) (O.held sink.new)) }
     ensures stopped { IfErr result (Stopped (S.left source.old) (record { abi = abi; order = order }) (S.faults source.old) (S.faults source.new) (O.faults sink.old) (O.faults sink.new) (O.held sink.old) (O.held sink.new)) }
-    // Unless it says that the source or the sink failed, that failed no more often than before.
+    // Unless it says that the source failed, that failed no more often than before; unless it says that the sink did, nothing was asked of that, or all went well.
     ensures source_unfailed { OnOk result (S.faults source.new ≡ S.faults source.old) × IfErr result (λ stop. stop ≢ InspectStop.Source → S.faults source.new ≡ S.faults source.old) }
-    ensures sink_unfailed { OnOk result (O.faults sink.new ≡ O.faults sink.old) × IfErr result (λ stop. stop ≢ InspectStop.Sink → O.faults sink.new ≡ O.faults sink.old) }
+    ensures sink_unfailed { OnOk result (O.faults sink.new ≡ O.faults sink.old) }
+    ensures untouched { IfErr result (λ stop. stop ≢ InspectStop.Sink → sink.new ≡ sink.old) }
     ensures source_later { S.faults source.old ≤ S.faults source.new }
     ensures sink_later { O.faults sink.old ≤ O.faults sink.new }
 {

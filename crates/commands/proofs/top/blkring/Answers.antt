@@ -11,7 +11,7 @@ pub returns-in-Err-clause-reported_so_far : goal.returns-in-Err-clause-reported_
 returns-in-Err-clause-reported_so_far g c detail gives other = stopped_so_far _ _ _ _ _ c.in-Err.ensures.stopped detail gives
 
 pub returns-in-Err-clause-handed_on_so_far : goal.returns-in-Err-clause-handed_on_so_far
-returns-in-Err-clause-handed_on_so_far g c detail gives other = c.in-Err.ensures.handed_on_so_far detail gives (other_reason Sink _ c.in-Err.stop c.give_up.ensures.status other)
+returns-in-Err-clause-handed_on_so_far g c other = c.in-Err.ensures.handed_on_so_far (other_reason Sink _ c.in-Err.stop c.give_up.ensures.status other)
 
 pub returns-in-Err-clause-source_unfailed : goal.returns-in-Err-clause-source_unfailed
 returns-in-Err-clause-source_unfailed g c no_source no_sink =
