@@ -30,8 +30,9 @@ pub fn inspect<S: Source, O: Sink>(
     requires { order ≤ 4 }
     ensures shown { OnOk result (IsShown (S.left source.old) (record { abi = abi; order = order }) (O.held sink.old) (O.held sink.new)) }
     ensures stopped { IfErr result (Stopped (S.left source.old) (record { abi = abi; order = order }) (S.faults source.old) (S.faults source.new) (O.faults sink.old) (O.faults sink.new) (O.held sink.old) (O.held sink.new)) }
-    // Unless it says that the source failed, that failed no more often than before; unless it says that the sink did, nothing was asked of that, or all went well.
+    // A source that failed is said to have.
     ensures source_unfailed { OnOk result (S.faults source.new ≡ S.faults source.old) × IfErr result (λ stop. stop ≢ InspectStop.Source → S.faults source.new ≡ S.faults source.old) }
+    // So is a sink; at any other stop nothing was asked of it.
     ensures sink_unfailed { OnOk result (O.faults sink.new ≡ O.faults sink.old) }
     ensures untouched { IfErr result (λ stop. stop ≢ InspectStop.Sink → sink.new ≡ sink.old) }
     ensures source_later { S.faults source.old ≤ S.faults source.new }
