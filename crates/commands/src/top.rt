@@ -32,6 +32,11 @@ use std::alloc::Global;
 /// - 7: the image failed where it was attached. Nothing was read or written.
 /// - 8: 4294967296 bytes of the schedule were taken, and the source didn't end before. Their whole
 ///   lines were carried out, and are reported.
+///
+/// What a report promises rests on this: the schedule was read and the report written whole (at each
+/// other status it is promised of the lines that were written whole); source, output and disk tell
+/// what they hold, and nobody else writes the image meanwhile; shared words are sequentially
+/// consistent, and a hypercall is one step.
 pub fn blkring<S: Source, D: SectorDisk, O: Sink, E: Sink>(
     alloc: Global,
     words: &[String],

@@ -55,7 +55,8 @@ impl Machine {
     /// Carries out an event, and gives the recorder the lines of all that happens. The event is one
     /// for which `can_carry_out` holds. After a stop, what was done before it stands, and the lines
     /// before the one at which the recorder stopped. Whatever led here, the report stays one that obeys
-    /// the rules (`AreLawful`).
+    /// the rules (`AreLawful`), where disk and recorder tell what they hold. It speaks of real domains
+    /// as far as their shared words are sequentially consistent and a hypercall is one step.
     pub fn event<D: SectorDisk, R: Recorder>(
         &mut self,
         event: Event,

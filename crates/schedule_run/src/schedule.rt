@@ -45,6 +45,10 @@ impl From<OutOfMemory> for RunStop {
 /// `begin` line with the options, what each event makes happen, and an `end` line. Each whole line is
 /// carried out before the source is read again. The disk is attached with the options' number of
 /// sectors, and `bytes_limit` is at most 4294967296.
+///
+/// That the report is lawful rests on this: source, disk and recorder tell what they hold, and nobody
+/// else writes the disk meanwhile; shared words are sequentially consistent, and a hypercall is one
+/// step.
 pub fn run<S: Source, D: SectorDisk, R: Recorder>(
     alloc: Global,
     config: Config,
