@@ -31,7 +31,7 @@ echoes detail config events rest answers = (kept_of detail (Begin config detail 
 pub echoed : (detail : Detail) (left : Option (List ℕ)) (old new : Scene) → IsRun detail left old new → IsReported detail left old new
 echoed detail left old new run =
     let config = options_of run.0 in
-    let done = run.3 in
+    let done = run.4 in
     let leads = done.carried.1 in
     let lines = lines_of leads.history (start_of config) in
     let answers : AnswersAll 0 done.events (echo_of (kept_of detail lines)) =
@@ -40,12 +40,13 @@ echoed detail left old new run =
     kept_of-append detail (report_of config detail leads.history) (End ∷ []) ∙ ap (λ (l : List Line). l ++ kept_of detail (End ∷ [])) (kept_of-append detail (Begin config detail ∷ []) lines) in
     record {
       sectors = run.0;
+      attached = run.1;
       events = done.events;
       report = kept_of detail (ended_report_of config detail leads.history);
       schedule = done.schedule;
       echo = subst (Echoes config detail done.events) (sym split) (echoes detail config done.events (kept_of detail lines) answers);
       text = ap (λ (t : Told). t.text) (done_told detail config bytes_limit left (outside old) (outside new) done);
-      lawful = done_report detail config bytes_limit left (outside old) (outside new) (plain_options run.0 run.2) run.1 done;
+      lawful = done_report detail config bytes_limit left (outside old) (outside new) (plain_options run.0 run.3) run.2 done;
     }
 
 -- whatever the words give, where they give a run it was that run

@@ -26,7 +26,7 @@ of_stop : (detail : Detail) (left : Option (List ℕ)) (old new : Scene) → IsL
 of_stop detail left old new h = record { events = h.events; schedule = h.schedule; report = h.report; text = as_written detail h.report old new h.told; lawful = h.lawful }
 
 has_stopped : (detail : Detail) (left : Option (List ℕ)) (old new : Scene) (why : RunStop) → HasStopped detail left old new why → IsReportedSoFar detail left old new
-has_stopped detail left old new why h = of_stop detail left old new (stop_lawful detail (options_of h.0) bytes_limit left _ _ _ _ why (outside old) (outside new) (plain_options h.0 h.2) h.3)
+has_stopped detail left old new why h = of_stop detail left old new (stop_lawful detail (options_of h.0) bytes_limit left _ _ _ _ why (outside old) (outside new) (plain_options h.0 h.3) h.4)
 
 same_outside : (old new : Scene) → IsUntouched old new → outside new ≡ outside old
 same_outside old new h = rw (h.0, h.1) refl

@@ -1,5 +1,5 @@
 -- What the program leaves, and what it says, at each of its statuses.
-use Rattle.std.specs.Prelude.{◌≡◌, ◌≢◌, ℕ, ◌^◌, ◌<◌, ◌⊎◌, List, Option, None, false, Result, OnOk, IfErr}
+use Rattle.std.specs.Prelude.{◌≡◌, ◌≢◌, ℕ, ◌^◌, ◌<◌, ◌⊎◌, List, Option, Some, None, false, Result, OnOk, IfErr}
 use Rattle.blk_base.specs.Options.{Options}
 use Rattle.blk_base.specs.declared.operation.Abi.TheVariants.{X64}
 use Rattle.blk_io.specs.Outside.{Rose, written, IsPartlyWritten}
@@ -23,9 +23,10 @@ use Rattle.commands.specs.declared.status.Stop.TheVariants.{Length, Words, BadLi
 use Rattle.commands.specs.Words.{Gives, GivesNone}
 use Rattle.commands.specs.Status.{status_of, line_of}
 
--- what stands outside at a moment: what the disk holds, what was written, where they tell, and how often source, disk and output failed
+-- what stands outside at a moment: what the disk holds and how many sectors are attached, what was written, where they tell, and how often source, disk and output failed
 pub record Scene : Type 0 where
   pub content : Option (List (List ℕ))
+  pub attached : Option ℕ
   pub out : Option (List ℕ)
   pub source_faults : ℕ
   pub disk_faults : ℕ
@@ -43,10 +44,10 @@ bytes_limit = 4294967296
 abbrev pub outside : Scene → Outside
 outside s = record { content = s.content; told = record { lines = None; text = s.out; tally = None } }
 
--- what a run made of the disk and the output
+-- what a run made of the disk, which is attached with that many sectors, and of the output
 abbrev pub IsRun : Detail → Option (List ℕ) → Scene → Scene → Type 0
 IsRun detail left old new =
-    (sectors : ℕ) × HasLength old.content sectors × (sectors < 2 ^ 64) × IsRunDone detail (options_of sectors) bytes_limit left (outside old) (outside new)
+    (sectors : ℕ) × (new.attached ≡ Some sectors) × HasLength old.content sectors × (sectors < 2 ^ 64) × IsRunDone detail (options_of sectors) bytes_limit left (outside old) (outside new)
 
 -- this command, with what the source had left, made of the outside what it is
 abbrev pub Makes : Command → Option (List ℕ) → Scene → Scene → Type 0
@@ -57,9 +58,10 @@ Makes (Run detail) left old new = IsRun detail left old new
 abbrev pub IsDone : List (List ℕ) → Option (List ℕ) → Scene → Scene → Type 0
 IsDone words left old new = (command : Command) × Gives words command × Makes command left old new
 
--- what was written is the text of a report that echoes the whole schedule and is lawful: a run of the plain disk from what the disk held to what it holds, and more (`schedule_run`)
+-- what was written is the text of a report that has the sectors attached, echoes the whole schedule and is lawful: a run of the plain disk from what the disk held to what it holds, and more (`schedule_run`)
 pub record IsReported (detail : Detail) (left : Option (List ℕ)) (old new : Scene) : Type 0 where
   pub sectors : ℕ
+  pub attached : new.attached ≡ Some sectors
   pub events : List Event
   pub report : List Line
   pub schedule : Tells (λ bytes. IsWholeSchedule bytes_limit bytes events) left
@@ -103,10 +105,10 @@ InspectStops (Inspect abi order) left old new Sink = Rose old.out_faults new.out
 InspectStops command left old new OutOfMemory = IsUntouched old new
 InspectStops command left old new stop = ⊥
 
--- a run on an image of some number of sectors stopped so
+-- a run on an image of some number of sectors, which is attached, stopped so
 abbrev pub HasStopped : Detail → Option (List ℕ) → Scene → Scene → RunStop → Type 0
 HasStopped detail left old new stop =
-    (sectors : ℕ) × HasLength old.content sectors × (sectors < 2 ^ 64)
+    (sectors : ℕ) × (new.attached ≡ Some sectors) × HasLength old.content sectors × (sectors < 2 ^ 64)
     × IsRunStopped detail (options_of sectors) bytes_limit left old.source_faults new.source_faults old.out_faults new.out_faults stop (outside old) (outside new)
 
 -- why a run stopped, and what it left
