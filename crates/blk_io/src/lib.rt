@@ -1,6 +1,6 @@
 //! What stands outside: where a schedule comes from, where a report goes, and the disk, each as a
-//! trait with ghost meanings (what it holds, where it tells; how often it failed), and sources and
-//! sinks in memory. The adapters over real streams are the trusted edge: they tell nothing.
+//! trait with one ghost record of what it exposes, and sources and sinks in memory. The adapters over
+//! real streams are the trusted edge: they expose no content.
 #![tactic(auto)]
 
 mod disk;

@@ -1,6 +1,7 @@
 use crate::{
     BufferedSink, Failed, FailsAt, MemorySink, MemorySource, ReaderSource, Sink, Source, WriterSink,
 };
+use std::io::{self, Write};
 use std::test::Fail;
 
 // Reads once, into a buffer of four bytes.
@@ -59,6 +60,41 @@ fn real_streams_pass_their_bytes_on(rt: HostRuntime) -> Result<(), Fail> {
     let held: Vec<u8> = Vec::new(rt.alloc());
     let mut sink = WriterSink::new(held);
     pour(&mut sink)?;
+    Ok(())
+}
+
+// A writer that keeps its bytes back until a flush, and can't flush more than eight.
+#[derive(Drop)]
+struct Lazy {
+    taken: usize,
+    flushed: usize,
+}
+
+impl Write for Lazy {
+    fn write(&mut self, buf: &[u8]) -> io::Result<usize> {
+        self.taken = self.taken.saturating_add(buf.len());
+        Ok(buf.len())
+    }
+
+    fn flush(&mut self) -> io::Result<()> {
+        if self.taken > 8 {
+            return Err(io::Error::from(io::ErrorKind::WriteZero));
+        }
+        self.flushed = self.taken;
+        Ok(())
+    }
+}
+
+#[test]
+fn a_line_is_never_left_in_a_writer(rt: HostRuntime) -> Result<(), Fail> {
+    let mut lazy = Lazy {
+        taken: 0,
+        flushed: 0,
+    };
+    let mut sink = WriterSink::new(&mut lazy);
+    assert_eq!(rt; sink.write(b"ring"), Ok(()));
+    assert_eq!(rt; sink.write(b" full"), Err(Failed));
+    assert_eq!(rt; lazy.flushed, 4);
     Ok(())
 }
 

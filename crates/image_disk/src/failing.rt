@@ -1,11 +1,14 @@
 // A disk that fails at listed calls.
-ghost use Rattle.std.specs.Prelude.{◌≡◌, ◌≤◌, ◌↔◌, ◌+◌, ◌%◌, ◌^◌, Contains, IsErr, IsTrue};
+ghost use Rattle.std.specs.Prelude.{◌≡◌, ◌≢◌, ◌↔◌, ◌+◌, ◌%◌, ◌^◌, Contains, None, Err, IsErr, IsTrue};
 ghost use Rattle.blk_io.specs.Outside.{Rose};
+ghost use Rattle.blk_io.specs.Disk.{attached_of, IsIn, AreIn, Attaches, ReadsSector, WritesSector, Flushes, Trims};
+ghost use Rattle.image_disk.specs.Failing.{CallsThrough, disk_around, no_calls};
+ghost use Rattle.image_disk.specs.Failing.CallKind.{Attach, Read, Write, Flush, Trim};
 
 use blk_base::SectorWords;
 use blk_io::{AttachStop, Failed, SectorDisk};
 
-/// Which calls fail: their numbers, from 1, among the calls of their kind.
+/// Which calls fail: their numbers, from 1, among the calls of their
 #[derive(Drop)]
 pub struct ListedCalls {
     pub attaches: Vec<u64>,
@@ -15,17 +18,23 @@ pub struct ListedCalls {
     pub trims: Vec<u64>,
 }
 
-/// A disk whose listed calls fail, and don't reach the disk inside; a call of the disk inside that
-/// fails is a fault too.
-#[derive(Drop)]
-pub struct FailsAtCalls<D> {
-    pub inside: D,
-    pub listed: ListedCalls,
+/// How many calls of each kind were made.
+#[derive(Clone, Copy, Debug, PartialEq, Eq)]
+pub struct CallCounts {
     pub attaches: u64,
     pub reads: u64,
     pub writes: u64,
     pub flushes: u64,
     pub trims: u64,
+}
+
+/// A disk whose listed calls fail, and don't reach the disk inside. Every other call answers what the
+/// disk inside answers, and a fault there is a fault here too.
+#[derive(Drop)]
+pub struct FailsAtCalls<D> {
+    pub inside: D,
+    pub listed: ListedCalls,
+    pub made: CallCounts,
     /// How many calls failed.
     pub faults: u64,
 }
@@ -42,16 +51,18 @@ fn is_listed(listed: &Vec<u64>, calls: &mut u64) -> bool
 impl<D> FailsAtCalls<D> {
     /// It fails at the listed calls.
     pub fn new(inside: D, listed: ListedCalls) -> FailsAtCalls<D>
-        ensures { result ≡ record { inside = inside; listed = listed; attaches = 0; reads = 0; writes = 0; flushes = 0; trims = 0; faults = 0 } }
+        ensures { result ≡ record { inside = inside; listed = listed; made = no_calls; faults = 0 } }
     {
         FailsAtCalls {
             inside,
             listed,
-            attaches: 0,
-            reads: 0,
-            writes: 0,
-            flushes: 0,
-            trims: 0,
+            made: CallCounts {
+                attaches: 0,
+                reads: 0,
+                writes: 0,
+                flushes: 0,
+                trims: 0,
+            },
             faults: 0,
         }
     }
@@ -61,23 +72,21 @@ impl<D> FailsAtCalls<D> {
 fn fault(faults: &mut u64) -> Result<(), Failed>
     ensures failed { IsErr result }
     ensures rose { Rose faults.old faults.new }
-    ensures later { faults.old ≤ faults.new }
 {
     *faults = faults.saturating_add(1);
     Err(Failed)
 }
 
 impl<D: SectorDisk> SectorDisk for FailsAtCalls<D> {
-    ghost attached = { λ f. D.attached f.inside };
+    ghost use Rattle.image_disk.specs.Failing.{disk_around};
 
-    ghost content = { λ f. D.content f.inside };
+    ghost seen = { disk_around D.seen };
 
-    ghost durable = { λ f. D.durable f.inside };
-
-    ghost faults = { λ f. f.faults };
-
-    fn attach(&mut self, name: &str, writable: bool) -> Result<u64, AttachStop> {
-        if is_listed(&self.listed.attaches, &mut self.attaches) {
+    fn attach(&mut self, name: &str, writable: bool) -> Result<u64, AttachStop>
+        ensures attached { Attaches name.now writable result (disk_around D.seen self.old) (disk_around D.seen self.new) }
+        ensures exactly { CallsThrough D.seen Attach (result ≡ Err AttachStop.Failed) (Attaches name.now writable result) self.old self.new }
+    {
+        if is_listed(&self.listed.attaches, &mut self.made.attaches) {
             self.faults = self.faults.saturating_add(1);
             return Err(AttachStop::Failed);
         }
@@ -91,8 +100,12 @@ impl<D: SectorDisk> SectorDisk for FailsAtCalls<D> {
         }
     }
 
-    fn read(&mut self, sector: u64, words: &mut SectorWords) -> Result<(), Failed> {
-        if is_listed(&self.listed.reads, &mut self.reads) {
+    fn read(&mut self, sector: u64, words: &mut SectorWords) -> Result<(), Failed>
+        requires { IsIn (attached_of (disk_around D.seen self.old)) sector }
+        ensures read { ReadsSector sector words.new result (disk_around D.seen self.old) (disk_around D.seen self.new) }
+        ensures exactly { CallsThrough D.seen Read (IsErr result) (ReadsSector sector words.new result) self.old self.new }
+    {
+        if is_listed(&self.listed.reads, &mut self.made.reads) {
             return fault(&mut self.faults);
         }
         match self.inside.read(sector, words) {
@@ -101,8 +114,12 @@ impl<D: SectorDisk> SectorDisk for FailsAtCalls<D> {
         }
     }
 
-    fn write(&mut self, sector: u64, words: &SectorWords) -> Result<(), Failed> {
-        if is_listed(&self.listed.writes, &mut self.writes) {
+    fn write(&mut self, sector: u64, words: &SectorWords) -> Result<(), Failed>
+        requires { IsIn (attached_of (disk_around D.seen self.old)) sector }
+        ensures written { WritesSector sector words.now result (disk_around D.seen self.old) (disk_around D.seen self.new) }
+        ensures exactly { CallsThrough D.seen Write (IsErr result) (WritesSector sector words.now result) self.old self.new }
+    {
+        if is_listed(&self.listed.writes, &mut self.made.writes) {
             return fault(&mut self.faults);
         }
         match self.inside.write(sector, words) {
@@ -111,8 +128,12 @@ impl<D: SectorDisk> SectorDisk for FailsAtCalls<D> {
         }
     }
 
-    fn flush(&mut self) -> Result<(), Failed> {
-        if is_listed(&self.listed.flushes, &mut self.flushes) {
+    fn flush(&mut self) -> Result<(), Failed>
+        requires { attached_of (disk_around D.seen self.old) ≢ None }
+        ensures flushed { Flushes result (disk_around D.seen self.old) (disk_around D.seen self.new) }
+        ensures exactly { CallsThrough D.seen Flush (IsErr result) (Flushes result) self.old self.new }
+    {
+        if is_listed(&self.listed.flushes, &mut self.made.flushes) {
             return fault(&mut self.faults);
         }
         match self.inside.flush() {
@@ -121,8 +142,12 @@ impl<D: SectorDisk> SectorDisk for FailsAtCalls<D> {
         }
     }
 
-    fn trim(&mut self, sector: u64, count: u64) -> Result<(), Failed> {
-        if is_listed(&self.listed.trims, &mut self.trims) {
+    fn trim(&mut self, sector: u64, count: u64) -> Result<(), Failed>
+        requires { AreIn (attached_of (disk_around D.seen self.old)) sector count }
+        ensures trimmed { Trims sector count result (disk_around D.seen self.old) (disk_around D.seen self.new) }
+        ensures exactly { CallsThrough D.seen Trim (IsErr result) (Trims sector count result) self.old self.new }
+    {
+        if is_listed(&self.listed.trims, &mut self.made.trims) {
             return fault(&mut self.faults);
         }
         match self.inside.trim(sector, count) {

@@ -1,10 +1,12 @@
 // A disk over a real file: the trusted edge.
-ghost use Rattle.std.specs.Prelude.{◌≡◌, ◌≤◌, None, OnOk, OnErr};
+ghost use Rattle.std.specs.Prelude.{◌≡◌, None, OnOk, OnErr};
 ghost use Rattle.blk_io.specs.Outside.{Rose};
 
+use crate::attachment::Attached;
 use blk_base::SectorWords;
 use blk_io::{AttachStop, Failed, SectorDisk};
 use byteorder::{ByteOrder, LittleEndian};
+use std::alloc::Global;
 use std::fs::{OpenFile, OpenOptions};
 use std::io;
 use std::os::unix::fs::FileExt;
@@ -13,21 +15,22 @@ use std::rt::Files;
 /// The bytes of a sector.
 const SECTOR: u64 = 512;
 
-/// A raw disk image in a file. Each error of the file is a fault; it tells nothing of what the file
-/// holds.
+/// A raw disk image in a file. Each error of the file is a fault; it exposes what is attached, and
+/// nothing of what the file holds.
 #[derive(Drop)]
 pub struct FileDisk<R: Files + Drop> {
     files: R,
     file: Option<R::File>,
-    attached: Option<u64>,
+    attached: Option<Attached>,
     faults: u64,
+    alloc: Global,
 }
 
 impl<R: Files + Drop> FileDisk<R> {
     ghost use Rattle.std.specs.Prelude.{◌≡◌};
 
     /// A disk to which no file is attached yet, and which has no fault.
-    pub fn new(files: R) -> FileDisk<R>
+    pub fn new(alloc: Global, files: R) -> FileDisk<R>
         ensures unattached { result.attached ≡ None }
         ensures no_faults { result.faults ≡ 0 }
     {
@@ -36,6 +39,7 @@ impl<R: Files + Drop> FileDisk<R> {
             file: None,
             attached: None,
             faults: 0,
+            alloc,
         }
     }
 }
@@ -52,7 +56,6 @@ fn open<R: Files>(files: &R, name: &str, writable: bool) -> io::Result<(R::File,
 // Counts an error of the file as a fault.
 fn counted(outcome: io::Result<()>, faults: &mut u64) -> Result<(), Failed>
     ensures unfailed { OnOk result (faults.new ≡ faults.old) }
-    ensures later { faults.old ≤ faults.new }
     ensures failed { OnErr result (Rose faults.old faults.new) }
 {
     match outcome {
@@ -76,19 +79,15 @@ impl<R: Files + Drop> SectorDisk for FileDisk<R>
 where
     R::File: FileExt,
 {
-    ghost attached = { λ d. d.attached };
+    ghost use Rattle.std.specs.Prelude.{None};
 
-    ghost content = { λ _. None };
-
-    ghost durable = { λ _. None };
-
-    ghost faults = { λ d. d.faults };
+    ghost seen = { λ d. record { attachment = d.attached; content = None; stable = None; faults = d.faults } };
 
     fn attach(&mut self, name: &str, writable: bool) -> Result<u64, AttachStop> {
         match open(&self.files, name, writable) {
             Ok((file, sectors)) => {
+                self.attached = Some(Attached::new(self.alloc, name, writable, sectors)?);
                 self.file = Some(file);
-                self.attached = Some(sectors);
                 Ok(sectors)
             }
             Err(_) => {

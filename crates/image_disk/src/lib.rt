@@ -1,13 +1,14 @@
-//! Disk images of 512-byte sectors: one in memory, which tells its content, one that fails at
-//! listed calls, and one over a real file, the trusted edge, which tells nothing. A tail of a file
-//! that is shorter than a sector is never touched.
+//! Disk images of 512-byte sectors: one in memory, which exposes its content, one that fails at
+//! listed calls, and one over a real file, the trusted edge, which exposes no content. A tail of a
+//! file that is shorter than a sector is never touched.
 #![tactic(auto)]
 
+mod attachment;
 mod failing;
 mod file;
 mod memory;
 
-pub use failing::{FailsAtCalls, ListedCalls};
+pub use failing::{CallCounts, FailsAtCalls, ListedCalls};
 pub use file::FileDisk;
 pub use memory::MemoryDisk;
 

@@ -2,6 +2,7 @@
 ghost use Rattle.std.specs.Prelude.{◌≡◌, ◌≤◌, ◌+◌, IfOk, length, None};
 ghost use Rattle.blk_io.specs.Disk.{zeroed};
 
+use crate::attachment::Attached;
 use blk_base::{OutOfMemory, SectorWords};
 use blk_io::{AttachStop, Failed, SectorDisk};
 use std::alloc::Global;
@@ -11,32 +12,34 @@ use std::marker::Model;
 #[derive(Drop)]
 pub struct MemoryDisk {
     content: Vec<SectorWords>,
-    durable: Vec<SectorWords>,
-    attached: bool,
+    stable: Vec<SectorWords>,
+    attached: Option<Attached>,
+    alloc: Global,
 }
 
 impl Model for MemoryDisk {
-    ghost use Rattle.std.specs.Prelude.{◌≡◌, length, Some, None, if◌then◌else◌};
-    ghost use Rattle.image_disk.specs.Image.{Image};
+    ghost use Rattle.std.specs.Prelude.{◌≡◌, length};
+    ghost use Rattle.image_disk.specs.Image.{Image, AreAttached};
 
     ghost Value = { Image };
 
-    ghost view = { λ d. record { content = d.content.items; durable = d.durable.items; attached = if d.attached then Some (length d.content.items) else None } };
+    ghost view = { λ d. record { attachment = d.attached; content = d.content.items; stable = d.stable.items } };
 
-    ghost invariant = { λ d. length d.durable.items ≡ length d.content.items };
+    ghost invariant = { λ d. (length d.stable.items ≡ length d.content.items) × AreAttached d.attached (length d.content.items) };
 }
 
 impl MemoryDisk {
     /// A disk that holds these sectors, all of them stable, and isn't attached.
     pub fn new(alloc: Global, sectors: Vec<SectorWords>) -> Result<MemoryDisk, OutOfMemory>
-        ensures { IfOk result (λ disk. disk ≡ record { content = sectors.items; durable = sectors.items; attached = None }) }
+        ensures { IfOk result (λ disk. disk ≡ record { attachment = None; content = sectors.items; stable = sectors.items }) }
     {
-        let mut durable = Vec::new(alloc);
-        durable.extend_from_slice(sectors.as_slice())?;
+        let mut stable = Vec::new(alloc);
+        stable.extend_from_slice(sectors.as_slice())?;
         Ok(MemoryDisk {
             content: sectors,
-            durable,
-            attached: false,
+            stable,
+            attached: None,
+            alloc,
         })
     }
 
@@ -48,10 +51,10 @@ impl MemoryDisk {
     }
 
     /// The words of each sector in stable storage.
-    pub fn durable(&self) -> &[SectorWords]
-        ensures { result.now ≡ self.now.durable }
+    pub fn stable(&self) -> &[SectorWords]
+        ensures { result.now ≡ self.now.stable }
     {
-        self.durable.as_slice()
+        self.stable.as_slice()
     }
 }
 
@@ -66,19 +69,14 @@ fn clear(sectors: &mut [SectorWords], sector: usize, count: usize)
 }
 
 impl SectorDisk for MemoryDisk {
-    ghost use Rattle.std.specs.Prelude.{Some};
+    ghost use Rattle.image_disk.specs.Image.{image_seen};
 
-    ghost attached = { λ d. d.attached };
+    ghost seen = { image_seen };
 
-    ghost content = { λ d. Some d.content };
-
-    ghost durable = { λ d. Some d.durable };
-
-    ghost faults = { λ _. 0 };
-
-    fn attach(&mut self, _name: &str, _writable: bool) -> Result<u64, AttachStop> {
-        self.attached = true;
-        Ok(self.content.len() as u64)
+    fn attach(&mut self, name: &str, writable: bool) -> Result<u64, AttachStop> {
+        let sectors = self.content.len() as u64;
+        self.attached = Some(Attached::new(self.alloc, name, writable, sectors)?);
+        Ok(sectors)
     }
 
     fn read(&mut self, sector: u64, words: &mut SectorWords) -> Result<(), Failed> {
@@ -92,7 +90,7 @@ impl SectorDisk for MemoryDisk {
     }
 
     fn flush(&mut self) -> Result<(), Failed> {
-        self.durable.copy_from_slice(self.content.as_slice());
+        self.stable.copy_from_slice(self.content.as_slice());
         Ok(())
     }
 

@@ -22,8 +22,8 @@ fn a_disk_in_memory_reads_what_was_written_and_discarded(rt: HostRuntime) -> Res
     disk.trim(0, 1)?;
     disk.read(0, &mut words)?;
     assert_eq!(rt; words, [0u32; 128]);
-    assert_eq!(rt; disk.durable().len(), 2);
-    assert_eq!(rt; disk.durable()[0], [1u32; 128]);
+    assert_eq!(rt; disk.stable().len(), 2);
+    assert_eq!(rt; disk.stable()[0], [1u32; 128]);
     disk.flush()?;
     assert_eq!(rt; disk.content().len(), 2);
     assert_eq!(rt; disk.content()[1], [7u32; 128]);
@@ -60,7 +60,7 @@ fn a_short_tail_of_a_file_is_never_touched(rt: HostRuntime) -> Result<(), Fail> 
         image.push(9u8)?;
     }
     fs::write(&rt, "tail.image", image.as_slice())?;
-    let mut disk = FileDisk::new(rt.clone()?);
+    let mut disk = FileDisk::new(rt.alloc(), rt.clone()?);
     assert_eq!(rt; disk.attach("tail.image", true)?, 2);
     let mut words = [0u32; 128];
     disk.read(1, &mut words)?;

@@ -1,11 +1,10 @@
 -- A text written piece by piece.
-use Rattle.std.proofs.Common.{◌≡◌, ℕ, zero, suc, ◌+◌, ◌-◌, ◌%◌, ◌^◌, ◌<◌, ◌≤◌, List, [], ◌∷◌, ◌++◌, Option, Some, None, Result, Ok, Err, OnOk, OnErr, length, take, drop, get_or, refl, sym, ap, ◌∙◌, subst, inl, inr, arith, length-append, append_assoc, append-nil, add-one}
+use Rattle.std.proofs.Common.{◌≡◌, ℕ, zero, suc, ◌+◌, ◌-◌, ◌%◌, ◌^◌, ◌<◌, ◌≤◌, List, [], ◌∷◌, ◌++◌, Option, Some, None, Result, Ok, Err, length, take, drop, get_or, refl, sym, ap, ◌∙◌, subst, arith, length-append, append_assoc, append-nil, add-one}
 use Rattle.std.proofs.lemmas.List.{take-append-le, take_more, take-append-drop}
 use Rattle.std.proofs.lemmas.List.Concat.{flat_map-append}
 use Rattle.std.proofs.lemmas.Bool.{le-ltb}
-use Rattle.std.proofs.lemmas.Result.{on_err_weaker, on_ok_weaker}
 use Rattle.std.specs.List.{flat_map}
-use Rattle.blk_io.specs.Outside.{Rose, written, IsPartlyWritten}
+use Rattle.blk_io.specs.Outside.{Rose, written, SinkSeen, TakesBytes, FailsWriting, WritesBytes}
 use Rattle.blk_base.specs.declared.operation.Abi.{Abi}
 use Rattle.blk_base.specs.declared.operation.Abi.TheVariants.{X64, X32}
 use Rattle.blk_base.specs.Distance.{distance_of}
@@ -13,11 +12,6 @@ use Rattle.blk_layout.specs.Places.{places_of}
 use Rattle.ring_words.specs.Shape.{Shape, entries_of, entry_words_of}
 use Rattle.ring_inspect.specs.Text.{indices_text, entries_text, request_text, requests_text}
 use Rattle.ring_inspect.specs.Ring.{request_at, listed, word_of, words_from, body_text, ring_text}
-
--- what holds anyway holds after an error
-pub on_any : {T E P : Type 0} (r : Result T E) → P → OnErr r P
-on_any (Ok x) p = tt
-on_any (Err e) p = p
 
 pub written_twice : (held : Option (List ℕ)) (a b : List ℕ) → written (written held a) b ≡ written held (a ++ b)
 written_twice None a b = refl
@@ -33,50 +27,69 @@ take-behind (x ∷ a) b n =
     let e : length (x ∷ a) + n ≡ suc (length a + n) = omega arith in
     ap (λ k. take k (x ∷ (a ++ b))) e ∙ ap (λ t. x ∷ t) (take-behind a b n)
 
--- a beginning of the first piece is a beginning of both
-pub partly_first : (held after : Option (List ℕ)) (a b : List ℕ) → IsPartlyWritten held a after → IsPartlyWritten held (a ++ b) after
-partly_first held after a b p =
-    let shorter = p.1 in
-    (p.0, omega (arith, length-append a b), p.2 ∙ ap (written held) (sym (take-append-le p.0 a b shorter)))
+-- no piece
+pub takes_none : (a : SinkSeen) → TakesBytes [] a a
+takes_none a = record { held = written_none a.held; faults = refl }
 
--- a beginning of the second piece, behind the whole first one
-pub partly_second : (held middle after : Option (List ℕ)) (a b : List ℕ) → middle ≡ written held a → IsPartlyWritten middle b after → IsPartlyWritten held (a ++ b) after
-partly_second held middle after a b e p =
-    let shorter = p.1 in
-    (length a + p.0, omega (arith, length-append a b), p.2 ∙ (ap (λ h. written h (take p.0 b)) e ∙ (written_twice held a (take p.0 b) ∙ ap (written held) (sym (take-behind a b p.0)))))
+-- a piece, and then another
+pub takes_twice : (x y : List ℕ) (a b c : SinkSeen) → TakesBytes x a b → TakesBytes y b c → TakesBytes (x ++ y) a c
+takes_twice x y a b c p q = record {
+  held = q.held ∙ (ap (λ h. written h y) p.held ∙ written_twice a.held x y);
+  faults = q.faults ∙ p.faults;
+}
 
--- a count that fell nowhere and then rose
-pub rose_from : (a b c : ℕ) → a ≤ b → Rose b c → Rose a c
-rose_from a b c le (inl up) = inl (omega arith)
-rose_from a b c le (inr top) = inr top
+-- the sink failed in the first piece
+pub fails_first : (x y : List ℕ) (a b : SinkSeen) → FailsWriting x a b → FailsWriting (x ++ y) a b
+fails_first x y a b p =
+    let part = p.held in
+    let shorter = part.1 in
+    record { held = (part.0, omega (arith, length-append x y), part.2 ∙ ap (written a.held) (sym (take-append-le part.0 x y shorter))); rose = p.rose }
+
+-- the sink failed in the second piece
+pub fails_last : (x y : List ℕ) (a b c : SinkSeen) → TakesBytes x a b → FailsWriting y b c → FailsWriting (x ++ y) a c
+fails_last x y a b c p q =
+    let part = q.held in
+    let shorter = part.1 in
+    let next = take part.0 y in
+    let held = part.2 ∙ (ap (λ h. written h next) p.held ∙ (written_twice a.held x next ∙ ap (written a.held) (sym (take-behind x y part.0)))) in
+    record {
+      held = (length x + part.0, omega (arith, length-append x y), held);
+      rose = subst (λ f. Rose f c.faults) p.faults q.rose;
+    }
+
+-- a piece, and then what a write of another made
+pub writes_then : {E : Type 0} (x y : List ℕ) (r : Result (Unit {0}) E) (a b c : SinkSeen) → TakesBytes x a b → WritesBytes y r b c → WritesBytes (x ++ y) r a c
+writes_then x y (Ok done) a b c p q = takes_twice x y a b c p q
+writes_then x y (Err failed) a b c p q = fails_last x y a b c p q
+
+-- the same piece by another name
+pub writes_as : {E : Type 0} (x y : List ℕ) (r : Result (Unit {0}) E) (a b : SinkSeen) → x ≡ y → WritesBytes x r a b → WritesBytes y r a b
+writes_as x y r a b same p = subst (λ t. WritesBytes t r a b) same p
 
 module _ {X : Type 0} (f : X → List ℕ) where
-  pub flat_more : (xs : List X) (i : ℕ) (d : X) → i < length xs → flat_map f (take (i + 1) xs) ≡ flat_map f (take i xs) ++ f (get_or xs i d)
+  flat_more : (xs : List X) (i : ℕ) (d : X) → i < length xs → flat_map f (take (i + 1) xs) ≡ flat_map f (take i xs) ++ f (get_or xs i d)
   flat_more xs i d lt =
       ap (flat_map f) (take_more xs i d lt) ∙ (flat_map-append f (take i xs) (get_or xs i d ∷ []) ∙ ap (λ t. flat_map f (take i xs) ++ t) (append-nil (f (get_or xs i d))))
 
-  -- a beginning of one piece among many
-  pub partly_among : (xs : List X) (i : ℕ) (d : X) (held middle after : Option (List ℕ)) → i < length xs → middle ≡ written held (flat_map f (take i xs)) → IsPartlyWritten middle (f (get_or xs i d)) after → IsPartlyWritten held (flat_map f xs) after
-  partly_among xs i d held middle after lt e p =
+  -- one piece more
+  pub takes_more : (xs : List X) (i : ℕ) (d : X) (a b c : SinkSeen) → i < length xs → TakesBytes (flat_map f (take i xs)) a b → TakesBytes (f (get_or xs i d)) b c → TakesBytes (flat_map f (take (i + 1) xs)) a c
+  takes_more xs i d a b c lt p q = subst (λ t. TakesBytes t a c) (sym (flat_more xs i d lt)) (takes_twice _ _ a b c p q)
+
+  -- the sink failed in one piece among many
+  pub fails_among : (xs : List X) (i : ℕ) (d : X) (a b c : SinkSeen) → i < length xs → TakesBytes (flat_map f (take i xs)) a b → FailsWriting (f (get_or xs i d)) b c → FailsWriting (flat_map f xs) a c
+  fails_among xs i d a b c lt p q =
       let rest = flat_map f (drop (i + 1) xs) in
       let whole : flat_map f xs ≡ (flat_map f (take i xs) ++ f (get_or xs i d)) ++ rest =
       ap (flat_map f) (sym (take-append-drop (i + 1) xs)) ∙ (flat_map-append f (take (i + 1) xs) (drop (i + 1) xs) ∙ ap (λ t. t ++ rest) (flat_more xs i d lt)) in
-      subst (λ t. IsPartlyWritten held t after) (sym whole) (partly_first held after _ rest (partly_second held middle after _ _ e p))
-
-  -- one piece more
-  pub one_more : (xs : List X) (i : ℕ) (d : X) (held middle after : Option (List ℕ)) → i < length xs → middle ≡ written held (flat_map f (take i xs)) → after ≡ written middle (f (get_or xs i d)) → after ≡ written held (flat_map f (take (i + 1) xs))
-  one_more xs i d held middle after lt e p =
-      p ∙ (ap (λ h. written h (f (get_or xs i d))) e ∙ (written_twice held (flat_map f (take i xs)) (f (get_or xs i d)) ∙ ap (written held) (sym (flat_more xs i d lt))))
+      subst (λ t. FailsWriting t a c) (sym whole) (fails_first _ rest a c (fails_last _ _ a b c p q))
 
 pub listed-more : (shape : Shape) (bytes : List ℕ) (from count : ℕ) → listed shape bytes from (count + 1) ≡ listed shape bytes from count ++ request_text ((from + count) % 2 ^ 32) (request_at shape bytes ((from + count) % 2 ^ 32))
 unfolding listed
 listed-more shape bytes from count = rw add-one refl
 
-pub listed_one_more : (shape : Shape) (bytes : List ℕ) (from i : ℕ) (held middle after : Option (List ℕ)) → middle ≡ written held (listed shape bytes from i) → after ≡ written middle (request_text ((from + i) % 2 ^ 32) (request_at shape bytes ((from + i) % 2 ^ 32))) → after ≡ written held (listed shape bytes from (i + 1))
-listed_one_more shape bytes from i held middle after e p =
-    let index = (from + i) % 2 ^ 32 in
-    let here = request_text index (request_at shape bytes index) in
-    p ∙ (ap (λ h. written h here) e ∙ (written_twice held (listed shape bytes from i) here ∙ ap (written held) (sym (listed-more shape bytes from i))))
+-- one request more
+pub takes_listed : (shape : Shape) (bytes : List ℕ) (from i : ℕ) (a b c : SinkSeen) → TakesBytes (listed shape bytes from i) a b → TakesBytes (request_text ((from + i) % 2 ^ 32) (request_at shape bytes ((from + i) % 2 ^ 32))) b c → TakesBytes (listed shape bytes from (i + 1)) a c
+takes_listed shape bytes from i a b c p q = subst (λ t. TakesBytes t a c) (sym (listed-more shape bytes from i)) (takes_twice _ _ a b c p q)
 
 -- the first requests are a beginning of more of them
 listed-rest : (shape : Shape) (bytes : List ℕ) (from first more : ℕ) → (rest : List ℕ) × (listed shape bytes from (first + more) ≡ listed shape bytes from first ++ rest)
@@ -87,14 +100,15 @@ listed-rest shape bytes from first (suc more) =
     let next = request_text index (request_at shape bytes index) in
     (before.0 ++ next, ap (listed shape bytes from) (omega arith) ∙ (listed-more shape bytes from (first + more) ∙ (ap (λ t. t ++ next) before.1 ∙ append_assoc (listed shape bytes from first) before.0 next)))
 
-pub partly_listed : (shape : Shape) (bytes : List ℕ) (from count i : ℕ) (held middle after : Option (List ℕ)) → i < count → middle ≡ written held (listed shape bytes from i) → IsPartlyWritten middle (request_text ((from + i) % 2 ^ 32) (request_at shape bytes ((from + i) % 2 ^ 32))) after → IsPartlyWritten held (listed shape bytes from count) after
-partly_listed shape bytes from count i held middle after lt e p =
+-- the sink failed in one request among many
+pub fails_listed : (shape : Shape) (bytes : List ℕ) (from count i : ℕ) (a b c : SinkSeen) → i < count → TakesBytes (listed shape bytes from i) a b → FailsWriting (request_text ((from + i) % 2 ^ 32) (request_at shape bytes ((from + i) % 2 ^ 32))) b c → FailsWriting (listed shape bytes from count) a c
+fails_listed shape bytes from count i a b c lt p q =
     let index = (from + i) % 2 ^ 32 in
     let here = request_text index (request_at shape bytes index) in
     let rest = listed-rest shape bytes from (i + 1) (count - (i + 1)) in
     let all : listed shape bytes from count ≡ (listed shape bytes from i ++ here) ++ rest.0 =
     ap (listed shape bytes from) (omega arith) ∙ (rest.1 ∙ ap (λ t. t ++ rest.0) (listed-more shape bytes from i)) in
-    subst (λ t. IsPartlyWritten held t after) (sym all) (partly_first held after _ rest.0 (partly_second held middle after _ _ e p))
+    subst (λ t. FailsWriting t a c) (sym all) (fails_first _ rest.0 a c (fails_last _ _ a b c p q))
 
 pub words_from-more : (bytes : List ℕ) (at count : ℕ) → words_from bytes at (count + 1) ≡ words_from bytes at count ++ word_of bytes (at + count) ∷ []
 unfolding words_from
@@ -126,18 +140,11 @@ pub entry_long : (abi abi' : Abi) (words bytes : List ℕ) (at count : ℕ) → 
 entry_long abi abi' words bytes at count same e w =
     ap length w ∙ (length-words_from count bytes at ∙ (e ∙ (ap entry_words_of (sym same) ∙ entry_size abi)))
 
--- one text behind another, where the second may stop early
-pub then_ok : {T E : Type 0} (r : Result T E) (held middle after : Option (List ℕ)) (a b : List ℕ) → middle ≡ written held a → OnOk r (after ≡ written middle b) → OnOk r (after ≡ written held (a ++ b))
-then_ok r held middle after a b e p = on_ok_weaker r (λ q. q ∙ (ap (λ h. written h b) e ∙ written_twice held a b)) p
-
-pub then_err : {T E : Type 0} (r : Result T E) (held middle after : Option (List ℕ)) (a b : List ℕ) → middle ≡ written held a → OnErr r (IsPartlyWritten middle b after) → OnErr r (IsPartlyWritten held (a ++ b) after)
-then_err r held middle after a b e p = on_err_weaker r (partly_second held middle after a b e) p
-
 -- where no more requests wait than there are entries
 pub body_shown : (shape : Shape) (bytes : List ℕ) (rsp_prod count : ℕ) → count ≤ entries_of shape.order → body_text shape bytes rsp_prod count ≡ requests_text count ++ listed shape bytes rsp_prod count
 body_shown shape bytes rsp_prod count few = rw (le-ltb (entries_of shape.order) count few) refl
 
--- the three parts of a ring's text
+-- a ring's text in three parts
 module _ (shape : Shape) (bytes : List ℕ) where
   abbrev first_line : List ℕ
   first_line = indices_text (word_of bytes 0) (word_of bytes 1) (word_of bytes 2) (word_of bytes 3)
@@ -148,17 +155,11 @@ module _ (shape : Shape) (bytes : List ℕ) where
   abbrev body : List ℕ
   body = body_text shape bytes (word_of bytes 2) (distance_of (word_of bytes 2) (word_of bytes 0))
 
-  pub partly_in_first : (held after : Option (List ℕ)) → IsPartlyWritten held first_line after → IsPartlyWritten held (ring_text shape bytes) after
-  partly_in_first held after p = partly_first held after (first_line ++ second_line) body (partly_first held after first_line second_line p)
+  pub fails_in_first : (a b : SinkSeen) → FailsWriting first_line a b → FailsWriting (ring_text shape bytes) a b
+  fails_in_first a b p = fails_first (first_line ++ second_line) body a b (fails_first first_line second_line a b p)
 
-  pub partly_in_second : (held middle after : Option (List ℕ)) → middle ≡ written held first_line → IsPartlyWritten middle second_line after → IsPartlyWritten held (ring_text shape bytes) after
-  partly_in_second held middle after e p = partly_first held after (first_line ++ second_line) body (partly_second held middle after first_line second_line e p)
+  pub fails_in_second : (a b c : SinkSeen) → TakesBytes first_line a b → FailsWriting second_line b c → FailsWriting (ring_text shape bytes) a c
+  fails_in_second a b c p q = fails_first (first_line ++ second_line) body a c (fails_last first_line second_line a b c p q)
 
-  both_lines : (held first second : Option (List ℕ)) → first ≡ written held first_line → second ≡ written first second_line → second ≡ written held (first_line ++ second_line)
-  both_lines held first second e f = f ∙ (ap (λ h. written h second_line) e ∙ written_twice held first_line second_line)
-
-  pub whole_text : {T E : Type 0} (r : Result T E) (held first second after : Option (List ℕ)) → first ≡ written held first_line → second ≡ written first second_line → OnOk r (after ≡ written second body) → OnOk r (after ≡ written held (ring_text shape bytes))
-  whole_text r held first second after e f p = then_ok r held second after (first_line ++ second_line) body (both_lines held first second e f) p
-
-  pub partly_in_body : {T E : Type 0} (r : Result T E) (held first second after : Option (List ℕ)) → first ≡ written held first_line → second ≡ written first second_line → OnErr r (IsPartlyWritten second body after) → OnErr r (IsPartlyWritten held (ring_text shape bytes) after)
-  partly_in_body r held first second after e f p = then_err r held second after (first_line ++ second_line) body (both_lines held first second e f) p
+  pub writes_body : {E : Type 0} (r : Result (Unit {0}) E) (a b c d : SinkSeen) → TakesBytes first_line a b → TakesBytes second_line b c → WritesBytes body r c d → WritesBytes (ring_text shape bytes) r a d
+  writes_body r a b c d p q w = writes_then (first_line ++ second_line) body r a c d (takes_twice first_line second_line a b c p q) w

@@ -86,7 +86,8 @@ pub fn page(gref: u32) -> Line
 // Adds what requests of all forms have: the device, the front's number and the first sector.
 fn put_common(line: &mut Line, device: u16, id: u64, sector: u64)
     requires { array_string_len line.old ≤ 111 }
-    ensures appended { line.new.bytes ≡ line.old.bytes ++ codes " device " ++ decimal device ++ codes " id " ++ decimal id ++ codes " sector " ++ decimal sector }
+    ensures appended { line.new.bytes ≡ line.old.bytes ++ codes " device " ++ decimal device ++ codes " id " ++ decimal id
+        ++ codes " sector " ++ decimal sector }
     ensures short { array_string_len line.new ≤ array_string_len line.old + 80 }
 {
     put(line, " device ", u64::from(device));

@@ -1,7 +1,7 @@
 // A ring's text, line by line.
-ghost use Rattle.std.specs.Prelude.{◌≡◌, ◌≢◌, ◌+◌, ◌*◌, ◌%◌, ◌^◌, ◌<◌, ◌≤◌, ◌++◌, OnOk, OnErr, IfErr, length};
+ghost use Rattle.std.specs.Prelude.{◌≡◌, ◌≢◌, ◌+◌, ◌*◌, ◌%◌, ◌^◌, ◌<◌, ◌≤◌, ◌++◌, OnOk, IfErr, length};
 ghost use Rattle.std.specs.List.{flat_map};
-ghost use Rattle.blk_io.specs.Outside.{Rose, written, IsPartlyWritten};
+ghost use Rattle.blk_io.specs.Outside.{WritesBytes};
 ghost use Rattle.ring_words.specs.Shape.{entry_words_of, ring_word_of};
 ghost use Rattle.ring_inspect.specs.Text.{segment_text, page_text, named_lines, request_text};
 ghost use Rattle.ring_inspect.specs.Ring.{word_of, words_from, request_at, listed, body_text, ring_text};
@@ -28,15 +28,10 @@ pub fn inspect<S: Source, O: Sink>(
     sink: &mut O,
 ) -> Result<(), InspectStop>
     requires { order ≤ 4 }
-    ensures shown { OnOk result (IsShown (S.left source.old) (record { abi = abi; order = order }) (O.held sink.old) (O.held sink.new)) }
-    ensures stopped { IfErr result (Stopped (S.left source.old) (record { abi = abi; order = order }) (S.faults source.old) (S.faults source.new) (O.faults sink.old) (O.faults sink.new) (O.held sink.old) (O.held sink.new)) }
-    // A source that failed is said to have.
-    ensures source_unfailed { OnOk result (S.faults source.new ≡ S.faults source.old) × IfErr result (λ stop. stop ≢ InspectStop.Source → S.faults source.new ≡ S.faults source.old) }
-    // So is a sink; at any other stop nothing was asked of it.
-    ensures sink_unfailed { OnOk result (O.faults sink.new ≡ O.faults sink.old) }
+    ensures shown { OnOk result (IsShown (record { abi = abi; order = order }) (S.seen source.old) (S.seen source.new) (O.seen sink.old) (O.seen sink.new)) }
+    ensures stopped { IfErr result (Stopped (record { abi = abi; order = order }) (S.seen source.old) (S.seen source.new) (O.seen sink.old) (O.seen sink.new)) }
+    // Nothing is asked of the sink before the ring was read.
     ensures untouched { IfErr result (λ stop. stop ≢ InspectStop.Sink → sink.new ≡ sink.old) }
-    ensures source_later { S.faults source.old ≤ S.faults source.new }
-    ensures sink_later { O.faults sink.old ≤ O.faults sink.new }
 {
     let shape = RingShape::of(abi, order);
     let bytes = read_ring(alloc, source, 4096 << order)?;
@@ -54,11 +49,7 @@ fn print_ring<O: Sink>(
 ) -> Result<(), Failed>
     requires abi { abi ≡ shape.now.abi }
     requires size { length bytes.now ≡ bytes_of shape.now.order }
-    ensures ok { OnOk result (O.held sink.new ≡ written (O.held sink.old) (ring_text shape.now bytes.now)) }
-    ensures err { OnErr result (IsPartlyWritten (O.held sink.old) (ring_text shape.now bytes.now) (O.held sink.new)) }
-    ensures unfailed { OnOk result (O.faults sink.new ≡ O.faults sink.old) }
-    ensures later { O.faults sink.old ≤ O.faults sink.new }
-    ensures failed { OnErr result (Rose (O.faults sink.old) (O.faults sink.new)) }
+    ensures { WritesBytes (ring_text shape.now bytes.now) result (O.seen sink.old) (O.seen sink.new) }
 {
     let req_prod = word(bytes, 0);
     let rsp_prod = word(bytes, 2);
@@ -71,11 +62,7 @@ fn print_ring<O: Sink>(
 
 // One line.
 fn print<O: Sink>(sink: &mut O, line: &Line) -> Result<(), Failed>
-    ensures ok { OnOk result (O.held sink.new ≡ written (O.held sink.old) line.now.bytes) }
-    ensures err { OnErr result (IsPartlyWritten (O.held sink.old) line.now.bytes (O.held sink.new)) }
-    ensures unfailed { OnOk result (O.faults sink.new ≡ O.faults sink.old) }
-    ensures later { O.faults sink.old ≤ O.faults sink.new }
-    ensures failed { OnErr result (Rose (O.faults sink.old) (O.faults sink.new)) }
+    ensures { WritesBytes line.now.bytes result (O.seen sink.old) (O.seen sink.new) }
 {
     sink.write(line.as_str().as_bytes())
 }
@@ -90,11 +77,7 @@ fn print_body<O: Sink>(
 ) -> Result<(), Failed>
     requires abi { abi ≡ shape.now.abi }
     requires size { length bytes.now ≡ bytes_of shape.now.order }
-    ensures ok { OnOk result (O.held sink.new ≡ written (O.held sink.old) (body_text shape.now bytes.now rsp_prod count)) }
-    ensures err { OnErr result (IsPartlyWritten (O.held sink.old) (body_text shape.now bytes.now rsp_prod count) (O.held sink.new)) }
-    ensures unfailed { OnOk result (O.faults sink.new ≡ O.faults sink.old) }
-    ensures later { O.faults sink.old ≤ O.faults sink.new }
-    ensures failed { OnErr result (Rose (O.faults sink.old) (O.faults sink.new)) }
+    ensures { WritesBytes (body_text shape.now bytes.now rsp_prod count) result (O.seen sink.old) (O.seen sink.new) }
 {
     if count > shape.entries() {
         return print(sink, &line::overrun(count));
@@ -113,11 +96,7 @@ fn print_requests<O: Sink>(
 ) -> Result<(), Failed>
     requires abi { abi ≡ shape.now.abi }
     requires size { length bytes.now ≡ bytes_of shape.now.order }
-    ensures ok { OnOk result (O.held sink.new ≡ written (O.held sink.old) (listed shape.now bytes.now from count)) }
-    ensures err { OnErr result (IsPartlyWritten (O.held sink.old) (listed shape.now bytes.now from count) (O.held sink.new)) }
-    ensures unfailed { OnOk result (O.faults sink.new ≡ O.faults sink.old) }
-    ensures later { O.faults sink.old ≤ O.faults sink.new }
-    ensures failed { OnErr result (Rose (O.faults sink.old) (O.faults sink.new)) }
+    ensures { WritesBytes (listed shape.now bytes.now from count) result (O.seen sink.old) (O.seen sink.new) }
 {
     for i in 0..count {
         let index = from.wrapping_add(i);
@@ -128,11 +107,7 @@ fn print_requests<O: Sink>(
 }
 
 fn print_request<O: Sink>(sink: &mut O, index: u32, request: &RawRequest) -> Result<(), Failed>
-    ensures ok { OnOk result (O.held sink.new ≡ written (O.held sink.old) (request_text index request.now)) }
-    ensures err { OnErr result (IsPartlyWritten (O.held sink.old) (request_text index request.now) (O.held sink.new)) }
-    ensures unfailed { OnOk result (O.faults sink.new ≡ O.faults sink.old) }
-    ensures later { O.faults sink.old ≤ O.faults sink.new }
-    ensures failed { OnErr result (Rose (O.faults sink.old) (O.faults sink.new)) }
+    ensures { WritesBytes (request_text index request.now) result (O.seen sink.old) (O.seen sink.new) }
 {
     print(sink, &line::request(index, request))?;
     print_named(sink, request)
@@ -140,11 +115,7 @@ fn print_request<O: Sink>(sink: &mut O, index: u32, request: &RawRequest) -> Res
 
 // The segments or the pages that a request names.
 fn print_named<O: Sink>(sink: &mut O, request: &RawRequest) -> Result<(), Failed>
-    ensures ok { OnOk result (O.held sink.new ≡ written (O.held sink.old) (named_lines request.now)) }
-    ensures err { OnErr result (IsPartlyWritten (O.held sink.old) (named_lines request.now) (O.held sink.new)) }
-    ensures unfailed { OnOk result (O.faults sink.new ≡ O.faults sink.old) }
-    ensures later { O.faults sink.old ≤ O.faults sink.new }
-    ensures failed { OnErr result (Rose (O.faults sink.old) (O.faults sink.new)) }
+    ensures { WritesBytes (named_lines request.now) result (O.seen sink.old) (O.seen sink.new) }
 {
     match request {
         RawRequest::Direct {
@@ -164,11 +135,7 @@ fn print_named<O: Sink>(sink: &mut O, request: &RawRequest) -> Result<(), Failed
 }
 
 fn print_segments<O: Sink>(sink: &mut O, segments: &[Segment]) -> Result<(), Failed>
-    ensures ok { OnOk result (O.held sink.new ≡ written (O.held sink.old) (flat_map segment_text segments.now)) }
-    ensures err { OnErr result (IsPartlyWritten (O.held sink.old) (flat_map segment_text segments.now) (O.held sink.new)) }
-    ensures unfailed { OnOk result (O.faults sink.new ≡ O.faults sink.old) }
-    ensures later { O.faults sink.old ≤ O.faults sink.new }
-    ensures failed { OnErr result (Rose (O.faults sink.old) (O.faults sink.new)) }
+    ensures { WritesBytes (flat_map segment_text segments.now) result (O.seen sink.old) (O.seen sink.new) }
 {
     for segment in segments {
         print(sink, &line::segment(segment))?;
@@ -177,11 +144,7 @@ fn print_segments<O: Sink>(sink: &mut O, segments: &[Segment]) -> Result<(), Fai
 }
 
 fn print_pages<O: Sink>(sink: &mut O, pages: &[u32]) -> Result<(), Failed>
-    ensures ok { OnOk result (O.held sink.new ≡ written (O.held sink.old) (flat_map page_text pages.now)) }
-    ensures err { OnErr result (IsPartlyWritten (O.held sink.old) (flat_map page_text pages.now) (O.held sink.new)) }
-    ensures unfailed { OnOk result (O.faults sink.new ≡ O.faults sink.old) }
-    ensures later { O.faults sink.old ≤ O.faults sink.new }
-    ensures failed { OnErr result (Rose (O.faults sink.old) (O.faults sink.new)) }
+    ensures { WritesBytes (flat_map page_text pages.now) result (O.seen sink.old) (O.seen sink.new) }
 {
     for page in pages {
         print(sink, &line::page(*page))?;

@@ -1,7 +1,6 @@
 // A ring's bytes from a source.
-ghost use Rattle.std.specs.Prelude.{◌≡◌, ◌≢◌, ◌+◌, ◌<◌, ◌≤◌, ◌^◌, OnOk, IfOk, IfErr, length};
-ghost use Rattle.blk_io.specs.Outside.{Rose};
-ghost use Rattle.ring_inspect.specs.Stop.{AreAll, IsNoRing};
+ghost use Rattle.std.specs.Prelude.{◌≡◌, ◌≢◌, ◌<◌, ◌^◌, IfOk, IfErr, length};
+ghost use Rattle.ring_inspect.specs.Stop.{GivesRing, IsNoRing};
 
 use crate::stop::InspectStop;
 use blk_io::{Failed, Source};
@@ -17,11 +16,8 @@ pub fn read_ring<S: Source>(
     size: usize,
 ) -> Result<Vec<u8>, InspectStop>
     requires { size < 2 ^ 32 }
-    ensures size { IfOk result (λ bytes. length bytes.items ≡ size) }
-    ensures all { IfOk result (λ bytes. AreAll (S.left source.old) bytes.items) }
-    ensures stopped { IfErr result (IsNoRing (S.left source.old) size (S.faults source.old) (S.faults source.new)) }
-    ensures unfailed { OnOk result (S.faults source.new ≡ S.faults source.old) × IfErr result (λ stop. stop ≢ InspectStop.Source → S.faults source.new ≡ S.faults source.old) }
-    ensures later { S.faults source.old ≤ S.faults source.new }
+    ensures ring { IfOk result (λ bytes. GivesRing size bytes.items (S.seen source.old) (S.seen source.new)) }
+    ensures stopped { IfErr result (IsNoRing size (S.seen source.old) (S.seen source.new)) }
 {
     let mut bytes = Vec::with_capacity(alloc, size + CHUNK)?;
     let mut chunk = [0; CHUNK];

@@ -4,3 +4,4 @@ pub mod Solid
 pub mod Spelling
 pub mod EventSpelling
 pub mod Gaining
+pub mod Adding

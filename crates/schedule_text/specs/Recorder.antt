@@ -1,13 +1,14 @@
--- What a recorder tells of the lines that it was given.
-use Rattle.std.specs.Prelude.{◌≡◌, ℕ, ◌+◌, ◌-◌, ◌^◌, min, List, [], ◌∷◌, ◌++◌, fold, Option, Some, None, Result, Err, OnOk}
+-- What a recorder exposes of the lines that it was given, and what a call makes of that.
+use Rattle.std.specs.Prelude.{◌≡◌, ℕ, ◌+◌, ◌-◌, ◌^◌, min, List, [], ◌∷◌, ◌++◌, fold, Option, Some, None, Result, Ok, Err}
 use Rattle.std.specs.List.{flat_map}
-use Rattle.blk_io.specs.Outside.{written, IsPartlyWritten}
+use Rattle.std.specs.Borrow.{GName}
+use Rattle.blk_io.specs.Outside.{written, IsPartlyWritten, Rose}
 use Rattle.schedule_text.specs.declared.line.Detail.{Detail}
 use Rattle.schedule_text.specs.declared.line.Detail.TheVariants.{Lines}
 use Rattle.schedule_text.specs.declared.line.Line.{Line}
 use Rattle.schedule_text.specs.declared.line.Line.TheVariants.{Begin, Submit, Refuse, Effect, EffectRead, Answer, Quiet, Unsettled, Move}
 use Rattle.schedule_text.specs.declared.recorder.RecordStop.{RecordStop}
-use Rattle.schedule_text.specs.declared.recorder.RecordStop.TheVariants.{OutOfMemory}
+use Rattle.schedule_text.specs.declared.recorder.RecordStop.TheVariants.{Failed, OutOfMemory}
 use Rattle.schedule_text.specs.declared.recorder.Tally.{Tally}
 use Rattle.schedule_text.specs.declared.recorder.Verdict.TheVariants as verdict
 use Rattle.schedule_text.specs.Line.{text_of}
@@ -70,6 +71,54 @@ pub record StopsWithin (old : Told) (more : List Line) (new : Told) : Type 0 whe
   pub tally : new.tally ≡ old.tally
   pub text : IsPartlyWritten old.text (report_text more) new.text
 
--- unless the recorder is said to have failed, it failed no more often than before
-abbrev pub Unfailed : Result (Unit {0}) RecordStop → (before after : ℕ) → Type 0
-Unfailed result before after = OnOk result (after ≡ before) × (result ≡ Err OutOfMemory → after ≡ before)
+-- what these lines are to a recorder that keeps them
+abbrev pub kept_of : Detail → List Line → List Line
+kept_of detail lines = flat_map (recorded detail) lines
+
+-- what a recorder exposes: what it tells of the lines so far; whether it keeps those of moves; how often it failed; how many bytes a sink under it keeps back; the reference to a sink that it was lent, if it was
+pub record RecorderSeen : Type 0 where
+  pub told : Told
+  pub detail : Detail
+  pub faults : ℕ
+  pub kept_back : ℕ
+  pub lender : Option GName
+
+-- it took these lines
+pub record Gained (more : List Line) (a b : RecorderSeen) : Type 0 where
+  pub told : b.told ≡ gained a.told (kept_of a.detail more)
+  pub detail : b.detail ≡ a.detail
+  pub faults : b.faults ≡ a.faults
+  pub lender : b.lender ≡ a.lender
+
+-- why it stopped: it failed, and its count rose; or there was no memory, and the count stayed
+abbrev pub Because : RecordStop → ℕ → ℕ → Type 0
+Because Failed before after = Rose before after
+Because OutOfMemory before after = after ≡ before
+
+-- it took the lines before, stopped at one of these, and keeps those before that
+pub record StopsAmong (before more : List Line) (stop : RecordStop) (a b : RecorderSeen) : Type 0 where
+  pub said : List Line
+  pub cut : Line
+  pub rest : List Line
+  pub all : more ≡ said ++ cut ∷ rest
+  pub stops : StopsWithin (gained a.told (kept_of a.detail (before ++ said))) (recorded a.detail cut) b.told
+  pub detail : b.detail ≡ a.detail
+  pub because : Because stop a.faults b.faults
+  pub lender : b.lender ≡ a.lender
+
+-- these lines were given to it, in order
+abbrev pub Adds : List Line → Result (Unit {0}) RecordStop → RecorderSeen → RecorderSeen → Type 0
+Adds more (Ok done) a b = Gained more a b
+Adds more (Err stop) a b = StopsAmong [] more stop a b
+
+-- handing on failed: it tells the same
+pub record FailsHandingOn (a b : RecorderSeen) : Type 0 where
+  pub told : b.told ≡ a.told
+  pub detail : b.detail ≡ a.detail
+  pub rose : Rose a.faults b.faults
+  pub lender : b.lender ≡ a.lender
+
+-- it hands on what a sink under it keeps back
+abbrev pub HandsOnLines : {E : Type 0} → Result (Unit {0}) E → RecorderSeen → RecorderSeen → Type 0
+HandsOnLines (Ok done) a b = b ≡ record a { kept_back = 0 }
+HandsOnLines (Err failed) a b = FailsHandingOn a b

@@ -19,7 +19,7 @@ mod writing;
 pub use event::{BadLine, Event};
 pub use exact::{read_event, read_line};
 pub use line::{Detail, Halt, KeyName, Line, Refusal};
-pub use recorder::{RecordStop, Recorder, Tally, Verdict};
+pub use recorder::{RecordStop, Recorder, Shown, Tally, Verdict};
 pub use recorders::{LineList, LineSink, LineTally};
 pub use schedule::write_event;
 pub use writing::write_line;

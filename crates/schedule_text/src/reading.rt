@@ -106,7 +106,8 @@ fn effect_line(words: &mut Words) -> Line
 
 /// A sector that a request read.
 fn data_line(words: &mut Words) -> Line
-    ensures says { plain result ≡ Line.Data (number_of (word0 words.old)) (small_of (word1 words.old)) (sector_of (word2 words.old) (later (later (later words.old)))) }
+    ensures says { plain result ≡ Line.Data (number_of (word0 words.old)) (small_of (word1 words.old))
+        (sector_of (word2 words.old) (later (later (later words.old)))) }
     ensures widths { HasWidths result }
 {
     let id = words.number();

@@ -1,9 +1,9 @@
 // Who keeps a report's lines.
-ghost use Rattle.std.specs.Prelude.{◌≡◌, ℕ, ◌≤◌, Err, OnOk, OnErr};
-ghost use Rattle.schedule_text.specs.Recorder.{Told, gained, recorded, StopsWithin, Unfailed};
-ghost use Rattle.blk_io.specs.Outside.{Rose};
+ghost use Rattle.std.specs.Prelude.{◌≡◌, ◌∷◌, []};
+ghost use Rattle.schedule_text.specs.Recorder.{Adds, HandsOnLines};
 
-use crate::line::{Detail, Line};
+use crate::line::Line;
+use blk_base::Move;
 use blk_io::Failed;
 
 /// Why a line wasn't added.
@@ -33,50 +33,42 @@ pub struct Tally {
     pub last: Option<Verdict>,
 }
 
-/// Who keeps a report's lines, as they come.
+/// What the line of a move is made of. Whoever hands it over makes no move of it: the recorder does,
+/// where it keeps such lines.
+pub trait Shown {
+    ghost use Rattle.blk_base.specs.declared.moves.Move.{Move};
+
+    /// The move.
+    ghost shown: { Self → Move };
+
+    /// What must be so where the move is made, as that a mapping lives.
+    ghost may: { Self → Type 0 } = { λ _. Unit {0} };
+
+    /// Makes the move, as a report shows it.
+    fn shown(&self) -> Move
+        requires { may self.now }
+        ensures { result ≡ shown self.now };
+}
+
+/// Who keeps a report's lines, as they come. A call that fails counts a fault, and nothing else does.
 pub trait Recorder {
-    ghost use Rattle.std.specs.Prelude.{Option};
-    ghost use Rattle.std.specs.Borrow.{GName};
-    ghost use Rattle.schedule_text.specs.Recorder.{Told};
-    ghost use Rattle.schedule_text.specs.declared.line.Detail.{Detail};
+    ghost use Rattle.schedule_text.specs.Recorder.{RecorderSeen};
 
-    /// What it tells of the lines so far.
-    ghost told: { Self → Told };
-
-    /// Whether it keeps the lines of moves; it never changes.
-    ghost detail: { Self → Detail };
-
-    /// How often it failed.
-    ghost faults: { Self → ℕ };
-
-    /// How many bytes a sink under it keeps back.
-    ghost kept_back: { Self → ℕ } = { λ _. 0 };
-
-    /// The reference to a sink that it holds, if it holds one; it stays the same, so that what the
-    /// recorder tells in the end is what its sink then holds.
-    ghost lender: { Self → Option GName };
-
-    /// Whether lines of moves are kept. Where they aren't, `add` takes them and does nothing.
-    fn detail(&self) -> Detail
-        ensures { result ≡ detail self.now };
+    /// What it exposes: what it tells of the lines so far; its detail, which never changes; how often
+    /// it failed; what a sink under it keeps back; and the reference to a sink that it was lent, which
+    /// stays the same, so that what the recorder tells in the end is what its sink then holds.
+    ghost seen: { Self → RecorderSeen };
 
     /// Adds a line. A `begin` line says this recorder's word, whichever word it has here.
     fn add(&mut self, line: &Line) -> Result<(), RecordStop>
-        ensures added { OnOk result (told self.new ≡ gained (told self.old) (recorded (detail self.old) line.now)) }
-        ensures stopped { OnErr result (StopsWithin (told self.old) (recorded (detail self.old) line.now) (told self.new)) }
-        ensures same_detail { detail self.new ≡ detail self.old }
-        ensures same_lender { lender self.new ≡ lender self.old }
-        ensures unfailed { Unfailed result (faults self.old) (faults self.new) }
-        ensures later { faults self.old ≤ faults self.new }
-        ensures failed { result ≡ Err RecordStop.Failed → Rose (faults self.old) (faults self.new) };
+        ensures { Adds (line.now ∷ []) result (seen self.old) (seen self.new) };
+
+    /// Adds the line of a move, where it keeps such lines; where it doesn't, no line is made.
+    fn add_move<S: Shown>(&mut self, made: &S) -> Result<(), RecordStop>
+        requires { S.may made.now }
+        ensures { Adds (Line.Move (S.shown made.now) ∷ []) result (seen self.old) (seen self.new) };
 
     /// Hands on what a sink under it keeps back.
     fn flush(&mut self) -> Result<(), Failed>
-        ensures told { told self.new ≡ told self.old }
-        ensures handed_on { OnOk result (kept_back self.new ≡ 0) }
-        ensures same_detail { detail self.new ≡ detail self.old }
-        ensures same_lender { lender self.new ≡ lender self.old }
-        ensures unfailed { OnOk result (faults self.new ≡ faults self.old) }
-        ensures later { faults self.old ≤ faults self.new }
-        ensures failed { OnErr result (Rose (faults self.old) (faults self.new)) };
+        ensures { HandsOnLines result (seen self.old) (seen self.new) };
 }

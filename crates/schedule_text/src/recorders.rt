@@ -1,11 +1,11 @@
 // Three recorders: one keeps the lines, one writes their text to a sink, one counts.
-ghost use Rattle.std.specs.Prelude.{◌≡◌, ◌≢◌, ◌≤◌, ◌++◌, ◌∷◌, Err, [], List, Some, None, OnOk, OnErr, OnSome};
-ghost use Rattle.blk_io.specs.Outside.{written, IsPartlyWritten, Rose};
+ghost use Rattle.std.specs.Prelude.{◌≡◌, [], None};
 ghost use Rattle.std.specs.Option.{option_to_list};
-ghost use Rattle.schedule_text.specs.Recorder.{recorded, counted, line_bytes};
+ghost use Rattle.schedule_text.specs.Recorder.{recorded, counted};
+ghost use Rattle.schedule_text.specs.Recorders.{KeepsLine, WritesLine};
 
 use crate::line::{Detail, Line};
-use crate::recorder::{RecordStop, Recorder, Tally, Verdict};
+use crate::recorder::{RecordStop, Recorder, Shown, Tally, Verdict};
 use crate::writing::write_line;
 use blk_base::Config;
 use blk_io::{Failed, Sink};
@@ -33,24 +33,22 @@ impl LineList {
 }
 
 impl Recorder for LineList {
-    ghost use Rattle.std.specs.Prelude.{Some, None};
+    ghost use Rattle.schedule_text.specs.Recorders.{listing};
 
-    ghost told = { λ r. record { lines = Some r.lines.items; text = None; tally = None } };
-
-    ghost detail = { λ r. r.detail };
-
-    ghost faults = { λ _. 0 };
-
-    ghost lender = { λ _. None };
-
-    fn detail(&self) -> Detail {
-        self.detail
-    }
+    ghost seen = { λ r. listing r.detail r.lines.items };
 
     fn add(&mut self, line: &Line) -> Result<(), RecordStop> {
         match kept(self.detail, line) {
             Some(line) => push(&mut self.lines, line),
             None => Ok(()),
+        }
+    }
+
+    #[inline(always)]
+    fn add_move<S: Shown>(&mut self, made: &S) -> Result<(), RecordStop> {
+        match self.detail {
+            Detail::Lines => Ok(()),
+            Detail::Moves => push_move(&mut self.lines, made),
         }
     }
 
@@ -60,14 +58,21 @@ impl Recorder for LineList {
 }
 
 fn push(lines: &mut Vec<Line>, line: Line) -> Result<(), RecordStop>
-    ensures ok { OnOk result (lines.new.items ≡ lines.old.items ++ line ∷ []) }
-    ensures err { OnErr result (lines.new.items ≡ lines.old.items) }
-    ensures memory { result ≢ Err RecordStop.Failed }
+    ensures { KeepsLine line result lines.old.items lines.new.items }
 {
     match lines.extend_from_slice(&[line]) {
         Ok(()) => Ok(()),
         Err(_) => Err(RecordStop::OutOfMemory),
     }
+}
+
+// Makes the line of a move, and keeps it.
+#[inline(never)]
+fn push_move<S: Shown>(lines: &mut Vec<Line>, made: &S) -> Result<(), RecordStop>
+    requires { S.may made.now }
+    ensures { KeepsLine (Line.Move (S.shown made.now)) result lines.old.items lines.new.items }
+{
+    push(lines, Line::Move(made.shown()))
 }
 
 /// The line that a recorder keeps of a line, if it keeps one.
@@ -95,21 +100,9 @@ pub struct LineSink<'a, S> {
 }
 
 impl<'a, S: Sink> Recorder for LineSink<'a, S> {
-    ghost use Rattle.std.specs.Prelude.{Some, None};
+    ghost use Rattle.schedule_text.specs.Recorders.{writing};
 
-    ghost told = { λ r. record { lines = None; text = S.held r.sink.now; tally = None } };
-
-    ghost detail = { λ r. r.detail };
-
-    ghost faults = { λ r. S.faults r.sink.now };
-
-    ghost kept_back = { λ r. S.kept_back r.sink.now };
-
-    ghost lender = { λ r. Some r.sink.ghost_name };
-
-    fn detail(&self) -> Detail {
-        self.detail
-    }
+    ghost seen = { λ r. writing r.detail r.sink.ghost_name (S.seen r.sink.now) };
 
     fn add(&mut self, line: &Line) -> Result<(), RecordStop> {
         match line {
@@ -122,19 +115,23 @@ impl<'a, S: Sink> Recorder for LineSink<'a, S> {
         }
     }
 
+    #[inline(always)]
+    fn add_move<M: Shown>(&mut self, made: &M) -> Result<(), RecordStop> {
+        match self.detail {
+            Detail::Lines => Ok(()),
+            Detail::Moves => write_move(self.sink, made),
+        }
+    }
+
     fn flush(&mut self) -> Result<(), Failed> {
         self.sink.flush()
     }
 }
 
 // Writes a line and its line feed.
+#[inline(never)]
 fn write<S: Sink>(sink: &mut S, line: &Line) -> Result<(), RecordStop>
-    ensures ok { OnOk result (S.held sink.new ≡ written (S.held sink.old) (line_bytes line.now)) }
-    ensures err { OnErr result (IsPartlyWritten (S.held sink.old) (line_bytes line.now) (S.held sink.new)) }
-    ensures unfailed { OnOk result (S.faults sink.new ≡ S.faults sink.old) }
-    ensures only { result ≢ Err RecordStop.OutOfMemory }
-    ensures later { S.faults sink.old ≤ S.faults sink.new }
-    ensures failed { OnErr result (Rose (S.faults sink.old) (S.faults sink.new)) }
+    ensures { WritesLine line.now result (S.seen sink.old) (S.seen sink.new) }
 {
     let mut text = LineText::new();
     write_line(line, &mut text);
@@ -145,15 +142,19 @@ fn write<S: Sink>(sink: &mut S, line: &Line) -> Result<(), RecordStop>
     }
 }
 
+// Makes the line of a move, and writes it.
+#[inline(never)]
+fn write_move<S: Sink, M: Shown>(sink: &mut S, made: &M) -> Result<(), RecordStop>
+    requires { M.may made.now }
+    ensures { WritesLine (Line.Move (M.shown made.now)) result (S.seen sink.old) (S.seen sink.new) }
+{
+    write(sink, &Line::Move(made.shown()))
+}
+
 // A begin line says the word of the recorder that writes it.
 #[inline(never)]
 fn write_begin<S: Sink>(sink: &mut S, config: &Config, detail: Detail) -> Result<(), RecordStop>
-    ensures ok { OnOk result (S.held sink.new ≡ written (S.held sink.old) (line_bytes (Line.Begin config.now detail))) }
-    ensures err { OnErr result (IsPartlyWritten (S.held sink.old) (line_bytes (Line.Begin config.now detail)) (S.held sink.new)) }
-    ensures unfailed { OnOk result (S.faults sink.new ≡ S.faults sink.old) }
-    ensures only { result ≢ Err RecordStop.OutOfMemory }
-    ensures later { S.faults sink.old ≤ S.faults sink.new }
-    ensures failed { OnErr result (Rose (S.faults sink.old) (S.faults sink.new)) }
+    ensures { WritesLine (Line.Begin config.now detail) result (S.seen sink.old) (S.seen sink.new) }
 {
     write(
         sink,
@@ -188,23 +189,18 @@ impl LineTally {
 }
 
 impl Recorder for LineTally {
-    ghost use Rattle.std.specs.Prelude.{Some, None};
-    ghost use Rattle.schedule_text.specs.declared.line.Detail.TheVariants.{Lines};
+    ghost use Rattle.schedule_text.specs.Recorders.{counting};
 
-    ghost told = { λ r. record { lines = None; text = None; tally = Some r.tally } };
-
-    ghost detail = { λ _. Lines };
-
-    ghost faults = { λ _. 0 };
-
-    ghost lender = { λ _. None };
-
-    fn detail(&self) -> Detail {
-        Detail::Lines
-    }
+    ghost seen = { λ r. counting r.tally };
 
     fn add(&mut self, line: &Line) -> Result<(), RecordStop> {
         self.tally.count(line);
+        Ok(())
+    }
+
+    // Moves aren't counted.
+    #[inline(always)]
+    fn add_move<S: Shown>(&mut self, _made: &S) -> Result<(), RecordStop> {
         Ok(())
     }
 

@@ -2,10 +2,10 @@ ghost use Rattle.std.specs.Prelude.{◌≡◌, OnOk, codes};
 ghost use Rattle.blk_io.specs.Outside.{written};
 
 use crate::{
-    Detail, Event, Line, LineSink, LineTally, RecordStop, Recorder, read_event, read_line,
+    Detail, Event, Line, LineSink, LineTally, RecordStop, Recorder, Shown, read_event, read_line,
     write_event, write_line,
 };
-use blk_base::End;
+use blk_base::{End, Move};
 use blk_io::{MemorySink, Sink};
 use line_text::LineText;
 use std::process::Abort;
@@ -256,7 +256,8 @@ fn other_events_are_refused(rt: HostRuntime) {
 
 /// What a sink holds after two lines, as a stranger says it.
 fn two_lines<S: Sink>(out: &mut S) -> Result<(), RecordStop>
-    ensures { OnOk result (S.held out.new ≡ written (written (S.held out.old) (codes "quiet\n")) (codes "end\n")) }
+    ensures { OnOk result (let before = S.seen out.old in let after = S.seen out.new in
+        after.held ≡ written (written before.held (codes "quiet\n")) (codes "end\n")) }
 {
     let mut recorder = LineSink {
         sink: out,
@@ -272,6 +273,34 @@ fn a_sink_gets_the_lines(rt: HostRuntime) -> Result<(), Fail> {
     let mut sink = MemorySink::with_room(rt.alloc(), 100)?;
     assert!(rt; two_lines(&mut sink).is_ok());
     assert_eq!(rt; sink.bytes(), b"quiet\nend\n".as_slice());
+    Ok(())
+}
+
+// A move, as it is shown.
+#[derive(Drop)]
+struct Port(u32);
+
+impl Shown for Port {
+    ghost use Rattle.blk_base.specs.declared.moves.Move.TheVariants as moves;
+
+    ghost shown = { λ p. moves.FrontPort p.0 };
+
+    fn shown(&self) -> Move {
+        Move::FrontPort { port: self.0 }
+    }
+}
+
+#[test]
+fn a_move_has_a_line_where_the_recorder_keeps_moves(rt: HostRuntime) -> Result<(), Fail> {
+    let mut sink = MemorySink::with_room(rt.alloc(), 100)?;
+    for detail in [Detail::Lines, Detail::Moves] {
+        let mut recorder = LineSink {
+            sink: &mut sink,
+            detail,
+        };
+        recorder.add_move(&Port(7))?;
+    }
+    assert_eq!(rt; sink.bytes(), b"m front port 7\n".as_slice());
     Ok(())
 }
 

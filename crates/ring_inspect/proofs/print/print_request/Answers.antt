@@ -1,10 +1,9 @@
-use Rattle.std.proofs.Common.{ap, ◌∙◌}
-use Rattle.blk_io.specs.Outside.{written}
-use Rattle.ring_inspect.proofs.Pieces.{then_ok, then_err}
+use Rattle.std.proofs.Common.{subst}
+use Rattle.blk_io.specs.Outside.{TakesBytes}
+use Rattle.ring_inspect.proofs.Pieces.{writes_then}
 use Rattle.ring_inspect.proofs.print.print_request.Goals as goal
 
-pub returns-clause-ok : goal.returns-clause-ok
-returns-clause-ok g c = then_ok c.print_named.result (g.O.Sink.held c.args.sink.now) (g.O.Sink.held c.print.new.sink) (g.O.Sink.held c.print_named.new.sink) _ _ (c.in_ok-print.ensures.ok ∙ ap (written (g.O.Sink.held c.args.sink.now)) c.request.ensures) c.print_named.ensures.ok
-
-pub returns-clause-err : goal.returns-clause-err
-returns-clause-err g c = then_err c.print_named.result (g.O.Sink.held c.args.sink.now) (g.O.Sink.held c.print.new.sink) (g.O.Sink.held c.print_named.new.sink) _ _ (c.in_ok-print.ensures.ok ∙ ap (written (g.O.Sink.held c.args.sink.now)) c.request.ensures) c.print_named.ensures.err
+pub returns : goal.returns
+returns g c =
+    let line = subst (λ t. TakesBytes t (g.O.Sink.seen c.args.sink.now) (g.O.Sink.seen c.print.new.sink)) c.request.ensures c.in_ok-print.ensures in
+    writes_then _ _ c.print_named.result _ _ _ line c.print_named.ensures

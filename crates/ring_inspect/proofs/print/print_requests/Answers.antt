@@ -1,24 +1,20 @@
-use Rattle.std.proofs.Common.{◌+◌, ◌%◌, ◌^◌, refl, ap, sym, subst, arith, ◌∙◌}
-use Rattle.blk_io.specs.Outside.{written, IsPartlyWritten}
+use Rattle.std.proofs.Common.{◌+◌, ◌%◌, ◌^◌, subst}
+use Rattle.std.proofs.lemmas.Result.{err_from_is_err_and}
+use Rattle.blk_io.specs.Outside.{TakesBytes, FailsWriting}
 use Rattle.ring_inspect.specs.Text.{request_text}
-use Rattle.ring_inspect.proofs.Pieces.{on_any, written_none, listed-zero, listed_one_more, partly_listed}
+use Rattle.ring_inspect.proofs.Pieces.{takes_none, listed-zero, takes_listed, fails_listed}
 use Rattle.ring_inspect.proofs.print.print_requests.Goals as goal
 
 pub loop-i-init : goal.loop-i-init
-loop-i-init g c = record {
-  held = written_none _ ∙ ap (written (g.O.Sink.held c.args.sink.now)) (sym (listed-zero c.args.shape.now c.args.bytes.now c.args.from));
-  unfailed = refl;
-  later = omega arith;
-}
+loop-i-init g c = rw (listed-zero c.args.shape.now c.args.bytes.now c.args.from) (takes_none _)
 
-pub returns-in_err-print_request-clause-err : goal.returns-in_err-print_request-clause-err
-returns-in_err-print_request-clause-err g c =
-    let part = subst (λ r. IsPartlyWritten (g.O.Sink.held c.loop-i.sink) (request_text ((c.args.from + c.loop-i.i) % 2 ^ 32) r) (g.O.Sink.held c.print_request.new.sink)) c.request-request.ensures c.in_err-print_request.ensures.err in
-    on_any c.from_residual.result (partly_listed c.args.shape.now c.args.bytes.now c.args.from c.args.count c.loop-i.i _ _ _ c.loop-i-test.true c.loop-i.invariant.held part)
+pub returns-in_err-print_request : goal.returns-in_err-print_request
+returns-in_err-print_request g c =
+    let stopped = err_from_is_err_and c.from_residual.result c.from_residual.ensures.1 in
+    let part = subst (λ r. FailsWriting (request_text ((c.args.from + c.loop-i.i) % 2 ^ 32) r) (g.O.Sink.seen c.loop-i.sink) (g.O.Sink.seen c.print_request.new.sink)) c.request-request.ensures c.in_err-print_request.ensures in
+    rw stopped.1 (fails_listed c.args.shape.now c.args.bytes.now c.args.from c.args.count c.loop-i.i _ _ _ c.loop-i-test.true c.loop-i.invariant part)
 
 pub loop-i-preserved : goal.loop-i-preserved
-loop-i-preserved g c = record {
-  held = listed_one_more c.args.shape.now c.args.bytes.now c.args.from c.loop-i.i _ _ _ c.loop-i.invariant.held (c.in_ok-print_request.ensures.ok ∙ ap (λ r. written (g.O.Sink.held c.loop-i.sink) (request_text ((c.args.from + c.loop-i.i) % 2 ^ 32) r)) c.request-request.ensures);
-  unfailed = c.in_ok-print_request.ensures.unfailed ∙ c.loop-i.invariant.unfailed;
-  later = let a = c.loop-i.invariant.later in let b = c.in_ok-print_request.ensures.later in omega arith;
-}
+loop-i-preserved g c =
+    let piece = subst (λ r. TakesBytes (request_text ((c.args.from + c.loop-i.i) % 2 ^ 32) r) (g.O.Sink.seen c.loop-i.sink) (g.O.Sink.seen c.print_request.new.sink)) c.request-request.ensures c.in_ok-print_request.ensures in
+    takes_listed c.args.shape.now c.args.bytes.now c.args.from c.loop-i.i _ _ _ c.loop-i.invariant piece
