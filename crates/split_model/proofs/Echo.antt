@@ -28,9 +28,9 @@ use Rattle.blk_front.specs.Submit as front_submit
 use Rattle.split_model.specs.World.{World, is_quiet}
 use Rattle.split_model.specs.Shown.{front_lines, back_lines, halt_lines, effect_line}
 use Rattle.split_model.specs.Happening.{Happening, FrontMoves, BackMoves, JobMoves, Submits, Notifies, Looks, Settles, happens, lines_at, after, lines_of, front_shows, back_shows, job_shows, front_turn, back_turn, job_turn, submit_line}
-use Rattle.split_model.specs.Kind.{AreOf, AreOfAll, connecting, front_move, front_moves, back_moves, AreJobMoves, AreEachJobs, round_start, IsRound, AreRounds, never}
+use Rattle.split_model.specs.Kind.{Makes, AreOf, AreOfAll, connecting, front_move, front_moves, back_moves, AreJobMoves, AreEachJobs, round_start, IsRound, AreRounds, never}
 use Rattle.schedule_text.specs.Recorder.{recorded}
-use Rattle.split_model.specs.Leads.{kept_of}
+use Rattle.schedule_text.specs.Recorder.{kept_of}
 use Rattle.split_model.proofs.Running.{lines_of-append}
 
 -- the lines that echo
@@ -180,26 +180,29 @@ settle_echo w rounds m =
     ∙ (ap (λ l. l ++ echo_of (lines_of (Settles ∷ []) (after rounds w))) (moves_silent rounds w m)))
 
 -- the lines of an event that echo are those that answer it
-pub event_echo : (order : ℕ) (e : Event) (w : World) (hs : List Happening) → AreOf e w hs → Answers order e (echo_of (lines_of hs w))
-event_echo order (events.Submit job) w hs k =
+made_echo : (order : ℕ) (e : Event) (w : World) (hs : List Happening) → Makes e w hs → Answers order e (echo_of (lines_of hs w))
+made_echo order (events.Submit job) w hs k =
     let a = submit_answers w job (front_submit.submit_of w.front job).0 in
     (a.0, ap (λ l. echo_of (lines_of l w)) k.0 ∙ a.1, a.2)
-event_echo order (events.Front n) w hs k = ap (λ l. echo_of (lines_of l w)) k ∙ silent_event w (front_moves w n) (front_are_moves w n)
-event_echo order (events.Back n) w hs k = ap (λ l. echo_of (lines_of l w)) k ∙ silent_event w (back_moves w n) (back_are_moves (front_submit.is_connected w.front.stage) n)
-event_echo order (events.Job number n) w hs k = silent_event w hs (job_are_moves number hs k.0)
-event_echo order (events.Turn n) w hs k = silent_event w hs (rounds_are_moves never n w hs k)
-event_echo order events.Settle w hs k =
+made_echo order (events.Front n) w hs k = ap (λ l. echo_of (lines_of l w)) k ∙ silent_event w (front_moves w n) (front_are_moves w n)
+made_echo order (events.Back n) w hs k = ap (λ l. echo_of (lines_of l w)) k ∙ silent_event w (back_moves w n) (back_are_moves (front_submit.is_connected w.front.stage) n)
+made_echo order (events.Job number n) w hs k = silent_event w hs (job_are_moves number hs k.0)
+made_echo order (events.Turn n) w hs k = silent_event w hs (rounds_are_moves never n w hs k)
+made_echo order events.Settle w hs k =
     let a = settle_answers (is_quiet (after k.rounds w)) in
     (a.0, ap (λ l. echo_of (lines_of l w)) k.all ∙ (settle_echo w k.rounds (rounds_are_moves is_quiet k.are_rounds.count w k.rounds k.are_rounds.are_rounds) ∙ a.1), a.2)
-event_echo order events.Look w hs k =
+made_echo order events.Look w hs k =
     let a = look_answers (is_quiet w) in
     (a.0, ap (λ l. echo_of (lines_of l w)) k ∙ a.1, a.2)
-event_echo order (events.Notify at) w hs k = ap (λ l. echo_of (lines_of l w)) k
-event_echo order events.Suspend w hs k = absurd k
-event_echo order (events.Close at) w hs k = absurd k
-event_echo order (events.Poke frame word value) w hs k = absurd k
-event_echo order (events.Key name text) w hs k = absurd k
-event_echo order events.Dump w hs k = absurd k
+made_echo order (events.Notify at) w hs k = ap (λ l. echo_of (lines_of l w)) k
+made_echo order events.Suspend w hs k = absurd k
+made_echo order (events.Close at) w hs k = absurd k
+made_echo order (events.Poke frame word value) w hs k = absurd k
+made_echo order (events.Key name text) w hs k = absurd k
+made_echo order events.Dump w hs k = absurd k
+
+pub event_echo : (order : ℕ) (e : Event) (w : World) (hs : List Happening) → AreOf e w hs → Answers order e (echo_of (lines_of hs w))
+event_echo order e w hs k = made_echo order e w hs k.1
 
 -- what the events make happen answers them, one after another
 pub schedule_echo : (order : ℕ) (es : List Event) (w : World) (hs : List Happening) → AreOfAll es w hs → AnswersAll order es (echo_of (lines_of hs w))

@@ -1,10 +1,7 @@
 -- What is put behind what: moves behind moves, a round behind rounds, and what an event's happenings are then.
 use Rattle.std.proofs.Common.{◌≡◌, ℕ, zero, suc, ◌+◌, ◌-◌, ◌<◌, ◌≤◌, inl, inr, Bool, true, false, if◌then◌else◌, List, [], ◌∷◌, ◌++◌, length, Option, Some, None, Result, Ok, Err, refl, ap, sym, ◌∙◌, subst, append_assoc, length-append, arith}
 use Rattle.std.specs.Prelude.{replicate}
-use Rattle.std.specs.Result.{IsErr}
-use Rattle.std.proofs.lemmas.Bool.{false≢true}
 use Rattle.std.proofs.lemmas.List.{append-nil, replicate_more, replicate-append-replicate}
-use Rattle.schedule_text.specs.declared.line.Detail.{Detail}
 use Rattle.schedule_text.specs.declared.line.Line.{Line}
 use Rattle.hypervisor.specs.Act.{Outcome, BackAct}
 use Rattle.blk_base.specs.declared.ask.BackAnswer.TheVariants as answer
@@ -14,42 +11,10 @@ use Rattle.blk_back.specs.Step.{next_job_of}
 use Rattle.split_model.specs.World.{World, is_quiet}
 use Rattle.split_model.specs.Happening.{Happening, FrontMoves, BackMoves, JobMoves, Settles, happens, after, job_after, job_turn, lines_at, DiskGoes}
 use Rattle.split_model.specs.Kind.{front_move, front_moves, back_moves, AreJobMoves, AreSomeJobMoves, AreFewJobMoves, AreEachJobs, AreAllJobs, HasEachJobs, round_start, IsRound, IsBeginning, IsRoundSoFar, AreRounds, AreRoundsSoFar, AreRoundsUntilQuiet, settle_bound, IsSettling, IsSettlingSoFar, IsJobMove}
-use Rattle.split_model.specs.Leads.{Moment, Leads, LeadsToStop, Goes, Is, Shows}
+use Rattle.split_model.specs.Leads.{Moment, Leads}
 use Rattle.split_model.specs.Safe.{above}
-use Rattle.split_model.proofs.Running.{after-append, leads_on, stops_on, leads_as, stops_as, leads_one, stops_one}
+use Rattle.split_model.proofs.Running.{after-append}
 use Rattle.split_model.proofs.SafeGrowth.{above_kept, jobs_kept, above_few}
-
--- What was done, and then more was done.
-pub then_leads : (detail after_it : Detail) (one other both : List Happening → Type 0) (a b c : Moment) → after_it ≡ detail → ((xs ys : List Happening) → one xs → b.world ≡ after xs a.world → other ys → both (xs ++ ys)) → Leads detail one a b → Leads after_it other b c → Leads detail both a c
-then_leads detail after_it one other both a b c same join p q = leads_on detail one other both a b c join p (subst (λ d. Leads d other b c) same q)
-
--- What was done, and then a call that the recorder stopped.
-pub then_stops : {E : Type 0} → (detail after_it : Detail) (one other any both : List Happening → Type 0) (result : Result (Unit {0}) E) (a b c : Moment) → IsErr result → after_it ≡ detail → ((xs ys : List Happening) → one xs → b.world ≡ after xs a.world → other ys → both (xs ++ ys)) → Leads detail one a b → LeadsToStop after_it other b c → Goes detail any both result a c
-then_stops detail after_it one other any both (Ok done) a b c is same join p q = absurd (false≢true is)
-then_stops detail after_it one other any both (Err stop) a b c is same join p q = stops_on detail one other both a b c join p (subst (λ d. LeadsToStop d other b c) same q)
-
--- What was done, and then a last call.
-pub then_goes : {E : Type 0} → (detail after_it : Detail) (one other other_far both both_far : List Happening → Type 0) (result : Result (Unit {0}) E) (a b c : Moment) → after_it ≡ detail → ((xs ys : List Happening) → one xs → b.world ≡ after xs a.world → other ys → both (xs ++ ys)) → ((xs ys : List Happening) → one xs → b.world ≡ after xs a.world → other_far ys → both_far (xs ++ ys)) → Leads detail one a b → Goes after_it other other_far result b c → Goes detail both both_far result a c
-then_goes detail after_it one other other_far both both_far (Ok done) a b c same join far p q = then_leads detail after_it one other both a b c same join p q
-then_goes detail after_it one other other_far both both_far (Err stop) a b c same join far p q = then_stops detail after_it one other_far both both_far (Err stop) a b c refl same far p q
-
--- The first call was stopped.
-pub first_stops : {E : Type 0} → (detail : Detail) (one any other : List Happening → Type 0) (result : Result (Unit {0}) E) (a b : Moment) → IsErr result → ((xs : List Happening) → one xs → other xs) → LeadsToStop detail one a b → Goes detail any other result a b
-first_stops detail one any other (Ok done) a b is into p = absurd (false≢true is)
-first_stops detail one any other (Err stop) a b is into p = stops_as detail one other a b into p
-
-pub goes_as : {E : Type 0} → (detail : Detail) (one one_far other other_far : List Happening → Type 0) (result : Result (Unit {0}) E) (a b : Moment) → ((xs : List Happening) → one xs → other xs) → ((xs : List Happening) → one_far xs → other_far xs) → Goes detail one one_far result a b → Goes detail other other_far result a b
-goes_as detail one one_far other other_far (Ok done) a b into far p = leads_as detail one other a b into p
-goes_as detail one one_far other other_far (Err stop) a b into far p = stops_as detail one_far other_far a b far p
-
--- it is of another kind too, as the machine then stands
-pub leads_into : (detail : Detail) (one other : List Happening → Type 0) (a b : Moment) → ((xs : List Happening) → one xs → b.world ≡ after xs a.world → other xs) → Leads detail one a b → Leads detail other a b
-leads_into detail one other a b into p = record { history = p.history; is_kind = into p.history p.is_kind p.world; world = p.world; disk = p.disk; report = p.report }
-
--- a line was said of the machine as it stands
-pub goes_said : {E : Type 0} → (detail : Detail) (h : Happening) (result : Result (Unit {0}) E) (a b : Moment) → b.world ≡ happens a.world h → DiskGoes a.world h a.content b.content → Shows detail (lines_at a.world h) result a.told b.told → Goes detail (Is (h ∷ [])) (Is (h ∷ [])) result a b
-goes_said detail h (Ok done) a b world disk told = leads_one detail h a b world disk told
-goes_said detail h (Err stop) a b world disk told = stops_one detail h a b world disk told
 
 -- the line that a test chooses
 pub chosen_true : (test : Bool) (one other line : Line) → test ≡ true → line ≡ one → line ≡ (if test then one else other)
@@ -142,26 +107,26 @@ each_more last next w v xs ys n e here j =
     (each_behind 0 last next j.0 w xs e (subst (λ (u : World). next_job_of u.back last ≡ Some next) here n))
 
 -- a move of a job leaves as many jobs above each number
-job_above : (last number : ℕ) (w : World) (act : Option BackAct) → above last (let v : World = job_after w number act in v.back) ≡ above last w.back
+pub job_above : (last number : ℕ) (w : World) (act : Option BackAct) → above last (let v : World = job_after w number act in v.back) ≡ above last w.back
 job_above last number w None = refl
 job_above last number w (Some a) = above_kept last w.back number a.answer
 
-pub moved_above : (detail : Detail) (last number : ℕ) (a b : Moment) → Leads detail (IsJobMove number) a b → above last b.world.back ≡ above last a.world.back
-moved_above detail last number a b p =
+pub moved_above : (last number : ℕ) (a b : Moment) → Leads (IsJobMove number) a b → above last b.world.back ≡ above last a.world.back
+moved_above last number a b p =
     let here : b.world ≡ happens a.world (JobMoves number p.is_kind.0) = p.world ∙ ap (λ hs. after hs a.world) p.is_kind.1 in
     ap (λ (w : World). above last w.back) here ∙ job_above last number a.world (job_turn a.world number p.is_kind.0)
 
 -- above the next job there are fewer
-next_above : (v : View) (last next : ℕ) → next_job_of v last ≡ Some next → above next v < above last v
+pub next_above : (v : View) (last next : ℕ) → next_job_of v last ≡ Some next → above next v < above last v
 next_above v last next n =
     let less = jobs_kept v last next answer.Done n in
     let same = above_kept next v next answer.Done in
     omega arith
 
-pub fewer_above : (detail : Detail) (last next : ℕ) (a b : Moment) → next_job_of a.world.back last ≡ Some next → Leads detail (IsJobMove next) a b → above next b.world.back < above last a.world.back
-fewer_above detail last next a b n p =
+pub fewer_above : (last next : ℕ) (a b : Moment) → next_job_of a.world.back last ≡ Some next → Leads (IsJobMove next) a b → above next b.world.back < above last a.world.back
+fewer_above last next a b n p =
     let less = next_above a.world.back last next n in
-    let same = moved_above detail next next a b p in
+    let same = moved_above next next a b p in
     omega arith
 
 -- a job that is next is one of at most 32, each of which made a map at most

@@ -1,5 +1,5 @@
+pub mod Keeping
 pub mod Running
-pub mod Showing
 pub mod Joining
 pub mod Moving
 pub mod SafeHands

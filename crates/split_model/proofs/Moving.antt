@@ -9,14 +9,18 @@ use Rattle.blk_base.specs.declared.ask.FrontAsk.{FrontAsk}
 use Rattle.blk_base.specs.declared.ask.BackAsk.{BackAsk}
 use Rattle.blk_base.specs.declared.ask.BackAsk.TheVariants as back_ask
 use Rattle.blk_base.specs.declared.moves.BackMover.{BackMover}
+use Rattle.blk_base.specs.declared.moves.BackMover.TheVariants.{Back, Job as JobOf}
 use Rattle.blk_base.specs.declared.moves.Move.{Move as Shown}
-use Rattle.schedule_text.specs.declared.line.Detail.{Detail}
 use Rattle.schedule_text.specs.declared.line.Line.{Line}
 use Rattle.schedule_text.specs.declared.line.Line.TheVariants.{Move}
-use Rattle.schedule_text.specs.Recorder.{Told, gained}
+use Rattle.blk_io.specs.Disk.{DiskSeen}
+use Rattle.schedule_text.specs.declared.recorder.RecordStop.{RecordStop}
+use Rattle.schedule_text.specs.Recorder.{RecorderSeen, Gained, Adds}
+use Rattle.schedule_text.proofs.Adding.{gained_none}
+use Rattle.grant_table.specs.Table.{GrantTable}
 use Rattle.hypervisor.specs.Hypervisor.{Hypervisor}
 use Rattle.hypervisor.specs.Act.{FrontAct, BackAct, Outcome, Gave, Took, Failed, front_act, front_seen, front_under, back_act, back_seen, back_under, outcome_told}
-use Rattle.hypervisor.specs.Disk.{DiskDoes, NoCall}
+use Rattle.hypervisor.specs.Disk.{DiskDoes}
 use Rattle.hypervisor.specs.May.{FrontMay, BackMay}
 use Rattle.blk_front.specs.declared.told.Told.{Told as FrontTold}
 use Rattle.blk_front.specs.declared.told.Refusal.{Refusal}
@@ -37,27 +41,19 @@ use Rattle.split_model.specs.World.{World}
 use Rattle.split_model.specs.Shown.{front_lines, back_lines, halt_lines}
 use Rattle.split_model.specs.Happening.{Happening, FrontMoves, BackMoves, JobMoves, Submits, submit_line, happens, lines_at, DiskGoes, front_after, front_shows, back_after, back_shows, job_after, job_shows, front_turn, back_turn, job_turn}
 use Rattle.split_model.specs.Kind.{IsJobMove}
-use Rattle.split_model.specs.Leads.{kept_of, Moment, Leads, Goes, Is, Shows}
+use Rattle.split_model.specs.Leads.{moment, Goes, Is}
 use Rattle.split_model.specs.Safe.{IsSafe}
-use Rattle.split_model.proofs.Running.{leads_one, stops_one, leads_as, stops_as}
-use Rattle.split_model.proofs.Showing.{shows_none}
+use Rattle.split_model.proofs.Keeping.{no_call}
+use Rattle.split_model.proofs.Running.{goes_one}
 use Rattle.split_model.proofs.Safe.{safe_happens, front_may, back_may, job_may}
 use Rattle.split_model.proofs.SafeActs.{made_front, made_back}
 use Rattle.split_model.proofs.SafeFront.{sectors_front, submit_kept}
 use Rattle.split_model.proofs.SafeAnswers.{IsBacks, backs_of, front_answered, back_answered, job_answered}
 
-abbrev at : World → Option (List (List ℕ)) → Told → Moment
-at w content told = record { world = w; content = content; told = told }
-
--- one thing happened, and its lines were given to the recorder
-pub goes_one : {E : Type 0} → (d : Detail) (h : Happening) (w w' : World) (c c' : Option (List (List ℕ))) (t t' : Told) (result : Result (Unit {0}) E) → w' ≡ happens w h → DiskGoes w h c c' → Shows d (lines_at w h) result t t' → Goes d (Is (h ∷ [])) (Is (h ∷ [])) result (record { world = w; content = c; told = t }) (record { world = w'; content = c'; told = t' })
-goes_one d h w w' c c' t t' (Ok done) world disk shown = leads_one d h (at w c t) (at w' c' t') world disk shown
-goes_one d h w w' c c' t t' (Err stop) world disk shown = stops_one d h (at w c t) (at w' c' t') world disk shown
-
--- it may be of another kind
-pub goes_as : {E : Type 0} → (d : Detail) (one other : List Happening → Type 0) (a b : Moment) (result : Result (Unit {0}) E) → ((xs : List Happening) → one xs → other xs) → Goes d one one result a b → Goes d other other result a b
-goes_as d one other a b (Ok done) into p = leads_as d one other a b into p
-goes_as d one other a b (Err stop) into p = stops_as d one other a b into p
+-- one thing happened to the machine, and its lines were given to the recorder
+goes_here : (kind so_far : List Happening → Type 0) (n : ℕ) (h : Happening) (w v : World) (a b : DiskSeen) (r s : RecorderSeen) (result : Result (Unit {0}) RecordStop) → kind (h ∷ []) → so_far (h ∷ []) → v ≡ happens w h → v.under.grants.made ≤ w.under.grants.made + n → v.front.sectors ≡ w.front.sectors → DiskGoes w h a b → Adds (lines_at w h) result r s → Goes kind so_far n result (moment w a r) (moment v b s)
+goes_here kind so_far n h w v a b r s result is far world made sectors disk told =
+    goes_one kind so_far n h result (moment w a r) (moment v b s) is far world made sectors disk told
 
 -- The front. The act that was seen.
 pub record FrontDid (act : Option FrontAct) (seen : FrontAnswer × Shown) : Type 0 where
@@ -111,21 +107,24 @@ pub front_sectors : (v f : front.View) (x : FrontAnswer) → f ≡ record (front
 front_sectors v f x stepped = ap (λ (g : front.View). g.sectors) stepped ∙ sectors_front v x
 
 -- what happened, and its lines
-pub front_goes : {E : Type 0} → (d : Detail) (w : World) (seen : FrontAnswer × Shown) (f : front.View) (u : Hypervisor) (more : List Line) (c : Option (List (List ℕ))) (t t' : Told) (result : Result (Unit {0}) E) → Some seen ≡ front_seen (front_turn w) → u ≡ front_under w.under (front_turn w) → f ≡ record (front_step.step_of w.front seen.0) { told = None } → more ≡ front_lines (let g : front.View = front_step.step_of w.front seen.0 in g.told) → Shows d (Move seen.1 ∷ (more ++ [])) result t t' → Goes d (Is (FrontMoves ∷ [])) (Is (FrontMoves ∷ [])) result (record { world = w; content = c; told = t }) (record { world = record { front = f; back = w.back; under = u }; content = c; told = t' })
-front_goes d w seen f u more c t t' result e under stepped said shown =
-    goes_one d FrontMoves w (record { front = f; back = w.back; under = u }) c c t t' result (front_moved w seen f u e under stepped) refl
-    (subst (λ (l : List Line). Shows d l result t t') (front_shows_did w (front_turn w) seen more (front_did w seen e) said) shown)
+pub front_goes : (w : World) (seen : FrontAnswer × Shown) (f : front.View) (u : Hypervisor) (more : List Line) (a : DiskSeen) (r s : RecorderSeen) (result : Result (Unit {0}) RecordStop) → Some seen ≡ front_seen (front_turn w) → u ≡ front_under w.under (front_turn w) → f ≡ record (front_step.step_of w.front seen.0) { told = None } → more ≡ front_lines (let g : front.View = front_step.step_of w.front seen.0 in g.told) → Adds (Move seen.1 ∷ (more ++ [])) result r s → Goes (Is (FrontMoves ∷ [])) (Is (FrontMoves ∷ [])) 0 result (moment w a r) (moment (record { front = f; back = w.back; under = u }) a s)
+front_goes w seen f u more a r s result e under stepped said shown =
+    let made : u.grants.made ≡ w.under.grants.made = ap (λ (g : GrantTable). g.made) (front_grants w u under) in
+    goes_here (Is (FrontMoves ∷ [])) (Is (FrontMoves ∷ [])) 0 FrontMoves w (record { front = f; back = w.back; under = u }) a a r s result refl refl
+    (front_moved w seen f u e under stepped) (omega arith) (front_sectors w.front f seen.0 stepped) refl
+    (subst (λ (l : List Line). Adds l result r s) (front_shows_did w (front_turn w) seen more (front_did w seen e) said) shown)
 
 -- it has no move: nothing happened, and nothing is shown
 front_rests_at : (w : World) (act : Option FrontAct) (u : Hypervisor) → act ≡ None → u ≡ front_under w.under act → (record { front = w.front; back = w.back; under = u } ≡ front_after w act) × (front_shows w act ≡ [])
 front_rests_at w None u none under = (rw under refl, refl)
 front_rests_at w (Some a) u none under = absurd (none-some a (sym none))
 
-pub front_rests : (d : Detail) (w : World) (u : Hypervisor) (c : Option (List (List ℕ))) (t : Told) → None ≡ front_seen (front_turn w) → u ≡ front_under w.under (front_turn w) → Leads d (Is (FrontMoves ∷ [])) (record { world = w; content = c; told = t }) (record { world = record { front = w.front; back = w.back; under = u }; content = c; told = t })
-front_rests d w u c t e under =
+pub front_rests : (w : World) (u : Hypervisor) (a : DiskSeen) (r : RecorderSeen) → None ≡ front_seen (front_turn w) → u ≡ front_under w.under (front_turn w) → Goes (Is (FrontMoves ∷ [])) (Is (FrontMoves ∷ [])) 0 (Ok tt) (moment w a r) (moment (record { front = w.front; back = w.back; under = u }) a r)
+front_rests w u a r e under =
     let rests = front_rests_at w (front_turn w) u (front_nothing_at (front_turn w) e) under in
-    leads_one d FrontMoves (at w c t) (at (record { front = w.front; back = w.back; under = u }) c t) rests.0 refl
-    (subst (λ (l : List Line). t ≡ gained t (kept_of d l)) (sym rests.1) (shows_none d t))
+    let made : u.grants.made ≡ w.under.grants.made = ap (λ (g : GrantTable). g.made) (front_grants w u under) in
+    goes_here (Is (FrontMoves ∷ [])) (Is (FrontMoves ∷ [])) 0 FrontMoves w (record { front = w.front; back = w.back; under = u }) a a r r (Ok tt) refl refl
+    rests.0 (omega arith) refl refl (subst (λ (l : List Line). Gained l r r) (sym rests.1) (gained_none r))
 
 -- The back and its jobs. The act that was seen.
 pub record BackDid (act : Option BackAct) (seen : BackAnswer × Shown) : Type 0 where
@@ -156,22 +155,16 @@ back_shows_did w act seen more halts did said halted = rw (did.is, said, halted)
 job_shows_did : (w : World) (k : ℕ) (act : Option BackAct) (seen : BackAnswer × Shown) (more : List Line) → BackDid act seen → more ≡ back_lines (let b : back.View = back_step.job_step w.back k seen.0 in b.told) seen.0 → Move seen.1 ∷ (more ++ []) ≡ job_shows w k act
 job_shows_did w k act seen more did said = append-nil (Move seen.1 ∷ more) ∙ rw (did.is, said) (rw (did.told, did.shown) refl)
 
--- no call of the disk: it took what wasn't asked
-no_call : (o : Outcome) → NoCall o → o ≡ Took
-no_call Took n = refl
-no_call (Gave words) n = absurd n
-no_call Failed n = absurd n
-
-no_disk_at : (ask : BackAsk) (o : Outcome) (c c' : Option (List (List ℕ))) → IsBacks ask → DiskDoes ask o c c' → (o ≡ Took) × (c' ≡ c)
-no_disk_at (back_ask.DiskRead sector) o c c' own does = absurd own
-no_disk_at (back_ask.DiskWrite sector words) o c c' own does = absurd own
-no_disk_at back_ask.Flush o c c' own does = absurd own
-no_disk_at (back_ask.Trim sector count) o c c' own does = absurd own
-no_disk_at ask o c c' own does = (no_call o does.0, does.1)
+no_disk_at : (ask : BackAsk) (o : Outcome) (a b : DiskSeen) → IsBacks ask → DiskDoes ask o a b → (o ≡ Took) × (b ≡ a)
+no_disk_at (back_ask.DiskRead sector) o a b own does = absurd own
+no_disk_at (back_ask.DiskWrite sector words) o a b own does = absurd own
+no_disk_at back_ask.Flush o a b own does = absurd own
+no_disk_at (back_ask.Trim sector count) o a b own does = absurd own
+no_disk_at ask o a b own does = no_call o a b does
 
 -- the back itself asks nothing of the disk
-pub no_disk : (v : back.View) (o : Outcome) (c c' : Option (List (List ℕ))) → DiskDoes (back_ends.ask_of v) o c c' → (o ≡ Took) × (c' ≡ c)
-no_disk v o c c' does = no_disk_at (back_ends.ask_of v) o c c' (backs_of v) does
+pub no_disk : (v : back.View) (o : Outcome) (a b : DiskSeen) → DiskDoes (back_ends.ask_of v) o a b → (o ≡ Took) × (b ≡ a)
+no_disk v o a b does = no_disk_at (back_ends.ask_of v) o a b (backs_of v) does
 
 -- the back's act as it was seen
 back_did : (w : World) (seen : BackAnswer × Shown) → outcome_told seen.0 ≡ Took → Some seen ≡ back_seen (back_turn w (outcome_told seen.0)) → BackDid (back_turn w Took) seen
@@ -192,7 +185,7 @@ job_told w k seen e =
     subst (task.IsAnswer (back_step.job_ask_of w.back k)) (sym did.told) (job_answered w.under w.back k (outcome_told seen.0) did.act_done did.is)
 
 -- the machine after it
-pub back_moved : (w : World) (seen : BackAnswer × Shown) (b : back.View) (u : Hypervisor) (c c' : Option (List (List ℕ))) → Some seen ≡ back_seen (back_turn w (outcome_told seen.0)) → u ≡ back_under w.under (back_turn w (outcome_told seen.0)) → DiskDoes (back_ends.ask_of w.back) (outcome_told seen.0) c c' → b ≡ record (back_step.step_of w.back seen.0) { told = None } → record { front = w.front; back = b; under = u } ≡ happens w BackMoves
+pub back_moved : (w : World) (seen : BackAnswer × Shown) (b : back.View) (u : Hypervisor) (c c' : DiskSeen) → Some seen ≡ back_seen (back_turn w (outcome_told seen.0)) → u ≡ back_under w.under (back_turn w (outcome_told seen.0)) → DiskDoes (back_ends.ask_of w.back) (outcome_told seen.0) c c' → b ≡ record (back_step.step_of w.back seen.0) { told = None } → record { front = w.front; back = b; under = u } ≡ happens w BackMoves
 back_moved w seen b u c c' e under does stepped =
     let took = (no_disk w.back (outcome_told seen.0) c c' does).0 in
     back_after_did w (back_turn w Took) seen b u (back_did w seen took e) (back_under_took w u (outcome_told seen.0) took under) stepped
@@ -200,7 +193,7 @@ back_moved w seen b u c c' e under does stepped =
 pub job_moved : (w : World) (k : ℕ) (seen : BackAnswer × Shown) (b : back.View) (u : Hypervisor) → Some seen ≡ back_seen (job_turn w k (outcome_told seen.0)) → u ≡ back_under w.under (job_turn w k (outcome_told seen.0)) → b ≡ record (back_step.job_step w.back k seen.0) { told = None } → record { front = w.front; back = b; under = u } ≡ happens w (JobMoves k (outcome_told seen.0))
 job_moved w k seen b u e under stepped = job_after_did w k (job_turn w k (outcome_told seen.0)) seen b u (back_did_at (job_turn w k (outcome_told seen.0)) seen e) under stepped
 
-pub back_safe : (w : World) (seen : BackAnswer × Shown) (b : back.View) (u : Hypervisor) (c c' : Option (List (List ℕ))) → IsSafe w → Some seen ≡ back_seen (back_turn w (outcome_told seen.0)) → u ≡ back_under w.under (back_turn w (outcome_told seen.0)) → DiskDoes (back_ends.ask_of w.back) (outcome_told seen.0) c c' → b ≡ record (back_step.step_of w.back seen.0) { told = None } → IsSafe (record { front = w.front; back = b; under = u })
+pub back_safe : (w : World) (seen : BackAnswer × Shown) (b : back.View) (u : Hypervisor) (c c' : DiskSeen) → IsSafe w → Some seen ≡ back_seen (back_turn w (outcome_told seen.0)) → u ≡ back_under w.under (back_turn w (outcome_told seen.0)) → DiskDoes (back_ends.ask_of w.back) (outcome_told seen.0) c c' → b ≡ record (back_step.step_of w.back seen.0) { told = None } → IsSafe (record { front = w.front; back = b; under = u })
 back_safe w seen b u c c' safe e under does stepped = subst IsSafe (sym (back_moved w seen b u c c' e under does stepped)) (safe_happens w BackMoves safe)
 
 pub job_safe : (w : World) (k : ℕ) (seen : BackAnswer × Shown) (b : back.View) (u : Hypervisor) → IsSafe w → Some seen ≡ back_seen (job_turn w k (outcome_told seen.0)) → u ≡ back_under w.under (job_turn w k (outcome_told seen.0)) → b ≡ record (back_step.job_step w.back k seen.0) { told = None } → IsSafe (record { front = w.front; back = b; under = u })
@@ -215,22 +208,26 @@ pub back_made : (w : World) (who : BackMover) (ask : BackAsk) (o : Outcome) (u :
 back_made w who ask o u under = rw under (back_made_at w who ask o (back_act w.under who ask o) refl)
 
 -- what happened, and its lines
-pub back_goes : {E : Type 0} → (d : Detail) (w : World) (seen : BackAnswer × Shown) (b : back.View) (u : Hypervisor) (more halts : List Line) (c c' : Option (List (List ℕ))) (t t' : Told) (result : Result (Unit {0}) E) → Some seen ≡ back_seen (back_turn w (outcome_told seen.0)) → u ≡ back_under w.under (back_turn w (outcome_told seen.0)) → DiskDoes (back_ends.ask_of w.back) (outcome_told seen.0) c c' → b ≡ record (back_step.step_of w.back seen.0) { told = None } → more ≡ back_lines (let g : back.View = back_step.step_of w.back seen.0 in g.told) seen.0 → halts ≡ halt_lines w.back.halted (let g : back.View = back_step.step_of w.back seen.0 in g.halted) → Shows d (Move seen.1 ∷ (more ++ halts)) result t t' → Goes d (Is (BackMoves ∷ [])) (Is (BackMoves ∷ [])) result (record { world = w; content = c; told = t }) (record { world = record { front = w.front; back = b; under = u }; content = c'; told = t' })
-back_goes d w seen b u more halts c c' t t' result e under does stepped said halted shown =
+pub back_goes : (w : World) (seen : BackAnswer × Shown) (b : back.View) (u : Hypervisor) (more halts : List Line) (c c' : DiskSeen) (r s : RecorderSeen) (result : Result (Unit {0}) RecordStop) → Some seen ≡ back_seen (back_turn w (outcome_told seen.0)) → u ≡ back_under w.under (back_turn w (outcome_told seen.0)) → DiskDoes (back_ends.ask_of w.back) (outcome_told seen.0) c c' → b ≡ record (back_step.step_of w.back seen.0) { told = None } → more ≡ back_lines (let g : back.View = back_step.step_of w.back seen.0 in g.told) seen.0 → halts ≡ halt_lines w.back.halted (let g : back.View = back_step.step_of w.back seen.0 in g.halted) → Adds (Move seen.1 ∷ (more ++ halts)) result r s → Goes (Is (BackMoves ∷ [])) (Is (BackMoves ∷ [])) 1 result (moment w c r) (moment (record { front = w.front; back = b; under = u }) c' s)
+back_goes w seen b u more halts c c' r s result e under does stepped said halted shown =
     let none = no_disk w.back (outcome_told seen.0) c c' does in
-    goes_one d BackMoves w (record { front = w.front; back = b; under = u }) c c' t t' result (back_moved w seen b u c c' e under does stepped) none.1
-    (subst (λ (l : List Line). Shows d l result t t') (back_shows_did w (back_turn w Took) seen more halts (back_did w seen none.0 e) said halted) shown)
+    goes_here (Is (BackMoves ∷ [])) (Is (BackMoves ∷ [])) 1 BackMoves w (record { front = w.front; back = b; under = u }) c c' r s result refl refl
+    (back_moved w seen b u c c' e under does stepped) (back_made w Back (back_ends.ask_of w.back) (outcome_told seen.0) u under) refl none.1
+    (subst (λ (l : List Line). Adds l result r s) (back_shows_did w (back_turn w Took) seen more halts (back_did w seen none.0 e) said halted) shown)
 
-is_job_move : (k : ℕ) (o : Outcome) (hs : List Happening) → hs ≡ JobMoves k o ∷ [] → IsJobMove k hs
-is_job_move k o hs e = (o, e)
-
-pub job_goes : {E : Type 0} → (d : Detail) (w : World) (k : ℕ) (seen : BackAnswer × Shown) (b : back.View) (u : Hypervisor) (more : List Line) (c c' : Option (List (List ℕ))) (t t' : Told) (result : Result (Unit {0}) E) → Some seen ≡ back_seen (job_turn w k (outcome_told seen.0)) → u ≡ back_under w.under (job_turn w k (outcome_told seen.0)) → DiskDoes (back_step.job_ask_of w.back k) (outcome_told seen.0) c c' → b ≡ record (back_step.job_step w.back k seen.0) { told = None } → more ≡ back_lines (let g : back.View = back_step.job_step w.back k seen.0 in g.told) seen.0 → Shows d (Move seen.1 ∷ (more ++ [])) result t t' → Goes d (IsJobMove k) (IsJobMove k) result (record { world = w; content = c; told = t }) (record { world = record { front = w.front; back = b; under = u }; content = c'; told = t' })
-job_goes d w k seen b u more c c' t t' result e under does stepped said shown =
+pub job_goes : (w : World) (k : ℕ) (seen : BackAnswer × Shown) (b : back.View) (u : Hypervisor) (more : List Line) (c c' : DiskSeen) (r s : RecorderSeen) (result : Result (Unit {0}) RecordStop) → Some seen ≡ back_seen (job_turn w k (outcome_told seen.0)) → u ≡ back_under w.under (job_turn w k (outcome_told seen.0)) → DiskDoes (back_step.job_ask_of w.back k) (outcome_told seen.0) c c' → b ≡ record (back_step.job_step w.back k seen.0) { told = None } → more ≡ back_lines (let g : back.View = back_step.job_step w.back k seen.0 in g.told) seen.0 → Adds (Move seen.1 ∷ (more ++ [])) result r s → Goes (IsJobMove k) (IsJobMove k) 1 result (moment w c r) (moment (record { front = w.front; back = b; under = u }) c' s)
+job_goes w k seen b u more c c' r s result e under does stepped said shown =
     let o = outcome_told seen.0 in
-    let v : World = record { front = w.front; back = b; under = u } in
-    goes_as d (Is (JobMoves k o ∷ [])) (IsJobMove k) (at w c t) (at v c' t') result (is_job_move k o)
-    (goes_one d (JobMoves k o) w v c c' t t' result (job_moved w k seen b u e under stepped) does
-    (subst (λ (l : List Line). Shows d l result t t') (job_shows_did w k (job_turn w k o) seen more (back_did_at (job_turn w k o) seen e) said) shown))
+    goes_here (IsJobMove k) (IsJobMove k) 1 (JobMoves k o) w (record { front = w.front; back = b; under = u }) c c' r s result (o, refl) (o, refl)
+    (job_moved w k seen b u e under stepped) (back_made w (JobOf k) (back_step.job_ask_of w.back k) o u under) refl does
+    (subst (λ (l : List Line). Adds l result r s) (job_shows_did w k (job_turn w k o) seen more (back_did_at (job_turn w k o) seen e) said) shown)
+
+-- a move that makes no call of the disk and leaves what lies under the ends
+pub job_goes_still : (w : World) (k : ℕ) (seen : BackAnswer × Shown) (b : back.View) (u : Hypervisor) (more : List Line) (c : DiskSeen) (r s : RecorderSeen) (result : Result (Unit {0}) RecordStop) → Some seen ≡ back_seen (job_turn w k (outcome_told seen.0)) → u ≡ back_under w.under (job_turn w k (outcome_told seen.0)) → DiskDoes (back_step.job_ask_of w.back k) (outcome_told seen.0) c c → u ≡ w.under → b ≡ record (back_step.job_step w.back k seen.0) { told = None } → more ≡ back_lines (let g : back.View = back_step.job_step w.back k seen.0 in g.told) seen.0 → Adds (Move seen.1 ∷ (more ++ [])) result r s → Goes (IsJobMove k) (IsJobMove k) 0 result (moment w c r) (moment (record { front = w.front; back = b; under = u }) c s)
+job_goes_still w k seen b u more c r s result e under does still stepped said shown =
+    let gone = job_goes w k seen b u more c c r s result e under does stepped said shown in
+    let same : u.grants.made ≡ w.under.grants.made = ap (λ (h : Hypervisor). h.grants.made) still in
+    record { ends = gone.ends; keeps = record { made = omega arith; sectors = gone.keeps.sectors; attachment = gone.keeps.attachment } }
 
 -- the back has no move
 back_rests_at : (w : World) (act : Option BackAct) (u : Hypervisor) → act ≡ None → u ≡ back_under w.under act → (record { front = w.front; back = w.back; under = u } ≡ back_after w act) × (back_shows w act ≡ [])
@@ -241,20 +238,27 @@ job_rests_at : (w : World) (k : ℕ) (act : Option BackAct) (u : Hypervisor) →
 job_rests_at w k None u none under = (rw under refl, refl)
 job_rests_at w k (Some a) u none under = absurd (none-some a (sym none))
 
-pub back_rests : (d : Detail) (w : World) (u : Hypervisor) (c c' : Option (List (List ℕ))) (t : Told) → None ≡ back_seen (back_turn w Took) → u ≡ back_under w.under (back_turn w Took) → DiskDoes (back_ends.ask_of w.back) Took c c' → Leads d (Is (BackMoves ∷ [])) (record { world = w; content = c; told = t }) (record { world = record { front = w.front; back = w.back; under = u }; content = c'; told = t })
-back_rests d w u c c' t e under does =
+pub back_rests : (w : World) (u : Hypervisor) (c c' : DiskSeen) (r : RecorderSeen) → None ≡ back_seen (back_turn w Took) → u ≡ back_under w.under (back_turn w Took) → DiskDoes (back_ends.ask_of w.back) Took c c' → Goes (Is (BackMoves ∷ [])) (Is (BackMoves ∷ [])) 1 (Ok tt) (moment w c r) (moment (record { front = w.front; back = w.back; under = u }) c' r)
+back_rests w u c c' r e under does =
     let rests = back_rests_at w (back_turn w Took) u (back_nothing_at (back_turn w Took) e) under in
-    leads_one d BackMoves (at w c t) (at (record { front = w.front; back = w.back; under = u }) c' t) rests.0 (no_disk w.back Took c c' does).1
-    (subst (λ (l : List Line). t ≡ gained t (kept_of d l)) (sym rests.1) (shows_none d t))
+    goes_here (Is (BackMoves ∷ [])) (Is (BackMoves ∷ [])) 1 BackMoves w (record { front = w.front; back = w.back; under = u }) c c' r r (Ok tt) refl refl
+    rests.0 (back_made w Back (back_ends.ask_of w.back) Took u under) refl (no_disk w.back Took c c' does).1
+    (subst (λ (l : List Line). Gained l r r) (sym rests.1) (gained_none r))
+
+-- a back that waits moves nothing where no event is pending
+pub back_waits : (w : World) (c : DiskSeen) (r : RecorderSeen) → back_turn w Took ≡ None → Goes (Is (BackMoves ∷ [])) (Is (BackMoves ∷ [])) 1 (Ok tt) (moment w c r) (moment w c r)
+back_waits w c r e =
+    let rests = back_rests_at w (back_turn w Took) w.under e (sym (ap (back_under w.under) e)) in
+    goes_here (Is (BackMoves ∷ [])) (Is (BackMoves ∷ [])) 1 BackMoves w w c c r r (Ok tt) refl refl rests.0 (omega arith) refl refl
+    (subst (λ (l : List Line). Gained l r r) (sym rests.1) (gained_none r))
 
 -- the job has no move
-pub job_rests : (d : Detail) (w : World) (k : ℕ) (u : Hypervisor) (c c' : Option (List (List ℕ))) (t : Told) → None ≡ back_seen (job_turn w k Took) → u ≡ back_under w.under (job_turn w k Took) → DiskDoes (back_step.job_ask_of w.back k) Took c c' → Leads d (IsJobMove k) (record { world = w; content = c; told = t }) (record { world = record { front = w.front; back = w.back; under = u }; content = c'; told = t })
-job_rests d w k u c c' t e under does =
+pub job_rests : (w : World) (k : ℕ) (u : Hypervisor) (c c' : DiskSeen) (r : RecorderSeen) → None ≡ back_seen (job_turn w k Took) → u ≡ back_under w.under (job_turn w k Took) → DiskDoes (back_step.job_ask_of w.back k) Took c c' → Goes (IsJobMove k) (IsJobMove k) 1 (Ok tt) (moment w c r) (moment (record { front = w.front; back = w.back; under = u }) c' r)
+job_rests w k u c c' r e under does =
     let rests = job_rests_at w k (job_turn w k Took) u (back_nothing_at (job_turn w k Took) e) under in
-    let v : World = record { front = w.front; back = w.back; under = u } in
-    leads_as d (Is (JobMoves k Took ∷ [])) (IsJobMove k) (at w c t) (at v c' t) (is_job_move k Took)
-    (leads_one d (JobMoves k Took) (at w c t) (at v c' t) rests.0 does
-    (subst (λ (l : List Line). t ≡ gained t (kept_of d l)) (sym rests.1) (shows_none d t)))
+    goes_here (IsJobMove k) (IsJobMove k) 1 (JobMoves k Took) w (record { front = w.front; back = w.back; under = u }) c c' r r (Ok tt) (Took, refl) (Took, refl)
+    rests.0 (back_made w (JobOf k) (back_step.job_ask_of w.back k) Took u under) refl does
+    (subst (λ (l : List Line). Gained l r r) (sym rests.1) (gained_none r))
 
 -- What a call says of what was asked before it, and told.
 pub front_asked : (w : World) (ask : FrontAsk) (seen : FrontAnswer × Shown) → ask ≡ front_ends.ask_of w.front → Some seen ≡ front_seen (front_act w.under ask) → Some seen ≡ front_seen (front_turn w)
@@ -281,7 +285,7 @@ back_unasked h who ask asked same e = subst (λ (x : BackAsk). None ≡ back_see
 pub back_left : (h : Hypervisor) (who : BackMover) (ask asked : BackAsk) (o : Outcome) (u : Hypervisor) → ask ≡ asked → u ≡ back_under h (back_act h who ask o) → u ≡ back_under h (back_act h who asked o)
 back_left h who ask asked o u same e = subst (λ (x : BackAsk). u ≡ back_under h (back_act h who x o)) same e
 
-pub back_did_disk : (ask asked : BackAsk) (o : Outcome) (c c' : Option (List (List ℕ))) → ask ≡ asked → DiskDoes ask o c c' → DiskDoes asked o c c'
+pub back_did_disk : (ask asked : BackAsk) (o : Outcome) (c c' : DiskSeen) → ask ≡ asked → DiskDoes ask o c c' → DiskDoes asked o c c'
 back_did_disk ask asked o c c' same does = subst (λ (x : BackAsk). DiskDoes x o c c') same does
 
 pub back_stepped : (x b y : back.View) → x ≡ y → b ≡ record x { told = None } → b ≡ record y { told = None }
@@ -321,8 +325,14 @@ submit_safe w job f safe stepped = subst IsSafe (sym (submitted w job f stepped)
 pub submit_sectors : (v f : front.View) (job : Job) → f ≡ (submit_of v job).1 → f.sectors ≡ v.sectors
 submit_sectors v f job stepped = ap (λ (x : front.View). x.sectors) stepped ∙ (submit_kept v job).sectors
 
-pub submit_goes : {E : Type 0} → (d : Detail) (w : World) (job : Job) (f : front.View) (answer : Result ℕ Refusal) (line : Line) (c : Option (List (List ℕ))) (t t' : Told) (result : Result (Unit {0}) E) → f ≡ (submit_of w.front job).1 → answer ≡ (submit_of w.front job).0 → line ≡ submit_line job answer → Shows d (line ∷ []) result t t' → Goes d (Is (Submits job ∷ [])) (Is (Submits job ∷ [])) result (record { world = w; content = c; told = t }) (record { world = record { front = f; back = w.back; under = w.under }; content = c; told = t' })
-submit_goes d w job f answer line c t t' result stepped answered said shown =
+pub submit_goes : (w : World) (job : Job) (f : front.View) (answer : Result ℕ Refusal) (line : Line) (c : DiskSeen) (r s : RecorderSeen) (result : Result (Unit {0}) RecordStop) → f ≡ (submit_of w.front job).1 → answer ≡ (submit_of w.front job).0 → line ≡ submit_line job answer → Adds (line ∷ []) result r s → Goes (Is (Submits job ∷ [])) (Is (Submits job ∷ [])) 0 result (moment w c r) (moment (record { front = f; back = w.back; under = w.under }) c s)
+submit_goes w job f answer line c r s result stepped answered said shown =
     let same : line ≡ submit_line job (submit_of w.front job).0 = said ∙ ap (submit_line job) answered in
-    goes_one d (Submits job) w (record { front = f; back = w.back; under = w.under }) c c t t' result (submitted w job f stepped) refl
-    (subst (λ (l : Line). Shows d (l ∷ []) result t t') same shown)
+    goes_here (Is (Submits job ∷ [])) (Is (Submits job ∷ [])) 0 (Submits job) w (record { front = f; back = w.back; under = w.under }) c c r s result refl refl
+    (submitted w job f stepped) (omega arith) (submit_sectors w.front f job stepped) refl
+    (subst (λ (l : Line). Adds (l ∷ []) result r s) same shown)
+
+-- a line was said of the machine as it stands
+pub said_goes : (h : Happening) (w : World) (c : DiskSeen) (r s : RecorderSeen) (result : Result (Unit {0}) RecordStop) (line : Line) → w ≡ happens w h → DiskGoes w h c c → line ∷ [] ≡ lines_at w h → Adds (line ∷ []) result r s → Goes (Is (h ∷ [])) (Is (h ∷ [])) 0 result (moment w c r) (moment w c s)
+said_goes h w c r s result line world disk said shown =
+    goes_here (Is (h ∷ [])) (Is (h ∷ [])) 0 h w w c c r s result refl refl world (omega arith) refl disk (subst (λ (l : List Line). Adds l result r s) said shown)

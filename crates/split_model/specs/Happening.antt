@@ -1,6 +1,7 @@
 -- What may happen to the machine, what it makes of it, and the lines that it shows.
 use Rattle.std.specs.Prelude.{◌≡◌, ℕ, List, [], ◌∷◌, ◌++◌, Option, Some, None, Result, Ok, Err, if◌then◌else◌}
 use Rattle.blk_base.specs.declared.config.Job.{Job}
+use Rattle.blk_io.specs.Disk.{DiskSeen}
 use Rattle.blk_base.specs.declared.parts.End.{End}
 use Rattle.blk_base.specs.declared.parts.End.TheVariants as end
 use Rattle.blk_base.specs.declared.moves.BackMover.TheVariants as back_mover
@@ -96,8 +97,8 @@ lines_at w (Notifies at) = []
 lines_at w Looks = (if is_quiet w then Quiet else Busy) ∷ []
 lines_at w Settles = (if is_quiet w then Quiet else Unsettled) ∷ []
 
--- what it makes of the disk's sectors, where the disk tells
-abbrev pub DiskGoes : World → Happening → (before after : Option (List (List ℕ))) → Type 0
+-- what it makes of the disk: a move of a job makes exactly the call that the job asks for, and nothing else makes one
+abbrev pub DiskGoes : World → Happening → DiskSeen → DiskSeen → Type 0
 DiskGoes w (JobMoves number outcome) before after = DiskDoes (back_step.job_ask_of w.back number) outcome before after
 DiskGoes w h before after = after ≡ before
 
@@ -111,8 +112,7 @@ abbrev pub lines_of : List Happening → World → List Line
 lines_of [] w = []
 lines_of (h ∷ hs) w = lines_at w h ++ lines_of hs (happens w h)
 
--- what all this makes of the disk's sectors
-abbrev pub DiskRuns : List Happening → World → (before after : Option (List (List ℕ))) → Type 0
+-- what all this makes of the disk
+abbrev pub DiskRuns : List Happening → World → DiskSeen → DiskSeen → Type 0
 DiskRuns [] w before after = after ≡ before
-DiskRuns (h ∷ hs) w before after =
-    (between : Option (List (List ℕ))) × DiskGoes w h before between × DiskRuns hs (happens w h) between after
+DiskRuns (h ∷ hs) w before after = (between : DiskSeen) × DiskGoes w h before between × DiskRuns hs (happens w h) between after

@@ -1,5 +1,8 @@
 -- The happenings that an event of a schedule makes.
-use Rattle.std.specs.Prelude.{◌≡◌, ℕ, zero, suc, ◌+◌, ◌*◌, ◌≤◌, ◌<◌, ◌⊎◌, Bool, true, false, ◌&&◌, List, [], ◌∷◌, ◌++◌, replicate, length, Some, None, if◌then◌else◌, ◌==◌}
+use Rattle.std.specs.Prelude.{◌≡◌, ℕ, zero, suc, ◌+◌, ◌*◌, ◌≤◌, ◌<◌, ◌⊎◌, Bool, true, false, not, ◌&&◌, List, [], ◌∷◌, ◌++◌, replicate, length, Some, None, if◌then◌else◌, ◌==◌}
+use Rattle.blk_base.specs.Options.{Options}
+use Rattle.blk_base.specs.declared.operation.Abi.{Abi}
+use Rattle.blk_base.specs.declared.operation.Abi.TheVariants.{X64, X32}
 use Rattle.blk_base.specs.declared.config.Job.{Job}
 use Rattle.blk_base.specs.declared.config.Job.TheVariants as jobs
 use Rattle.hypervisor.specs.Act.{Outcome}
@@ -11,6 +14,14 @@ use Rattle.blk_front.specs.Submit.{unfinished, is_connected}
 use Rattle.blk_back.specs.Step.{next_job_of}
 use Rattle.split_model.specs.World.{World, is_quiet}
 use Rattle.split_model.specs.Happening.{Happening, FrontMoves, BackMoves, JobMoves, Submits, Notifies, Looks, Settles, happens, after}
+
+abbrev pub is_x64 : Abi → Bool
+is_x64 X64 = true
+is_x64 X32 = false
+
+-- the options that are carried out yet: the x86_64 layout, a ring of one page from any start, and a disk of any size that may be written
+abbrev pub are_carried : Options → Bool
+are_carried o = is_x64 o.abi && (o.order == 0) && (o.persistent == 0) && (o.indirect == 0) && not o.read_only
 
 -- a write of one sector, the only submission that is carried out yet
 abbrev pub is_carried_job : Job → Bool
@@ -138,26 +149,34 @@ pub record AreRoundsSoFar (test : World → Bool) (bound : ℕ) (w : World) (hs 
 abbrev pub IsSettlingSoFar : World → List Happening → Type 0
 IsSettlingSoFar w hs = AreRoundsSoFar is_quiet (settle_bound w) w hs ⊎ IsSettling w hs
 
--- the happenings of an event
-abbrev pub AreOf : Event → World → List Happening → Type 0
-AreOf (events.Submit job) w hs = (hs ≡ Submits job ∷ []) × JobHasWidths job × (is_carried_job job ≡ true)
-AreOf (events.Front n) w hs = hs ≡ front_moves w n
-AreOf (events.Back n) w hs = hs ≡ back_moves w n
-AreOf (events.Job number n) w hs = AreSomeJobMoves number n hs
-AreOf (events.Turn n) w hs = AreRounds never n w hs
-AreOf events.Settle w hs = IsSettling w hs
-AreOf events.Look w hs = hs ≡ Looks ∷ []
-AreOf (events.Notify at) w hs = hs ≡ Notifies at ∷ []
-AreOf event w hs = ⊥
+-- an event makes these happenings
+abbrev pub Makes : Event → World → List Happening → Type 0
+Makes (events.Submit job) w hs = (hs ≡ Submits job ∷ []) × JobHasWidths job
+Makes (events.Front n) w hs = hs ≡ front_moves w n
+Makes (events.Back n) w hs = hs ≡ back_moves w n
+Makes (events.Job number n) w hs = AreSomeJobMoves number n hs
+Makes (events.Turn n) w hs = AreRounds never n w hs
+Makes events.Settle w hs = IsSettling w hs
+Makes events.Look w hs = hs ≡ Looks ∷ []
+Makes (events.Notify at) w hs = hs ≡ Notifies at ∷ []
+Makes event w hs = ⊥
 
--- the happenings of an event so far
+-- and so far it made these
+abbrev pub MakesSoFar : Event → World → List Happening → Type 0
+MakesSoFar (events.Front n) w hs = IsBeginning hs (front_moves w n)
+MakesSoFar (events.Back n) w hs = IsBeginning hs (back_moves w n)
+MakesSoFar (events.Job number n) w hs = AreFewJobMoves number n hs
+MakesSoFar (events.Turn n) w hs = AreRoundsSoFar never n w hs
+MakesSoFar events.Settle w hs = IsSettlingSoFar w hs
+MakesSoFar event w hs = Makes event w hs
+
+-- the happenings of an event, which is one that is carried out
+abbrev pub AreOf : Event → World → List Happening → Type 0
+AreOf event w hs = (is_carried event ≡ true) × Makes event w hs
+
+-- its happenings so far
 abbrev pub AreOfSoFar : Event → World → List Happening → Type 0
-AreOfSoFar (events.Front n) w hs = IsBeginning hs (front_moves w n)
-AreOfSoFar (events.Back n) w hs = IsBeginning hs (back_moves w n)
-AreOfSoFar (events.Job number n) w hs = AreFewJobMoves number n hs
-AreOfSoFar (events.Turn n) w hs = AreRoundsSoFar never n w hs
-AreOfSoFar events.Settle w hs = IsSettlingSoFar w hs
-AreOfSoFar event w hs = AreOf event w hs
+AreOfSoFar event w hs = (is_carried event ≡ true) × MakesSoFar event w hs
 
 -- the happenings of a schedule, event by event
 abbrev pub AreOfAll : List Event → World → List Happening → Type 0

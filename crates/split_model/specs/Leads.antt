@@ -1,57 +1,58 @@
 -- What happened between two moments: the machine, the disk and the recorder went along.
-use Rattle.std.specs.Prelude.{◌≡◌, ℕ, List, [], ◌∷◌, ◌++◌, Option, Result, Ok, Err}
-use Rattle.std.specs.List.{flat_map}
-use Rattle.schedule_text.specs.declared.line.Detail.{Detail}
-use Rattle.schedule_text.specs.declared.line.Line.{Line}
-use Rattle.schedule_text.specs.Recorder.{Told, gained, recorded, StopsWithin}
+use Rattle.std.specs.Prelude.{◌≡◌, ℕ, ◌+◌, ◌<◌, ◌≤◌, ◌^◌, List, [], ◌∷◌, ◌++◌, Some, Result, Ok, Err}
+use Rattle.blk_io.specs.Disk.{DiskSeen, attached_of}
+use Rattle.schedule_text.specs.declared.recorder.RecordStop.{RecordStop}
+use Rattle.schedule_text.specs.Recorder.{RecorderSeen, Gained, StopsAmong}
 use Rattle.split_model.specs.World.{World}
 use Rattle.split_model.specs.Happening.{Happening, lines_at, after, lines_of, DiskRuns}
 
--- what a recorder keeps of these lines
-abbrev pub kept_of : Detail → List Line → List Line
-kept_of detail lines = flat_map (recorded detail) lines
-
--- a moment: the machine, what the disk holds and what the recorder tells, where they tell
+-- a moment: the machine, and what the disk and the recorder expose
 pub record Moment : Type 0 where
   pub world : World
-  pub content : Option (List (List ℕ))
-  pub told : Told
+  pub disk : DiskSeen
+  pub recorder : RecorderSeen
+
+abbrev pub moment : World → DiskSeen → RecorderSeen → Moment
+moment w disk recorder = record { world = w; disk = disk; recorder = recorder }
+
+-- the disk is attached with the front's sectors, and there are numbers for so many mappings more
+pub record IsReadyFor (n : ℕ) (w : World) (disk : DiskSeen) : Type 0 where
+  pub attached : attached_of disk ≡ Some w.front.sectors
+  pub left : w.under.grants.made + n < 2 ^ 64
+
+-- so many mappings more were made at most; what is attached stays
+pub record Keeps (n : ℕ) (a b : Moment) : Type 0 where
+  pub made : b.world.under.grants.made ≤ a.world.under.grants.made + n
+  pub sectors : b.world.front.sectors ≡ a.world.front.sectors
+  pub attachment : b.disk.attachment ≡ a.disk.attachment
 
 -- happenings of this kind lead from the one moment to the other
-pub record Leads (detail : Detail) (kind : List Happening → Type 0) (old new : Moment) : Type 0 where
+pub record Leads (kind : List Happening → Type 0) (a b : Moment) : Type 0 where
   pub history : List Happening
   pub is_kind : kind history
-  pub world : new.world ≡ after history old.world
-  pub disk : DiskRuns history old.world old.content new.content
-  pub report : new.told ≡ gained old.told (kept_of detail (lines_of history old.world))
-
--- the recorder stopped at one of these lines, and keeps those before it
-pub record StopsAmong (detail : Detail) (lines : List Line) (old new : Told) : Type 0 where
-  pub said : List Line
-  pub cut : Line
-  pub rest : List Line
-  pub all : lines ≡ said ++ cut ∷ rest
-  pub stops : StopsWithin (gained old (kept_of detail said)) (recorded detail cut) new
+  pub world : b.world ≡ after history a.world
+  pub disk : DiskRuns history a.world a.disk b.disk
+  pub told : Gained (lines_of history a.world) a.recorder b.recorder
 
 -- happenings of this kind lead there, and at a line of the last of them the recorder stopped
-pub record LeadsToStop (detail : Detail) (kind : List Happening → Type 0) (old new : Moment) : Type 0 where
+pub record LeadsToStop (kind : List Happening → Type 0) (stop : RecordStop) (a b : Moment) : Type 0 where
   pub history : List Happening
   pub last : Happening
   pub is_kind : kind (history ++ last ∷ [])
-  pub world : new.world ≡ after (history ++ last ∷ []) old.world
-  pub disk : DiskRuns (history ++ last ∷ []) old.world old.content new.content
-  pub report : StopsAmong detail (lines_at (after history old.world) last) (gained old.told (kept_of detail (lines_of history old.world))) new.told
+  pub world : b.world ≡ after (history ++ last ∷ []) a.world
+  pub disk : DiskRuns (history ++ last ∷ []) a.world a.disk b.disk
+  pub told : StopsAmong (lines_of history a.world) (lines_at (after history a.world) last) stop a.recorder b.recorder
 
--- What a call made happen: happenings of the one kind where it was done, of the other where the recorder stopped it.
-abbrev pub Goes : {E : Type 0} → Detail → (kind so_far : List Happening → Type 0) → Result (Unit {0}) E → Moment → Moment → Type 0
-Goes detail kind so_far (Ok done) old new = Leads detail kind old new
-Goes detail kind so_far (Err stop) old new = LeadsToStop detail so_far old new
+-- happenings of the one kind where the call was done, of the other where the recorder stopped it
+abbrev pub Ends : (kind so_far : List Happening → Type 0) → Result (Unit {0}) RecordStop → Moment → Moment → Type 0
+Ends kind so_far (Ok done) a b = Leads kind a b
+Ends kind so_far (Err stop) a b = LeadsToStop so_far stop a b
+
+-- what a call made happen, with so many mappings more at most
+pub record Goes (kind so_far : List Happening → Type 0) (n : ℕ) (result : Result (Unit {0}) RecordStop) (a b : Moment) : Type 0 where
+  pub ends : Ends kind so_far result a b
+  pub keeps : Keeps n a b
 
 -- exactly this happened
 abbrev pub Is : List Happening → List Happening → Type 0
 Is happenings hs = hs ≡ happenings
-
--- These lines were given to the recorder, in order.
-abbrev pub Shows : {E : Type 0} → Detail → List Line → Result (Unit {0}) E → Told → Told → Type 0
-Shows detail lines (Ok done) old new = new ≡ gained old (kept_of detail lines)
-Shows detail lines (Err stop) old new = StopsAmong detail lines old new

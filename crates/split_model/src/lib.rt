@@ -36,12 +36,16 @@ pub fn every_ask_may_be_carried_out()
     ensures kept { (w : World) (h : Happening) → IsSafe w → IsSafe (happens w h) }
     ensures after { (hs : List Happening) (w : World) → IsSafe w → IsSafe (after hs w) }
     ensures front { (w : World) → IsSafe w → IsFrontWithin (front_ask w.front) → FrontMay w.under (front_ask w.front) }
-    ensures back { (w : World) → IsSafe w → Names (hands_of w.back) (back_ask w.back) → w.under.grants.made + 1 < 2 ^ 64 → length (hands_of w.back) ≤ 34 → BackMay w.under (Some w.front.sectors) (back_ask w.back) }
-    ensures job { (w : World) (number : ℕ) → IsSafe w → Names (hands_of w.back) (job_ask_of w.back number) → IsWithin w.back.jobs.info.sectors (job_ask_of w.back number) → w.under.grants.made + 1 < 2 ^ 64 → length (hands_of w.back) ≤ 34 → BackMay w.under (Some w.front.sectors) (job_ask_of w.back number) }
+    ensures back { (w : World) → IsSafe w → Names (hands_of w.back) (back_ask w.back) → w.under.grants.made + 1 < 2 ^ 64
+        → length (hands_of w.back) ≤ 34 → BackMay w.under (Some w.front.sectors) (back_ask w.back) }
+    ensures job { (w : World) (number : ℕ) → IsSafe w → Names (hands_of w.back) (job_ask_of w.back number)
+        → IsWithin w.back.jobs.info.sectors (job_ask_of w.back number) → w.under.grants.made + 1 < 2 ^ 64 → length (hands_of w.back) ≤ 34
+        → BackMay w.under (Some w.front.sectors) (job_ask_of w.back number) }
 {}
 
 /// What the events of a schedule make happen echoes them: the lines of the kinds that echo are, one
 /// for one and in order, those that answer the events.
 pub fn a_schedule_is_echoed()
-    ensures { (order : ℕ) (events : List Event) (w : World) (history : List Happening) → AreOfAll events w history → AnswersAll order events (filter is_echo (lines_of history w)) }
+    ensures { (order : ℕ) (events : List Event) (w : World) (history : List Happening) → AreOfAll events w history
+        → AnswersAll order events (filter is_echo (lines_of history w)) }
 {}

@@ -1,7 +1,7 @@
 // What is done at an ask of the back or of one of its jobs.
-ghost use Rattle.std.specs.Prelude.{◌≡◌, ◌<◌, ◌≤◌, IfSome, Some};
+ghost use Rattle.std.specs.Prelude.{◌≡◌, ◌<◌, IfSome, Some};
 ghost use Rattle.blk_base.specs.declared.parts.Mode.TheVariants.{ReadWrite};
-ghost use Rattle.blk_io.specs.Disk.{IsIn, AreIn};
+ghost use Rattle.blk_io.specs.Disk.{IsIn, AreIn, attached_of};
 ghost use Rattle.xen_pages.specs.Pages.{word_of};
 ghost use Rattle.grant_table.specs.Table.{IsLive, frame_of};
 ghost use Rattle.blk_base.specs.declared.moves.Move.{Move};
@@ -28,13 +28,11 @@ impl Hypervisor {
         disk: &mut D,
         room: &'a mut SectorWords,
     ) -> Option<BackAnswer<'a>>
-        requires may { BackMay self.old (D.attached disk.old) ask.now }
+        requires may { BackMay self.old (attached_of (D.seen disk.old)) ask.now }
         ensures acted { back_with_move self.new who ask.now result ≡ back_seen (back_act self.old who ask.now (outcome_of result)) }
         ensures under { self.new ≡ back_under self.old (back_act self.old who ask.now (outcome_of result)) }
         ensures may_show { IfSome result (λ answer. MayShow self.new ask.now answer) }
-        ensures disk { DiskDoes ask.now (outcome_of result) (D.content disk.old) (D.content disk.new) }
-        ensures attached { D.attached disk.new ≡ D.attached disk.old }
-        ensures later { D.faults disk.old ≤ D.faults disk.new }
+        ensures disk { DiskDoes ask.now (outcome_of result) (D.seen disk.old) (D.seen disk.new) }
     {
         match ask {
             BackAsk::Wait => self.event(who),
@@ -61,14 +59,12 @@ impl Hypervisor {
         disk: &mut D,
         room: &'a mut SectorWords,
     ) -> Option<BackAnswer<'a>>
-        requires may { BackMay self.old (D.attached disk.old) ask.now }
+        requires may { BackMay self.old (attached_of (D.seen disk.old)) ask.now }
         requires call { IsCall ask.now }
         ensures acted { back_with_move self.new who ask.now result ≡ back_seen (back_act self.old who ask.now (outcome_of result)) }
         ensures under { self.new ≡ back_under self.old (back_act self.old who ask.now (outcome_of result)) }
         ensures may_show { IfSome result (λ answer. MayShow self.new ask.now answer) }
-        ensures disk { DiskDoes ask.now (outcome_of result) (D.content disk.old) (D.content disk.new) }
-        ensures attached { D.attached disk.new ≡ D.attached disk.old }
-        ensures later { D.faults disk.old ≤ D.faults disk.new }
+        ensures disk { DiskDoes ask.now (outcome_of result) (D.seen disk.old) (D.seen disk.new) }
     {
         match ask {
             BackAsk::Map { gref, mode } => Some(self.map(*gref, *mode)),
@@ -125,7 +121,8 @@ impl Hypervisor {
 
     fn map(&mut self, gref: u32, mode: Mode) -> BackAnswer<'static>
         requires left { HasMappingLeft self.old.grants }
-        ensures acted { (who : BackMover) → back_with_move self.new who (BackAsk.Map gref mode) (Some result) ≡ back_seen (back_act self.old who (BackAsk.Map gref mode) Took) }
+        ensures acted { (who : BackMover) → back_with_move self.new who (BackAsk.Map gref mode) (Some result)
+            ≡ back_seen (back_act self.old who (BackAsk.Map gref mode) Took) }
         ensures under { self.new ≡ back_under self.old (back_act self.old BackMover.Back (BackAsk.Map gref mode) Took) }
         ensures may_show { MayShow self.new (BackAsk.Map gref mode) result }
         ensures no_call { outcome_told result ≡ Took }
@@ -144,7 +141,8 @@ impl Hypervisor {
     }
 
     fn bind(&mut self, port: u32) -> BackAnswer<'static>
-        ensures acted { back_with_move self.new BackMover.Back (BackAsk.Bind port) (Some result) ≡ back_seen (back_act self.old BackMover.Back (BackAsk.Bind port) Took) }
+        ensures acted { back_with_move self.new BackMover.Back (BackAsk.Bind port) (Some result)
+            ≡ back_seen (back_act self.old BackMover.Back (BackAsk.Bind port) Took) }
         ensures under { self.new ≡ back_under self.old (back_act self.old BackMover.Back (BackAsk.Bind port) Took) }
         ensures no_call { outcome_told result ≡ Took }
     {
@@ -161,13 +159,10 @@ fn read_disk<'a, D: SectorDisk>(
     disk: &mut D,
     room: &'a mut SectorWords,
 ) -> BackAnswer<'a>
-    requires { IsIn (D.attached disk.old) sector }
+    requires { IsIn (attached_of (D.seen disk.old)) sector }
     ensures acted { (under : Hypervisor) (shown : Move) → Some (result, shown) ≡ back_seen (read_act under shown (outcome_told result)) }
     ensures under { (under : Hypervisor) (shown : Move) → back_under under (read_act under shown (outcome_told result)) ≡ under }
-    ensures read { DiskReads sector (outcome_told result) (D.content disk.old) }
-    ensures content { D.content disk.new ≡ D.content disk.old }
-    ensures attached { D.attached disk.new ≡ D.attached disk.old }
-    ensures later { D.faults disk.old ≤ D.faults disk.new }
+    ensures read { DiskReads sector (outcome_told result) (D.seen disk.old) (D.seen disk.new) }
 {
     match disk.read(sector, room) {
         Ok(()) => BackAnswer::Sector(Lent::at(room)),
@@ -177,12 +172,10 @@ fn read_disk<'a, D: SectorDisk>(
 
 // A sector is written to the disk.
 fn write_disk<D: SectorDisk>(sector: u64, words: &SectorWords, disk: &mut D) -> BackAnswer<'static>
-    requires { IsIn (D.attached disk.old) sector }
+    requires { IsIn (attached_of (D.seen disk.old)) sector }
     ensures acted { (under : Hypervisor) (shown : Move) → Some (result, shown) ≡ back_seen (disk_act under shown (outcome_told result)) }
     ensures under { (under : Hypervisor) (shown : Move) → back_under under (disk_act under shown (outcome_told result)) ≡ under }
-    ensures written { DiskWrites sector words.now (outcome_told result) (D.content disk.old) (D.content disk.new) }
-    ensures attached { D.attached disk.new ≡ D.attached disk.old }
-    ensures later { D.faults disk.old ≤ D.faults disk.new }
+    ensures written { DiskWrites sector words.now (outcome_told result) (D.seen disk.old) (D.seen disk.new) }
 {
     match disk.write(sector, words) {
         Ok(()) => BackAnswer::Done,
@@ -192,13 +185,10 @@ fn write_disk<D: SectorDisk>(sector: u64, words: &SectorWords, disk: &mut D) -> 
 
 // What was written so far is made stable.
 fn flush_disk<D: SectorDisk>(disk: &mut D) -> BackAnswer<'static>
-    requires { IsIn (D.attached disk.old) 0 }
+    requires { IsIn (attached_of (D.seen disk.old)) 0 }
     ensures acted { (under : Hypervisor) (shown : Move) → Some (result, shown) ≡ back_seen (disk_act under shown (outcome_told result)) }
     ensures under { (under : Hypervisor) (shown : Move) → back_under under (disk_act under shown (outcome_told result)) ≡ under }
-    ensures flushed { DiskFlushes (outcome_told result) }
-    ensures content { D.content disk.new ≡ D.content disk.old }
-    ensures attached { D.attached disk.new ≡ D.attached disk.old }
-    ensures later { D.faults disk.old ≤ D.faults disk.new }
+    ensures flushed { DiskFlushes (outcome_told result) (D.seen disk.old) (D.seen disk.new) }
 {
     match disk.flush() {
         Ok(()) => BackAnswer::Done,
@@ -208,12 +198,10 @@ fn flush_disk<D: SectorDisk>(disk: &mut D) -> BackAnswer<'static>
 
 // Sectors are discarded.
 fn trim_disk<D: SectorDisk>(sector: u64, count: u64, disk: &mut D) -> BackAnswer<'static>
-    requires { AreIn (D.attached disk.old) sector count }
+    requires { AreIn (attached_of (D.seen disk.old)) sector count }
     ensures acted { (under : Hypervisor) (shown : Move) → Some (result, shown) ≡ back_seen (disk_act under shown (outcome_told result)) }
     ensures under { (under : Hypervisor) (shown : Move) → back_under under (disk_act under shown (outcome_told result)) ≡ under }
-    ensures trimmed { DiskTrims sector count (outcome_told result) (D.content disk.old) (D.content disk.new) }
-    ensures attached { D.attached disk.new ≡ D.attached disk.old }
-    ensures later { D.faults disk.old ≤ D.faults disk.new }
+    ensures trimmed { DiskTrims sector count (outcome_told result) (D.seen disk.old) (D.seen disk.new) }
 {
     match disk.trim(sector, count) {
         Ok(()) => BackAnswer::Done,
