@@ -41,7 +41,7 @@ use Rattle.move_laws.specs.Tells.{Tells, standing_of}
 use Rattle.move_laws.proofs.Follows.{IsAllowed}
 use Rattle.move_laws.proofs.Memory.{length_written, word_written, flags_written}
 use Rattle.move_laws.proofs.Standing.{filter_none, numbered_live, without_live, others_live, writers_live}
-use Rattle.move_laws.proofs.Tells.{tells_more}
+use Rattle.move_laws.proofs.Tells.{tells_more, new_number}
 use Rattle.move_laws.proofs.Still.{IsStill, still, none_goes, tells_still}
 use Rattle.move_laws.proofs.Entries.{IsGranted, granted, verdict_told, Found, found, frame_found}
 
@@ -85,20 +85,20 @@ cas_kept before pages table frame word old new framed worded tells = by_test (wo
         (tells_still before (lines.Move (moves.FrontCas frame word old new (word_of pages frame word))) pages table (still _ refl (λ f w v b. rw t refl) (λ n. refl) refl) tells)
 
 pub front_kept : (before : List Line) (h : Hypervisor) (ask : FrontAsk) (a : FrontAct) → Tells before h.pages h.grants → IsFrontWithin ask → front_act h ask ≡ Some a → FrontKeeps before a
-front_kept before h front_ask.Wait a tells within e = front_test (FrontKeeps before) (is_pending h.channels end.Front) _ a (kept_still before (moves.Event mover.Front) h.pages h.grants (still _ refl (λ f w v b. refl) (λ n. refl) refl) (record { coherent = tt; answered = tt; touched = tt; grantable = tt }) tells) e
-front_kept before h front_ask.Fence a tells within e = of_front (FrontKeeps before) _ a (kept_still before (moves.Fence mover.Front) h.pages h.grants (still _ refl (λ f w v b. refl) (λ n. refl) refl) (record { coherent = tt; answered = tt; touched = tt; grantable = tt }) tells) e
-front_kept before h (front_ask.Read frame word) a tells within e = of_front (FrontKeeps before) _ a (kept_still before (moves.FrontRead frame word (word_of h.pages frame word)) h.pages h.grants (still _ refl (λ f w v b. refl) (λ n. refl) refl) (record { coherent = sym (tells.values frame word (omega (arith, within.0)) within.1); answered = tt; touched = tt; grantable = tt }) tells) e
+front_kept before h front_ask.Wait a tells within e = front_test (FrontKeeps before) (is_pending h.channels end.Front) _ a (kept_still before (moves.Event mover.Front) h.pages h.grants (still _ refl (λ f w v b. refl) (λ n. refl) refl) (record { coherent = tt; answered = tt; numbered = tt; touched = tt; grantable = tt }) tells) e
+front_kept before h front_ask.Fence a tells within e = of_front (FrontKeeps before) _ a (kept_still before (moves.Fence mover.Front) h.pages h.grants (still _ refl (λ f w v b. refl) (λ n. refl) refl) (record { coherent = tt; answered = tt; numbered = tt; touched = tt; grantable = tt }) tells) e
+front_kept before h (front_ask.Read frame word) a tells within e = of_front (FrontKeeps before) _ a (kept_still before (moves.FrontRead frame word (word_of h.pages frame word)) h.pages h.grants (still _ refl (λ f w v b. refl) (λ n. refl) refl) (record { coherent = sym (tells.values frame word (omega (arith, within.0)) within.1); answered = tt; numbered = tt; touched = tt; grantable = tt }) tells) e
 front_kept before h (front_ask.Write frame word value) a tells within e = of_front (FrontKeeps before) _ a (record {
-  allowed = record { coherent = tt; answered = tt; touched = tt; grantable = tt };
+  allowed = record { coherent = tt; answered = tt; numbered = tt; touched = tt; grantable = tt };
   tells = tells_write before (lines.Move (moves.FrontWrite frame word value)) h.pages h.grants frame word value refl (λ n. refl) refl (λ f w v. refl) (omega (arith, within.0)) within.1 tells;
 }) e
 front_kept before h (front_ask.Cas frame word old new) a tells within e = of_front (FrontKeeps before) _ a (record {
-  allowed = record { coherent = sym (tells.values frame word (omega (arith, within.0)) within.1); answered = tt; touched = tt; grantable = tt };
+  allowed = record { coherent = sym (tells.values frame word (omega (arith, within.0)) within.1); answered = tt; numbered = tt; touched = tt; grantable = tt };
   tells = cas_kept before h.pages h.grants frame word old new (omega (arith, within.0)) within.1 tells;
 }) e
-front_kept before h front_ask.NewPort a tells within e = of_front (FrontKeeps before) _ a (kept_still before (moves.FrontPort (h.channels.made + 1)) h.pages h.grants (still _ refl (λ f w v b. refl) (λ n. refl) refl) (record { coherent = tt; answered = tt; touched = tt; grantable = tt }) tells) e
-front_kept before h front_ask.Send a tells within e = of_front (FrontKeeps before) _ a (kept_still before (moves.Send mover.Front) h.pages h.grants (still _ refl (λ f w v b. refl) (λ n. refl) refl) (record { coherent = tt; answered = tt; touched = tt; grantable = tt }) tells) e
-front_kept before h front_ask.ClosePort a tells within e = of_front (FrontKeeps before) _ a (kept_still before (moves.ClosePort mover.Front) h.pages h.grants (still _ refl (λ f w v b. refl) (λ n. refl) refl) (record { coherent = tt; answered = tt; touched = tt; grantable = tt }) tells) e
+front_kept before h front_ask.NewPort a tells within e = of_front (FrontKeeps before) _ a (kept_still before (moves.FrontPort (h.channels.made + 1)) h.pages h.grants (still _ refl (λ f w v b. refl) (λ n. refl) refl) (record { coherent = tt; answered = tt; numbered = tt; touched = tt; grantable = tt }) tells) e
+front_kept before h front_ask.Send a tells within e = of_front (FrontKeeps before) _ a (kept_still before (moves.Send mover.Front) h.pages h.grants (still _ refl (λ f w v b. refl) (λ n. refl) refl) (record { coherent = tt; answered = tt; numbered = tt; touched = tt; grantable = tt }) tells) e
+front_kept before h front_ask.ClosePort a tells within e = of_front (FrontKeeps before) _ a (kept_still before (moves.ClosePort mover.Front) h.pages h.grants (still _ refl (λ f w v b. refl) (λ n. refl) refl) (record { coherent = tt; answered = tt; numbered = tt; touched = tt; grantable = tt }) tells) e
 front_kept before h (front_ask.GetKey path) a tells within e = absurd (none-some a e)
 front_kept before h (front_ask.SetKey path text) a tells within e = absurd (none-some a e)
 front_kept before h (front_ask.Watch path) a tells within e = absurd (none-some a e)
@@ -115,7 +115,8 @@ read_allowed before pages table who m word f within tells =
     record {
       coherent = sym (tells.values (frame_of table m) word (omega arith) within);
       answered = tt;
-      touched = rw (standing_found before pages table m f tells) (sym frame, within);
+      numbered = tt;
+      touched = rw (standing_found before pages table m f tells) (sym frame);
       grantable = (omega arith, omega arith);
     }
 
@@ -127,7 +128,8 @@ write_allowed before pages table who m word value f writes within tells =
     record {
       coherent = tt;
       answered = tt;
-      touched = rw (standing_found before pages table m f tells) (sym frame, within, ap (λ (x : Mapping). x.mode) f.same ∙ writes);
+      numbered = tt;
+      touched = rw (standing_found before pages table m f tells) (sym frame, ap (λ (x : Mapping). x.mode) f.same ∙ writes);
       grantable = (omega arith, omega arith);
     }
 
@@ -137,7 +139,7 @@ map_kept before h who gref mode (Ok frame) tells e =
     let next : Held = record { mapping = next_mapping h.grants gref mode; frame = frame } in
     let high : max h.grants.made (h.grants.made + 1) ≡ h.grants.made + 1 = omega arith in
     record {
-      allowed = record { coherent = tt; answered = (verdict_told before h.pages h.grants gref mode tells ∙ e, ap (λ (n : ℕ). n + 1) (sym tells.made)); touched = tt; grantable = tt };
+      allowed = record { coherent = tt; answered = (verdict_told before h.pages h.grants gref mode tells ∙ e, new_number before (h.grants.made + 1) (omega (arith, tells.made))); numbered = ap (λ (n : ℕ). n + 1) (sym tells.made); touched = tt; grantable = tt };
       tells = tells_more before (lines.Move (moves.Map who gref mode (h.grants.made + 1) frame)) h.pages (map_pages h.pages gref mode (Ok frame)) h.grants (with_mapping h.grants gref mode frame) tells refl
           (length_written h.pages (gref / 512) (2 * (gref % 512)) (mapped_entry (entry_word0 h.pages gref) mode) tells.sized)
           (λ f w f_in w_in. sym (flags_written h.pages gref f w (λ (v : ℕ). mapped_entry v mode) tells.sized g.reference w_in))
@@ -147,12 +149,12 @@ map_kept before h who gref mode (Ok frame) tells e =
     }
 map_kept before h who gref mode (Err refusal) tells e =
     kept_still before (moves.MapRefused who gref mode (status_of refusal)) h.pages h.grants (still _ refl (λ f w v b. refl) (λ n. refl) refl)
-    (record { coherent = tt; answered = (refusal, verdict_told before h.pages h.grants gref mode tells ∙ e, refl); touched = tt; grantable = tt }) tells
+    (record { coherent = tt; answered = (refusal, verdict_told before h.pages h.grants gref mode tells ∙ e, refl); numbered = tt; touched = tt; grantable = tt }) tells
 
 -- the mapping of a live one's number is taken out
 unmap_held : (before : List Line) (pages : List ℕ) (table : GrantTable) (who : BackMover) (held : Held) → held_of held.mapping.number table.live ≡ Some held → IsGrantable held → Tells before pages table → IsKept before (moves.Unmap who held.mapping.number) (unmap_pages table pages held.mapping) (unmap_table table held.mapping)
 unmap_held before pages table who held is fits tells = record {
-  allowed = record { coherent = tt; answered = tt; touched = tt; grantable = tt };
+  allowed = record { coherent = tt; answered = tt; numbered = tt; touched = tt; grantable = tt };
   tells = tells_more before (lines.Move (moves.Unmap who held.mapping.number)) pages (unmap_pages table pages held.mapping) table (unmap_table table held.mapping) tells refl
       (length_written pages (held.mapping.gref / 512) (2 * (held.mapping.gref % 512)) _ tells.sized)
       (λ f w f_in w_in.
@@ -180,17 +182,17 @@ call_disk before h shown Failed a s allowed tells e = of_back (BackKeeps before)
 call_disk before h shown (Gave words) a s allowed tells e = absurd (none-some a e)
 
 bind_kept : (before : List Line) (h : Hypervisor) (p : ℕ) (state : PortState) → Tells before h.pages h.grants → BackKeeps before (bind_act h p state)
-bind_kept before h p port.Unbound tells = kept_still before (moves.Bind p) h.pages h.grants (still _ refl (λ f w v b. refl) (λ n. refl) refl) (record { coherent = tt; answered = tt; touched = tt; grantable = tt }) tells
-bind_kept before h p port.Closed tells = kept_still before (moves.BindRefused p) h.pages h.grants (still _ refl (λ f w v b. refl) (λ n. refl) refl) (record { coherent = tt; answered = tt; touched = tt; grantable = tt }) tells
-bind_kept before h p port.Bound tells = kept_still before (moves.BindRefused p) h.pages h.grants (still _ refl (λ f w v b. refl) (λ n. refl) refl) (record { coherent = tt; answered = tt; touched = tt; grantable = tt }) tells
+bind_kept before h p port.Unbound tells = kept_still before (moves.Bind p) h.pages h.grants (still _ refl (λ f w v b. refl) (λ n. refl) refl) (record { coherent = tt; answered = tt; numbered = tt; touched = tt; grantable = tt }) tells
+bind_kept before h p port.Closed tells = kept_still before (moves.BindRefused p) h.pages h.grants (still _ refl (λ f w v b. refl) (λ n. refl) refl) (record { coherent = tt; answered = tt; numbered = tt; touched = tt; grantable = tt }) tells
+bind_kept before h p port.Bound tells = kept_still before (moves.BindRefused p) h.pages h.grants (still _ refl (λ f w v b. refl) (λ n. refl) refl) (record { coherent = tt; answered = tt; numbered = tt; touched = tt; grantable = tt }) tells
 
 wait_kept : (before : List Line) (h : Hypervisor) (who : BackMover) (a : BackAct) → Tells before h.pages h.grants → wait_act h who ≡ Some a → BackKeeps before a
-wait_kept before h back_mover.Back a tells e = back_test (BackKeeps before) (is_pending h.channels end.Back) _ a (kept_still before (moves.Event mover.Back) h.pages h.grants (still _ refl (λ f w v b. refl) (λ n. refl) refl) (record { coherent = tt; answered = tt; touched = tt; grantable = tt }) tells) e
+wait_kept before h back_mover.Back a tells e = back_test (BackKeeps before) (is_pending h.channels end.Back) _ a (kept_still before (moves.Event mover.Back) h.pages h.grants (still _ refl (λ f w v b. refl) (λ n. refl) refl) (record { coherent = tt; answered = tt; numbered = tt; touched = tt; grantable = tt }) tells) e
 wait_kept before h (back_mover.Job k) a tells e = absurd (none-some a e)
 
 pub back_kept : (before : List Line) (h : Hypervisor) (who : BackMover) (ask : BackAsk) (o : Outcome) (a : BackAct) (hands : List Mapping) → Tells before h.pages h.grants → AreHeld h.grants hands → Names hands ask → back_act h who ask o ≡ Some a → BackKeeps before a
 back_kept before h who back_ask.Wait o a hands tells held names e = wait_kept before h who a tells e
-back_kept before h who back_ask.Fence o a hands tells held names e = of_back (BackKeeps before) _ a (kept_still before (moves.Fence (mover_of who)) h.pages h.grants (still _ refl (λ f w v b. refl) (λ n. refl) refl) (record { coherent = tt; answered = tt; touched = tt; grantable = tt }) tells) e
+back_kept before h who back_ask.Fence o a hands tells held names e = of_back (BackKeeps before) _ a (kept_still before (moves.Fence (mover_of who)) h.pages h.grants (still _ refl (λ f w v b. refl) (λ n. refl) refl) (record { coherent = tt; answered = tt; numbered = tt; touched = tt; grantable = tt }) tells) e
 back_kept before h who (back_ask.Read m word) o a hands tells held names e =
     let f : Found h.grants m = found h.grants m (All-contains (IsLive h.grants) hands m held.live names.0) tells.grantable in
     of_back (BackKeeps before) _ a (kept_still before (moves.Read who m.number (frame_of h.grants m) word (word_of h.pages (frame_of h.grants m) word)) h.pages h.grants (still _ refl (λ f w v b. refl) (λ n. refl) refl) (read_allowed before h.pages h.grants who m word f names.1 tells) tells) e
@@ -206,12 +208,12 @@ back_kept before h who (back_ask.Map gref mode) o a hands tells held names e = o
 back_kept before h who (back_ask.Unmap m) o a hands tells held names e =
     of_back (BackKeeps before) _ a (unmap_kept before h.pages h.grants who m (found h.grants m (All-contains (IsLive h.grants) hands m held.live names) tells.grantable) tells) e
 back_kept before h who (back_ask.Bind p) o a hands tells held names e = of_back (BackKeeps before) _ a (bind_kept before h p (state_of h.channels p) tells) e
-back_kept before h who back_ask.Send o a hands tells held names e = of_back (BackKeeps before) _ a (kept_still before (moves.Send (mover_of who)) h.pages h.grants (still _ refl (λ f w v b. refl) (λ n. refl) refl) (record { coherent = tt; answered = tt; touched = tt; grantable = tt }) tells) e
-back_kept before h who back_ask.ClosePort o a hands tells held names e = of_back (BackKeeps before) _ a (kept_still before (moves.ClosePort (mover_of who)) h.pages h.grants (still _ refl (λ f w v b. refl) (λ n. refl) refl) (record { coherent = tt; answered = tt; touched = tt; grantable = tt }) tells) e
+back_kept before h who back_ask.Send o a hands tells held names e = of_back (BackKeeps before) _ a (kept_still before (moves.Send (mover_of who)) h.pages h.grants (still _ refl (λ f w v b. refl) (λ n. refl) refl) (record { coherent = tt; answered = tt; numbered = tt; touched = tt; grantable = tt }) tells) e
+back_kept before h who back_ask.ClosePort o a hands tells held names e = of_back (BackKeeps before) _ a (kept_still before (moves.ClosePort (mover_of who)) h.pages h.grants (still _ refl (λ f w v b. refl) (λ n. refl) refl) (record { coherent = tt; answered = tt; numbered = tt; touched = tt; grantable = tt }) tells) e
 back_kept before h who (back_ask.GetKey path) o a hands tells held names e = absurd (none-some a e)
 back_kept before h who (back_ask.SetKey path text) o a hands tells held names e = absurd (none-some a e)
 back_kept before h who (back_ask.Watch path) o a hands tells held names e = absurd (none-some a e)
-back_kept before h who (back_ask.DiskRead sector) o a hands tells held names e = read_disk before h (moves.DiskRead (job_of who) sector) o a (still _ refl (λ f w v b. refl) (λ n. refl) refl) (record { coherent = tt; answered = tt; touched = tt; grantable = tt }) tells e
-back_kept before h who (back_ask.DiskWrite sector words) o a hands tells held names e = call_disk before h (moves.DiskWrite (job_of who) sector) o a (still _ refl (λ f w v b. refl) (λ n. refl) refl) (record { coherent = tt; answered = tt; touched = tt; grantable = tt }) tells e
-back_kept before h who back_ask.Flush o a hands tells held names e = call_disk before h (moves.DiskFlush (job_of who)) o a (still _ refl (λ f w v b. refl) (λ n. refl) refl) (record { coherent = tt; answered = tt; touched = tt; grantable = tt }) tells e
-back_kept before h who (back_ask.Trim sector count) o a hands tells held names e = call_disk before h (moves.DiskTrim (job_of who) sector count) o a (still _ refl (λ f w v b. refl) (λ n. refl) refl) (record { coherent = tt; answered = tt; touched = tt; grantable = tt }) tells e
+back_kept before h who (back_ask.DiskRead sector) o a hands tells held names e = read_disk before h (moves.DiskRead (job_of who) sector) o a (still _ refl (λ f w v b. refl) (λ n. refl) refl) (record { coherent = tt; answered = tt; numbered = tt; touched = tt; grantable = tt }) tells e
+back_kept before h who (back_ask.DiskWrite sector words) o a hands tells held names e = call_disk before h (moves.DiskWrite (job_of who) sector) o a (still _ refl (λ f w v b. refl) (λ n. refl) refl) (record { coherent = tt; answered = tt; numbered = tt; touched = tt; grantable = tt }) tells e
+back_kept before h who back_ask.Flush o a hands tells held names e = call_disk before h (moves.DiskFlush (job_of who)) o a (still _ refl (λ f w v b. refl) (λ n. refl) refl) (record { coherent = tt; answered = tt; numbered = tt; touched = tt; grantable = tt }) tells e
+back_kept before h who (back_ask.Trim sector count) o a hands tells held names e = call_disk before h (moves.DiskTrim (job_of who) sector count) o a (still _ refl (λ f w v b. refl) (λ n. refl) refl) (record { coherent = tt; answered = tt; numbered = tt; touched = tt; grantable = tt }) tells e

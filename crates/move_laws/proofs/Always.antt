@@ -6,7 +6,7 @@ use Rattle.hypervisor.specs.Act.{FrontAct, BackAct, Outcome, Took}
 use Rattle.split_model.specs.World.{World, start_of}
 use Rattle.split_model.specs.Happening.{Happening, FrontMoves, BackMoves, JobMoves, Submits, Notifies, Looks, Settles, happens, front_after, back_after, job_after, front_turn, back_turn, job_turn}
 use Rattle.split_model.proofs.SafeAnswers.{back_answered, job_answered}
-use Rattle.move_laws.specs.Within.{IsWithin, AreWithin}
+use Rattle.move_laws.specs.Permitted.{IsPermitted, ArePermitted}
 use Rattle.move_laws.proofs.Front.{IsFront, front_start, front_step, front_submit, front_within}
 use Rattle.move_laws.proofs.Back.{IsBack, back_start, back_step, job_step_kept, back_names, job_names_own}
 
@@ -39,7 +39,7 @@ orderly_happens w (Notifies at) is = record { front = is.front; back = is.back }
 orderly_happens w Looks is = is
 orderly_happens w Settles is = is
 
-within_here : (w : World) (h : Happening) → IsOrderly w → IsWithin w h
+within_here : (w : World) (h : Happening) → IsOrderly w → IsPermitted w h
 within_here w FrontMoves is = front_within w.front is.front
 within_here w BackMoves is = back_names w.back is.back
 within_here w (JobMoves number outcome) is = job_names_own w.back number is.back
@@ -48,9 +48,9 @@ within_here w (Notifies at) is = tt
 within_here w Looks is = tt
 within_here w Settles is = tt
 
-within_all : (hs : List Happening) (w : World) → IsOrderly w → AreWithin hs w
+within_all : (hs : List Happening) (w : World) → IsOrderly w → ArePermitted hs w
 within_all [] w is = tt
 within_all (h ∷ hs) w is = (within_here w h is, within_all hs (happens w h) (orderly_happens w h is))
 
-pub always_within : (config : Options) (hs : List Happening) → AreWithin hs (start_of config)
+pub always_within : (config : Options) (hs : List Happening) → ArePermitted hs (start_of config)
 always_within config hs = within_all hs (start_of config) (orderly_start config)

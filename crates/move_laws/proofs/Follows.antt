@@ -7,12 +7,14 @@ use Rattle.report_rules.specs.Coherent.{IsCoherentAt}
 use Rattle.report_rules.specs.Mapped.{IsMapAnswerAt}
 use Rattle.report_rules.specs.Touch.{IsTouchAt}
 use Rattle.move_laws.specs.Grantable.{IsGrantableAt}
+use Rattle.move_laws.specs.Numbers.{IsNumberedAt}
 use Rattle.move_laws.specs.Tells.{Tells}
 
 -- the line may follow these by the rules on memory and mappings
 pub record IsAllowed (before : List Line) (line : Line) : Type 0 where
   pub coherent : IsCoherentAt before line
   pub answered : IsMapAnswerAt before line
+  pub numbered : IsNumberedAt before line
   pub touched : IsTouchAt before line
   pub grantable : IsGrantableAt before line
 

@@ -24,7 +24,7 @@ use Rattle.blk_back.specs.Step as back_step
 use Rattle.split_model.specs.World.{World, start_of, is_quiet}
 use Rattle.split_model.specs.Shown.{front_lines, back_lines, halt_lines, effect_line}
 use Rattle.split_model.specs.Happening.{Happening, FrontMoves, BackMoves, JobMoves, Submits, Notifies, Looks, Settles, happens, lines_at, lines_of, front_shows, back_shows, job_shows, front_turn, back_turn, job_turn, submit_line}
-use Rattle.split_model.specs.Leads.{kept_of}
+use Rattle.schedule_text.specs.Recorder.{kept_of}
 use Rattle.split_model.proofs.Running.{kept_of-append}
 use Rattle.split_model.specs.Report.{report_of, ended_report_of}
 

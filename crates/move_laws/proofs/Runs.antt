@@ -18,6 +18,7 @@ use Rattle.report_rules.specs.Obeys.{Obeys}
 use Rattle.report_rules.specs.Coherent.{IsCoherent}
 use Rattle.report_rules.specs.Mapped.{AreMapAnswers}
 use Rattle.report_rules.specs.Touch.{AreTouches}
+use Rattle.move_laws.specs.Numbers.{AreNumbered}
 use Rattle.report_rules.proofs.Obeys.{obeys_none}
 use Rattle.blk_front.specs.Ask as front_ask
 use Rattle.blk_front.specs.Submit as front_submit
@@ -30,7 +31,7 @@ use Rattle.split_model.specs.Happening.{Happening, FrontMoves, BackMoves, JobMov
 use Rattle.split_model.specs.Safe.{IsSafe}
 use Rattle.split_model.specs.Shown.{back_lines, halt_lines}
 use Rattle.split_model.proofs.Safe.{safe_start, safe_happens}
-use Rattle.move_laws.specs.Within.{IsWithin, AreWithin}
+use Rattle.move_laws.specs.Permitted.{IsPermitted, ArePermitted}
 use Rattle.move_laws.specs.Grantable.{AreGrantable}
 use Rattle.move_laws.proofs.Always.{always_within}
 use Rattle.move_laws.specs.Tells.{Tells}
@@ -56,12 +57,12 @@ plain_both (line ∷ a) b p q = (p.0, plain_both a b p.1 q)
 no_lines : (before : List Line) (w : World) → FollowsTo before w → FollowsTo (before ++ []) w
 no_lines before w follows = subst (λ (ls : List Line). FollowsTo ls w) (sym (append-nil before)) follows
 
-front_follows : (w : World) (before : List Line) (act : Option FrontAct) → IsWithin w FrontMoves → FollowsTo before w → front_turn w ≡ act → FollowsTo (before ++ front_shows w act) (front_after w act)
+front_follows : (w : World) (before : List Line) (act : Option FrontAct) → IsPermitted w FrontMoves → FollowsTo before w → front_turn w ≡ act → FollowsTo (before ++ front_shows w act) (front_after w act)
 front_follows w before None within follows e = no_lines before w follows
 front_follows w before (Some a) within follows e =
     follow_move before _ a.shown w.under.pages a.under.pages w.under.grants a.under.grants follows (front_kept before w.under (front_ask.ask_of w.front) a follows.tells within e) (plain_front _)
 
-back_follows : (w : World) (before : List Line) (o : Outcome) (act : Option BackAct) → IsSafe w → IsWithin w BackMoves → FollowsTo before w → back_turn w o ≡ act → FollowsTo (before ++ back_shows w act) (back_after w act)
+back_follows : (w : World) (before : List Line) (o : Outcome) (act : Option BackAct) → IsSafe w → IsPermitted w BackMoves → FollowsTo before w → back_turn w o ≡ act → FollowsTo (before ++ back_shows w act) (back_after w act)
 back_follows w before o None safe within follows e = no_lines before w follows
 back_follows w before o (Some a) safe within follows e =
     let b : back.View = back_step.step_of w.back a.answer in
@@ -69,7 +70,7 @@ back_follows w before o (Some a) safe within follows e =
     (back_kept before w.under back_mover.Back (back_ask.ask_of w.back) o a (hands_of w.back) follows.tells safe.held within e)
     (plain_both (back_lines b.told a.answer) (halt_lines w.back.halted b.halted) (plain_back b.told a.answer) (plain_halt w.back.halted b.halted))
 
-job_follows : (w : World) (before : List Line) (k : ℕ) (o : Outcome) (act : Option BackAct) → IsSafe w → IsWithin w (JobMoves k o) → FollowsTo before w → job_turn w k o ≡ act → FollowsTo (before ++ job_shows w k act) (job_after w k act)
+job_follows : (w : World) (before : List Line) (k : ℕ) (o : Outcome) (act : Option BackAct) → IsSafe w → IsPermitted w (JobMoves k o) → FollowsTo before w → job_turn w k o ≡ act → FollowsTo (before ++ job_shows w k act) (job_after w k act)
 job_follows w before k o None safe within follows e = no_lines before w follows
 job_follows w before k o (Some a) safe within follows e =
     let b : back.View = back_step.job_step w.back k a.answer in
@@ -81,7 +82,7 @@ one_plain : (b : Bool) (x y : Line) → IsPlain x → IsPlain y → IsPlain (if 
 one_plain true x y p q = p
 one_plain false x y p q = q
 
-pub follows_happens : (w : World) (h : Happening) (before : List Line) → IsSafe w → IsWithin w h → FollowsTo before w → FollowsTo (before ++ lines_at w h) (happens w h)
+pub follows_happens : (w : World) (h : Happening) (before : List Line) → IsSafe w → IsPermitted w h → FollowsTo before w → FollowsTo (before ++ lines_at w h) (happens w h)
 follows_happens w FrontMoves before safe within follows = front_follows w before (front_turn w) within follows refl
 follows_happens w BackMoves before safe within follows = back_follows w before Took (back_turn w Took) safe within follows refl
 follows_happens w (JobMoves number outcome) before safe within follows = job_follows w before number outcome (job_turn w number outcome) safe within follows refl
@@ -90,7 +91,7 @@ follows_happens w (Notifies at) before safe within follows = no_lines before w f
 follows_happens w Looks before safe within follows = follow_plain (lines_at w Looks) before w.under.pages w.under.grants (one_plain (is_quiet w) lines.Quiet lines.Busy plain_quiet plain_busy, tt) follows
 follows_happens w Settles before safe within follows = follow_plain (lines_at w Settles) before w.under.pages w.under.grants (one_plain (is_quiet w) lines.Quiet lines.Unsettled plain_quiet plain_unsettled, tt) follows
 
-pub follows_after : (hs : List Happening) (w : World) (before : List Line) → IsSafe w → AreWithin hs w → FollowsTo before w → FollowsTo (before ++ lines_of hs w) (after hs w)
+pub follows_after : (hs : List Happening) (w : World) (before : List Line) → IsSafe w → ArePermitted hs w → FollowsTo before w → FollowsTo (before ++ lines_of hs w) (after hs w)
 follows_after [] w before safe within follows = no_lines before w follows
 follows_after (h ∷ hs) w before safe within follows =
     subst (λ (ls : List Line). FollowsTo ls (after hs (happens w h))) (append_assoc before (lines_at w h) (lines_of hs (happens w h)))
@@ -103,10 +104,10 @@ pub follows_start : Follows [] fresh_pages fresh_table
 follows_start = record { obeys = obeys_none IsAllowed; tells = tells_start }
 
 plain_begin : (o : Options) (detail : Detail) → IsPlain (lines.Begin o detail)
-plain_begin o detail = record { is_still = still (lines.Begin o detail) refl (λ f w v b. refl) (λ n. refl) refl; free = λ b. record { coherent = tt; answered = tt; touched = tt; grantable = tt } }
+plain_begin o detail = record { is_still = still (lines.Begin o detail) refl (λ f w v b. refl) (λ n. refl) refl; free = λ b. record { coherent = tt; answered = tt; numbered = tt; touched = tt; grantable = tt } }
 
 plain_end : IsPlain lines.End
-plain_end = record { is_still = still lines.End refl (λ f w v b. refl) (λ n. refl) refl; free = λ b. record { coherent = tt; answered = tt; touched = tt; grantable = tt } }
+plain_end = record { is_still = still lines.End refl (λ f w v b. refl) (λ n. refl) refl; free = λ b. record { coherent = tt; answered = tt; numbered = tt; touched = tt; grantable = tt } }
 
 pub follows_begin : (o : Options) (detail : Detail) → Follows (lines.Begin o detail ∷ []) fresh_pages fresh_table
 follows_begin o detail = follow_plain (lines.Begin o detail ∷ []) [] fresh_pages fresh_table (plain_begin o detail, tt) follows_start
@@ -119,6 +120,9 @@ coherent_of ls obeys before rest line e = (obeys before rest line e).coherent
 
 pub answers_of : (ls : List Line) → Obeys IsAllowed ls → AreMapAnswers ls
 answers_of ls obeys before rest line e = (obeys before rest line e).answered
+
+pub numbers_of : (ls : List Line) → Obeys IsAllowed ls → AreNumbered ls
+numbers_of ls obeys before rest line e = (obeys before rest line e).numbered
 
 pub touches_of : (ls : List Line) → Obeys IsAllowed ls → AreTouches ls
 touches_of ls obeys before rest line e = (obeys before rest line e).touched

@@ -58,12 +58,12 @@ ArePlain ls = AllByRecursion IsPlain ls
 
 pub plain_front : (t : Option Told) → ArePlain (front_lines t)
 plain_front None = tt
-plain_front (Some front_told.Ready) = (record { is_still = still lines.Ready refl (λ f w v b. refl) (λ n. refl) refl; free = λ b. record { coherent = tt; answered = tt; touched = tt; grantable = tt } }, tt)
-plain_front (Some (front_told.Answer id status)) = (record { is_still = still (lines.Answer id status) refl (λ f w v b. refl) (λ n. refl) refl; free = λ b. record { coherent = tt; answered = tt; touched = tt; grantable = tt } }, tt)
-plain_front (Some (front_told.Broken word)) = (record { is_still = still (lines.Broken word) refl (λ f w v b. refl) (λ n. refl) refl; free = λ b. record { coherent = tt; answered = tt; touched = tt; grantable = tt } }, tt)
+plain_front (Some front_told.Ready) = (record { is_still = still lines.Ready refl (λ f w v b. refl) (λ n. refl) refl; free = λ b. record { coherent = tt; answered = tt; numbered = tt; touched = tt; grantable = tt } }, tt)
+plain_front (Some (front_told.Answer id status)) = (record { is_still = still (lines.Answer id status) refl (λ f w v b. refl) (λ n. refl) refl; free = λ b. record { coherent = tt; answered = tt; numbered = tt; touched = tt; grantable = tt } }, tt)
+plain_front (Some (front_told.Broken word)) = (record { is_still = still (lines.Broken word) refl (λ f w v b. refl) (λ n. refl) refl; free = λ b. record { coherent = tt; answered = tt; numbered = tt; touched = tt; grantable = tt } }, tt)
 
 plain_effect : (id index : ℕ) → IsPlain (lines.Effect id index)
-plain_effect id index = record { is_still = still (lines.Effect id index) refl (λ f w v b. refl) (λ n. refl) refl; free = λ b. record { coherent = tt; answered = tt; touched = tt; grantable = tt } }
+plain_effect id index = record { is_still = still (lines.Effect id index) refl (λ f w v b. refl) (λ n. refl) refl; free = λ b. record { coherent = tt; answered = tt; numbered = tt; touched = tt; grantable = tt } }
 
 plain_effect_line : (id index : ℕ) (a : BackAnswer) → IsPlain (effect_line id index a)
 plain_effect_line id index answers.Event = plain_effect id index
@@ -74,32 +74,32 @@ plain_effect_line id index (answers.Mapped m) = plain_effect id index
 plain_effect_line id index (answers.MapRefused status) = plain_effect id index
 plain_effect_line id index answers.BindRefused = plain_effect id index
 plain_effect_line id index (answers.Key text) = plain_effect id index
-plain_effect_line id index (answers.Sector words) = record { is_still = still (lines.EffectRead id index words) refl (λ f w v b. refl) (λ n. refl) refl; free = λ b. record { coherent = tt; answered = tt; touched = tt; grantable = tt } }
+plain_effect_line id index (answers.Sector words) = record { is_still = still (lines.EffectRead id index words) refl (λ f w v b. refl) (λ n. refl) refl; free = λ b. record { coherent = tt; answered = tt; numbered = tt; touched = tt; grantable = tt } }
 plain_effect_line id index answers.DiskFailed = plain_effect id index
 
 pub plain_back : (t : Option BackTold) (a : BackAnswer) → ArePlain (back_lines t a)
 plain_back None a = tt
 plain_back (Some (back_told.Effect id index)) a = (plain_effect_line id index a, tt)
-plain_back (Some (back_told.Fault id index)) a = (record { is_still = still (lines.Fault id index) refl (λ f w v b. refl) (λ n. refl) refl; free = λ b. record { coherent = tt; answered = tt; touched = tt; grantable = tt } }, tt)
-plain_back (Some (back_told.Reply id status)) a = (record { is_still = still (lines.Reply id status) refl (λ f w v b. refl) (λ n. refl) refl; free = λ b. record { coherent = tt; answered = tt; touched = tt; grantable = tt } }, tt)
+plain_back (Some (back_told.Fault id index)) a = (record { is_still = still (lines.Fault id index) refl (λ f w v b. refl) (λ n. refl) refl; free = λ b. record { coherent = tt; answered = tt; numbered = tt; touched = tt; grantable = tt } }, tt)
+plain_back (Some (back_told.Reply id status)) a = (record { is_still = still (lines.Reply id status) refl (λ f w v b. refl) (λ n. refl) refl; free = λ b. record { coherent = tt; answered = tt; numbered = tt; touched = tt; grantable = tt } }, tt)
 
 pub plain_halt : (before now : Option Halt) → ArePlain (halt_lines before now)
 plain_halt None None = tt
-plain_halt None (Some h) = (record { is_still = still _ refl (λ f w v b. refl) (λ n. refl) refl; free = λ b. record { coherent = tt; answered = tt; touched = tt; grantable = tt } }, tt)
+plain_halt None (Some h) = (record { is_still = still _ refl (λ f w v b. refl) (λ n. refl) refl; free = λ b. record { coherent = tt; answered = tt; numbered = tt; touched = tt; grantable = tt } }, tt)
 plain_halt (Some g) now = tt
 
 pub plain_submit : (job : Job) (r : Result ℕ Refusal) → IsPlain (submit_line job r)
-plain_submit job (Ok number) = record { is_still = still (lines.Submit number job) refl (λ f w v b. refl) (λ n. refl) refl; free = λ b. record { coherent = tt; answered = tt; touched = tt; grantable = tt } }
-plain_submit job (Err r) = record { is_still = still _ refl (λ f w v b. refl) (λ n. refl) refl; free = λ b. record { coherent = tt; answered = tt; touched = tt; grantable = tt } }
+plain_submit job (Ok number) = record { is_still = still (lines.Submit number job) refl (λ f w v b. refl) (λ n. refl) refl; free = λ b. record { coherent = tt; answered = tt; numbered = tt; touched = tt; grantable = tt } }
+plain_submit job (Err r) = record { is_still = still _ refl (λ f w v b. refl) (λ n. refl) refl; free = λ b. record { coherent = tt; answered = tt; numbered = tt; touched = tt; grantable = tt } }
 
 pub plain_quiet : IsPlain lines.Quiet
-plain_quiet = record { is_still = still lines.Quiet refl (λ f w v b. refl) (λ n. refl) refl; free = λ b. record { coherent = tt; answered = tt; touched = tt; grantable = tt } }
+plain_quiet = record { is_still = still lines.Quiet refl (λ f w v b. refl) (λ n. refl) refl; free = λ b. record { coherent = tt; answered = tt; numbered = tt; touched = tt; grantable = tt } }
 
 pub plain_busy : IsPlain lines.Busy
-plain_busy = record { is_still = still lines.Busy refl (λ f w v b. refl) (λ n. refl) refl; free = λ b. record { coherent = tt; answered = tt; touched = tt; grantable = tt } }
+plain_busy = record { is_still = still lines.Busy refl (λ f w v b. refl) (λ n. refl) refl; free = λ b. record { coherent = tt; answered = tt; numbered = tt; touched = tt; grantable = tt } }
 
 pub plain_unsettled : IsPlain lines.Unsettled
-plain_unsettled = record { is_still = still lines.Unsettled refl (λ f w v b. refl) (λ n. refl) refl; free = λ b. record { coherent = tt; answered = tt; touched = tt; grantable = tt } }
+plain_unsettled = record { is_still = still lines.Unsettled refl (λ f w v b. refl) (λ n. refl) refl; free = λ b. record { coherent = tt; answered = tt; numbered = tt; touched = tt; grantable = tt } }
 
 -- one line more
 pub follow_one : (before : List Line) (line : Line) (pages pages' : List ℕ) (table table' : GrantTable) → Follows before pages table → IsAllowed before line → Tells (before ++ line ∷ []) pages' table' → Follows (before ++ line ∷ []) pages' table'

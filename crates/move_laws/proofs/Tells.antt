@@ -1,21 +1,44 @@
 -- What the lines tell of memory and mappings, one line further on.
-use Rattle.std.proofs.Common.{◌≡◌, ℕ, ◌<◌, not, false, List, [], ◌∷◌, ◌++◌, length, map, filter, ap, ◌∙◌}
-use Rattle.std.specs.Prelude.{All}
+use Rattle.std.proofs.Common.{◌≡◌, ℕ, ◌<◌, ◌||◌, ◌==◌, not, Bool, false, fold, List, [], ◌∷◌, ◌++◌, length, map, filter, refl, ap, ◌∙◌, arith}
+use Rattle.std.specs.Prelude.{All, Option, Some, None}
+use Rattle.std.specs.List.{list_any}
 use Rattle.std.specs.Option.{option_to_list}
 use Rattle.std.proofs.lemmas.List.Sums.{fold-append}
+use Rattle.std.proofs.lemmas.Bool.Decides.{nat_tests}
 use Rattle.grant_table.specs.Table.{GrantTable}
 use Rattle.grant_table.specs.Sound.{IsGrantable}
 use Rattle.xen_pages.specs.Pages.{word_of}
 use Rattle.schedule_text.specs.declared.line.Line.{Line}
 use Rattle.report_rules.specs.declared.standing.Standing.{Standing}
-use Rattle.report_rules.specs.Standing.{is_epoch, is_unmap_of, mapping_made}
-use Rattle.report_rules.specs.Mapped.{greater_number, greatest_number}
+use Rattle.report_rules.specs.Standing.{is_epoch, is_unmap_of, mapping_made, has_number}
+use Rattle.report_rules.specs.Mapped.{was_made}
 use Rattle.report_rules.specs.Value.{value_after}
 use Rattle.report_rules.proofs.Back.{value_more, standing_more}
+use Rattle.move_laws.specs.Numbers.{greater_number, greatest_number}
 use Rattle.move_laws.specs.Tells.{Tells, standing_of}
 
 greatest_more : (before : List Line) (line : Line) → greatest_number (before ++ line ∷ []) ≡ greater_number (greatest_number before) (mapping_made line)
 greatest_more before line = fold-append (λ (greatest : ℕ) (x : Line). greater_number greatest (mapping_made x)) 0 before (line ∷ [])
+
+-- a number above all earlier ones is new
+low_numbers : (n start : ℕ) (ls : List Line) → fold (λ (greatest : ℕ) (x : Line). greater_number greatest (mapping_made x)) start ls < n → (start < n) × (list_any (λ (x : Line). has_number n (mapping_made x)) ls ≡ false)
+low_numbers n start [] low = (low, refl)
+low_numbers n start (x ∷ ls) low =
+    let rest = low_numbers n (greater_number start (mapping_made x)) ls low in
+    by_made (mapping_made x) (list_any (λ (y : Line). has_number n (mapping_made y)) ls) rest.0 rest.1
+  where
+    other : (m : ℕ) → m < n → (m == n) ≡ false
+    other m lt = grind (arith, nat_tests)
+
+    by_made : (made : Option Standing) (later : Bool) → greater_number start made < n → later ≡ false → (start < n) × ((has_number n made || later) ≡ false)
+    by_made None later low none = (low, none)
+    by_made (Some m) later low none =
+        let first : start < n = omega arith in
+        let second : m.number < n = omega arith in
+        (first, ap (λ (b : Bool). b || later) (other m.number second) ∙ none)
+
+pub new_number : (before : List Line) (n : ℕ) → greatest_number before < n → was_made before n ≡ false
+new_number before n low = (low_numbers n 0 before low).1
 
 -- a line that makes of the memory and the mappings what these are made too
 pub tells_more : (before : List Line) (line : Line) (pages pages' : List ℕ) (table table' : GrantTable)

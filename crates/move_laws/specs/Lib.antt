@@ -1,3 +1,4 @@
-pub mod Within
+pub mod Permitted
 pub mod Grantable
+pub mod Numbers
 pub mod Tells

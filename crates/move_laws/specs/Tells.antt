@@ -7,8 +7,8 @@ use Rattle.xen_pages.specs.Pages.{word_of}
 use Rattle.schedule_text.specs.declared.line.Line.{Line}
 use Rattle.report_rules.specs.declared.standing.Standing.{Standing}
 use Rattle.report_rules.specs.Standing.{standing_behind}
-use Rattle.report_rules.specs.Mapped.{greatest_number}
 use Rattle.report_rules.specs.Value.{value_before}
+use Rattle.move_laws.specs.Numbers.{greatest_number}
 
 -- a live mapping as a report knows it
 abbrev pub standing_of : Held → Standing

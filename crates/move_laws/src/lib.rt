@@ -14,22 +14,24 @@ ghost use Rattle.report_rules.specs.Mapped.{AreMapAnswers};
 ghost use Rattle.report_rules.specs.Touch.{AreTouches};
 ghost use Rattle.split_model.specs.World.{World, start_of};
 ghost use Rattle.split_model.specs.Happening.{Happening, after, lines_of};
-ghost use Rattle.split_model.specs.Leads.{kept_of};
-ghost use Rattle.move_laws.specs.Within.{AreWithin};
+ghost use Rattle.schedule_text.specs.Recorder.{kept_of};
+ghost use Rattle.move_laws.specs.Permitted.{ArePermitted};
 ghost use Rattle.move_laws.specs.Grantable.{AreGrantable};
+ghost use Rattle.move_laws.specs.Numbers.{AreNumbered};
 ghost use Rattle.move_laws.specs.Tells.{Tells};
 ghost use Rattle.split_model.specs.Report.{report_of, ended_report_of};
 
 /// Each ask of the front touches a word of the frames that both ends share; each of the back or a
 /// job a word of a page whose mapping they hold, and writes only where that is for writing.
 pub fn every_ask_is_within()
-    ensures { (config : Options) (history : List Happening) → AreWithin history (start_of config) }
+    ensures { (config : Options) (history : List Happening) → ArePermitted history (start_of config) }
 {}
 
 /// What the lines of a report tell is what is there: each word of memory, the mappings that live,
 /// with their references, modes and frames, and the number of the last one made.
 pub fn the_report_tells_the_memory()
-    ensures { (config : Options) (detail : Detail) (history : List Happening) → (let w : World = after history (start_of config) in Tells (report_of config detail history) w.under.pages w.under.grants) }
+    ensures { (config : Options) (detail : Detail) (history : List Happening)
+        → (let w : World = after history (start_of config) in Tells (report_of config detail history) w.under.pages w.under.grants) }
 {}
 
 /// Each read, and each word that a compare and exchange saw, shows what the lines before it left
@@ -41,15 +43,22 @@ pub fn the_reads_are_coherent()
 {}
 
 /// Each map is answered as the two words of its grant entry stand by the lines before it, and each
-/// new mapping has a number that is one above all earlier ones.
+/// new mapping has a number that none had before.
 pub fn the_maps_are_answered_by_their_entries()
     ensures lines { (config : Options) (history : List Happening) → AreMapAnswers (lines_of history (start_of config)) }
     ensures report { (config : Options) (detail : Detail) (history : List Happening) → AreMapAnswers (report_of config detail history) }
     ensures ended { (config : Options) (detail : Detail) (history : List Happening) → AreMapAnswers (ended_report_of config detail history) }
 {}
 
+/// A fact about this machine that no rule asks for: the numbers of mappings ascend by one.
+pub fn the_numbers_of_mappings_ascend()
+    ensures lines { (config : Options) (history : List Happening) → AreNumbered (lines_of history (start_of config)) }
+    ensures report { (config : Options) (detail : Detail) (history : List Happening) → AreNumbered (report_of config detail history) }
+    ensures ended { (config : Options) (detail : Detail) (history : List Happening) → AreNumbered (ended_report_of config detail history) }
+{}
+
 /// Each read and write of the back or a job goes through a mapping that stands by the lines before
-/// it, shows its frame and one of its 1024 words, and writes only where it is for writing.
+/// it, shows its frame, and writes only where it is for writing.
 pub fn the_touches_go_through_standing_mappings()
     ensures lines { (config : Options) (history : List Happening) → AreTouches (lines_of history (start_of config)) }
     ensures report { (config : Options) (detail : Detail) (history : List Happening) → AreTouches (report_of config detail history) }
@@ -67,5 +76,6 @@ pub fn the_touches_are_in_grantable_frames()
 pub fn a_recorder_of_moves_keeps_all()
     ensures lines { (history : List Happening) (w : World) → kept_of Moves (lines_of history w) ≡ lines_of history w }
     ensures report { (config : Options) (history : List Happening) → kept_of Moves (report_of config Moves history) ≡ report_of config Moves history }
-    ensures ended { (config : Options) (history : List Happening) → kept_of Moves (ended_report_of config Moves history) ≡ ended_report_of config Moves history }
+    ensures ended { (config : Options) (history : List Happening)
+        → kept_of Moves (ended_report_of config Moves history) ≡ ended_report_of config Moves history }
 {}

@@ -2,4 +2,5 @@ pub mod Obeys
 pub mod Back
 pub mod Fits
 pub mod Copied
-mod Counted
+pub mod Lowest
+pub mod Prefixes

@@ -8,7 +8,7 @@ use Rattle.report_rules.specs.declared.effect.DiskCall.TheVariants.{Read, Write,
 use Rattle.report_rules.specs.declared.effect.DiskMove.{DiskMove}
 use Rattle.report_rules.specs.declared.effect.Outcome.{Outcome}
 use Rattle.report_rules.specs.Obeys.{Obeys}
-use Rattle.report_rules.specs.Job.{request_of_job, id_of, disk_moves_of}
+use Rattle.report_rules.specs.Job.{fetched_of, id_of, disk_moves_of}
 
 abbrev pub disk_move : ℕ → DiskCall → DiskMove
 disk_move job call = record { job = job; call = call }
@@ -44,7 +44,7 @@ outcome_of line = None
 -- what came of a move of the disk: it was done or it failed; the number is that of the job's request, and the place is how often the job moved the disk before
 pub record IsOutcomeOf (before : List Line) (moved : DiskMove) (o : Outcome) : Type 0 where
   pub done : IfSome o.call (λ call. call ≡ moved.call)
-  pub request : IsSomeAnd (request_of_job before moved.job) (λ request. id_of request ≡ o.id)
+  pub request : IsSomeAnd (fetched_of before moved.job) (λ f. id_of f.request ≡ o.id)
   pub place : o.index + 1 ≡ disk_moves_of before moved.job
 
 -- behind a move of the disk stands what came of it, and nowhere else does such a line stand

@@ -8,10 +8,10 @@ pub mod Ring
 pub mod Overrun
 pub mod Stretch
 pub mod Work
+pub mod Published
 pub mod Job
 pub mod Effect
+pub mod Made
 pub mod Steps
 pub mod Data
-pub mod Unmap
 pub mod Reply
-pub mod Own

@@ -1,6 +1,6 @@
--- How the back replies (`io/ring.h`, RING_GET_RESPONSE and RING_PUSH_RESPONSES; `io/blkif.h`, struct blkif_response): the three words of a job's response in the slot of its own producer, ascending, then the producer raised by one, and the line that tells of the reply. It writes nothing else into the ring but req_event.
-use Rattle.std.specs.Prelude.{◌≡◌, ◌≢◌, ℕ, zero, suc, ◌+◌, ◌-◌, ◌*◌, ◌/◌, ◌%◌, ◌^◌, Bool, true, false, ◌&&◌, ◌||◌, ◌==◌, nat_lt, nat_le, if◌then◌else◌, List, [], ◌∷◌, ◌++◌, reverse, length, slice_get, Option, Some, None, is_some, unwrap_or, IfSome, IsSomeAnd, IsTrue, Result, Ok, Err}
-use Rattle.std.specs.List.{filter_map}
+-- How the back replies (`io/ring.h`, RING_GET_RESPONSE and RING_PUSH_RESPONSES; `io/blkif.h`, struct blkif_response): the three words of a job's response in the slot of its own producer, ascending, then the producer raised by one, and the line that tells of the reply. There is a job for each reply, no two the same, that was at its end before the first word and whose response the words are; at the line that tells of the reply nothing that the job mapped stands but what may be kept. The back writes nothing else into the ring but req_event.
+use Rattle.std.specs.Prelude.{◌≡◌, ◌≢◌, ℕ, zero, suc, ◌+◌, ◌-◌, ◌*◌, ◌/◌, ◌%◌, ◌^◌, Bool, true, false, not, ◌&&◌, ◌||◌, ◌==◌, nat_lt, nat_le, if◌then◌else◌, List, [], ◌∷◌, ◌++◌, reverse, length, slice_get, Option, Some, None, is_some, unwrap_or, option_to_list, IfSome, IsSomeAnd, IsTrue, Result, Ok, Err}
+use Rattle.std.specs.List.{filter_map, list_any}
 use Rattle.ring_words.specs.Shape.{Shape, ring_word_of}
 use Rattle.blk_base.specs.declared.operation.Status.{Status}
 use Rattle.blk_base.specs.declared.operation.Status.TheVariants as status
@@ -12,14 +12,15 @@ use Rattle.blk_layout.specs.Response.{response_words_of, response_of}
 use Rattle.schedule_text.specs.declared.line.Line.{Line}
 use Rattle.schedule_text.specs.declared.line.Line.TheVariants as lines
 use Rattle.report_rules.specs.declared.walk.Spot.{Spot}
+use Rattle.report_rules.specs.declared.job.Fetched.{Fetched}
 use Rattle.report_rules.specs.Obeys.{Obeys}
-use Rattle.report_rules.specs.Standing.{this_epoch}
+use Rattle.report_rules.specs.Standing.{is_epoch, this_epoch}
 use Rattle.report_rules.specs.Ring.{ring_word, ring_shape, replied_before}
-use Rattle.report_rules.specs.Stretch.{is_of_back}
-use Rattle.report_rules.specs.Work.{work_tasks, work_verdict, status_by, work_response}
-use Rattle.report_rules.specs.Job.{entry_values, request_of_job}
-use Rattle.report_rules.specs.Steps.{values_read, disk_of, is_persistent, walk_of, failed_in}
-use Rattle.report_rules.specs.Unmap.{gave_up}
+use Rattle.report_rules.specs.Stretch.{is_back_move}
+use Rattle.report_rules.specs.Work.{work_verdict, status_by, work_response}
+use Rattle.report_rules.specs.Job.{when, entry_values, fetched_of}
+use Rattle.report_rules.specs.Made.{gave_up}
+use Rattle.report_rules.specs.Steps.{values_read, work_of, spot_of, failed_in}
 
 -- how a job's work ended, if it did: the disk failed, a map was refused, or all its tasks are done
 abbrev pub end_of : Bool → ℕ → Status → Option Spot → Option Status
@@ -27,24 +28,21 @@ end_of true tasks served s = Some status.Error
 end_of false tasks served None = None
 end_of false tasks served (Some s) = if s.refused then Some status.Error else (if (s.place == 0) && nat_le tasks s.done then Some served else None)
 
-abbrev pub status_at_end : List Line → ℕ → RawRequest → Option Status
-status_at_end before k request =
-    end_of (failed_in k (this_epoch before))
-    (length (work_tasks request (disk_of before) (is_persistent before) (values_read before k)))
-    (status_by (work_verdict request (disk_of before) (values_read before k)))
-    (walk_of (is_persistent before) (work_tasks request (disk_of before) (is_persistent before) (values_read before k)) k (this_epoch before))
+abbrev pub status_at_end : List Line → ℕ → Fetched → Option Status
+status_at_end before k f =
+    end_of (failed_in k (this_epoch before)) (length (work_of before k f)) (status_by (work_verdict f.request f.disk (values_read before k))) (spot_of before k f)
 
 abbrev pub words_with : RawRequest → Option Status → Option (List ℕ)
 words_with request None = None
 words_with request (Some s) = Some (response_words_of (work_response request s))
 
-abbrev pub words_due : List Line → ℕ → Option RawRequest → Option (List ℕ)
+abbrev pub words_due : List Line → ℕ → Option Fetched → Option (List ℕ)
 words_due before k None = None
-words_due before k (Some request) = words_with request (status_at_end before k request)
+words_due before k (Some f) = words_with f.request (status_at_end before k f)
 
--- the three words of the response to job k, where its work is at its end and it gave up what it mapped
+-- the three words of the response to job k, where its work is at its end
 abbrev pub response_due : List Line → ℕ → Option (List ℕ)
-response_due before k = if gave_up before k then words_due before k (request_of_job before k) else None
+response_due before k = words_due before k (fetched_of before k)
 
 -- req_event is word 1 of the ring
 abbrev pub is_event : Option ℕ → Bool
@@ -80,38 +78,45 @@ abbrev pub is_like : ℕ → List ℕ → Option (List ℕ) → Bool
 is_like last row None = false
 is_like last row (Some words) = are_alike last row words
 
-abbrev pub one_if : Bool → ℕ
-one_if true = 1
-one_if false = 0
-
--- how many of the first replies have these words
-abbrev pub replies_like : List ℕ → ℕ → List ℕ → ℕ → ℕ
-replies_like values last row zero = 0
-replies_like values last row (suc r) = replies_like values last row r + one_if (are_alike last row (row_of values r))
-
--- how many of the first jobs are due a response with these words
-abbrev pub jobs_due : List Line → ℕ → List ℕ → ℕ → ℕ
-jobs_due before last row zero = 0
-jobs_due before last row (suc k) = jobs_due before last row k + one_if (is_like last row (response_due before (suc k)))
-
 -- how many words of the reply under way are written: 0 between two replies
 abbrev pub within_reply : List Line → ℕ
 within_reply before = length (values_written before) % 4
 
--- more jobs are due a response that begins with the words of this row than there were such replies: so each reply has a job of its own
-abbrev pub is_due_row : List Line → List ℕ → List ℕ → Bool
-is_due_row before values row =
-    nat_lt (replies_like values (within_reply before) row (length (values_written before) / 4)) (jobs_due before (within_reply before) row (length (entry_values before)))
+-- the lines before the last words that the back wrote, so many of them, where the last line comes first
+abbrev pub back_before : List Line → ℕ → List Line → List Line
+back_before before n [] = []
+back_before before n (line ∷ earlier) =
+    if n == 0 then line ∷ earlier
+    else back_before before (if is_some (value_written before line) then n - 1 else n) earlier
+
+-- the lines before those words
+abbrev pub lines_before : List Line → ℕ → List Line
+lines_before before n = reverse (back_before before n (reverse before))
+
+-- the lowest number from 1 to this one that passes a test
+abbrev pub lowest : (ℕ → Bool) → ℕ → Option ℕ
+lowest p zero = None
+lowest p (suc n) = if is_some (lowest p n) then lowest p n else when (p (suc n)) (suc n)
+
+abbrev pub is_one_of : ℕ → List ℕ → Bool
+is_one_of k jobs = list_any (λ (job : ℕ). job == k) jobs
+
+-- a job may be the one that a row of words answers: it had no reply, and it was at its end, by the lines before the row, with a response of these words
+abbrev pub may_answer : List Line → List ℕ → ℕ → List ℕ → ℕ → Bool
+may_answer early answered last row k = not (is_one_of k answered) && is_like last row (response_due early k)
+
+-- no more jobs than that were fetched: an entry has 27 words or more
+abbrev pub most_jobs : List Line → ℕ
+most_jobs before = length (entry_values before) / 27
+
+-- the job of a row that was pushed: the lowest that it may answer and that gave up what it mapped
+abbrev pub job_for : List Line → List Line → List ℕ → Option (List ℕ) → Option ℕ
+job_for before early answered None = None
+job_for before early answered (Some row) = lowest (λ (k : ℕ). may_answer early answered 2 row k && gave_up before k) (most_jobs early)
 
 -- the word that is written next: one of the slot's, or rsp_prod
 abbrev pub next_place : List Line → Shape → ℕ
 next_place before s = if within_reply before == 3 then 2 else ring_word_of s (replied_before before) (within_reply before)
-
--- and what: a word of the response to a job that has no reply yet, or the next producer
-abbrev pub is_next_value : List Line → ℕ → Bool
-is_next_value before value =
-    if within_reply before == 3 then value == (replied_before before + 1) % 2 ^ 32
-    else is_due_row before (values_written before ++ value ∷ []) (row_of (values_written before ++ value ∷ []) (length (values_written before) / 4))
 
 abbrev pub ends_with_write : List Line → List Line → Bool
 ends_with_write before [] = false
@@ -132,13 +137,51 @@ abbrev pub is_reply : Line → Bool
 is_reply (lines.Reply id status) = true
 is_reply line = false
 
+-- the job that a reply behind these lines answers, where those jobs had theirs
+abbrev pub job_replied : List Line → List ℕ → Option ℕ
+job_replied before answered = job_for before (lines_before before 4) answered (reply_pushed before)
+
+-- the jobs that had their reply in this epoch, behind a line
+abbrev pub answered_after : List ℕ → List Line → Line → List ℕ
+answered_after answered before line =
+    if is_epoch line then []
+    else (if is_reply line then answered ++ option_to_list (job_replied before answered) else answered)
+
+-- the same of lines of which the last comes first
+abbrev pub answered_back : List Line → List ℕ
+answered_back [] = []
+answered_back (line ∷ earlier) = answered_after (answered_back earlier) (reverse earlier) line
+
+abbrev pub answered_in : List Line → List ℕ
+answered_in before = answered_back (reverse before)
+
+-- a word of the row under way, and those before it in the row, are those of a response to a job that the row may answer
+abbrev pub is_answer : List Line → ℕ → List ℕ → Bool
+is_answer before last row = is_some (lowest (may_answer (lines_before before last) (answered_in before) last row) (most_jobs (lines_before before last)))
+
+-- what is written next: a word of a response, or the next producer
+abbrev pub is_next_value : List Line → ℕ → Bool
+is_next_value before value =
+    if within_reply before == 3 then value == (replied_before before + 1) % 2 ^ 32
+    else is_answer before (within_reply before) (row_of (values_written before ++ value ∷ []) (length (values_written before) / 4))
+
+-- a line of the back's own: one of its moves, or its halt
+abbrev pub is_of_back : Line → Bool
+is_of_back (lines.Halt halt) = true
+is_of_back line = is_back_move line
+
 abbrev pub IsNextWrite : List Line → Line → ℕ → Shape → Type 0
 IsNextWrite before line value s = (word_written before line ≡ Some (next_place before s)) × (is_next_value before value ≡ true)
+
+-- the line of a reply tells of the row that was pushed, and a job is the one that it answers: there is one for each reply, and no two are the same
+pub record IsTold (before : List Line) (line : Line) (row : List ℕ) : Type 0 where
+  pub says : line_of (response_of row) ≡ Some line
+  pub job : job_replied before (answered_in before) ≢ None
 
 -- the back writes only the next word of a reply; one that is pushed is told at once, and no other is; and between the words of a reply there is no other line of the back's
 pub record IsReplyAt (before : List Line) (line : Line) : Type 0 where
   pub next : IfSome (value_written before line) (λ value. IsSomeAnd (ring_shape before) (IsNextWrite before line value))
-  pub told : IfSome (reply_pushed before) (λ row. line_of (response_of row) ≡ Some line)
+  pub told : IfSome (reply_pushed before) (IsTold before line)
   pub only : IsTrue (is_reply line) → reply_pushed before ≢ None
   pub whole : IsTrue (is_of_back line) → value_written before line ≡ None → within_reply before ≡ 0
 

@@ -1,5 +1,5 @@
 -- Which memory is the ring, and the indices that the back was shown and wrote there (`io/ring.h`: req_prod is word 0 of the first page, rsp_prod word 2, and entries begin at word 16).
-use Rattle.std.specs.Prelude.{ℕ, ◌+◌, ◌*◌, Bool, false, ◌&&◌, ◌==◌, if◌then◌else◌, List, [], ◌∷◌, length, fold, slice_get, codes, Option, Some, None, unwrap_or}
+use Rattle.std.specs.Prelude.{ℕ, ◌+◌, ◌*◌, Bool, ◌&&◌, ◌==◌, if◌then◌else◌, List, [], ◌∷◌, length, fold, slice_get, codes, Option, Some, None, is_some, unwrap_or}
 use Rattle.std.specs.List.{filter_map}
 use Rattle.std.specs.Str.{bytes_eq}
 use Rattle.arrayvec.specs.ArrayString.{ArrayString}
@@ -12,7 +12,7 @@ use Rattle.blk_base.specs.declared.moves.Move.TheVariants as moves
 use Rattle.schedule_text.specs.declared.line.Line.{Line}
 use Rattle.schedule_text.specs.declared.line.Line.TheVariants as lines
 use Rattle.report_rules.specs.declared.standing.Standing.{Standing}
-use Rattle.report_rules.specs.Standing.{this_epoch}
+use Rattle.report_rules.specs.Standing.{this_epoch, has_number}
 
 -- a page of the ring: a mapping that the back made itself, and not a job
 abbrev pub page_made : Line → Option Standing
@@ -36,10 +36,6 @@ order_of pages =
 -- the order of the ring in this epoch, where its pages have one
 abbrev pub ring_order : List Line → Option ℕ
 ring_order before = order_of (length (ring_pages before))
-
-abbrev pub has_number : ℕ → Option Standing → Bool
-has_number number None = false
-has_number number (Some s) = s.number == number
 
 -- this mapping is page 0 of the ring
 abbrev pub is_first_page : List Line → ℕ → Bool
@@ -79,6 +75,10 @@ produced_before before = fold (produced_after before) (start_of before) (this_ep
 abbrev pub page_from : ℕ → ℕ → List Standing → Option ℕ
 page_from k number [] = None
 page_from k number (page ∷ pages) = if page.number == number then Some k else page_from (k + 1) number pages
+
+-- this mapping is a page of the ring
+abbrev pub is_page : List Line → ℕ → Bool
+is_page before number = is_some (page_from 0 number (ring_pages before))
 
 -- a word of a page as a word of the ring: its pages run on from one to the next
 abbrev pub word_in : Option ℕ → ℕ → Option ℕ

@@ -20,6 +20,11 @@ abbrev pub mapping_made : Line → Option Standing
 mapping_made (lines.Move (moves.Map who gref mode number frame)) = Some (record { number = number; gref = gref; mode = mode; frame = frame })
 mapping_made line = None
 
+-- a mapping, if it is one, has that number
+abbrev pub has_number : ℕ → Option Standing → Bool
+has_number number None = false
+has_number number (Some s) = s.number == number
+
 -- a line unmaps that number
 abbrev pub is_unmap_of : ℕ → Line → Bool
 is_unmap_of number (lines.Move (moves.Unmap who other)) = other == number

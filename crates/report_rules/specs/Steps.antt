@@ -1,33 +1,25 @@
--- The steps of a job: apart from unmaps its moves are, in order, those of the work of its entry as that was fetched, so that no word of an entry, of an indirect page or of data is read twice.
-use Rattle.std.specs.Prelude.{◌≡◌, ℕ, ◌+◌, ◌-◌, ◌*◌, ◌/◌, ◌%◌, Bool, true, false, not, ◌&&◌, ◌||◌, ◌==◌, nat_lt, nat_le, if◌then◌else◌, List, [], ◌∷◌, fold, codes, take, length, slice_index, slice_get, Option, Some, None, is_none, option_and_then, IfSome, IsSomeAnd}
-use Rattle.std.specs.List.{filter_map, list_all}
-use Rattle.std.specs.Str.{bytes_eq}
-use Rattle.arrayvec.specs.ArrayString.{ArrayString}
-use Rattle.blk_base.specs.Options.{Options}
+-- The steps of a job: apart from unmaps its moves are the first ones of the steps of its work, in order, the work being that of its entry as it was fetched; so no word of an indirect page or of data is read twice. Each segment is touched through one mapping.
+use Rattle.std.specs.Prelude.{◌≡◌, ℕ, ◌+◌, ◌-◌, ◌*◌, ◌/◌, ◌%◌, Bool, true, false, not, ◌&&◌, ◌||◌, ◌==◌, nat_lt, nat_le, if◌then◌else◌, List, [], ◌∷◌, fold, slice_get, Option, Some, None, is_none, option_and_then, IfSome, IsSomeAnd}
+use Rattle.std.specs.List.{filter_map, list_any}
 use Rattle.blk_base.specs.declared.parts.Mode.{Mode}
 use Rattle.blk_base.specs.declared.parts.Mode.TheVariants.{ReadOnly, ReadWrite}
-use Rattle.blk_base.specs.declared.moves.BackMover.{BackMover}
-use Rattle.blk_base.specs.declared.moves.BackMover.TheVariants as back
-use Rattle.blk_base.specs.declared.moves.Mover.{Mover}
-use Rattle.blk_base.specs.declared.moves.Mover.TheVariants as mover
 use Rattle.blk_base.specs.declared.moves.Move.{Move}
 use Rattle.blk_base.specs.declared.moves.Move.TheVariants as moves
-use Rattle.blk_layout.specs.declared.request.RawRequest.{RawRequest}
 use Rattle.grant_table.specs.Entry.{is_for_writing}
-use Rattle.segment_list.specs.declared.verdict.DiskInfo.{DiskInfo}
 use Rattle.schedule_text.specs.declared.line.Line.{Line}
 use Rattle.schedule_text.specs.declared.line.Line.TheVariants as lines
+use Rattle.report_rules.specs.declared.standing.Standing.{Standing}
+use Rattle.report_rules.specs.declared.job.Fetched.{Fetched}
 use Rattle.report_rules.specs.declared.work.Task.{Task}
 use Rattle.report_rules.specs.declared.work.Task.TheVariants as tasks
 use Rattle.report_rules.specs.declared.walk.Spot.{Spot}
-use Rattle.report_rules.specs.declared.published.Keeping.{Keeping}
-use Rattle.report_rules.specs.declared.published.Serving.{Serving}
 use Rattle.report_rules.specs.declared.step.Step.{Step}
 use Rattle.report_rules.specs.declared.step.Step.TheVariants as steps
 use Rattle.report_rules.specs.Obeys.{Obeys}
-use Rattle.report_rules.specs.Standing.{this_epoch, standing_behind, numbered}
+use Rattle.report_rules.specs.Standing.{this_epoch, numbered}
 use Rattle.report_rules.specs.Work.{work_tasks}
-use Rattle.report_rules.specs.Job.{request_of_job, disk_mover, is_job}
+use Rattle.report_rules.specs.Job.{fetched_of, disk_mover, is_job, back_mover_job, mover_job}
+use Rattle.report_rules.specs.Made.{kept_before}
 
 -- each sector of a write: its 128 words are read, and then it is written to the disk
 abbrev pub store_step : ℕ → ℕ → ℕ → ℕ → ℕ → Option Step
@@ -69,11 +61,11 @@ abbrev pub is_step_at : Option Step → Move → Bool
 is_step_at None move = false
 is_step_at (Some step) move = is_step step move
 
--- a frame of data, whose map may be missing under persistent grants, where it was kept
-abbrev pub may_be_kept : Task → Bool
-may_be_kept (tasks.Store gref mode sector first count) = true
-may_be_kept (tasks.Load gref sector first count) = true
-may_be_kept task = false
+-- a task on a frame of data, whose map may be missing under persistent grants
+abbrev pub is_on_data : Task → Bool
+is_on_data (tasks.Store gref mode sector first count) = true
+is_on_data (tasks.Load gref sector first count) = true
+is_on_data task = false
 
 -- the reference whose frame a task touches
 abbrev pub gref_of : Task → ℕ
@@ -82,54 +74,56 @@ gref_of (tasks.Store gref mode sector first count) = gref
 gref_of (tasks.Load gref sector first count) = gref
 gref_of task = 0
 
--- how far a job came: how many of its tasks are done, the place of its next step in the next one, whether a map of it was refused, and the reference that its last step touched
-abbrev pub spot : ℕ → ℕ → Bool → ℕ → Spot
-spot done place refused gref = record { done = done; place = place; refused = refused; gref = gref }
+-- how far a job came: how many of its tasks are done, the place of its next step in the next one, whether a map of it was refused, and the mapping that this task goes through, as soon as one is named
+abbrev pub spot : ℕ → ℕ → Bool → Option ℕ → Spot
+spot done place refused mapping = record { done = done; place = place; refused = refused; mapping = mapping }
 
 abbrev pub is_refusal : Move → Bool
 is_refusal (moves.MapRefused who gref mode status) = true
 is_refusal move = false
 
--- behind the step at a place of a task
-abbrev pub spot_behind : ℕ → Task → ℕ → Move → Spot
-spot_behind done task place move =
-    if is_none (step_at task (place + 1)) then spot (done + 1) 0 (is_refusal move) (gref_of task)
-    else spot done (place + 1) (is_refusal move) (gref_of task)
+-- the mapping that a move names: the one that a map gives, or that is touched
+abbrev pub mapping_after : Option ℕ → Move → Option ℕ
+mapping_after mapping (moves.Map who gref mode number frame) = Some number
+mapping_after mapping (moves.Read who number frame word value) = Some number
+mapping_after mapping (moves.Write who number frame word value) = Some number
+mapping_after mapping move = mapping
 
-abbrev pub spot_in : Bool → ℕ → Option Task → ℕ → Move → Option Spot
-spot_in persistent done None place move = None
-spot_in persistent done (Some task) place move =
-    if is_step_at (step_at task place) move then Some (spot_behind done task place move)
-    else (if persistent && may_be_kept task && (place == 0) && is_step_at (step_at task 1) move then Some (spot_behind done task 1 move)
+-- behind the step at a place of a task
+abbrev pub spot_behind : ℕ → Task → ℕ → Option ℕ → Move → Spot
+spot_behind done task place mapping move =
+    if is_none (step_at task (place + 1)) then spot (done + 1) 0 (is_refusal move) None
+    else spot done (place + 1) (is_refusal move) (mapping_after mapping move)
+
+-- a move is the step behind the map of a task, and that map may be missing
+abbrev pub is_unmapped_step : Bool → Task → ℕ → Move → Bool
+is_unmapped_step persistent task place move = persistent && is_on_data task && (place == 0) && is_step_at (step_at task 1) move
+
+abbrev pub spot_in : Bool → ℕ → Option Task → ℕ → Option ℕ → Move → Option Spot
+spot_in persistent done None place mapping move = None
+spot_in persistent done (Some task) place mapping move =
+    if is_step_at (step_at task place) move then Some (spot_behind done task place mapping move)
+    else (if is_unmapped_step persistent task place move then Some (spot_behind done task 1 mapping move)
     else None)
 
 -- a move takes a job one step on; none where it isn't the next step, or a map was refused before
 abbrev pub advanced : Bool → List Task → Move → Spot → Option Spot
-advanced persistent work move s = if s.refused then None else spot_in persistent s.done (slice_get work s.done) s.place move
-
--- the job that makes a move
-abbrev pub job_of : BackMover → Option ℕ
-job_of back.Back = None
-job_of (back.Job k) = Some k
-
-abbrev pub job_in : Mover → Option ℕ
-job_in (mover.Job k) = Some k
-job_in who = None
+advanced persistent work move s = if s.refused then None else spot_in persistent s.done (slice_get work s.done) s.place s.mapping move
 
 -- the job whose move a line is, apart from unmaps
 abbrev pub stepper : Line → Option ℕ
-stepper (lines.Move (moves.Read who number frame word value)) = job_of who
-stepper (lines.Move (moves.Write who number frame word value)) = job_of who
-stepper (lines.Move (moves.Map who gref mode number frame)) = job_of who
-stepper (lines.Move (moves.MapRefused who gref mode status)) = job_of who
-stepper (lines.Move (moves.Fence who)) = job_in who
-stepper (lines.Move (moves.Send who)) = job_in who
-stepper (lines.Move (moves.ClosePort who)) = job_in who
-stepper (lines.Move (moves.Event who)) = job_in who
-stepper (lines.Move (moves.Watch who path)) = job_in who
-stepper (lines.Move (moves.Watched who path)) = job_in who
-stepper (lines.Move (moves.GetKey who path text)) = job_in who
-stepper (lines.Move (moves.SetKey who path text)) = job_in who
+stepper (lines.Move (moves.Read who number frame word value)) = back_mover_job who
+stepper (lines.Move (moves.Write who number frame word value)) = back_mover_job who
+stepper (lines.Move (moves.Map who gref mode number frame)) = back_mover_job who
+stepper (lines.Move (moves.MapRefused who gref mode status)) = back_mover_job who
+stepper (lines.Move (moves.Fence who)) = mover_job who
+stepper (lines.Move (moves.Send who)) = mover_job who
+stepper (lines.Move (moves.ClosePort who)) = mover_job who
+stepper (lines.Move (moves.Event who)) = mover_job who
+stepper (lines.Move (moves.Watch who path)) = mover_job who
+stepper (lines.Move (moves.Watched who path)) = mover_job who
+stepper (lines.Move (moves.GetKey who path text)) = mover_job who
+stepper (lines.Move (moves.SetKey who path text)) = mover_job who
 stepper line = disk_mover line
 
 abbrev pub move_in : Line → Option Move
@@ -146,86 +140,24 @@ walked persistent work (Some move) s = option_and_then (advanced persistent work
 
 -- how far job k came by these lines; none where a move of it isn't its next step
 abbrev pub walk_of : Bool → List Task → ℕ → List Line → Option Spot
-walk_of persistent work k epoch = fold (λ (s : Option Spot) (line : Line). walked persistent work (job_step k line) s) (Some (spot 0 0 false 0)) epoch
+walk_of persistent work k epoch = fold (λ (s : Option Spot) (line : Line). walked persistent work (job_step k line) s) (Some (spot 0 0 false None)) epoch
 
 -- what a read of job k showed
 abbrev pub value_read : ℕ → Line → Option ℕ
-value_read k (lines.Move (moves.Read who number frame word value)) = if is_job k (job_of who) then Some value else None
+value_read k (lines.Move (moves.Read who number frame word value)) = if is_job k (back_mover_job who) then Some value else None
 value_read k line = None
 
 -- the words that job k read in this epoch, of which the first are those of its indirect pages
 abbrev pub values_read : List Line → ℕ → List ℕ
 values_read before k = filter_map (value_read k) (this_epoch before)
 
--- the disk that the options of a run let the back publish: at most barriers, flushes and discards where it may be written
-abbrev pub info_of : Options → DiskInfo
-info_of o = record { sectors = o.sectors; read_only = o.read_only; barrier = not o.read_only; flush = not o.read_only; discard = not o.read_only; max_indirect = o.indirect }
+-- the work of job k, as far as the words of its indirect pages that it read tell
+abbrev pub work_of : List Line → ℕ → Fetched → List Task
+work_of before k f = work_tasks f.request f.disk f.persistent (values_read before k)
 
-abbrev pub no_disk : DiskInfo
-no_disk = record { sectors = 0; read_only = false; barrier = false; flush = false; discard = false; max_indirect = 0 }
-
-abbrev pub info_told : DiskInfo → Line → DiskInfo
-info_told info (lines.Begin options detail) = info_of options
-info_told info line = info
-
--- what the back published in this epoch that it serves beside reads and writes
-abbrev pub serving : Bool → Bool → Bool → Bool → Serving
-serving barrier flush discard indirect = record { barrier = barrier; flush = flush; discard = discard; indirect = indirect }
-
--- a key of a feature says that there is one, unless it is 0
-abbrev pub is_offer : List ℕ → Bool
-is_offer digits = not (list_all (λ (d : ℕ). d == 48) digits)
-
--- the back set a key of a feature (`io/blkif.h`: feature-barrier, feature-flush-cache, feature-discard, feature-max-indirect-segments)
-abbrev pub serving_after : Serving → Line → Serving
-serving_after s (lines.Move (moves.SetKey mover.Back path text)) =
-    if bytes_eq path.bytes (codes "/local/domain/0/backend/vbd/1/51712/feature-barrier") then serving (is_offer text.bytes) s.flush s.discard s.indirect
-    else (if bytes_eq path.bytes (codes "/local/domain/0/backend/vbd/1/51712/feature-flush-cache") then serving s.barrier (is_offer text.bytes) s.discard s.indirect
-    else (if bytes_eq path.bytes (codes "/local/domain/0/backend/vbd/1/51712/feature-discard") then serving s.barrier s.flush (is_offer text.bytes) s.indirect
-    else (if bytes_eq path.bytes (codes "/local/domain/0/backend/vbd/1/51712/feature-max-indirect-segments") then serving s.barrier s.flush s.discard (is_offer text.bytes)
-    else s)))
-serving_after s line = s
-
-abbrev pub served_by : List Line → Serving
-served_by before = fold serving_after (serving false false false false) (this_epoch before)
-
-abbrev pub disk_with : Serving → DiskInfo → DiskInfo
-disk_with s info = record { sectors = info.sectors; read_only = info.read_only; barrier = s.barrier; flush = s.flush; discard = s.discard; max_indirect = if s.indirect then info.max_indirect else 0 }
-
--- the disk as the options give it, with what the back published of it
-abbrev pub disk_of : List Line → DiskInfo
-disk_of before = disk_with (served_by before) (fold info_told no_disk before)
-
--- what both ends said of persistent grants in this epoch
-abbrev pub kept_by : Bool → Bool → Keeping
-kept_by offered asked = record { offered = offered; asked = asked }
-
--- the number 1, in 1 to 10 digits
-abbrev pub is_one : List ℕ → Bool
-is_one digits = nat_lt 0 (length digits) && nat_le (length digits) 10 && list_all (λ (d : ℕ). d == 48) (take (length digits - 1) digits) && (slice_index digits (length digits - 1) == 49)
-
-abbrev pub says_one : Option ArrayString → Bool
-says_one None = false
-says_one (Some text) = is_one text.bytes
-
--- the back set its key `feature-persistent`, and read the front's (`io/blkif.h`)
-abbrev pub keeping_after : Keeping → Line → Keeping
-keeping_after s (lines.Move (moves.SetKey mover.Back path text)) = if bytes_eq path.bytes (codes "/local/domain/0/backend/vbd/1/51712/feature-persistent") then kept_by (is_one text.bytes) s.asked else s
-keeping_after s (lines.Move (moves.GetKey mover.Back path text)) = if bytes_eq path.bytes (codes "/local/domain/1/device/vbd/51712/feature-persistent") then kept_by s.offered (says_one text) else s
-keeping_after s line = s
-
-abbrev pub is_kept : Keeping → Bool
-is_kept s = s.offered && s.asked
-
--- grants are persistent in this epoch: both ends published 1
-abbrev pub is_persistent : List Line → Bool
-is_persistent before = is_kept (fold keeping_after (kept_by false false) (this_epoch before))
-
--- how far job k came, and by one move more
-abbrev pub spot_after : List Line → ℕ → Move → RawRequest → Option Spot
-spot_after before k move request =
-    option_and_then (advanced (is_persistent before) (work_tasks request (disk_of before) (is_persistent before) (values_read before k)) move)
-    (walk_of (is_persistent before) (work_tasks request (disk_of before) (is_persistent before) (values_read before k)) k (this_epoch before))
+-- how far job k came in it
+abbrev pub spot_of : List Line → ℕ → Fetched → Option Spot
+spot_of before k f = walk_of f.persistent (work_of before k f) k (this_epoch before)
 
 -- the mapping that a move touches, if it touches one
 abbrev pub touched_by : Move → Option ℕ
@@ -246,14 +178,34 @@ abbrev pub failed_in : ℕ → List Line → Bool
 failed_in k [] = false
 failed_in k (line ∷ later) = (is_job k (disk_mover line) && begins_with_fault later) || failed_in k later
 
--- a move of job k is the next step of the work of its entry, through a mapping of the reference that the step is about, and none follows a failure of the disk
-pub record IsStepOf (before : List Line) (k : ℕ) (move : Move) (request : RawRequest) : Type 0 where
-  pub next : IsSomeAnd (spot_after before k move request) (λ s. IfSome (touched_by move) (λ number. IsSomeAnd (numbered number (standing_behind before)) (λ m. m.gref ≡ s.gref)))
+-- the mapping of a number is kept for a reference: a job made it in this epoch, and it stands, for writing
+abbrev pub IsKeptFor : List Line → ℕ → ℕ → Type 0
+IsKeptFor before gref number = IsSomeAnd (numbered number (kept_before before)) (λ m. m.gref ≡ gref)
+
+-- one is kept for it
+abbrev pub is_kept_for : List Line → ℕ → Bool
+is_kept_for before gref = list_any (λ (m : Standing). m.gref == gref) (kept_before before)
+
+-- the words of a frame are touched through the mapping that the map of the task gave; where that map is missing, through one and the same mapping that is kept for its reference, and one is kept when the step comes that would follow the map
+pub record IsThrough (before : List Line) (task : Task) (s : Spot) (move : Move) : Type 0 where
+  pub same : IfSome s.mapping (λ mine. IfSome (touched_by move) (λ number. number ≡ mine))
+  pub kept : s.mapping ≡ None → IfSome (touched_by move) (IsKeptFor before (gref_of task))
+  pub stands : (s.place == 0) ≡ true → is_step_at (step_at task 0) move ≡ false → is_kept_for before (gref_of task) ≡ true
+
+-- a move is the next step of a task, and none follows a refused map
+pub record IsNextStep (before : List Line) (persistent : Bool) (s : Spot) (move : Move) (task : Task) : Type 0 where
+  pub unrefused : s.refused ≡ false
+  pub step : (is_step_at (step_at task s.place) move || is_unmapped_step persistent task s.place move) ≡ true
+  pub through : IsThrough before task s move
+
+-- a move of job k is the next step of the work of its entry, and none follows a failure of the disk
+pub record IsStepOf (before : List Line) (k : ℕ) (move : Move) (f : Fetched) : Type 0 where
+  pub next : IsSomeAnd (spot_of before k f) (λ s. IsSomeAnd (slice_get (work_of before k f) s.done) (IsNextStep before f.persistent s move))
   pub whole : failed_in k (this_epoch before) ≡ false
 
 -- each move of a job but an unmap is a step of its work
 abbrev pub IsStepAt : List Line → Line → Type 0
-IsStepAt before (lines.Move move) = IfSome (stepper (lines.Move move)) (λ k. IsSomeAnd (request_of_job before k) (IsStepOf before k move))
+IsStepAt before (lines.Move move) = IfSome (stepper (lines.Move move)) (λ k. IsSomeAnd (fetched_of before k) (IsStepOf before k move))
 IsStepAt before line = Unit {0}
 
 abbrev pub AreSteps : List Line → Type 0

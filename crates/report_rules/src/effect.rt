@@ -1,10 +1,10 @@
 // Effects.
 ghost use Rattle.std.specs.Prelude.{◌≡◌, ◌≢◌, ◌+◌, None, IfSome, IsSomeAnd, IfOk};
 ghost use Rattle.std.specs.Bool.{Decides};
-ghost use Rattle.report_rules.specs.Job.{request_of_job, id_of, disk_moves_of};
+ghost use Rattle.report_rules.specs.Job.{fetched_of, id_of, disk_moves_of};
 ghost use Rattle.report_rules.specs.Effect.{disk_move_of, disk_move_shown, outcome_of, IsOutcomeOf, IsEffectAt, AreEffects};
 
-use crate::job::{disk_moves_of, id_of, request_of_job};
+use crate::job::{disk_moves_of, fetched_of, id_of};
 use blk_base::{Move, OutOfMemory};
 use schedule_text::Line;
 use std::alloc::Global;
@@ -80,11 +80,11 @@ fn is_done(o: Outcome, call: DiskCall) -> bool
 }
 
 fn is_of_request(alloc: Global, before: &[Line], job: u64, id: u64) -> Result<bool, OutOfMemory>
-    ensures { IfOk result (λ holds. Decides holds (IsSomeAnd (request_of_job before.now job) (λ request. id_of request ≡ id))) }
+    ensures { IfOk result (λ holds. Decides holds (IsSomeAnd (fetched_of before.now job) (λ f. id_of f.request ≡ id))) }
 {
-    match request_of_job(alloc, before, job)? {
+    match fetched_of(alloc, before, job)? {
         None => Ok(false),
-        Some(request) => Ok(id_of(&request) == id),
+        Some(f) => Ok(id_of(&f.request) == id),
     }
 }
 

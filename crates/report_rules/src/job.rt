@@ -1,16 +1,27 @@
 // What a report tells of a job.
-ghost use Rattle.std.specs.Prelude.{◌≡◌, ◌*◌, ◌-◌, ◌≤◌, take, drop, length, IfOk, IsTrue, ◌<◌};
+ghost use Rattle.std.specs.Prelude.{◌≡◌, ◌*◌, ◌-◌, ◌≤◌, [], ◌∷◌, ◌++◌, take, drop, length, option_map, IfOk, IsTrue, ◌<◌};
 ghost use Rattle.ring_words.specs.Shape.{entry_words_of};
 ghost use Rattle.blk_layout.specs.Places.{places_of};
-ghost use Rattle.report_rules.specs.Job.{when, entry_value, entry_values, words_of_job, is_fetched, entry_of, request_in, request_of_job, id_of, disk_mover, is_job, disk_moves_of};
+ghost use Rattle.report_rules.specs.Job.{when, entry_value, entry_values, words_of_job, is_fetched, entry_of, request_in, request_told, fetched_with, fetched_after, fetched_of, back_mover_job, mover_job, id_of, disk_mover, is_job, disk_moves_of};
 
+use crate::published::{disk_of, is_persistent};
 use crate::ring::{ring_abi, ring_order, ring_word};
-use crate::standing::this_epoch;
-use crate::stretch::of_entries;
-use blk_base::{Abi, BackMover, Move, OutOfMemory};
+use crate::standing::{is_epoch, this_epoch};
+use crate::stretch::{entry_word_read, of_entries};
+use blk_base::{Abi, BackMover, Move, Mover, OutOfMemory};
 use blk_layout::{RawRequest, read_request};
 use schedule_text::Line;
+use segment_list::DiskInfo;
 use std::alloc::Global;
+
+/// What was fetched for a job: its request, and what held at the end of the fetch, the disk as it
+/// was published and whether grants were persistent.
+#[derive(Clone, Copy)]
+pub struct Fetched {
+    pub request: RawRequest,
+    pub disk: DiskInfo,
+    pub persistent: bool,
+}
 
 // What a line shows of an entry's word that the back read.
 fn entry_value(before: &[Line], line: &Line) -> Option<u32>
@@ -72,13 +83,9 @@ fn entry_of(abi: Abi, values: &[u32], k: u64) -> Option<RawRequest>
     Some(read_request(abi, &values[from..from + size]))
 }
 
-/// The request of job `k`, where its entry was fetched.
-pub fn request_of_job(
-    alloc: Global,
-    before: &[Line],
-    k: u64,
-) -> Result<Option<RawRequest>, OutOfMemory>
-    ensures { IfOk result (λ request. request ≡ request_of_job before.now k) }
+// The request of job `k` as these lines tell it.
+fn request_told(alloc: Global, before: &[Line], k: u64) -> Result<Option<RawRequest>, OutOfMemory>
+    ensures { IfOk result (λ request. request ≡ request_told before.now k) }
 {
     match (ring_abi(before), ring_order(before)) {
         (Some(abi), Some(_)) => {
@@ -87,6 +94,53 @@ pub fn request_of_job(
         }
         _ => Ok(None),
     }
+}
+
+// What was fetched for job `k`, as these lines tell it.
+fn fetched_told(alloc: Global, before: &[Line], k: u64) -> Result<Option<Fetched>, OutOfMemory>
+    ensures { IfOk result (λ f. f ≡ option_map (fetched_with before.now) (request_told before.now k)) }
+{
+    match request_told(alloc, before, k)? {
+        None => Ok(None),
+        Some(request) => Ok(Some(Fetched {
+            request,
+            disk: disk_of(before),
+            persistent: is_persistent(before),
+        })),
+    }
+}
+
+// The same behind one line more.
+fn fetched_after(
+    alloc: Global,
+    k: u64,
+    known: Option<Fetched>,
+    before: &[Line],
+    line: &Line,
+    behind: &[Line],
+) -> Result<Option<Fetched>, OutOfMemory>
+    requires { behind.now ≡ before.now ++ line.now ∷ [] }
+    ensures { IfOk result (λ f. f ≡ fetched_after k known before.now line.now) }
+{
+    if is_epoch(line) {
+        return Ok(None);
+    }
+    match (entry_word_read(before, line), known) {
+        (None, _) => Ok(known),
+        (Some(_), Some(f)) => Ok(Some(f)),
+        (Some(_), None) => fetched_told(alloc, behind, k),
+    }
+}
+
+/// What was fetched for job `k` in this epoch, with what held at the end of its fetch.
+pub fn fetched_of(alloc: Global, before: &[Line], k: u64) -> Result<Option<Fetched>, OutOfMemory>
+    ensures { IfOk result (λ f. f ≡ fetched_of before.now k) }
+{
+    let mut known = None;
+    for i in 0..before.len() {
+        known = fetched_after(alloc, k, known, &before[..i], &before[i], &before[..i + 1])?;
+    }
+    Ok(known)
 }
 
 /// The id of a request.
@@ -130,4 +184,24 @@ pub fn disk_moves_of(before: &[Line], k: u64) -> usize
         .iter()
         .filter(|line| is_disk_move_of(k, line))
         .count()
+}
+
+/// The job that makes a move of the back.
+pub fn back_mover_job(who: BackMover) -> Option<u64>
+    ensures { result ≡ back_mover_job who }
+{
+    match who {
+        BackMover::Back => None,
+        BackMover::Job(k) => Some(k),
+    }
+}
+
+/// The job that makes a move, if one does.
+pub fn mover_job(who: Mover) -> Option<u64>
+    ensures { result ≡ mover_job who }
+{
+    match who {
+        Mover::Job(k) => Some(k),
+        _ => None,
+    }
 }

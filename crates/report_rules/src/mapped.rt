@@ -1,10 +1,10 @@
 // What a map is answered.
-ghost use Rattle.std.specs.Prelude.{◌≡◌, ◌+◌, Ok, Err};
+ghost use Rattle.std.specs.Prelude.{◌≡◌, false, Ok, Err};
 ghost use Rattle.std.specs.Bool.{Decides};
 ghost use Rattle.grant_table.specs.declared.entry.MapRefusal.{MapRefusal};
 ghost use Rattle.grant_table.specs.Entry.{status_of};
-ghost use Rattle.report_rules.specs.Standing.{mapping_made};
-ghost use Rattle.report_rules.specs.Mapped.{map_verdict, greater_number, greatest_number, IsMapAnswerAt, AreMapAnswers};
+ghost use Rattle.report_rules.specs.Standing.{mapping_made, has_number};
+ghost use Rattle.report_rules.specs.Mapped.{map_verdict, was_made, IsMapAnswerAt, AreMapAnswers};
 
 use crate::standing::mapping_made;
 use crate::value::value_before;
@@ -22,29 +22,20 @@ fn map_verdict(before: &[Line], gref: u32, mode: Mode) -> Result<u32, MapRefusal
     verdict(gref, word0, word1, mode)
 }
 
-fn greater_number(greatest: u64, line: &Line) -> u64
-    ensures { result ≡ greater_number greatest (mapping_made line.now) }
+// Whether a line made a mapping of that number.
+fn makes_number(number: u64, line: &Line) -> bool
+    ensures { result ≡ has_number number (mapping_made line.now) }
 {
     match mapping_made(line) {
-        None => greatest,
-        Some(made) => greatest.max(made.number),
+        None => false,
+        Some(made) => made.number == number,
     }
 }
 
-fn greatest_number(before: &[Line]) -> u64
-    ensures { result ≡ greatest_number before.now }
+fn was_made(before: &[Line], number: u64) -> bool
+    ensures { result ≡ was_made before.now number }
 {
-    let mut greatest = 0;
-    for line in before {
-        greatest = greater_number(greatest, line);
-    }
-    greatest
-}
-
-fn is_next_number(before: &[Line], number: u64) -> bool
-    ensures { Decides result (number ≡ greatest_number before.now + 1) }
-{
-    number > 0 && number - 1 == greatest_number(before)
+    before.iter().any(|line| makes_number(number, line))
 }
 
 fn is_granted(before: &[Line], gref: u32, mode: Mode, frame: u32) -> bool
@@ -77,7 +68,7 @@ fn is_map_answer_at(before: &[Line], line: &Line) -> bool
                 frame,
                 ..
             },
-        ) => is_granted(before, gref, mode, frame) && is_next_number(before, mapping),
+        ) => is_granted(before, gref, mode, frame) && !was_made(before, mapping),
         Line::Move(
             Move::MapRefused {
                 gref,
@@ -90,7 +81,7 @@ fn is_map_answer_at(before: &[Line], line: &Line) -> bool
     }
 }
 
-/// Whether each map is answered as its grant entry stands, and each new mapping has the next number.
+/// Whether each map is answered as its grant entry stands, and each new mapping has a new number.
 pub fn are_map_answers(lines: &[Line]) -> bool
     ensures { Decides result (AreMapAnswers lines.now) }
 {

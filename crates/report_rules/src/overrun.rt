@@ -109,7 +109,8 @@ fn is_halted(shown: Option<Overrun>, line: &Line) -> bool
 
 // Whether a line is no halt of an overrun, or that of the one that was shown.
 fn is_only_halt(shown: Option<Overrun>, line: &Line) -> bool
-    ensures { Decides result ((produced replied : ℕ) → line.now ≡ lines.Halt (halts.Overrun produced replied) → shown ≡ Some (record { produced = produced; replied = replied })) }
+    ensures { Decides result ((produced replied : ℕ) → line.now ≡ lines.Halt (halts.Overrun produced replied)
+        → shown ≡ Some (record { produced = produced; replied = replied })) }
 {
     match (shown, line) {
         (Some(o), Line::Halt(Halt::Overrun { produced, replied })) => {

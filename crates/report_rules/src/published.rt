@@ -4,7 +4,7 @@ ghost use Rattle.std.specs.List.{list_all};
 ghost use Rattle.blk_base.specs.declared.moves.Mover.TheVariants as mover;
 ghost use Rattle.blk_base.specs.declared.moves.Move.TheVariants as moves;
 ghost use Rattle.schedule_text.specs.declared.line.Line.TheVariants as lines;
-ghost use Rattle.report_rules.specs.Steps.{info_of, info_told, no_disk, is_offer, serving_after, served_by, disk_of, is_one, says_one, keeping_after, is_persistent};
+ghost use Rattle.report_rules.specs.Published.{info_of, info_told, no_disk, is_offer, serving_after, served_by, disk_of, is_one, says_one, keeping_after, is_persistent};
 
 use crate::standing::this_epoch;
 use blk_base::{Config, Move, Mover, Path, Text};

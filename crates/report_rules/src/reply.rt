@@ -1,40 +1,23 @@
 // How the back replies.
-ghost use Rattle.std.specs.Prelude.{◌≡◌, ◌≤◌, IfOk, IfSome, IsSomeAnd, Some, reverse, length};
+ghost use Rattle.std.specs.Prelude.{◌≡◌, IfOk, IfSome, IsSomeAnd, Some, reverse};
 ghost use Rattle.std.specs.Bool.{Decides};
 ghost use Rattle.blk_layout.specs.Response.{response_of};
 ghost use Rattle.report_rules.specs.Ring.{ring_shape};
-ghost use Rattle.report_rules.specs.Reply.{value_written, values_written, within_reply, is_due_row, next_place, is_next_value, ends_with_write, reply_pushed, line_of, is_reply, IsNextWrite, IsReplyAt, AreReplies};
+ghost use Rattle.report_rules.specs.Reply.{value_written, values_written, within_reply, next_place, is_next_value, ends_with_write, reply_pushed, line_of, is_of_back, IsNextWrite, IsTold, IsReplyAt, AreReplies};
 
+mod answered;
 mod due;
 mod written;
 
-use crate::job::entry_values;
 use crate::ring::{replied_before, ring_shape};
-use crate::stretch::is_of_back;
+use crate::stretch::is_back_move;
+use answered::{answered_in, is_answer, job_replied};
 use blk_base::OutOfMemory;
 use blk_layout::read_response;
-use due::jobs_due;
 use ring_words::RingShape;
 use schedule_text::Line;
 use std::alloc::Global;
-use written::{replies_like, row_of, value_written, values_written, word_written};
-
-// Whether one more job is due a response that begins with the words of this row.
-fn is_due_row(
-    alloc: Global,
-    before: &[Line],
-    values: &[u32],
-    row: &[u32; 3],
-    written: usize,
-) -> Result<bool, OutOfMemory>
-    requires written { written ≡ length (values_written before.now) }
-    requires long { written ≤ length values.now }
-    ensures { IfOk result (λ due. due ≡ is_due_row before.now values.now row.now) }
-{
-    let jobs = entry_values(alloc, before)?.len();
-    let due = jobs_due(alloc, before, written % 4, row, jobs)?;
-    Ok(replies_like(values, written % 4, row, written / 4) < due)
-}
+use written::{is_reply, row_of, value_written, values_written, word_written};
 
 fn next_place(before: &[Line], within: u32, shape: &RingShape) -> u32
     requires { within ≡ within_reply before.now }
@@ -57,7 +40,7 @@ fn is_next_value(alloc: Global, before: &[Line], value: u32) -> Result<bool, Out
     }
     values.push(value)?;
     let row = row_of(values.as_slice(), written / 4);
-    is_due_row(alloc, before, values.as_slice(), &row, written)
+    is_answer(alloc, before, written % 4, &row)
 }
 
 fn is_next_write(
@@ -76,7 +59,8 @@ fn is_next_write(
 }
 
 fn is_next(alloc: Global, before: &[Line], line: &Line) -> Result<bool, OutOfMemory>
-    ensures { IfOk result (λ holds. Decides holds (IfSome (value_written before.now line.now) (λ value. IsSomeAnd (ring_shape before.now) (IsNextWrite before.now line.now value)))) }
+    ensures { IfOk result (λ holds. Decides holds (IfSome (value_written before.now line.now)
+        (λ value. IsSomeAnd (ring_shape before.now) (IsNextWrite before.now line.now value)))) }
 {
     match (value_written(before, line), ring_shape(before)) {
         (None, _) => Ok(true),
@@ -118,19 +102,41 @@ fn tells_of(row: [u32; 3], line: &Line) -> bool
     }
 }
 
-fn is_told(row: Option<[u32; 3]>, line: &Line) -> bool
-    ensures { Decides result (IfSome row (λ words. line_of (response_of words) ≡ Some line.now)) }
+fn is_told_of(
+    alloc: Global,
+    before: &[Line],
+    line: &Line,
+    row: [u32; 3],
+) -> Result<bool, OutOfMemory>
+    ensures { IfOk result (λ holds. Decides holds (IsTold before.now line.now row)) }
+{
+    let answered = answered_in(alloc, before)?;
+    let job = job_replied(alloc, before, answered.as_slice())?;
+    Ok(tells_of(row, line) && job.is_some())
+}
+
+fn is_told(
+    alloc: Global,
+    before: &[Line],
+    line: &Line,
+    row: Option<[u32; 3]>,
+) -> Result<bool, OutOfMemory>
+    ensures { IfOk result (λ holds. Decides holds (IfSome row (IsTold before.now line.now))) }
 {
     match row {
-        None => true,
-        Some(row) => tells_of(row, line),
+        None => Ok(true),
+        Some(row) => is_told_of(alloc, before, line, row),
     }
 }
 
-fn is_reply(line: &Line) -> bool
-    ensures { result ≡ is_reply line.now }
+// Whether a line is one of the back's own: one of its moves, or its halt.
+fn is_of_back(line: &Line) -> bool
+    ensures { result ≡ is_of_back line.now }
 {
-    matches!(*line, Line::Reply { .. })
+    match line {
+        Line::Halt(_) => true,
+        _ => is_back_move(line),
+    }
 }
 
 // Whether no reply is under way.
@@ -148,7 +154,8 @@ fn is_reply_at(alloc: Global, before: &[Line], line: &Line) -> Result<bool, OutO
     let between = is_between(alloc, before)?;
     let whole = !is_of_back(line) || value_written(before, line).is_some() || between;
     let only = !is_reply(line) || pushed.is_some();
-    Ok(next && is_told(pushed, line) && only && whole)
+    let told = is_told(alloc, before, line, pushed)?;
+    Ok(next && told && only && whole)
 }
 
 /// Whether the back replies as it should: each reply has a job at its end of its own, whose response

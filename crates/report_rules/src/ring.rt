@@ -1,7 +1,7 @@
 // Which memory is the ring, and its producers.
 ghost use Rattle.std.specs.Prelude.{◌≡◌, ◌≤◌, length, slice_get, IfSome};
 ghost use Rattle.std.specs.List.{filter_map};
-ghost use Rattle.report_rules.specs.Ring.{page_made, ring_pages, order_of, ring_order, page_from, word_in, ring_word, is_protocol, abi_named, abi_after, ring_abi, ring_shape, produced_after, produced_before, is_first_page, has_number, start_told, start_of, produced_shown, replied_after, replied_before};
+ghost use Rattle.report_rules.specs.Ring.{page_made, ring_pages, order_of, ring_order, page_from, is_page, word_in, ring_word, is_protocol, abi_named, abi_after, ring_abi, ring_shape, produced_after, produced_before, is_first_page, start_told, start_of, produced_shown, replied_after, replied_before};
 
 use crate::standing::{Standing, this_epoch};
 use blk_base::{Abi, BackMover, Move, Mover, Path, Text};
@@ -194,6 +194,13 @@ pub fn page_in(lines: &[Line], number: u64) -> Option<usize>
         }
     }
     None
+}
+
+/// Whether a mapping is a page of the ring.
+pub fn is_page(before: &[Line], number: u64) -> bool
+    ensures { result ≡ is_page before.now number }
+{
+    page_in(this_epoch(before), number).is_some()
 }
 
 /// The word of the ring that a word of a mapping is.

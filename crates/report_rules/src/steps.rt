@@ -1,37 +1,30 @@
 // The rule of the steps of jobs.
-ghost use Rattle.std.specs.Prelude.{◌≡◌, IfSome, IsSomeAnd, IfOk};
+ghost use Rattle.std.specs.Prelude.{◌≡◌, None, slice_get, IfSome, IsSomeAnd, IfOk};
 ghost use Rattle.std.specs.Bool.{Decides};
-ghost use Rattle.report_rules.specs.Standing.{standing_behind, numbered};
-ghost use Rattle.report_rules.specs.Job.{request_of_job};
-ghost use Rattle.report_rules.specs.Steps.{spot_after, touched_by, begins_with_fault, failed_in, IsStepOf, IsStepAt, AreSteps};
+ghost use Rattle.report_rules.specs.Job.{fetched_of};
+ghost use Rattle.report_rules.specs.Steps.{work_of, touched_by, begins_with_fault, failed_in, IsKeptFor, IsThrough, IsNextStep, IsStepOf, IsStepAt, AreSteps};
 
-use crate::job::{is_disk_move_of, request_of_job};
-use crate::published::{disk_of, is_persistent};
-use crate::standing::{numbered_behind, this_epoch};
-use crate::walk::{Spot, advanced, stepper, values_read, walk_of};
-use crate::work::work_tasks;
+use crate::job::{Fetched, fetched_of, is_disk_move_of};
+use crate::made::{is_kept_for, kept_numbered};
+use crate::standing::this_epoch;
+use crate::step::is_step_at;
+use crate::walk::{Spot, gref_of, is_unmapped_step, stepper, values_read, walk_of};
+use crate::work::{Task, work_tasks};
 use blk_base::{Move, OutOfMemory};
-use blk_layout::RawRequest;
 use schedule_text::Line;
 use std::alloc::Global;
 
-fn spot_after(
+/// The work of job `k`, as far as the words of its indirect pages that it read tell.
+pub fn work_of(
     alloc: Global,
     before: &[Line],
     k: u64,
-    made: &Move,
-    request: &RawRequest,
-) -> Result<Option<Spot>, OutOfMemory>
-    ensures { IfOk result (λ s. s ≡ spot_after before.now k made.now request.now) }
+    f: &Fetched,
+) -> Result<Vec<Task>, OutOfMemory>
+    ensures { IfOk result (λ work. work.items ≡ work_of before.now k f.now) }
 {
-    let persistent = is_persistent(before);
-    let info = disk_of(before);
     let values = values_read(alloc, before, k)?;
-    let work = work_tasks(alloc, request, &info, persistent, values.as_slice())?;
-    match walk_of(persistent, work.as_slice(), k, this_epoch(before)) {
-        None => Ok(None),
-        Some(s) => Ok(advanced(persistent, work.as_slice(), made, s)),
-    }
+    work_tasks(alloc, &f.request, &f.disk, f.persistent, values.as_slice())
 }
 
 fn touched_by(made: &Move) -> Option<u64>
@@ -44,16 +37,56 @@ fn touched_by(made: &Move) -> Option<u64>
     }
 }
 
-// Whether a move touches a mapping of that reference, if it touches one.
-fn is_through(before: &[Line], made: &Move, gref: u32) -> bool
-    ensures { Decides result (IfSome (touched_by made.now) (λ number. IsSomeAnd (numbered number (standing_behind before.now)) (λ m. m.gref ≡ gref))) }
+fn is_same(mapping: Option<u64>, touched: Option<u64>) -> bool
+    ensures { Decides result (IfSome mapping (λ mine. IfSome touched (λ number. number ≡ mine))) }
 {
-    match touched_by(made) {
-        None => true,
-        Some(number) => match numbered_behind(before, number) {
-            None => false,
-            Some(m) => m.gref == gref,
-        },
+    match (mapping, touched) {
+        (Some(mine), Some(number)) => number == mine,
+        _ => true,
+    }
+}
+
+fn is_kept_of(before: &[Line], gref: u32, number: u64) -> bool
+    ensures { Decides result (IsKeptFor before.now gref number) }
+{
+    match kept_numbered(before, number) {
+        None => false,
+        Some(m) => m.gref == gref,
+    }
+}
+
+// Whether a step for which no mapping is named yet touches one that is kept, if it touches one.
+fn is_taken(before: &[Line], gref: u32, mapping: Option<u64>, touched: Option<u64>) -> bool
+    ensures { Decides result (mapping ≡ None → IfSome touched (IsKeptFor before.now gref)) }
+{
+    match (mapping, touched) {
+        (None, Some(number)) => is_kept_of(before, gref, number),
+        _ => true,
+    }
+}
+
+fn is_through(before: &[Line], task: &Task, s: Spot, made: &Move) -> bool
+    ensures { Decides result (IsThrough before.now task.now s made.now) }
+{
+    let gref = gref_of(task);
+    let touched = touched_by(made);
+    let mapped = s.place != 0 || is_step_at(task, 0, made) || is_kept_for(before, gref);
+    is_same(s.mapping, touched) && is_taken(before, gref, s.mapping, touched) && mapped
+}
+
+fn is_next_step(before: &[Line], persistent: bool, s: Spot, made: &Move, task: &Task) -> bool
+    ensures { Decides result (IsNextStep before.now persistent s made.now task.now) }
+{
+    let step = is_step_at(task, s.place, made) || is_unmapped_step(persistent, task, s.place, made);
+    !s.refused && step && is_through(before, task, s, made)
+}
+
+fn is_next(before: &[Line], persistent: bool, work: &[Task], s: Option<Spot>, made: &Move) -> bool
+    ensures { Decides result (IsSomeAnd s (λ x. IsSomeAnd (slice_get work.now x.done) (IsNextStep before.now persistent x made.now))) }
+{
+    match s {
+        None => false,
+        Some(s) => s.done < work.len() && is_next_step(before, persistent, s, made, &work[s.done]),
     }
 }
 
@@ -83,22 +116,23 @@ fn is_step_of(
     before: &[Line],
     k: u64,
     made: &Move,
-    request: &RawRequest,
+    f: &Fetched,
 ) -> Result<bool, OutOfMemory>
-    ensures { IfOk result (λ holds. Decides holds (IsStepOf before.now k made.now request.now)) }
+    ensures { IfOk result (λ holds. Decides holds (IsStepOf before.now k made.now f.now)) }
 {
-    match spot_after(alloc, before, k, made, request)? {
-        None => Ok(false),
-        Some(s) => Ok(is_through(before, made, s.gref) && !failed_in(k, this_epoch(before))),
-    }
+    let epoch = this_epoch(before);
+    let work = work_of(alloc, before, k, f)?;
+    let s = walk_of(f.persistent, work.as_slice(), k, epoch);
+    let next = is_next(before, f.persistent, work.as_slice(), s, made);
+    Ok(next && !failed_in(k, epoch))
 }
 
 fn is_job_step(alloc: Global, before: &[Line], k: u64, made: &Move) -> Result<bool, OutOfMemory>
-    ensures { IfOk result (λ holds. Decides holds (IsSomeAnd (request_of_job before.now k) (IsStepOf before.now k made.now))) }
+    ensures { IfOk result (λ holds. Decides holds (IsSomeAnd (fetched_of before.now k) (IsStepOf before.now k made.now))) }
 {
-    match request_of_job(alloc, before, k)? {
+    match fetched_of(alloc, before, k)? {
         None => Ok(false),
-        Some(request) => is_step_of(alloc, before, k, made, &request),
+        Some(f) => is_step_of(alloc, before, k, made, &f),
     }
 }
 
@@ -111,7 +145,8 @@ fn is_step_line(alloc: Global, before: &[Line], line: &Line) -> Result<bool, Out
     }
 }
 
-/// Whether each move of a job but its unmaps is the next step of the work of its entry.
+/// Whether each move of a job but its unmaps is the next step of the work of its entry, through the
+/// mapping of its segment.
 pub fn are_steps(alloc: Global, lines: &[Line]) -> Result<bool, OutOfMemory>
     ensures { IfOk result (λ holds. Decides holds (AreSteps lines.now)) }
 {

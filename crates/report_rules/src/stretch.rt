@@ -6,16 +6,16 @@ ghost use Rattle.ring_words.specs.Ring.{requests_of};
 ghost use Rattle.schedule_text.specs.declared.line.Line.{Line};
 ghost use Rattle.schedule_text.specs.declared.line.Line.TheVariants as lines;
 ghost use Rattle.report_rules.specs.Ring.{ring_shape, replied_before, produced_before};
-ghost use Rattle.report_rules.specs.Stretch.{of_entries, entry_word_read, words_read, next_index, words_within, is_back, is_mover_back, is_of_back, IsNextWord, IsStretchAt, AreStretches};
+ghost use Rattle.report_rules.specs.Stretch.{of_entries, entry_word_read, words_read, next_index, words_within, is_back, is_mover_back, is_back_move, word_touched, IsNextWord, IsStretchAt, AreStretches};
 
-use crate::ring::{produced_before, replied_before, ring_shape, ring_word, start_of};
+use crate::ring::{is_page, produced_before, replied_before, ring_shape, ring_word, start_of};
 use crate::standing::this_epoch;
 use blk_base::{BackMover, Idx, Move, Mover};
 use ring_words::RingShape;
 use schedule_text::Line;
 
-// The word of an entry that the back reads in a line, as a word of the ring.
-fn entry_word_read(before: &[Line], line: &Line) -> Option<u128>
+/// The word of an entry that the back reads in a line, as a word of the ring.
+pub fn entry_word_read(before: &[Line], line: &Line) -> Option<u128>
     ensures { result ≡ entry_word_read before.now line.now }
 {
     match *line {
@@ -75,7 +75,11 @@ fn next_word(before: &[Line], shape: &RingShape) -> u32
 
 // How many requests are unconsumed.
 fn unconsumed(before: &[Line], shape: &RingShape) -> u32
-    ensures { result ≡ requests_of (record { entries = entries_of shape.now.order; prod = replied_before before.now; cons = next_index before.now shape.now }) (produced_before before.now) }
+    ensures { result ≡ requests_of (record {
+      entries = entries_of shape.now.order;
+      prod = replied_before before.now;
+      cons = next_index before.now shape.now;
+    }) (produced_before before.now) }
 {
     let index = Idx(next_index(before, shape));
     let ahead = index.dist(Idx(produced_before(before)));
@@ -122,8 +126,8 @@ fn is_mover_back(who: Mover) -> bool
     matches!(who, Mover::Back)
 }
 
-fn is_of_back_move(step: &Move) -> bool
-    ensures { result ≡ is_of_back (lines.Move step.now) }
+fn is_step_of_back(step: &Move) -> bool
+    ensures { result ≡ is_back_move (lines.Move step.now) }
 {
     match step {
         Move::Read { who, .. } => is_back(*who),
@@ -145,14 +149,47 @@ fn is_of_back_move(step: &Move) -> bool
     }
 }
 
-/// Whether a line is one of the back's own.
-pub fn is_of_back(line: &Line) -> bool
-    ensures { result ≡ is_of_back line.now }
+/// Whether a line is a move of the back's own.
+pub fn is_back_move(line: &Line) -> bool
+    ensures { result ≡ is_back_move line.now }
 {
     match line {
-        Line::Move(step) => is_of_back_move(step),
-        Line::Halt(_) => true,
+        Line::Move(step) => is_step_of_back(step),
         _ => false,
+    }
+}
+
+// The word of a page of the ring that the back reads or writes in a line.
+fn word_touched(before: &[Line], line: &Line) -> Option<u32>
+    ensures { result ≡ word_touched before.now line.now }
+{
+    match *line {
+        Line::Move(
+            Move::Read {
+                who: BackMover::Back,
+                mapping,
+                word,
+                ..
+            },
+        ) if is_page(before, mapping) => Some(word),
+        Line::Move(
+            Move::Write {
+                who: BackMover::Back,
+                mapping,
+                word,
+                ..
+            },
+        ) if is_page(before, mapping) => Some(word),
+        _ => None,
+    }
+}
+
+fn is_inside(word: Option<u32>) -> bool
+    ensures { Decides result (IfSome word (λ w. w < 1024)) }
+{
+    match word {
+        None => true,
+        Some(word) => word < 1024,
     }
 }
 
@@ -160,11 +197,13 @@ fn is_stretch_at(before: &[Line], line: &Line) -> bool
     ensures { Decides result (IsStretchAt before.now line.now) }
 {
     let word = entry_word_read(before, line);
-    is_next_read(before, word) && (!is_of_back(line) || word.is_some() || is_between(before))
+    let whole = !is_back_move(line) || word.is_some() || is_between(before);
+    is_next_read(before, word) && whole && is_inside(word_touched(before, line))
 }
 
 /// Whether the back reads entries in stretches: all words of the next entry, in ascending order,
-/// each once, with no line of its own between, and only where a request is unconsumed.
+/// each once, with no move of its own between, and only where a request is unconsumed; and touches
+/// only the 1024 words of each page of the ring.
 pub fn are_stretches(lines: &[Line]) -> bool
     ensures { Decides result (AreStretches lines.now) }
 {

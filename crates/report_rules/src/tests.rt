@@ -1,4 +1,6 @@
+mod kept;
 mod reply;
+mod twins;
 mod work;
 mod worked;
 
@@ -89,13 +91,38 @@ fn a_map_is_answered_as_its_entry_stands(rt: HostRuntime) -> Result<(), Fail> {
     assert_eq!(rt; are_map_answers(one_write(alloc)?.lines.as_slice()), true);
     assert_eq!(rt; maps_with(alloc, "m job 1 map 24 r ok 2 19")?, false);
     assert_eq!(rt; maps_with(alloc, "m job 1 map 24 r ok 1 18")?, false);
-    assert_eq!(rt; maps_with(alloc, "m job 1 map 24 r ok 3 18")?, false);
     assert_eq!(rt; maps_with(alloc, "m job 1 map 24 w ok 2 18")?, false);
     assert_eq!(rt; maps_with(alloc, "m job 1 map 24 w refused -1")?, true);
     assert_eq!(rt; maps_with(alloc, "m job 1 map 24 r refused -1")?, false);
     assert_eq!(rt; maps_with(alloc, "m job 1 map 25 r refused -1")?, true);
     assert_eq!(rt; maps_with(alloc, "m job 1 map 1024 r refused -3")?, true);
     assert_eq!(rt; maps_with(alloc, "m job 1 map 1024 r refused -1")?, false);
+    Ok(())
+}
+
+#[test]
+fn a_mapping_has_a_number_that_none_had(rt: HostRuntime) -> Result<(), Fail> {
+    let alloc = rt.alloc();
+    assert_eq!(rt; maps_with(alloc, "m job 1 map 24 r ok 3 18")?, true);
+    assert_eq!(rt; maps_with(alloc, "m job 1 map 24 r ok 0 18")?, true);
+    assert_eq!(rt; maps_with(alloc, "m job 1 map 24 r ok 1 18")?, false);
+    let mut report = one_write(alloc)?;
+    add(
+        &mut report,
+        &[
+            "epoch",
+            "m front write 0 49 00000012",
+            "m front write 0 48 00000005",
+        ],
+    )?;
+    add(&mut report, &["m back map 24 r ok 2 18"])?;
+    assert_eq!(rt; are_map_answers(report.lines.as_slice()), false);
+    change(
+        &mut report,
+        "m back map 24 r ok 2 18",
+        "m back map 24 r ok 7 18",
+    )?;
+    assert_eq!(rt; are_map_answers(report.lines.as_slice()), true);
     Ok(())
 }
 
@@ -120,6 +147,10 @@ fn memory_is_touched_through_mappings_that_stand(rt: HostRuntime) -> Result<(), 
     );
     assert_eq!(rt;
         touches_with(alloc, right, "m job 1 read 2 18 1024 00000007")?,
+        true
+    );
+    assert_eq!(rt;
+        touches_with(alloc, right, "m job 1 read 2 19 5 00000007")?,
         false
     );
     assert_eq!(rt;
@@ -252,13 +283,40 @@ fn the_back_reads_an_entry_in_one_stretch(rt: HostRuntime) -> Result<(), Fail> {
         stretches_of(alloc, 27, &["m back read 1 2 0 00000001"])?,
         false
     );
-    assert_eq!(rt; stretches_of(alloc, 27, &["halt gone 5"])?, false);
     assert_eq!(rt;
         stretches_of(alloc, 27, &["m job 1 fence", "m front event"])?,
         true
     );
     assert_eq!(rt; stretches_of(alloc, 27, &["epoch", "m back fence"])?, true);
     assert_eq!(rt; stretches_of(alloc, 28, &["m back fence"])?, true);
+    Ok(())
+}
+
+#[test]
+fn a_halt_is_no_move_between_the_words_of_an_entry(rt: HostRuntime) -> Result<(), Fail> {
+    let alloc = rt.alloc();
+    let halted = ["halt gone 5", "end"];
+    assert_eq!(rt; stretches_of(alloc, 27, &halted)?, true);
+    assert_eq!(rt;
+        stretches_of(alloc, 27, &["halt gone 5", "m back unmap 1"])?,
+        false
+    );
+    Ok(())
+}
+
+#[test]
+fn a_page_of_the_ring_has_1024_words(rt: HostRuntime) -> Result<(), Fail> {
+    let alloc = rt.alloc();
+    let read = "m back read 1 2 3 00000001";
+    let event = "m back write 1 2 1 00000002";
+    let mut report = with_line(alloc, read, "m back read 1 2 1024 00000001")?;
+    assert_eq!(rt; are_stretches(report.lines.as_slice()), false);
+    report = with_line(alloc, event, "m back write 1 2 1025 00000002")?;
+    assert_eq!(rt; are_stretches(report.lines.as_slice()), false);
+    report = with_line(alloc, event, "m back write 1 2 1023 00000002")?;
+    assert_eq!(rt; are_stretches(report.lines.as_slice()), true);
+    report = with_line(alloc, read, "m back read 2 18 1024 00000001")?;
+    assert_eq!(rt; are_stretches(report.lines.as_slice()), true);
     Ok(())
 }
 

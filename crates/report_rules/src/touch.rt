@@ -11,27 +11,13 @@ fn is_touch_at(before: &[Line], line: &Line) -> bool
     ensures { Decides result (IsTouchAt before.now line.now) }
 {
     match *line {
-        Line::Move(
-            Move::Read {
-                mapping,
-                frame,
-                word,
-                ..
-            },
-        ) => match numbered_behind(before, mapping) {
+        Line::Move(Move::Read { mapping, frame, .. }) => match numbered_behind(before, mapping) {
             None => false,
-            Some(s) => s.frame == frame && word < 1024,
+            Some(s) => s.frame == frame,
         },
-        Line::Move(
-            Move::Write {
-                mapping,
-                frame,
-                word,
-                ..
-            },
-        ) => match numbered_behind(before, mapping) {
+        Line::Move(Move::Write { mapping, frame, .. }) => match numbered_behind(before, mapping) {
             None => false,
-            Some(s) => s.frame == frame && word < 1024 && s.mode == Mode::ReadWrite,
+            Some(s) => s.frame == frame && s.mode == Mode::ReadWrite,
         },
         _ => true,
     }

@@ -2,32 +2,35 @@
 ghost use Rattle.std.specs.Prelude.{◌≡◌, ◌<◌, ◌^◌, IfOk};
 ghost use Rattle.schedule_text.specs.declared.line.Line.TheVariants as lines;
 ghost use Rattle.report_rules.specs.Job.{is_job};
-ghost use Rattle.report_rules.specs.Steps.{may_be_kept, gref_of, is_refusal, spot_behind, advanced, job_of, job_in, stepper, job_step, walked, walk_of, value_read, values_read};
+ghost use Rattle.report_rules.specs.Steps.{is_on_data, gref_of, is_refusal, mapping_after, spot_behind, is_unmapped_step, advanced, stepper, job_step, walked, walk_of, value_read, values_read};
 
+use crate::job::{back_mover_job, mover_job};
 use crate::standing::this_epoch;
 use crate::step::{is_step_at, later_step};
 use crate::work::Task;
-use blk_base::{BackMover, Move, Mover, OutOfMemory};
+use blk_base::{BackMover, Move, OutOfMemory};
 use schedule_text::Line;
 use std::alloc::Global;
 
 /// How far a job came: so many tasks are done, and the next step is at that place of the next one.
-/// `refused` says that a map of it was, and `gref` which reference its last step touched.
+/// `refused` says that a map of it was, and `mapping` which mapping this task goes through, as soon
+/// as one is named.
 #[derive(Clone, Copy)]
 pub struct Spot {
     pub done: usize,
     pub place: u64,
     pub refused: bool,
-    pub gref: u32,
+    pub mapping: Option<u64>,
 }
 
-fn may_be_kept(task: &Task) -> bool
-    ensures { result ≡ may_be_kept task.now }
+fn is_on_data(task: &Task) -> bool
+    ensures { result ≡ is_on_data task.now }
 {
     matches!(*task, Task::Store { .. } | Task::Load { .. })
 }
 
-fn gref_of(task: &Task) -> u32
+/// The reference whose frame a task touches.
+pub fn gref_of(task: &Task) -> u32
     ensures { result ≡ gref_of task.now }
 {
     match *task {
@@ -45,31 +48,57 @@ fn is_refusal(made: &Move) -> bool
     matches!(*made, Move::MapRefused { .. })
 }
 
+fn mapping_after(mapping: Option<u64>, made: &Move) -> Option<u64>
+    ensures { result ≡ mapping_after mapping made.now }
+{
+    match *made {
+        Move::Map {
+            mapping: number,
+            ..
+        } => Some(number),
+        Move::Read {
+            mapping: number,
+            ..
+        } => Some(number),
+        Move::Write {
+            mapping: number,
+            ..
+        } => Some(number),
+        _ => mapping,
+    }
+}
+
 // How far a job came behind the step at a place of a task.
-fn spot_behind(done: usize, task: &Task, place: u64, made: &Move) -> Spot
+fn spot_behind(done: usize, task: &Task, place: u64, mapping: Option<u64>, made: &Move) -> Spot
     requires { done < 2 ^ 63 }
-    ensures { result ≡ spot_behind done task.now place made.now }
+    ensures { result ≡ spot_behind done task.now place mapping made.now }
 {
     let refused = is_refusal(made);
-    let gref = gref_of(task);
     match later_step(task, place) {
         None => Spot {
             done: done + 1,
             place: 0,
             refused,
-            gref,
+            mapping: None,
         },
         Some(_) => Spot {
             done,
             place: place + 1,
             refused,
-            gref,
+            mapping: mapping_after(mapping, made),
         },
     }
 }
 
+/// Whether a move is the step behind the map of a task, and that map may be missing.
+pub fn is_unmapped_step(persistent: bool, task: &Task, place: u64, made: &Move) -> bool
+    ensures { result ≡ is_unmapped_step persistent task.now place made.now }
+{
+    persistent && is_on_data(task) && place == 0 && is_step_at(task, 1, made)
+}
+
 // A move takes a job one step on.
-pub fn advanced(persistent: bool, work: &[Task], made: &Move, s: Spot) -> Option<Spot>
+fn advanced(persistent: bool, work: &[Task], made: &Move, s: Spot) -> Option<Spot>
     ensures { result ≡ advanced persistent work.now made.now s }
 {
     if s.refused || s.done >= work.len() {
@@ -77,30 +106,11 @@ pub fn advanced(persistent: bool, work: &[Task], made: &Move, s: Spot) -> Option
     }
     let task = &work[s.done];
     if is_step_at(task, s.place, made) {
-        Some(spot_behind(s.done, task, s.place, made))
-    } else if persistent && may_be_kept(task) && s.place == 0 && is_step_at(task, 1, made) {
-        Some(spot_behind(s.done, task, 1, made))
+        Some(spot_behind(s.done, task, s.place, s.mapping, made))
+    } else if is_unmapped_step(persistent, task, s.place, made) {
+        Some(spot_behind(s.done, task, 1, s.mapping, made))
     } else {
         None
-    }
-}
-
-/// The job that makes a move of the back.
-pub fn job_of(who: BackMover) -> Option<u64>
-    ensures { result ≡ job_of who }
-{
-    match who {
-        BackMover::Back => None,
-        BackMover::Job(k) => Some(k),
-    }
-}
-
-fn job_in(who: Mover) -> Option<u64>
-    ensures { result ≡ job_in who }
-{
-    match who {
-        Mover::Job(k) => Some(k),
-        _ => None,
     }
 }
 
@@ -109,22 +119,22 @@ fn stepper_of(made: &Move) -> Option<u64>
     ensures { result ≡ stepper (lines.Move made.now) }
 {
     match made {
-        Move::Read { who, .. } => job_of(*who),
-        Move::Write { who, .. } => job_of(*who),
-        Move::Map { who, .. } => job_of(*who),
-        Move::MapRefused { who, .. } => job_of(*who),
+        Move::Read { who, .. } => back_mover_job(*who),
+        Move::Write { who, .. } => back_mover_job(*who),
+        Move::Map { who, .. } => back_mover_job(*who),
+        Move::MapRefused { who, .. } => back_mover_job(*who),
         Move::DiskRead { job, .. } => Some(*job),
         Move::DiskWrite { job, .. } => Some(*job),
         Move::DiskFlush { job } => Some(*job),
         Move::DiskTrim { job, .. } => Some(*job),
-        Move::Fence(who) => job_in(*who),
-        Move::Send(who) => job_in(*who),
-        Move::ClosePort(who) => job_in(*who),
-        Move::Event(who) => job_in(*who),
-        Move::Watch(who, _) => job_in(*who),
-        Move::Watched(who, _) => job_in(*who),
-        Move::GetKey(who, _, _) => job_in(*who),
-        Move::SetKey(who, _, _) => job_in(*who),
+        Move::Fence(who) => mover_job(*who),
+        Move::Send(who) => mover_job(*who),
+        Move::ClosePort(who) => mover_job(*who),
+        Move::Event(who) => mover_job(*who),
+        Move::Watch(who, _) => mover_job(*who),
+        Move::Watched(who, _) => mover_job(*who),
+        Move::GetKey(who, _, _) => mover_job(*who),
+        Move::SetKey(who, _, _) => mover_job(*who),
         _ => None,
     }
 }
@@ -168,7 +178,7 @@ pub fn walk_of(persistent: bool, work: &[Task], k: u64, epoch: &[Line]) -> Optio
         done: 0,
         place: 0,
         refused: false,
-        gref: 0,
+        mapping: None,
     });
     for line in epoch {
         s = walked(persistent, work, k, line, s);

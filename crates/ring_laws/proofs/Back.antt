@@ -45,7 +45,7 @@ halts_by before old new answer shown x n h running told halted plain knows read 
     let longer : List Line = before ++ lines.Move shown ∷ [] in
     let line : Line = lines.Halt (halt_line h) in
     let more : Stands (longer ++ line ∷ []) x.start true =
-    stands_more longer line x.start true (record { overruns = stands.overruns; stretches = stands.stretches; last = stands.last; halted = λ overran. refl }) refl (shows_none longer line refl) (λ over. refl) plain (λ small. own_stretch longer line x n shows read refl) in
+    stands_more longer line x.start true (record { overruns = stands.overruns; stretches = stands.stretches; last = stands.last; halted = λ overran. refl }) refl (shows_none longer line refl) (λ over. refl) plain (λ small. own_stretch longer line x n shows read refl tt) in
     halting x.start x.values before old new answer shown h told running halted
     (record {
       sight = x;
@@ -78,7 +78,7 @@ map_goes before h v x (Ok frame) w shows stands told =
       copied = λ some. absurd (omega arith);
       copied_last = λ none some. absurd (omega arith);
     })
-    (served_line before x v.halted shown w.running stands (shows_none before (lines.Move shown) refl) (λ small. own_stretch before (lines.Move shown) x 0 shows w.words refl))
+    (served_line before x v.halted shown w.running stands (shows_none before (lines.Move shown) refl) (λ small. own_stretch before (lines.Move shown) x 0 shows w.words refl tt))
   where
     small_start : (n : ℕ) → n < 2 ^ 32 → n ≡ (n + 0) % 2 ^ 32
     small_start n small = omega arith
@@ -86,14 +86,14 @@ map_goes before h v x (Err refusal) w shows stands told =
     let shown : Move = moves.MapRefused back.Back 8 ReadWrite (status_of refusal) in
     halts_by before v _ _ shown x 0 (halt.MapRefused 8 (status_of refusal)) w.running told refl refl (record { over = refl; count = 0; words = w.words }) w.words
     (shows_other before (lines.Move shown) x refl shows)
-    (served_line before x v.halted shown w.running stands (shows_none before (lines.Move shown) refl) (λ small. own_stretch before (lines.Move shown) x 0 shows w.words refl))
+    (served_line before x v.halted shown w.running stands (shows_none before (lines.Move shown) refl) (λ small. own_stretch before (lines.Move shown) x 0 shows w.words refl tt))
 
 bind_refused : (before : List Line) (v : View) (x : Sight) → Serves 0 x v.ring v.page v.seen v.halted v.entry v.fetched → Shows before x → Stands before x.start (is_some v.halted) → v.told ≡ None → BackGoes x.start x.values before v (step_at stage.Bind v answers.BindRefused) answers.BindRefused (moves.BindRefused 1)
 bind_refused before v x s shows stands told =
     let read : x.words ≡ 28 * s.count = whole x.words s.count s.words in
     halts_by before v _ _ (moves.BindRefused 1) x s.count (halt.BadPort 1) s.running told refl refl (record { over = refl; count = s.count; words = read }) read
     (shows_other before (lines.Move (moves.BindRefused 1)) x refl shows)
-    (served_line before x v.halted (moves.BindRefused 1) s.running stands (shows_none before (lines.Move (moves.BindRefused 1)) refl) (λ small. between before (moves.BindRefused 1) x v.ring v.page v.seen v.halted v.entry v.fetched s shows refl))
+    (served_line before x v.halted (moves.BindRefused 1) s.running stands (shows_none before (lines.Move (moves.BindRefused 1)) refl) (λ small. between before (moves.BindRefused 1) x v.ring v.page v.seen v.halted v.entry v.fetched s shows refl tt))
 
 pub bind_goes : (before : List Line) (h : Hypervisor) (v : View) (x : Sight) (state : PortState) → Serves 0 x v.ring v.page v.seen v.halted v.entry v.fetched → Shows before x → Stands before x.start (is_some v.halted) → v.told ≡ None → Goes x.start x.values before stage.Bind v (bind_act h 1 state)
 bind_goes before h v x port.Unbound s shows stands told = serve_other before v _ _ (moves.Bind 1) x s shows stands refl told refl s

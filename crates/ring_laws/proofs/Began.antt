@@ -82,7 +82,6 @@ few_sectors (suc n) (s ∷ segments) sound =
 begins : (k : ℕ) (epoch : List Line) (segments : List Segment) (disk : ℕ) (writes : Bool) → list_any (is_of k) epoch ≡ false → AllByRecursion IsSound segments → sectors_of segments ≤ 88 → Before (tasks_of writes disk segments) k epoch segments disk 0 writes
 begins k epoch segments disk writes none sound few = record {
   done = [];
-  gref = 0;
   tail = refl;
   came = walk_aside (tasks_of writes disk segments) k [] epoch none;
   sound = sound;

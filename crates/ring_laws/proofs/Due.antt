@@ -1,7 +1,6 @@
 -- What a job answers once its work is over, by its own lines; and the replies that the back wrote.
-use Rattle.std.proofs.Common.{◌≡◌, ℕ, ◌*◌, ◌≤◌, List, [], ◌∷◌, ◌++◌, length}
-use Rattle.std.specs.Prelude.{Option, Some, None, true, false, nat_lt}
-use Rattle.std.specs.List.{count_by}
+use Rattle.std.proofs.Common.{◌≡◌, ℕ, ◌*◌, ◌≤◌, List, [], ◌∷◌, ◌++◌, length, map}
+use Rattle.std.specs.Prelude.{Option, Some, None, false}
 use Rattle.blk_base.specs.Options.{Options}
 use Rattle.blk_base.specs.declared.operation.Status.{Status}
 use Rattle.blk_layout.specs.declared.response.Response.{Response}
@@ -13,12 +12,13 @@ use Rattle.blk_back.specs.Ask.{next_reply, response_word}
 use Rattle.blk_back.specs.View.{View, info_of as back_info}
 use Rattle.schedule_text.specs.declared.line.Line.{Line}
 use Rattle.report_rules.specs.declared.work.Task.{Task}
+use Rattle.ring_words.specs.Ring.{next_of}
 use Rattle.report_rules.specs.Obeys.{Obeys}
-use Rattle.report_rules.specs.Job.{entry_values}
+use Rattle.report_rules.specs.Standing.{this_epoch}
 use Rattle.report_rules.specs.Work.{work_tasks, work_verdict, status_by, work_response}
 use Rattle.report_rules.specs.Steps.{walk_of, failed_in}
-use Rattle.report_rules.specs.Unmap.{left_to}
-use Rattle.report_rules.specs.Reply.{end_of, values_written, reply_pushed, are_alike, jobs_due, IsReplyAt}
+use Rattle.report_rules.specs.Made.{left_to}
+use Rattle.report_rules.specs.Reply.{end_of, response_due, values_written, reply_pushed, lines_before, is_one_of, most_jobs, answered_in, IsReplyAt}
 use Rattle.ring_laws.proofs.Began.{request_at}
 
 -- by these words of entries and these lines of the epoch the work of job k is over, and this is its response
@@ -63,14 +63,35 @@ abbrev pub replying : Stage → View → Option (Reply × ℕ)
 replying stage.Loop v = next_word (next_reply v)
 replying (stage.ReplyHigh r) v = Some (r, 1)
 replying (stage.ReplyLast r) v = Some (r, 2)
+replying (stage.Producer r) v = Some (r, 3)
 replying s v = None
 
--- fewer replies had the first words of this response, up to this one, than jobs are due such a response
-abbrev pub HasAJob : List Line → List Answered → Response → ℕ → Type 0
-HasAJob before answered r last =
-    nat_lt (count_by (λ (a : Answered). are_alike last (response_words_of r) (response_words_of a.response)) answered)
-    (jobs_due before last (response_words_of r) (length (entry_values before)))
-    ≡ true
+-- a job that may be the one that a reply answers of which n words are written: it had none, it was at its end before them with this response, and nothing that it mapped stands
+pub record Candidate (before : List Line) (n : ℕ) (r : Response) : Type 0 where
+  pub job : ℕ
+  pub other : is_one_of job (answered_in before) ≡ false
+  pub due : response_due (lines_before before n) job ≡ Some (response_words_of r)
+  pub first : 1 ≤ job
+  pub last : job ≤ most_jobs (lines_before before n)
+  pub left : left_to job (this_epoch before) ≡ []
+
+-- the reply under way, by the stage of the back
+abbrev pub row_at : Stage → Option Reply
+row_at (stage.ReplyHigh r) = Some r
+row_at (stage.ReplyLast r) = Some r
+row_at (stage.Producer r) = Some r
+row_at s = None
+
+-- the replies behind a move: one more where the producer is raised, to job k
+abbrev pub answered_then : Stage → List Answered → ℕ → ℕ → List Answered
+answered_then (stage.Producer r) answered k prod = answered ++ record { job = k; response = response_in r; producer = next_of prod } ∷ []
+answered_then s answered k prod = answered
+
+abbrev pub job_answered : Answered → ℕ
+job_answered a = a.job
+
+abbrev pub jobs_of : List Answered → List ℕ
+jobs_of answered = map job_answered answered
 
 -- the lines obey the rule on replies, and tell these replies; none is left to be told
 pub record Writes (before : List Line) (s : Stage) (answered : List Answered) : Type 0 where

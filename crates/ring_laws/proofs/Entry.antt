@@ -16,6 +16,7 @@ use Rattle.blk_back.specs.declared.told.Halt.{Halt}
 use Rattle.blk_back.specs.View.{slot_word, shape}
 use Rattle.ring_laws.proofs.Shows.{Sight, Shows}
 use Rattle.ring_laws.proofs.Touches.{IsPage, one_order, high_word}
+use Rattle.ring_laws.proofs.Stands.{word_inside}
 use Rattle.ring_laws.proofs.Knows.{Serves}
 
 pub high_slot : (index k : ℕ) → k < 28 → 16 ≤ slot_word index k
@@ -33,6 +34,9 @@ rest_words words count k e within = omega arith
 pub slot_is : (index k : ℕ) → k < 28 → slot_word index k ≡ 16 + index % 32 * 28 + k
 slot_is index k within = omega arith
 
+pub low_slot : (index k : ℕ) → k < 28 → slot_word index k < 1024
+low_slot index k within = let at = slot_is index k within in omega arith
+
 -- the index of the entry is the back's consumer
 next_is : (before : List Line) (k : ℕ) (x : Sight) (ring : Ring) (page : Mapping) (seen : ℕ) (halted : Option Halt) (entry : List ℕ) (fetched : ℕ) → Serves k x ring page seen halted entry fetched → Shows before x → x.start < 2 ^ 32 → next_index before shape ≡ ring.cons
 next_is before k x ring page seen halted entry fetched s shows small =
@@ -45,6 +49,7 @@ entry_stretch before frame k value x ring page seen halted entry fetched s shows
   next = subst (λ (w : Option ℕ). IfSome w (λ word. IsSomeAnd (ring_shape before) (IsNextWord before word))) (sym read)
       (subst (λ (o : Option Shape). IsSomeAnd o (IsNextWord before (slot_word ring.cons k))) (sym (one_shape before x page.number shows s.mapped)) next_word);
   whole = λ own none. absurd (no_both none);
+  inside = word_inside before page.number (slot_word ring.cons k) (low_slot ring.cons k s.within);
 }
   where
     read : entry_word_read before (lines.Move (moves.Read back.Back page.number frame (slot_word ring.cons k) value)) ≡ Some (slot_word ring.cons k)

@@ -1,16 +1,15 @@
 -- A job moves a sector to the disk or from it.
 use Rattle.std.proofs.Common.{◌≡◌, ℕ, ◌+◌, ◌%◌, ◌^◌, ◌≤◌, true, false, List, [], ◌∷◌, ◌++◌, count_by, refl, ap, sym, ◌∙◌, subst, arith}
-use Rattle.std.specs.Prelude.{Option, Some, None, option_and_then, IfSome, IsSomeAnd}
+use Rattle.std.specs.Prelude.{Some, option_and_then}
 use Rattle.blk_base.specs.declared.parts.Mapping.{Mapping}
 use Rattle.blk_base.specs.declared.ask.BackAnswer.TheVariants as answers
 use Rattle.blk_base.specs.declared.moves.Move.{Move}
 use Rattle.blk_base.specs.declared.moves.Move.TheVariants as moves
 use Rattle.schedule_text.specs.declared.line.Line.{Line}
 use Rattle.schedule_text.specs.declared.line.Line.TheVariants as lines
-use Rattle.report_rules.specs.declared.standing.Standing.{Standing}
+use Rattle.report_rules.specs.declared.walk.Spot.{Spot}
 use Rattle.report_rules.specs.declared.work.Task.{Task}
-use Rattle.report_rules.specs.Standing.{numbered}
-use Rattle.report_rules.specs.Steps.{spot, advanced, walk_of, touched_by}
+use Rattle.report_rules.specs.Steps.{advanced, walk_of}
 use Rattle.back_jobs.specs.declared.stage.Stage.TheVariants as stage
 use Rattle.back_jobs.specs.Task.{Work, step_at, last_of, rest_of, next_sector, counted}
 use Rattle.ring_laws.proofs.JobLines.{is_disk_of, walk_own, moves_own, words_own, failed_own}
@@ -20,10 +19,10 @@ use Rattle.ring_laws.proofs.JobMoves.{itself, given_on, sector_on, segment_over}
 use Rattle.ring_laws.proofs.JobSteps.{IsDataBy, Steps, takes, JobGoes, next_at, on_step, by_last, last_is}
 
 -- the disk took a sector, or failed
-pub take_goes : (work : List Task) (k : ℕ) (epoch : List Line) (standing : List Standing) (t : Work) (m : Mapping) → IsAt work k epoch (stage.DiskWrite m) t
-    → JobGoes work k epoch standing (moves.DiskWrite k t.disk) (lines.Effect t.id t.moved ∷ []) (next_sector (counted t) m)
-take_goes work k epoch standing t m at =
-    by_last (JobGoes work k epoch standing shown told (next_sector (counted t) m)) t.within w.segment.last w.inside
+pub take_goes : (work : List Task) (k : ℕ) (epoch : List Line) (t : Work) (m : Mapping) → IsAt work k epoch (stage.DiskWrite m) t
+    → JobGoes work k epoch (moves.DiskWrite k t.disk) (lines.Effect t.id t.moved ∷ []) (next_sector (counted t) m)
+take_goes work k epoch t m at =
+    by_last (JobGoes work k epoch shown told (next_sector (counted t) m)) t.within w.segment.last w.inside
     (λ last. goes (last_taken work k epoch t.rest t.within t.disk t.moved t.writes m w at.1 last)
     (λ at_last. segment_over work k epoch now t.rest t.within t.disk t.moved t.writes 128 1 (t.disk + 1) ((t.moved + 1) % 2 ^ 32) m w last refl small
     (walk_own work k epoch told shown (itself k) refl ∙ last_taken work k epoch t.rest t.within t.disk t.moved t.writes m w at.1 last) more_moved (failed_own k epoch told (lines.Move shown) refl refl refl w.whole))
@@ -60,34 +59,34 @@ take_goes work k epoch standing t m at =
     more_moved : count_by (is_disk_of k) now ≡ (t.moved + 1) % 2 ^ 32
     more_moved = moves_own k epoch told (lines.Move shown) (itself k) refl ∙ (ap (λ (n : ℕ). n + 1) w.counted ∙ sym small)
 
-    goes : {n p : ℕ} → option_and_then (advanced false work shown) (walk_of false work k epoch) ≡ Some (spot n p false w.segment.gref)
+    goes : {after : Spot} → option_and_then (advanced false work shown) (walk_of false work k epoch) ≡ Some after
         → (t.within ≡ last_of t.rest → Before work k now (rest_of t.rest) (t.disk + 1) ((t.moved + 1) % 2 ^ 32) t.writes)
         → (t.within + 1 ≤ last_of t.rest → Within work k now t.rest (t.within + 1) (t.disk + 1) ((t.moved + 1) % 2 ^ 32) t.writes 0 1 m)
-        → JobGoes work k epoch standing shown told (next_sector (counted t) m)
+        → JobGoes work k epoch shown told (next_sector (counted t) m)
     goes taken over more = record {
-      steps = takes refl (record { gref = w.segment.gref; on = on_step work k epoch shown w.segment.gref _ _ false w.whole taken; through = tt; moved = tt });
+      steps = takes refl (record { on = on_step work k epoch shown _ w.came w.whole taken tt; moved = tt });
       at = next_at work k now (counted t) m (subst (λ (n : ℕ). t.within ≤ n) (sym end) w.inside) over more;
     }
 
 -- a move of the disk at which it failed: nothing is left but to give the mapping up
-pub disk_failed : (work : List Task) (k : ℕ) (epoch : List Line) (standing : List Standing) (shown : Move) (gref : ℕ) → IsStepOn work k epoch shown gref → touched_by shown ≡ None → IsDataBy k epoch shown → Steps work k epoch standing shown
-disk_failed work k epoch standing shown gref on none moved = record { gref = gref; on = on; through = subst (λ (o : Option ℕ). IfSome o (λ (number : ℕ). IsSomeAnd (numbered number standing) (λ (x : Standing). x.gref ≡ gref))) (sym none) tt; moved = moved }
+pub disk_failed : (work : List Task) (k : ℕ) (epoch : List Line) (shown : Move) → IsStepOn work k epoch shown → IsDataBy k epoch shown → Steps work k epoch shown
+disk_failed work k epoch shown on moved = record { on = on; moved = moved }
 
-pub take_step : (work : List Task) (k : ℕ) (epoch : List Line) (t : Work) (m : Mapping) (w : Within work k epoch t.rest t.within t.disk t.moved t.writes 128 1 m) → t.writes ≡ true → IsStepOn work k epoch (moves.DiskWrite k t.disk) w.segment.gref
+pub take_step : (work : List Task) (k : ℕ) (epoch : List Line) (t : Work) (m : Mapping) (w : Within work k epoch t.rest t.within t.disk t.moved t.writes 128 1 m) → t.writes ≡ true → IsStepOn work k epoch (moves.DiskWrite k t.disk)
 take_step work k epoch t m w writes =
-    by_last (IsStepOn work k epoch (moves.DiskWrite k t.disk) w.segment.gref) t.within w.segment.last w.inside
-    (λ last. on_step work k epoch (moves.DiskWrite k t.disk) w.segment.gref _ _ false w.whole (last_taken work k epoch t.rest t.within t.disk t.moved t.writes m w writes last))
-    (λ more. on_step work k epoch (moves.DiskWrite k t.disk) w.segment.gref _ _ false w.whole (sector_taken work k epoch t.rest t.within t.disk t.moved t.writes m w writes more))
+    by_last (IsStepOn work k epoch (moves.DiskWrite k t.disk)) t.within w.segment.last w.inside
+    (λ last. on_step work k epoch (moves.DiskWrite k t.disk) _ w.came w.whole (last_taken work k epoch t.rest t.within t.disk t.moved t.writes m w writes last) tt)
+    (λ more. on_step work k epoch (moves.DiskWrite k t.disk) _ w.came w.whole (sector_taken work k epoch t.rest t.within t.disk t.moved t.writes m w writes more) tt)
 
-pub give_step : (work : List Task) (k : ℕ) (epoch : List Line) (t : Work) (m : Mapping) (w : Within work k epoch t.rest t.within t.disk t.moved t.writes 0 1 m) → t.writes ≡ false → IsStepOn work k epoch (moves.DiskRead k t.disk) w.segment.gref
-give_step work k epoch t m w reads = on_step work k epoch (moves.DiskRead k t.disk) w.segment.gref _ _ false w.whole (sector_given work k epoch t.rest t.within t.disk t.moved t.writes m w reads)
+pub give_step : (work : List Task) (k : ℕ) (epoch : List Line) (t : Work) (m : Mapping) (w : Within work k epoch t.rest t.within t.disk t.moved t.writes 0 1 m) → t.writes ≡ false → IsStepOn work k epoch (moves.DiskRead k t.disk)
+give_step work k epoch t m w reads = on_step work k epoch (moves.DiskRead k t.disk) _ w.came w.whole (sector_given work k epoch t.rest t.within t.disk t.moved t.writes m w reads) tt
 
 -- the disk gave a sector
-pub give_goes : (work : List Task) (k : ℕ) (epoch : List Line) (standing : List Standing) (t : Work) (m : Mapping) (words : List ℕ) → IsAt work k epoch (stage.DiskRead m) t
-    → JobGoes work k epoch standing (moves.DiskRead k t.disk) (lines.EffectRead t.id t.moved words ∷ []) (step_at (stage.DiskRead m) t (answers.Sector words))
-give_goes work k epoch standing t m words at =
+pub give_goes : (work : List Task) (k : ℕ) (epoch : List Line) (t : Work) (m : Mapping) (words : List ℕ) → IsAt work k epoch (stage.DiskRead m) t
+    → JobGoes work k epoch (moves.DiskRead k t.disk) (lines.EffectRead t.id t.moved words ∷ []) (step_at (stage.DiskRead m) t (answers.Sector words))
+give_goes work k epoch t m words at =
     let w : Within work k epoch t.rest t.within t.disk t.moved t.writes 0 1 m = at.0 in
     record {
-      steps = takes refl (record { gref = w.segment.gref; on = give_step work k epoch t m at.0 at.1; through = tt; moved = tt });
+      steps = takes refl (record { on = give_step work k epoch t m at.0 at.1; moved = tt });
       at = (given_on work k epoch (lines.EffectRead t.id t.moved words ∷ []) t.rest t.within t.disk t.moved t.writes m at.0 refl refl (sector_given work k epoch t.rest t.within t.disk t.moved t.writes m at.0 at.1), omega arith, at.1, words_own k epoch (lines.EffectRead t.id t.moved words ∷ []) (lines.Move (moves.DiskRead k t.disk)) (Some words) (itself k) refl refl refl);
     }

@@ -38,12 +38,12 @@ walk_skips work k ys epoch none =
     fold_none (λ s line. walked false work (job_step k line) s) (is_of k) (λ s line e. ap (λ (b : Bool). walked false work (if b then move_in line else None) s) e) ys (walk_of false work k epoch) none
 
 pub walk_aside : (work : List Task) (k : ℕ) (epoch ys : List Line) → list_any (is_of k) ys ≡ false → walk_of false work k (epoch ++ ys) ≡ walk_of false work k epoch
-walk_aside work k epoch ys none = fold-append (λ s line. walked false work (job_step k line) s) (Some (spot 0 0 false 0)) epoch ys ∙ walk_skips work k ys epoch none
+walk_aside work k epoch ys none = fold-append (λ s line. walked false work (job_step k line) s) (Some (spot 0 0 false None)) epoch ys ∙ walk_skips work k ys epoch none
 
 -- a step of the job
 pub walk_own : (work : List Task) (k : ℕ) (epoch ys : List Line) (shown : Move) → is_of k (lines.Move shown) ≡ true → list_any (is_of k) ys ≡ false → walk_of false work k (epoch ++ lines.Move shown ∷ ys) ≡ option_and_then (advanced false work shown) (walk_of false work k epoch)
 walk_own work k epoch ys shown own none =
-    fold-append (λ s line. walked false work (job_step k line) s) (Some (spot 0 0 false 0)) epoch (lines.Move shown ∷ ys)
+    fold-append (λ s line. walked false work (job_step k line) s) (Some (spot 0 0 false None)) epoch (lines.Move shown ∷ ys)
     ∙ (fold_none (λ s line. walked false work (job_step k line) s) (is_of k) (λ s line e. ap (λ (b : Bool). walked false work (if b then move_in line else None) s) e) ys _ none
     ∙ ap (λ (b : Bool). walked false work (if b then Some shown else None) (walk_of false work k epoch)) own)
 

@@ -1,6 +1,6 @@
 -- What a job's moves make of its place in the work of its entry.
 use Rattle.std.proofs.Common.{◌≡◌, ℕ, ◌+◌, ◌*◌, ◌%◌, ◌^◌, ◌≤◌, ◌==◌, Bool, true, false, List, [], ◌∷◌, ◌++◌, length, count_by, refl, ap, sym, ◌∙◌, subst, arith}
-use Rattle.std.specs.Prelude.{Some, option_and_then}
+use Rattle.std.specs.Prelude.{Some, option_and_then, None}
 use Rattle.std.specs.List.{list_any}
 use Rattle.std.proofs.lemmas.Bool.Decides.{nat_tests}
 use Rattle.blk_base.specs.declared.operation.Status.TheVariants.{Okay}
@@ -26,7 +26,6 @@ itself k = grind (arith, nat_tests)
 pub before_aside : (work : List Task) (k : ℕ) (epoch ys : List Line) (rest : List Segment) (disk moved : ℕ) (writes : Bool) → IsAside k ys → Before work k epoch rest disk moved writes → Before work k (epoch ++ ys) rest disk moved writes
 before_aside work k epoch ys rest disk moved writes aside b = record {
   done = b.done;
-  gref = b.gref;
   tail = b.tail;
   came = walk_aside work k epoch ys aside.none ∙ b.came;
   sound = b.sound;
@@ -67,7 +66,7 @@ at_aside work k epoch ys (stage.Done status) t aside at = ending_aside work k ep
 
 -- the same sector, at another step
 pub step_on : (work : List Task) (k : ℕ) (epoch : List Line) (rest : List Segment) (within disk moved : ℕ) (writes : Bool) (j ahead next : ℕ) (m : Mapping) (shown : Move) (w : Within work k epoch rest within disk moved writes j ahead m)
-    → is_of k (lines.Move shown) ≡ true → is_disk_of k (lines.Move shown) ≡ false → option_and_then (advanced false work shown) (walk_of false work k epoch) ≡ Some (spot (length w.done) (1 + (129 * w.i + next)) false w.segment.gref)
+    → is_of k (lines.Move shown) ≡ true → is_disk_of k (lines.Move shown) ≡ false → option_and_then (advanced false work shown) (walk_of false work k epoch) ≡ Some (spot (length w.done) (1 + (129 * w.i + next)) false (Some m.number))
     → Within work k (epoch ++ lines.Move shown ∷ []) rest within disk moved writes next ahead m
 step_on work k epoch rest within disk moved writes j ahead next m shown w own other taken = record {
   segment = w.segment;
@@ -91,7 +90,7 @@ step_on work k epoch rest within disk moved writes j ahead next m shown w own ot
 -- the disk gave the sector at hand
 pub given_on : (work : List Task) (k : ℕ) (epoch ys : List Line) (rest : List Segment) (within disk moved : ℕ) (writes : Bool) (m : Mapping) (w : Within work k epoch rest within disk moved writes 0 1 m)
     → list_any (is_of k) ys ≡ false → begins_with_fault ys ≡ false
-    → option_and_then (advanced false work (moves.DiskRead k disk)) (walk_of false work k epoch) ≡ Some (spot (length w.done) (1 + (129 * w.i + (0 + 1))) false w.segment.gref)
+    → option_and_then (advanced false work (moves.DiskRead k disk)) (walk_of false work k epoch) ≡ Some (spot (length w.done) (1 + (129 * w.i + (0 + 1))) false (Some m.number))
     → Within work k (epoch ++ lines.Move (moves.DiskRead k disk) ∷ ys) rest within (disk + 1) ((moved + 1) % 2 ^ 32) writes (1 + 0) 0 m
 given_on work k epoch ys rest within disk moved writes m w none fine taken =
     let few = w.few in
@@ -122,7 +121,7 @@ sector_place i j e = omega arith
 -- the next sector of the segment
 pub sector_on : (work : List Task) (k : ℕ) (epoch now : List Line) (rest : List Segment) (within disk moved : ℕ) (writes : Bool) (j ahead last disk' moved' : ℕ) (m : Mapping) (w : Within work k epoch rest within disk moved writes j ahead m)
     → last ≡ 129 → within + 1 ≤ w.segment.last → disk' ≡ disk + ahead → moved' ≡ moved + ahead
-    → walk_of false work k now ≡ Some (spot (length w.done) (1 + (129 * w.i + last)) false w.segment.gref) → count_by (is_disk_of k) now ≡ moved' → failed_in k now ≡ false
+    → walk_of false work k now ≡ Some (spot (length w.done) (1 + (129 * w.i + last)) false (Some m.number)) → count_by (is_disk_of k) now ≡ moved' → failed_in k now ≡ false
     → Within work k now rest (within + 1) disk' moved' writes 0 1 m
 sector_on work k epoch now rest within disk moved writes j ahead last disk' moved' m w is more d n came counted whole =
     let few = w.few in
@@ -139,7 +138,7 @@ sector_on work k epoch now rest within disk moved writes j ahead last disk' move
       disk_is = omega arith;
       done = w.done;
       tail = w.tail;
-      came = came ∙ ap (λ (p : ℕ). Some (spot (length w.done) p false w.segment.gref)) (sector_place w.i last is);
+      came = came ∙ ap (λ (p : ℕ). Some (spot (length w.done) p false (Some m.number))) (sector_place w.i last is);
       gref = w.gref;
       sound = w.sound;
       few = omega arith;
@@ -150,7 +149,7 @@ sector_on work k epoch now rest within disk moved writes j ahead last disk' move
 -- the segment is done
 pub segment_over : (work : List Task) (k : ℕ) (epoch now : List Line) (rest : List Segment) (within disk moved : ℕ) (writes : Bool) (j ahead disk' moved' : ℕ) (m : Mapping) (w : Within work k epoch rest within disk moved writes j ahead m)
     → within ≡ w.segment.last → disk' ≡ disk + ahead → moved' ≡ moved + ahead
-    → walk_of false work k now ≡ Some (spot (length w.done + 1) 0 false w.segment.gref) → count_by (is_disk_of k) now ≡ moved' → failed_in k now ≡ false
+    → walk_of false work k now ≡ Some (spot (length w.done + 1) 0 false None) → count_by (is_disk_of k) now ≡ moved' → failed_in k now ≡ false
     → Before work k now (rest_of rest) disk' moved' writes
 segment_over work k epoch now rest within disk moved writes j ahead disk' moved' m w last d n came counted whole =
     let few = w.few in
@@ -163,9 +162,8 @@ segment_over work k epoch now rest within disk moved writes j ahead disk' moved'
     subst (λ (l : List Segment). Before work k now l disk' moved' writes) (sym left)
     (record {
       done = p.all;
-      gref = w.segment.gref;
       tail = p.tail ∙ ap (λ (n : ℕ). p.all ++ tasks_of writes n w.more) end;
-      came = came ∙ ap (λ (n : ℕ). Some (spot n 0 false w.segment.gref)) (sym p.long);
+      came = came ∙ ap (λ (n : ℕ). Some (spot n 0 false None)) (sym p.long);
       sound = w.sound.1;
       few = within_few;
       counted = counted;

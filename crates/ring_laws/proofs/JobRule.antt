@@ -1,42 +1,87 @@
 -- A job's line, and those that tell of it, obey the rules on jobs.
-use Rattle.std.proofs.Common.{◌≡◌, ℕ, ◌+◌, Bool, true, false, List, [], ◌∷◌, count_by, refl, ap, sym, ◌∙◌, subst}
-use Rattle.std.specs.Prelude.{Some, None, IsSomeAnd, option_and_then}
+use Rattle.std.proofs.Common.{◌≡◌, ℕ, ◌+◌, ◌==◌, ◌||◌, Bool, true, false, if◌then◌else◌, List, [], ◌∷◌, count_by, refl, ap, sym, ◌∙◌, subst, arith}
+use Rattle.std.specs.Prelude.{Option, Some, None, IfSome, IsSomeAnd, option_and_then, slice_get}
+use Rattle.std.proofs.lemmas.Bool.Decides.{nat_tests}
 use Rattle.std.proofs.lemmas.Option.{same_Some}
 use Rattle.blk_base.specs.Options.{Options}
 use Rattle.blk_base.specs.declared.moves.BackMover.TheVariants as back
 use Rattle.blk_base.specs.declared.moves.Move.{Move}
 use Rattle.blk_base.specs.declared.moves.Move.TheVariants as moves
 use Rattle.segment_list.specs.declared.verdict.DiskInfo.{DiskInfo}
-use Rattle.blk_layout.specs.declared.request.RawRequest.{RawRequest}
 use Rattle.schedule_text.specs.declared.line.Line.{Line}
 use Rattle.schedule_text.specs.declared.line.Line.TheVariants as lines
 use Rattle.report_rules.specs.declared.work.Task.{Task}
-use Rattle.report_rules.specs.Standing.{is_epoch, this_epoch, standing_behind}
+use Rattle.report_rules.specs.declared.walk.Spot.{Spot}
+use Rattle.report_rules.specs.declared.job.Fetched.{Fetched}
+use Rattle.report_rules.specs.Standing.{is_epoch, this_epoch}
 use Rattle.report_rules.specs.Work.{work_tasks}
-use Rattle.report_rules.specs.Job.{request_of_job, id_of, disk_moves_of}
-use Rattle.report_rules.specs.Steps.{spot, advanced, walk_of, stepper, values_read, info_told, disk_of, serving, serving_after, kept_by, keeping_after, spot_after, IsStepOf, IsStepAt}
+use Rattle.report_rules.specs.Job.{fetched_of, id_of, disk_moves_of}
+use Rattle.report_rules.specs.Published.{info_told, serving, serving_after, kept_by, keeping_after}
+use Rattle.report_rules.specs.Steps.{step_at, is_step_at, gref_of, spot_behind, is_unmapped_step, spot_in, advanced, walk_of, stepper, values_read, work_of, spot_of, touched_by, IsKeptFor, IsThrough, IsNextStep, IsStepOf, IsStepAt}
 use Rattle.report_rules.specs.Data.{IsDataAt}
 use Rattle.report_rules.specs.Effect.{disk_move_of, disk_move_shown, IsEffectAt}
 use Rattle.blk_back.specs.View.{info_of as back_info}
 use Rattle.ring_laws.proofs.JobLines.{is_disk_of}
 use Rattle.ring_laws.proofs.Places.{IsStepOn}
 use Rattle.ring_laws.proofs.JobSteps.{IsDataBy, Steps}
-use Rattle.ring_laws.proofs.Bystanders.{IsRule, Tale, not_persistent, disk_is, is_plain, if_some, some_and, no_effect}
+use Rattle.ring_laws.proofs.Began.{request_at}
+use Rattle.ring_laws.proofs.Bystanders.{IsRule, is_plain, if_some, some_and, no_effect}
+use Rattle.ring_laws.proofs.Fetched.{fetched_in}
 
--- the place that the rule finds is the job's
-spot_is : (config : Options) (before : List Line) (k : ℕ) (shown : Move) (request : RawRequest) (work : List Task) (gref : ℕ) → Tale config before → ((indirect : List ℕ) → work_tasks request (back_info config) false indirect ≡ work) → (on : IsStepOn work k (this_epoch before) shown gref)
-    → spot_after before k shown request ≡ Some (spot on.done on.place on.refused gref)
-spot_is config before k shown request work gref t plan on =
-    let values : List ℕ = values_read before k in
-    ap (λ (p : Bool). option_and_then (advanced p (work_tasks request (disk_of before) p values) shown) (walk_of p (work_tasks request (disk_of before) p values) k (this_epoch before))) (not_persistent config before t)
-    ∙ (ap (λ (d : DiskInfo). option_and_then (advanced false (work_tasks request d false values) shown) (walk_of false (work_tasks request d false values) k (this_epoch before))) (disk_is config before t)
-    ∙ (ap (λ (w : List Task). option_and_then (advanced false w shown) (walk_of false w k (this_epoch before))) (plan values) ∙ on.taken))
+-- a move that takes a job on is the next step of its next task
+record IsTaking (work : List Task) (s : Spot) (shown : Move) : Type 0 where
+  unrefused : s.refused ≡ false
+  task : Task
+  found : slice_get work s.done ≡ Some task
+  step : is_step_at (step_at task s.place) shown ≡ true
 
-step_rule : (config : Options) (before : List Line) (k : ℕ) (shown : Move) (request : RawRequest) (work : List Task) → Tale config before → request_of_job before k ≡ Some request → ((indirect : List ℕ) → work_tasks request (back_info config) false indirect ≡ work)
-    → stepper (lines.Move shown) ≡ Some k → Steps work k (this_epoch before) (standing_behind before) shown → IsStepAt before (lines.Move shown)
-step_rule config before k shown request work t asked plan own s =
-    let on : IsStepOn work k (this_epoch before) shown s.gref = s.on in
-    let of_request : IsStepOf before k shown request = record { next = some_and _ (spot_is config before k shown request work s.gref t plan s.on) s.through; whole = on.whole } in
+taking : (work : List Task) (s after : Spot) (shown : Move) → advanced false work shown s ≡ Some after → IsTaking work s shown
+taking work s after shown e = by_refused s.refused (slice_get work s.done) refl refl e
+  where
+    by_step : (task : Task) (b : Bool) → s.refused ≡ false → slice_get work s.done ≡ Some task → is_step_at (step_at task s.place) shown ≡ b → (if b then Some (spot_behind s.done task s.place s.mapping shown) else None) ≡ Some after → IsTaking work s shown
+    by_step task true p q is h = record { unrefused = p; task = task; found = q; step = is }
+    by_step task false p q is h = absurd (cc)
+
+    by_refused : (r : Bool) (o : Option Task) → s.refused ≡ r → slice_get work s.done ≡ o → (if r then None else spot_in false s.done o s.place s.mapping shown) ≡ Some after → IsTaking work s shown
+    by_refused true o p q h = absurd (cc)
+    by_refused false None p q h = absurd (cc)
+    by_refused false (Some task) p q h = by_step task (is_step_at (step_at task s.place) shown) p q refl h
+
+-- it goes through the mapping in hand, and no map is missing
+through_hand : (before : List Line) (task : Task) (s : Spot) (shown : Move) → is_step_at (step_at task s.place) shown ≡ true → IfSome (touched_by shown) (λ (number : ℕ). s.mapping ≡ Some number) → IsThrough before task s shown
+through_hand before task s shown step hand = record {
+  same = by_mapping s.mapping (touched_by shown) hand;
+  kept = λ none. by_touch (touched_by shown) hand none;
+  stands = λ first other. absurd (first_step s.place first step other);
+}
+  where
+    same_some : (a b : ℕ) → Some a ≡ Some b → b ≡ a
+    same_some a b e = cc
+
+    by_mapping : (mapping touched : Option ℕ) → IfSome touched (λ (number : ℕ). mapping ≡ Some number) → IfSome mapping (λ mine. IfSome touched (λ number. number ≡ mine))
+    by_mapping None touched h = tt
+    by_mapping (Some mine) None h = tt
+    by_mapping (Some mine) (Some number) h = same_some mine number h
+
+    by_touch : (touched : Option ℕ) → IfSome touched (λ (number : ℕ). s.mapping ≡ Some number) → s.mapping ≡ None → IfSome touched (IsKeptFor before (gref_of task))
+    by_touch None h none = tt
+    by_touch (Some number) h none = absurd (cc)
+
+    first_step : (place : ℕ) → (place == 0) ≡ true → is_step_at (step_at task place) shown ≡ true → is_step_at (step_at task 0) shown ≡ false → ⊥
+    first_step place first is other =
+        let zero_place : place ≡ 0 = grind (arith, nat_tests) in
+        let here : is_step_at (step_at task 0) shown ≡ true = ap (λ (n : ℕ). is_step_at (step_at task n) shown) (sym zero_place) ∙ is in
+        cc
+
+step_rule : (config : Options) (before : List Line) (values : List ℕ) (k : ℕ) (shown : Move) (work : List Task) → fetched_of before k ≡ Some (fetched_in config values k) → ((indirect : List ℕ) → work_tasks (request_at values k) (back_info config) false indirect ≡ work)
+    → stepper (lines.Move shown) ≡ Some k → Steps work k (this_epoch before) shown → IsStepAt before (lines.Move shown)
+step_rule config before values k shown work asked plan own s =
+    let on : IsStepOn work k (this_epoch before) shown = s.on in
+    let takes : IsTaking work on.here shown = taking work on.here on.after shown (sym (ap (λ (o : Option Spot). option_and_then (advanced false work shown) o) on.came) ∙ on.taken) in
+    let same : work_of before k (fetched_in config values k) ≡ work = plan (values_read before k) in
+    let at : spot_of before k (fetched_in config values k) ≡ Some on.here = ap (λ (w : List Task). walk_of false w k (this_epoch before)) same ∙ on.came in
+    let next : IsNextStep before false on.here shown takes.task = record { unrefused = takes.unrefused; step = ap (λ (b : Bool). b || is_unmapped_step false takes.task (let h : Spot = on.here in h.place) shown) takes.step; through = through_hand before takes.task on.here shown takes.step on.hand } in
+    let of_request : IsStepOf before k shown (fetched_in config values k) = record { next = some_and _ at (some_and _ (ap (λ (w : List Task). slice_get w (let h : Spot = on.here in h.done)) same ∙ takes.found) next); whole = on.whole } in
     if_some _ own (some_and _ asked of_request)
 
 data_rule : (before : List Line) (k : ℕ) (shown : Move) → stepper (lines.Move shown) ≡ Some k → IsDataBy k (this_epoch before) shown → IsDataAt before (lines.Move shown)
@@ -44,10 +89,10 @@ data_rule before k (moves.Write (back.Job j) number frame word value) own moved 
 data_rule before k shown own moved = tt
 
 -- a step of a job
-pub own_rule : (config : Options) (before : List Line) (k : ℕ) (shown : Move) (request : RawRequest) (work : List Task) → Tale config before → disk_move_shown before ≡ None → request_of_job before k ≡ Some request → ((indirect : List ℕ) → work_tasks request (back_info config) false indirect ≡ work)
-    → is_plain (lines.Move shown) ≡ true → stepper (lines.Move shown) ≡ Some k → Steps work k (this_epoch before) (standing_behind before) shown → IsRule before (lines.Move shown)
-own_rule config before k shown request work t quiet asked plan plain own s = record {
-  step = step_rule config before k shown request work t asked plan own s;
+pub own_rule : (config : Options) (before : List Line) (values : List ℕ) (k : ℕ) (shown : Move) (work : List Task) → disk_move_shown before ≡ None → fetched_of before k ≡ Some (fetched_in config values k) → ((indirect : List ℕ) → work_tasks (request_at values k) (back_info config) false indirect ≡ work)
+    → is_plain (lines.Move shown) ≡ true → stepper (lines.Move shown) ≡ Some k → Steps work k (this_epoch before) shown → IsRule before (lines.Move shown)
+own_rule config before values k shown work quiet asked plan plain own s = record {
+  step = step_rule config before values k shown work asked plan own s;
   moved = data_rule before k shown own s.moved;
   effect = no_effect before (lines.Move shown) quiet refl;
 }
@@ -62,7 +107,7 @@ pub record IsTold (shown : Move) (k id index : ℕ) (line : Line) : Type 0 where
   pub unstepped : stepper line ≡ None
   pub step : (before : List Line) → IsStepAt before line
   pub moved : (before : List Line) → IsDataAt before line
-  pub effect : (before : List Line) → disk_move_shown before ≡ disk_move_of (lines.Move shown) → IsSomeAnd (request_of_job before k) (λ (r : RawRequest). id_of r ≡ id) → index + 1 ≡ disk_moves_of before k → IsEffectAt before line
+  pub effect : (before : List Line) → disk_move_shown before ≡ disk_move_of (lines.Move shown) → IsSomeAnd (fetched_of before k) (λ (f : Fetched). id_of f.request ≡ id) → index + 1 ≡ disk_moves_of before k → IsEffectAt before line
 
 -- the lines behind a job's own: one for a move of the disk, and none else
 pub data ToldBy (epoch : List Line) (shown : Move) (k id index : ℕ) (told : List Line) : Type 0 where

@@ -1,6 +1,7 @@
 -- Whatever happens from the start, the lines keep the rules on jobs.
-use Rattle.std.proofs.Common.{◌≡◌, ℕ, ◌<◌, ◌^◌, Bool, true, false, if◌then◌else◌, List, [], ◌∷◌, ◌++◌, length, refl, ap, sym, ◌∙◌, subst, append-nil}
-use Rattle.std.specs.Prelude.{Option, Some, None, is_some, Result, Ok, Err}
+use Rattle.std.proofs.Common.{◌≡◌, ℕ, ◌<◌, ◌^◌, Bool, true, false, if◌then◌else◌, ◌*◌, ◌&&◌, List, [], ◌∷◌, ◌++◌, length, refl, ap, sym, ◌∙◌, subst, append-nil, arith}
+use Rattle.std.specs.Prelude.{Option, Some, None, is_some, nat_lt, nat_le, Result, Ok, Err}
+use Rattle.std.proofs.lemmas.Bool.Decides.{nat_tests}
 use Rattle.blk_base.specs.Options.{Options}
 use Rattle.blk_base.specs.declared.config.Job.{Job}
 use Rattle.schedule_text.specs.declared.line.Line.{Line}
@@ -13,7 +14,7 @@ use Rattle.report_rules.specs.Obeys.{Obeys}
 use Rattle.report_rules.specs.Steps.{AreSteps}
 use Rattle.report_rules.specs.Data.{AreData}
 use Rattle.report_rules.specs.Effect.{AreEffects}
-use Rattle.report_rules.specs.Job.{entry_values}
+use Rattle.report_rules.specs.Job.{entry_values, is_fetched}
 use Rattle.report_rules.proofs.Obeys.{obeys_none, obeys_more}
 use Rattle.back_jobs.specs.Jobs.{ask_job, place_of, work_of}
 use Rattle.blk_front.specs.declared.told.Refusal.{Refusal}
@@ -21,26 +22,31 @@ use Rattle.blk_front.specs.Ask as front_ask
 use Rattle.blk_front.specs.Step as front_step
 use Rattle.blk_front.specs.Submit as front_submit
 use Rattle.blk_front.specs.View as front
+use Rattle.blk_back.specs.declared.told.Halt.{Halt}
+use Rattle.blk_back.specs.Ask.{ask_of}
 use Rattle.blk_back.specs.View as back
 use Rattle.blk_back.specs.Step as back_step
 use Rattle.split_model.specs.World.{World, start_of, is_quiet}
 use Rattle.split_model.specs.Happening.{Happening, FrontMoves, BackMoves, JobMoves, Submits, Notifies, Looks, Settles, happens, lines_at, after, front_after, front_shows, back_after, back_shows, job_after, job_shows, front_turn, back_turn, job_turn, submit_line}
 use Rattle.split_model.specs.Safe.{IsSafe}
 use Rattle.split_model.proofs.Safe.{safe_start, safe_happens}
-use Rattle.split_model.proofs.SafeAnswers.{jobs_of}
+use Rattle.split_model.specs.Shown.{back_lines, halt_lines}
+use Rattle.split_model.proofs.SafeAnswers.{backs_of, jobs_of}
 use Rattle.split_model.specs.Report.{report_of, ended_report_of}
-use Rattle.move_laws.specs.Within.{IsWithin}
+use Rattle.move_laws.specs.Permitted.{IsPermitted}
 use Rattle.move_laws.proofs.Always.{always_within}
 use Rattle.move_laws.proofs.Runs as memory
 use Rattle.ring_laws.proofs.Shows.{Sight, Shows}
 use Rattle.ring_laws.proofs.Knows.{Follows}
-use Rattle.ring_laws.proofs.Free.{AreFree, front_free, job_free, job_running, free_front, free_told, free_submit, free_look, free_settle}
+use Rattle.ring_laws.proofs.Stages.{back_goes}
+use Rattle.ring_laws.proofs.Free.{IsFree, AreFree, front_free, job_free, job_running, free_front, free_told, free_submit, free_look, free_settle}
 use Rattle.ring_laws.proofs.Runs.{FollowsTo, follows_happens, follows_begin}
 use Rattle.ring_laws.proofs.Works.{no_jobs}
-use Rattle.ring_laws.proofs.Bystanders.{IsRule, IsBystander, AreBystanders, no_effect}
-use Rattle.ring_laws.proofs.BackChange.{front_by, front_told_by}
+use Rattle.ring_laws.proofs.Bystanders.{IsRule, IsBystander, AreBystanders, Aside, bystanders_go, no_effect}
+use Rattle.ring_laws.proofs.Fetched.{AreFetched, AreOther, fetched_in, others_fetched, back_fetched}
+use Rattle.ring_laws.proofs.BackChange.{back_by, front_by, front_told_by}
 use Rattle.ring_laws.proofs.Tells.{Tells, tells_aside, shows_free}
-use Rattle.ring_laws.proofs.BackTells.{back_tells}
+use Rattle.ring_laws.proofs.BackTells.{lines_of_back, back_tells}
 use Rattle.ring_laws.proofs.JobTells.{JobTells, job_tells}
 use Rattle.ring_laws.proofs.JobTurn.{After}
 use Rattle.ring_laws.proofs.After.{kept_after}
@@ -51,6 +57,7 @@ pub record Stand (config : Options) (before : List Line) (w : World) : Type 0 wh
   pub memory : memory.FollowsTo before w
   pub safe : IsSafe w
   pub tells : Tells config before w.back
+  pub fetched : AreFetched config before
 
 pub same_values : (over : Bool) (before ys : List Line) (x : Sight) → AreFree over ys → Shows before x → entry_values (before ++ ys) ≡ entry_values before
 same_values over before ys x free shows = let longer : Shows (before ++ ys) x = shows_free over ys before x free shows in longer.values ∙ sym shows.values
@@ -85,7 +92,7 @@ job_goes_on config w before k o (Some a) s e =
     let running : is_some w.back.halted ≡ false = job_running (is_some w.back.halted) w.under k (ask_job w.back.jobs k) o a e in
     let asks = ap (λ (b : Bool). back_act w.under (mover.Job k) (if b then ask.Wait else ask_job w.back.jobs k) o) (sym running) ∙ e in
     let free : AreFree (is_some w.back.halted) (job_shows w k (Some a)) = (job_free (is_some w.back.halted) w.under k (back_step.job_ask_of w.back k) o a running (jobs_of w.back k) e, free_told (is_some w.back.halted) _ a.answer running) in
-    let told : JobTells config before (job_shows w k (Some a)) w.back k _ = job_tells config config.start before w.under.pages w.under.grants w.under w.back k o a (place_of w.back.jobs.works k) (work_of w.back.jobs.works k) refl refl running s.ring.follows s.memory.tells s.safe.held free s.tells asks in
+    let told : JobTells config before (job_shows w k (Some a)) w.back k _ = job_tells config config.start before w.under w.back k o a (place_of w.back.jobs.works k) (work_of w.back.jobs.works k) refl refl running s.ring.follows s.fetched free s.tells asks in
     let behind : After config before (job_shows w k (Some a)) = told.after in
     record { tale = behind.tale; quiet = behind.quiet; info = t.info; jobs = λ r. told.jobs; unseen = told.unseen }
 
@@ -110,12 +117,67 @@ tells_happens config w (Notifies at) before s few = no_lines config before w.bac
 tells_happens config w Looks before s few = aside config config.start before (lines_at w Looks) w.back s.ring.follows (free_look (is_some w.back.halted) (is_quiet w), tt) (look_by (is_quiet w), tt) s.tells
 tells_happens config w Settles before s few = aside config config.start before (lines_at w Settles) w.back s.ring.follows (free_settle (is_some w.back.halted) (is_quiet w), tt) (settle_by (is_quiet w), tt) s.tells
 
-pub stand_happens : (config : Options) (w : World) (h : Happening) (before : List Line) → IsWithin w h → Stand config before w → length (before ++ lines_at w h) < 2 ^ 64 → Stand config (before ++ lines_at w h) (happens w h)
+-- the lines of each mover tell what was fetched
+others_of : (over : Bool) (ys : List Line) → AreFree over ys → AreOther ys
+others_of over [] free = tt
+others_of over (y ∷ ys) free = let f : IsFree over y = free.0 in (f.other, others_of over ys free.1)
+
+halts_other : (before now : Option Halt) → AreOther (halt_lines before now)
+halts_other None None = tt
+halts_other None (Some h) = (refl, tt)
+halts_other (Some g) now = tt
+
+both_other : (xs ys : List Line) → AreOther xs → AreOther ys → AreOther (xs ++ ys)
+both_other [] ys p q = q
+both_other (x ∷ xs) ys p q = (p.0, both_other xs ys p.1 q)
+
+no_fetch : (config : Options) (before : List Line) → AreFetched config before → AreFetched config (before ++ [])
+no_fetch config before are = subst (λ (ls : List Line). AreFetched config ls) (sym (append-nil before)) are
+
+front_fetches : (config : Options) (w : World) (before : List Line) (act : Option FrontAct) → front_turn w ≡ act → AreFetched config before → AreFetched config (before ++ front_shows w act)
+front_fetches config w before None e are = no_fetch config before are
+front_fetches config w before (Some a) e are =
+    let g : front.View = front_step.step_of w.front a.answer in
+    let over : Bool = is_some w.back.halted in
+    others_fetched config before (front_shows w (Some a)) (others_of over (front_shows w (Some a)) (front_free over w.under (front_ask.ask_of w.front) a e, free_front over g.told)) are
+
+back_fetches : (config : Options) (w : World) (before : List Line) (act : Option BackAct) → back_turn w Took ≡ act → Stand config before w → AreFetched config (before ++ back_shows w act)
+back_fetches config w before None e s = no_fetch config before s.fetched
+back_fetches config w before (Some a) e s =
+    let v : back.View = w.back in
+    let new : back.View = back_step.step_of w.back a.answer in
+    let f : Follows config.start [] before w.back = s.ring.follows in
+    let t : Tells config before w.back = s.tells in
+    let gone : Follows f.sight.start f.sight.values (before ++ lines_of_back w.back a) (back_step.step_of w.back a.answer) = back_goes before w.under v.stage w.back Took a f.sight f.knows f.knows f.shows f.stands s.ring.told e in
+    let b : IsBystander (lines.Move a.shown) = back_by w.under (ask_of w.back) Took a (backs_of w.back) e in
+    let one : Aside config before (lines.Move a.shown ∷ []) = bystanders_go config (lines.Move a.shown ∷ []) before (b, tt) t.tale t.quiet in
+    back_fetched config before (back_lines new.told a.answer ++ halt_lines v.halted new.halted) (lines.Move a.shown) f.sight gone.sight b
+    (both_other (back_lines new.told a.answer) (halt_lines v.halted new.halted) (others_of false (back_lines new.told a.answer) (free_told false new.told a.answer refl)) (halts_other v.halted new.halted))
+    f.shows gone.shows one.tale s.fetched
+
+job_fetches : (config : Options) (w : World) (before : List Line) (k : ℕ) (o : Outcome) (act : Option BackAct) → job_turn w k o ≡ act → AreFetched config before → AreFetched config (before ++ job_shows w k act)
+job_fetches config w before k o None e are = no_fetch config before are
+job_fetches config w before k o (Some a) e are =
+    let over : Bool = is_some w.back.halted in
+    let running : is_some w.back.halted ≡ false = job_running (is_some w.back.halted) w.under k (ask_job w.back.jobs k) o a e in
+    others_fetched config before (job_shows w k (Some a)) (others_of over (job_shows w k (Some a)) (job_free over w.under k (back_step.job_ask_of w.back k) o a running (jobs_of w.back k) e, free_told over _ a.answer running)) are
+
+fetched_happens : (config : Options) (w : World) (h : Happening) (before : List Line) → Stand config before w → AreFetched config (before ++ lines_at w h)
+fetched_happens config w FrontMoves before s = front_fetches config w before (front_turn w) refl s.fetched
+fetched_happens config w BackMoves before s = back_fetches config w before (back_turn w Took) refl s
+fetched_happens config w (JobMoves number outcome) before s = job_fetches config w before number outcome (job_turn w number outcome) refl s.fetched
+fetched_happens config w (Submits job) before s = let over : Bool = is_some w.back.halted in others_fetched config before (lines_at w (Submits job)) (others_of over (lines_at w (Submits job)) (free_submit over job (front_submit.submit_of w.front job).0, tt)) s.fetched
+fetched_happens config w (Notifies at) before s = no_fetch config before s.fetched
+fetched_happens config w Looks before s = let over : Bool = is_some w.back.halted in others_fetched config before (lines_at w Looks) (others_of over (lines_at w Looks) (free_look over (is_quiet w), tt)) s.fetched
+fetched_happens config w Settles before s = let over : Bool = is_some w.back.halted in others_fetched config before (lines_at w Settles) (others_of over (lines_at w Settles) (free_settle over (is_quiet w), tt)) s.fetched
+
+pub stand_happens : (config : Options) (w : World) (h : Happening) (before : List Line) → IsPermitted w h → Stand config before w → length (before ++ lines_at w h) < 2 ^ 64 → Stand config (before ++ lines_at w h) (happens w h)
 stand_happens config w h before within s few = record {
   ring = follows_happens config.start w h before s.ring;
   memory = memory.follows_happens w h before s.safe within s.memory;
   safe = safe_happens w h s.safe;
   tells = tells_happens config w h before s few;
+  fetched = fetched_happens config w h before s;
 }
 
 begin_rule : (config : Options) (detail : Detail) → IsRule [] (lines.Begin config detail)
@@ -133,7 +195,14 @@ stand_start config detail = record {
     jobs = λ running. no_jobs config [] (lines.Begin config detail ∷ []) 0;
     unseen = λ k above. refl;
   };
+  fetched = λ k. sym (ap (λ (b : Bool). if b then Some (fetched_in config [] k) else None) (no_words k));
 }
+  where
+    none_whole : (k : ℕ) → (nat_lt 0 k && nat_le (k * 28) 0) ≡ false
+    none_whole k = grind (arith, nat_tests)
+
+    no_words : (k : ℕ) → is_fetched [] 28 k ≡ false
+    no_words k = none_whole k
 
 report_stands : (config : Options) (detail : Detail) (history : List Happening) → length (report_of config detail history) < 2 ^ 64 → Stand config (report_of config detail history) (after history (start_of config))
 report_stands config detail history few = kept_after (Stand config) (stand_happens config) history (start_of config) (lines.Begin config detail ∷ []) (always_within config history) (stand_start config detail) few

@@ -1,5 +1,5 @@
 -- What is to be shown of a job's move: it is the next step of the job's work, and writes what the disk gave.
-use Rattle.std.proofs.Common.{◌≡◌, ℕ, ◌+◌, ◌%◌, ◌≤◌, ◌==◌, Bool, true, false, if◌then◌else◌, List, ◌∷◌, ◌++◌, refl, ap, subst, arith}
+use Rattle.std.proofs.Common.{◌≡◌, ℕ, ◌+◌, ◌%◌, ◌≤◌, ◌==◌, Bool, true, false, if◌then◌else◌, List, ◌∷◌, ◌++◌, refl, ap, arith}
 use Rattle.std.specs.Prelude.{slice_index, Some, None, option_and_then, IfSome, IsSomeAnd}
 use Rattle.std.proofs.lemmas.Bool.Decides.{nat_tests}
 use Rattle.blk_base.specs.declared.parts.Mapping.{Mapping}
@@ -9,10 +9,9 @@ use Rattle.blk_base.specs.declared.moves.Move.TheVariants as moves
 use Rattle.schedule_text.specs.declared.line.Line.{Line}
 use Rattle.schedule_text.specs.declared.line.Line.TheVariants as lines
 use Rattle.blk_layout.specs.declared.segment.Segment.{Segment}
-use Rattle.report_rules.specs.declared.standing.Standing.{Standing}
 use Rattle.report_rules.specs.declared.work.Task.{Task}
-use Rattle.report_rules.specs.Standing.{numbered}
-use Rattle.report_rules.specs.Steps.{spot, advanced, walk_of, failed_in, touched_by, stepper}
+use Rattle.report_rules.specs.declared.walk.Spot.{Spot}
+use Rattle.report_rules.specs.Steps.{walk_of, advanced, failed_in, touched_by, stepper}
 use Rattle.report_rules.specs.Data.{words_from}
 use Rattle.back_jobs.specs.declared.stage.Stage.{Stage}
 use Rattle.back_jobs.specs.declared.stage.Stage.TheVariants as stage
@@ -26,21 +25,19 @@ abbrev pub IsDataBy : ℕ → List Line → Move → Type 0
 IsDataBy k epoch (moves.Write who number frame word value) = IsSomeAnd (words_from None k epoch) (λ (words : List ℕ). value ≡ slice_index words (word % 128))
 IsDataBy k epoch shown = Unit {0}
 
--- the next step of the job's work, through a mapping of the step's reference, and of the data in hand
-pub record Steps (work : List Task) (k : ℕ) (epoch : List Line) (standing : List Standing) (shown : Move) : Type 0 where
-  pub gref : ℕ
-  pub on : IsStepOn work k epoch shown gref
-  pub through : IfSome (touched_by shown) (λ (number : ℕ). IsSomeAnd (numbered number standing) (λ (x : Standing). x.gref ≡ gref))
+-- the next step of the job's work, through the mapping in hand, and of the data in hand
+pub record Steps (work : List Task) (k : ℕ) (epoch : List Line) (shown : Move) : Type 0 where
+  pub on : IsStepOn work k epoch shown
   pub moved : IsDataBy k epoch shown
 
 -- so it is with each move of a job but an unmap
-pub data StepsBy (work : List Task) (k : ℕ) (epoch : List Line) (standing : List Standing) (shown : Move) : Type 0 where
-  takes : stepper (lines.Move shown) ≡ Some k → Steps work k epoch standing shown → StepsBy work k epoch standing shown
-  rests : stepper (lines.Move shown) ≡ None → StepsBy work k epoch standing shown
+pub data StepsBy (work : List Task) (k : ℕ) (epoch : List Line) (shown : Move) : Type 0 where
+  takes : stepper (lines.Move shown) ≡ Some k → Steps work k epoch shown → StepsBy work k epoch shown
+  rests : stepper (lines.Move shown) ≡ None → StepsBy work k epoch shown
 
 -- the move, with the lines behind it, and the job after it
-pub record JobGoes (work : List Task) (k : ℕ) (epoch : List Line) (standing : List Standing) (shown : Move) (told : List Line) (new : Work) : Type 0 where
-  pub steps : StepsBy work k epoch standing shown
+pub record JobGoes (work : List Task) (k : ℕ) (epoch : List Line) (shown : Move) (told : List Line) (new : Work) : Type 0 where
+  pub steps : StepsBy work k epoch shown
   pub at : IsAt work k (epoch ++ lines.Move shown ∷ told) new.stage new
 
 abbrev pub told_at : Stage → Work → BackAnswer → List Line
@@ -71,12 +68,8 @@ next_at work k epoch t m inside over more =
     not_last : (a b : ℕ) → a ≤ b → (a == b) ≡ false → a + 1 ≤ b
     not_last a b le e = grind (arith, nat_tests)
 
-pub on_step : (work : List Task) (k : ℕ) (epoch : List Line) (shown : Move) (gref n p : ℕ) (r : Bool) → failed_in k epoch ≡ false → option_and_then (advanced false work shown) (walk_of false work k epoch) ≡ Some (spot n p r gref) → IsStepOn work k epoch shown gref
-on_step work k epoch shown gref n p r whole taken = record { done = n; place = p; refused = r; taken = taken; whole = whole }
-
--- the mapping in hand stands, of its segment's reference
-pub through_hand : (m : Mapping) (gref : ℕ) (standing : List Standing) → m.gref ≡ gref → IsSomeAnd (numbered m.number standing) (λ (x : Standing). x.gref ≡ m.gref) → IsSomeAnd (numbered m.number standing) (λ (x : Standing). x.gref ≡ gref)
-through_hand m gref standing is stands = subst (λ (g : ℕ). IsSomeAnd (numbered m.number standing) (λ (x : Standing). x.gref ≡ g)) is stands
+pub on_step : (work : List Task) (k : ℕ) (epoch : List Line) (shown : Move) (here : Spot) {after : Spot} → walk_of false work k epoch ≡ Some here → failed_in k epoch ≡ false → option_and_then (advanced false work shown) (walk_of false work k epoch) ≡ Some after → IfSome (touched_by shown) (λ (number : ℕ). here.mapping ≡ Some number) → IsStepOn work k epoch shown
+on_step work k epoch shown here {after} came whole taken hand = record { here = here; after = after; came = came; taken = taken; hand = hand; whole = whole }
 
 -- a test of a segment's last sector
 pub by_last : (P : Type 0) (within last : ℕ) → within ≤ last → (within ≡ last → P) → (within + 1 ≤ last → P) → P

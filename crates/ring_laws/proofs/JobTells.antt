@@ -1,5 +1,5 @@
 -- A move of a job keeps what the lines tell of all.
-use Rattle.std.proofs.Common.{◌≡◌, ◌≢◌, ℕ, ◌≤◌, ◌<◌, ◌==◌, true, false, List, [], ◌∷◌, ◌++◌, length, refl, ap, sym, ◌∙◌, subst, arith}
+use Rattle.std.proofs.Common.{◌≡◌, ◌≢◌, ℕ, ◌≤◌, ◌<◌, ◌==◌, true, false, List, [], ◌∷◌, ◌++◌, refl, ap, sym, ◌∙◌, subst, arith}
 use Rattle.std.specs.Prelude.{Option, Some, None, is_some, slice_get}
 use Rattle.std.specs.List.{AllByRecursion, list_any}
 use Rattle.std.proofs.lemmas.Option.{none-some, get_or_from_slice_get}
@@ -8,7 +8,6 @@ use Rattle.std.proofs.lemmas.List.{map-append}
 use Rattle.std.proofs.lemmas.List.Quantifiers.{position-Some}
 use Rattle.blk_base.specs.Options.{Options}
 use Rattle.blk_base.specs.declared.moves.BackMover.TheVariants as mover
-use Rattle.grant_table.specs.Table.{GrantTable}
 use Rattle.hypervisor.specs.Hypervisor.{Hypervisor}
 use Rattle.hypervisor.specs.Act.{BackAct, Outcome, back_act}
 use Rattle.schedule_text.specs.declared.line.Line.{Line}
@@ -19,20 +18,16 @@ use Rattle.back_jobs.specs.Task.{Work}
 use Rattle.back_jobs.specs.Jobs.{place_of, work_at, asked, told_at as told_works, effect_of}
 use Rattle.back_jobs.proofs.Hands.{IsAmong, place_among}
 use Rattle.blk_back.specs.View.{View}
-use Rattle.blk_back.specs.Hands.{hands_of}
 use Rattle.blk_back.specs.Step.{told_effect}
 use Rattle.split_model.specs.Shown.{back_lines}
-use Rattle.split_model.specs.Safe.{AreHeld}
-use Rattle.move_laws.specs.Tells.{Tells as TellsMemory}
 use Rattle.ring_laws.proofs.Shows.{Shows}
 use Rattle.ring_laws.proofs.Knows.{Follows}
 use Rattle.ring_laws.proofs.Free.{AreFree}
 use Rattle.ring_laws.proofs.JobLines.{is_of, IsAside}
-use Rattle.ring_laws.proofs.Began.{IsJobOf}
-use Rattle.ring_laws.proofs.Works.{AreJobs, numbers, number_of, all_second, job_found}
+use Rattle.ring_laws.proofs.Works.{AreJobs, numbers, number_of, all_second}
+use Rattle.ring_laws.proofs.Fetched.{AreFetched}
 use Rattle.ring_laws.proofs.JobTurn.{After, Turned, found_turn}
-use Rattle.ring_laws.proofs.Standings.{in_hand}
-use Rattle.ring_laws.proofs.Tells.{Tells, same_jobs, shows_free, unseen_then, known_page}
+use Rattle.ring_laws.proofs.Tells.{Tells, same_jobs, shows_free, unseen_then}
 
 -- a job that stands there has a number that was given
 pub low_number : (config : Options) (values : List ℕ) (epoch : List Line) (fetched : ℕ) (works : List Work) (place : ℕ) (t : Work) → slice_get works place ≡ Some t → AreJobs config values epoch fetched works → t.number ≤ fetched
@@ -63,23 +58,18 @@ pub record JobTells (config : Options) (before ys : List Line) (v : View) (k : �
   pub unseen : (n : ℕ) → v.fetched < n → list_any (is_of n) (this_epoch (before ++ ys)) ≡ false
   pub aside : (n : ℕ) → n ≢ k → IsAside n ys
 
-pub job_tells : (config : Options) (start : ℕ) (before : List Line) (pages : List ℕ) (table : GrantTable) (h : Hypervisor) (v : View) (k : ℕ) (o : Outcome) (a : BackAct) (place : Option ℕ) (found : Option Work)
-    → place_of v.jobs.works k ≡ place → work_at v.jobs.works place ≡ found → is_some v.halted ≡ false → Follows start [] before v → TellsMemory before pages table → AreHeld table (hands_of v) → AreFree (is_some v.halted) (lines_of_job found a) → Tells config before v
+pub job_tells : (config : Options) (start : ℕ) (before : List Line) (h : Hypervisor) (v : View) (k : ℕ) (o : Outcome) (a : BackAct) (place : Option ℕ) (found : Option Work)
+    → place_of v.jobs.works k ≡ place → work_at v.jobs.works place ≡ found → is_some v.halted ≡ false → Follows start [] before v → AreFetched config before → AreFree (is_some v.halted) (lines_of_job found a) → Tells config before v
     → back_act h (mover.Job k) (asked found) o ≡ Some a
     → JobTells config before (lines_of_job found a) v k (told_works v.jobs.works place found a.answer)
-job_tells config start before pages table h v k o a place None at is running f memory held free t e = absurd (none-some a e)
-job_tells config start before pages table h v k o a None (Some work) at is running f memory held free t e = absurd (none-some work is)
-job_tells config start before pages table h v k o a (Some place) (Some work) at is running f memory held free t e =
+job_tells config start before h v k o a place None at is running f are free t e = absurd (none-some a e)
+job_tells config start before h v k o a None (Some work) at is running f are free t e = absurd (none-some work is)
+job_tells config start before h v k o a (Some place) (Some work) at is running f are free t e =
     let jobs : AreJobs config f.sight.values (this_epoch before) v.fetched v.jobs.works = same_jobs config (entry_values before) f.sight.values (this_epoch before) (this_epoch before) v.fetched v.fetched v.jobs.works v.jobs.works f.shows.values refl refl refl (t.jobs running) in
-    let j : IsJobOf config f.sight.values (this_epoch before) work = job_found config f.sight.values (this_epoch before) v.fetched v.jobs.works place work is jobs in
-    let first = j.first in
-    let read = j.read in
-    let some : 1 ≤ length f.sight.values = omega arith in
-    let page = known_page v.stage v f.sight f.knows running some in
     let number : work.number ≡ k = found_number v.jobs.works k place work at is in
     let low : work.number ≤ v.fetched = low_number config f.sight.values (this_epoch before) v.fetched v.jobs.works place work is jobs in
     let turn : Turned config before f.sight.values v.fetched k (lines_of_job (Some work) a) (told_works v.jobs.works (Some place) (Some work) a.answer) =
-    found_turn config before f.sight v.page.number v.fetched k v.jobs.works h o a place work is number f.shows page free.0.other t.tale t.quiet jobs (λ m in_it. in_hand before pages table v place work m memory held is in_it) e in
+    found_turn config before f.sight v.fetched k v.jobs.works h o a place work is number f.shows.values are free.0.other t.tale t.quiet jobs e in
     let longer : Shows (before ++ lines_of_job (Some work) a) f.sight = shows_free (is_some v.halted) (lines_of_job (Some work) a) before f.sight free f.shows in
     let after : After config before (lines_of_job (Some work) a) = turn.after in
     record {

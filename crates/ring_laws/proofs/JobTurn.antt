@@ -1,10 +1,9 @@
 -- A move of a job: its lines obey the rules on jobs, and the jobs are as their entries say.
-use Rattle.std.proofs.Common.{◌≡◌, ◌≢◌, ℕ, ◌+◌, ◌*◌, ◌≤◌, ◌==◌, ◌||◌, ◌&&◌, Bool, true, false, if◌then◌else◌, List, [], ◌∷◌, ◌++◌, length, count_by, refl, ap, sym, ◌∙◌, subst, append_assoc, arith}
-use Rattle.std.specs.Prelude.{Option, Some, None, IsSomeAnd, slice_get, nat_lt, nat_le, Result, Ok, Err}
+use Rattle.std.proofs.Common.{◌≡◌, ◌≢◌, ℕ, ◌+◌, ◌*◌, ◌≤◌, ◌==◌, ◌||◌, Bool, true, false, if◌then◌else◌, List, [], ◌∷◌, ◌++◌, length, count_by, refl, ap, sym, ◌∙◌, subst, append_assoc, arith}
+use Rattle.std.specs.Prelude.{Option, Some, None, IsSomeAnd, slice_get, Result, Ok, Err}
 use Rattle.std.proofs.lemmas.Option.{none-some}
 use Rattle.std.proofs.lemmas.Bool.Decides.{nat_tests}
 use Rattle.blk_base.specs.Options.{Options}
-use Rattle.blk_base.specs.declared.operation.Abi.TheVariants.{X64}
 use Rattle.blk_base.specs.declared.operation.Status.{Status}
 use Rattle.blk_base.specs.declared.operation.Status.TheVariants.{Okay}
 use Rattle.blk_base.specs.declared.parts.Mapping.{Mapping}
@@ -21,24 +20,21 @@ use Rattle.schedule_text.specs.declared.line.Line.TheVariants as lines
 use Rattle.blk_layout.specs.declared.segment.Segment.{Segment}
 use Rattle.blk_layout.specs.declared.request.RawRequest.{RawRequest}
 use Rattle.segment_list.specs.declared.verdict.DiskInfo.{DiskInfo}
-use Rattle.ring_words.specs.Shape.{Shape}
-use Rattle.report_rules.specs.declared.standing.Standing.{Standing}
 use Rattle.report_rules.specs.declared.work.Task.{Task}
-use Rattle.report_rules.specs.Standing.{this_epoch, standing_behind, numbered}
+use Rattle.report_rules.specs.Standing.{this_epoch}
 use Rattle.report_rules.specs.Work.{work_tasks}
-use Rattle.report_rules.specs.Job.{is_job, is_fetched, entry_values, request_in, request_of_job, id_of}
-use Rattle.report_rules.specs.Steps.{info_of}
+use Rattle.report_rules.specs.declared.job.Fetched.{Fetched}
+use Rattle.report_rules.specs.Job.{is_job, entry_values, fetched_of, id_of}
+use Rattle.report_rules.specs.Published.{info_of}
 use Rattle.report_rules.specs.Effect.{disk_move_shown}
 use Rattle.blk_back.specs.View.{info_of as back_info}
 use Rattle.back_jobs.specs.declared.stage.Stage.{Stage}
 use Rattle.back_jobs.specs.declared.stage.Stage.TheVariants as stage
 use Rattle.back_jobs.specs.Task.{Work, IsDone, ask_at, step_at, map_ask, mode_of, last_of, rest_of, next_sector, next_segment, counted, sector_stage}
-use Rattle.back_jobs.specs.Jobs.{mapping_at, asked, told_at as told_works}
+use Rattle.back_jobs.specs.Jobs.{asked, told_at as told_works}
 use Rattle.split_model.proofs.SafeActs.{of_back}
-use Rattle.ring_laws.proofs.Shows.{Sight, Shows, shows_other, epoch_longer}
-use Rattle.ring_laws.proofs.Sight.{is_other}
-use Rattle.ring_laws.proofs.Touches.{IsPage}
-use Rattle.ring_laws.proofs.Entry.{one_shape}
+use Rattle.ring_laws.proofs.Shows.{Sight, epoch_longer}
+use Rattle.ring_laws.proofs.Sight.{is_other, other_touch, untouched_word}
 use Rattle.ring_laws.proofs.JobLines.{is_of, is_disk_of, IsAside, moves_own}
 use Rattle.ring_laws.proofs.Places.{Within, IsAt}
 use Rattle.ring_laws.proofs.JobMoves.{itself}
@@ -47,6 +43,7 @@ use Rattle.ring_laws.proofs.JobStages.{job_goes}
 use Rattle.ring_laws.proofs.Began.{IsPlan, HasCome, serves, over, IsJobOf, request_at}
 use Rattle.ring_laws.proofs.Works.{AreJobs, jobs_told, job_found}
 use Rattle.ring_laws.proofs.Bystanders.{IsRule, Tale, shown_last, tale_more, is_plain, plain_keeps, plain_serves, plain_tells, bystander_rule, some_and}
+use Rattle.ring_laws.proofs.Fetched.{AreFetched, fetched_in, fetched_still, fetched_is}
 use Rattle.ring_laws.proofs.JobRule.{own_rule, ToldBy, nothing, one, effect_done, effect_given, write_failed, read_failed}
 
 -- what a job's move shows, and the lines behind it
@@ -84,17 +81,6 @@ job_tells work epoch h k (stage.Unmap m) t o a at e = of_back (IsSpoken epoch k 
 job_tells work epoch h k (stage.GiveUp m) t o a at e = of_back (IsSpoken epoch k (stage.GiveUp m) t) _ a (record { plain = refl; told = nothing refl refl }) e
 job_tells work epoch h k (stage.Done status) t o a at e = absurd (none-some a e)
 
--- the request of a job, wherever the lines show these words of entries
-pub asked_for : (before : List Line) (x : Sight) (number k : ℕ) → Shows before x → IsPage number x.pages → 1 ≤ k → 28 * k ≤ length x.values → request_of_job before k ≡ Some (request_at x.values k)
-asked_for before x number k shows is first read =
-    let whole : is_fetched x.values 28 k ≡ true = fetched_test (length x.values) first read in
-    ap (λ (s : Option Shape). request_in (entry_values before) k s) (one_shape before x number shows is)
-    ∙ (ap (λ (vs : List ℕ). request_in vs k (Some (record { abi = X64; order = 0 }))) shows.values
-    ∙ ap (λ (b : Bool). if b then Some (request_at x.values k) else None) whole)
-  where
-    fetched_test : (n : ℕ) → 1 ≤ k → 28 * k ≤ n → (nat_lt 0 k && nat_le (k * 28) n) ≡ true
-    fetched_test n some enough = grind (arith, nat_tests)
-
 -- the lines behind a job's own
 pub record After (config : Options) (before ys : List Line) : Type 0 where
   pub tale : Tale config (before ++ ys)
@@ -102,7 +88,7 @@ pub record After (config : Options) (before ys : List Line) : Type 0 where
   pub epoch : this_epoch (before ++ ys) ≡ this_epoch before ++ ys
 
 after_told : (config : Options) (before : List Line) (k id index : ℕ) (shown : Move) (told : List Line) → Tale config (before ++ lines.Move shown ∷ []) → ToldBy (this_epoch before) shown k id index told
-    → IsSomeAnd (request_of_job (before ++ lines.Move shown ∷ []) k) (λ r. id_of r ≡ id) → After config before (lines.Move shown ∷ told)
+    → IsSomeAnd (fetched_of (before ++ lines.Move shown ∷ []) k) (λ (f : Fetched). id_of f.request ≡ id) → After config before (lines.Move shown ∷ told)
 after_told config before k id index shown told tale (nothing no_disk none) asked =
     subst (λ (ls : List Line). After config before (lines.Move shown ∷ ls)) (sym none)
     (record { tale = tale; quiet = shown_last before (lines.Move shown) ∙ no_disk; epoch = epoch_longer before (lines.Move shown) refl })
@@ -130,14 +116,14 @@ told_aside epoch j k id index shown told aside (one line is l disk counted) =
     subst (λ (ls : List Line). IsAside j (lines.Move shown ∷ ls)) (sym is)
     (record { none = ap (λ (b : Bool). b || (is_of j line || false)) aside ∙ ap (λ (o : Option ℕ). is_job j o || false) l.unstepped; calm = refl; silent = refl })
 
-mover_aside : (work : List Task) (k j : ℕ) (epoch : List Line) (standing : List Standing) (shown : Move) → j ≢ k → StepsBy work k epoch standing shown → is_of j (lines.Move shown) ≡ false
-mover_aside work k j epoch standing shown other (takes own s) = ap (λ (o : Option ℕ). is_job j o) own ∙ other_number j k other
-mover_aside work k j epoch standing shown other (rests none) = ap (λ (o : Option ℕ). is_job j o) none
+mover_aside : (work : List Task) (k j : ℕ) (epoch : List Line) (shown : Move) → j ≢ k → StepsBy work k epoch shown → is_of j (lines.Move shown) ≡ false
+mover_aside work k j epoch shown other (takes own s) = ap (λ (o : Option ℕ). is_job j o) own ∙ other_number j k other
+mover_aside work k j epoch shown other (rests none) = ap (λ (o : Option ℕ). is_job j o) none
 
-own_line : (config : Options) (before : List Line) (k : ℕ) (shown : Move) (work : List Task) (x : Sight) → Tale config before → disk_move_shown before ≡ None → request_of_job before k ≡ Some (request_at x.values k) → ((indirect : List ℕ) → work_tasks (request_at x.values k) (back_info config) false indirect ≡ work)
-    → is_plain (lines.Move shown) ≡ true → StepsBy work k (this_epoch before) (standing_behind before) shown → IsRule before (lines.Move shown)
-own_line config before k shown work x tale quiet asked tasks plain (takes own steps) = own_rule config before k shown (request_at x.values k) work tale quiet asked tasks plain own steps
-own_line config before k shown work x tale quiet asked tasks plain (rests none) = bystander_rule before (lines.Move shown) quiet (record { plain = plain; unstepped = none })
+own_line : (config : Options) (before : List Line) (values : List ℕ) (k : ℕ) (shown : Move) (work : List Task) → disk_move_shown before ≡ None → fetched_of before k ≡ Some (fetched_in config values k) → ((indirect : List ℕ) → work_tasks (request_at values k) (back_info config) false indirect ≡ work)
+    → is_plain (lines.Move shown) ≡ true → StepsBy work k (this_epoch before) shown → IsRule before (lines.Move shown)
+own_line config before values k shown work quiet asked tasks plain (takes own steps) = own_rule config before values k shown work quiet asked tasks plain own steps
+own_line config before values k shown work quiet asked tasks plain (rests none) = bystander_rule before (lines.Move shown) quiet (record { plain = plain; unstepped = none })
 
 done_waits : (h : Hypervisor) (k : ℕ) (s : Stage) (t : Work) (o : Outcome) (a : BackAct) → back_act h (back.Job k) (ask_at s t) o ≡ Some a → IsDone s → ⊥
 done_waits h k (stage.Done status) t o a e done = none-some a e
@@ -206,26 +192,25 @@ pub record Turned (config : Options) (before : List Line) (values : List ℕ) (f
   pub jobs : AreJobs config values (this_epoch before ++ ys) fetched works
   pub aside : (j : ℕ) → j ≢ k → IsAside j ys
 
-pub found_turn : (config : Options) (before : List Line) (x : Sight) (number fetched k : ℕ) (works : List Work) (h : Hypervisor) (o : Outcome) (a : BackAct) (place : ℕ) (t : Work) → slice_get works place ≡ Some t → t.number ≡ k
-    → Shows before x → IsPage number x.pages → is_other (lines.Move a.shown) ≡ true → Tale config before → disk_move_shown before ≡ None → AreJobs config x.values (this_epoch before) fetched works
-    → ((m : Mapping) → mapping_at t.stage ≡ Some m → IsSomeAnd (numbered m.number (standing_behind before)) (λ (y : Standing). y.gref ≡ m.gref))
+pub found_turn : (config : Options) (before : List Line) (x : Sight) (fetched k : ℕ) (works : List Work) (h : Hypervisor) (o : Outcome) (a : BackAct) (place : ℕ) (t : Work) → slice_get works place ≡ Some t → t.number ≡ k
+    → entry_values before ≡ x.values → AreFetched config before → is_other (lines.Move a.shown) ≡ true → Tale config before → disk_move_shown before ≡ None → AreJobs config x.values (this_epoch before) fetched works
     → back_act h (back.Job k) (ask_at t.stage t) o ≡ Some a
     → Turned config before x.values fetched k (lines.Move a.shown ∷ told_at t.stage t a.answer) (told_works works (Some place) (Some t) a.answer)
-found_turn config before x number fetched k works h o a place t found is shows page other tale quiet jobs stands e = subst (λ (n : ℕ). back_act h (back.Job n) (ask_at t.stage t) o ≡ Some a → Turned config before x.values fetched n (lines.Move a.shown ∷ told_at t.stage t a.answer) (told_works works (Some place) (Some t) a.answer)) is go e
+found_turn config before x fetched k works h o a place t found is same_values are other tale quiet jobs e = subst (λ (n : ℕ). back_act h (back.Job n) (ask_at t.stage t) o ≡ Some a → Turned config before x.values fetched n (lines.Move a.shown ∷ told_at t.stage t a.answer) (told_works works (Some place) (Some t) a.answer)) is go e
   where
     go : back_act h (back.Job t.number) (ask_at t.stage t) o ≡ Some a → Turned config before x.values fetched t.number (lines.Move a.shown ∷ told_at t.stage t a.answer) (told_works works (Some place) (Some t) a.answer)
     go act =
         let j : IsJobOf config x.values (this_epoch before) t = job_found config x.values (this_epoch before) fetched works place t found jobs in
         let plan : IsPlan (request_at x.values t.number) (back_info config) j.work j.served t.id t.op = j.plan in
         let runs : IsRunning j.served j.work t.number (this_epoch before) t.stage t = running j.served j.work t.number (this_epoch before) t.stage t (done_waits h t.number t.stage t o a act) j.at in
-        let goes : JobGoes j.work t.number (this_epoch before) (standing_behind before) a.shown (told_at t.stage t a.answer) (step_at t.stage t a.answer) = job_goes j.work t.number (this_epoch before) (standing_behind before) h t.stage t o a stands runs.at act in
+        let goes : JobGoes j.work t.number (this_epoch before) a.shown (told_at t.stage t a.answer) (step_at t.stage t a.answer) = job_goes j.work t.number (this_epoch before) h t.stage t o a runs.at act in
         let tells : IsSpoken (this_epoch before) t.number t.stage t a = job_tells j.work (this_epoch before) h t.number t.stage t o a runs.at act in
-        let asked : request_of_job before t.number ≡ Some (request_at x.values t.number) = asked_for before x number t.number shows page j.first j.read in
-        let rule : IsRule before (lines.Move a.shown) = own_line config before t.number a.shown j.work x tale quiet asked plan.tasks tells.plain goes.steps in
+        let asked : fetched_of before t.number ≡ Some (fetched_in config x.values t.number) = fetched_is config before x.values t.number same_values are j.first j.read in
+        let rule : IsRule before (lines.Move a.shown) = own_line config before x.values t.number a.shown j.work quiet asked plan.tasks tells.plain goes.steps in
         let longer : Tale config (before ++ lines.Move a.shown ∷ []) = tale_more config before (lines.Move a.shown) tale refl (plain_keeps (lines.Move a.shown) tells.plain) (plain_serves (lines.Move a.shown) tells.plain) (plain_tells (info_of config) (lines.Move a.shown) tells.plain) rule in
-        let asked_then : request_of_job (before ++ lines.Move a.shown ∷ []) t.number ≡ Some (request_at x.values t.number) = asked_for (before ++ lines.Move a.shown ∷ []) x number t.number (shows_other before (lines.Move a.shown) x other shows) page j.first j.read in
+        let asked_then : fetched_of (before ++ lines.Move a.shown ∷ []) t.number ≡ Some (fetched_in config x.values t.number) = fetched_still before (lines.Move a.shown) t.number refl (untouched_word before (lines.Move a.shown) (other_touch (lines.Move a.shown) other)) ∙ asked in
         let same : IsSame t (step_at t.stage t a.answer) = step_same t.stage t a.answer in
-        let aside : (n : ℕ) → n ≢ t.number → IsAside n (lines.Move a.shown ∷ told_at t.stage t a.answer) = λ n apart. told_aside (this_epoch before) n t.number t.id t.moved a.shown (told_at t.stage t a.answer) (mover_aside j.work t.number n (this_epoch before) (standing_behind before) a.shown apart goes.steps) tells.told in
+        let aside : (n : ℕ) → n ≢ t.number → IsAside n (lines.Move a.shown ∷ told_at t.stage t a.answer) = λ n apart. told_aside (this_epoch before) n t.number t.id t.moved a.shown (told_at t.stage t a.answer) (mover_aside j.work t.number n (this_epoch before) a.shown apart goes.steps) tells.told in
         let now : List Line = this_epoch before ++ lines.Move a.shown ∷ told_at t.stage t a.answer in
         let new : Work = step_at t.stage t a.answer in
         let fresh : IsJobOf config x.values (this_epoch before ++ lines.Move a.shown ∷ told_at t.stage t a.answer) (step_at t.stage t a.answer) = renumbered config x.values now new t.number (sym same.number) (record { work = j.work; served = j.served; first = j.first; read = j.read; id = j.id ∙ sym same.id; plan = renamed (request_at x.values t.number) (back_info config) j.work j.served t.id new.id t.op new.op (sym same.id) (sym same.op) plan; at = serves runs.okay goes.at }) in

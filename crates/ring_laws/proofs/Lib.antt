@@ -24,10 +24,11 @@ pub mod JobStages
 pub mod Began
 pub mod Due
 pub mod Works
-pub mod Pigeons
-pub mod HasJob
+pub mod Matching
 pub mod Bystanders
+pub mod Fetched
 pub mod JobRule
+pub mod Stays
 pub mod JobTurn
 pub mod Over
 pub mod Owed
@@ -45,9 +46,12 @@ pub mod MakerTurns
 pub mod MakerRuns
 pub mod WrittenRows
 pub mod Written
+pub mod Rows
+pub mod Choice
 pub mod WrittenElse
 pub mod WrittenWord
 pub mod WrittenBack
 pub mod Replying
 pub mod NextReply
+pub mod Chosen
 pub mod ReplyRuns

@@ -22,7 +22,7 @@ use Rattle.blk_back.specs.View.{View}
 use Rattle.blk_back.specs.Step.{giving_up, overrun, looked}
 use Rattle.ring_laws.proofs.Shows.{Sight, Shows, shows_other}
 use Rattle.ring_laws.proofs.Touches.{shows_producer, low_word, produced_at, one_order}
-use Rattle.ring_laws.proofs.Stands.{Stands, stands_overrun, own_stretch}
+use Rattle.ring_laws.proofs.Stands.{Stands, stands_overrun, own_stretch, word_inside}
 use Rattle.ring_laws.proofs.Knows.{whole, Serves, IsOver, KnowsAt, Knows, BackGoes, halting}
 use Rattle.ring_laws.proofs.Serving.{served_line, go_on, between}
 
@@ -50,7 +50,7 @@ looked_on before old new answer frame word x s shows stands fine told halted kno
     let shown : Move = moves.Read back.Back old.page.number frame 0 word in
     go_on before old new answer shown x (record x { produced = word }) [] told halted refl (sym (append-nil x.values)) (shows_producer before x old.page.number frame word s.mapped shows) knows
     (served_line before x old.halted shown s.running stands (same_overrun before frame word x old.ring old.page old.seen old.halted old.entry old.fetched false s shows fine)
-    (λ small. between before shown x old.ring old.page old.seen old.halted old.entry old.fetched s shows (low_word before x old.page.number frame 0 word (omega arith) shows s.mapped)))
+    (λ small. between before shown x old.ring old.page old.seen old.halted old.entry old.fetched s shows (low_word before x old.page.number frame 0 word (omega arith) shows s.mapped) (word_inside before old.page.number 0 (omega arith))))
 
 -- the same of one that did
 looked_over : (before : List Line) (old : View) (answer : BackAnswer) (frame word : ℕ) (x : Sight) → Serves 0 x old.ring old.page old.seen old.halted old.entry old.fetched → Shows before x → Stands before x.start (is_some old.halted) → overruns old.ring word ≡ true → old.told ≡ None → BackGoes x.start x.values before old (overrun old word) answer (moves.Read back.Back old.page.number frame 0 word)
@@ -71,8 +71,8 @@ looked_over before old answer frame word x s shows stands over told =
       shows = subst (λ (ls : List Line). Shows ls (record x { produced = word })) (append_assoc before (line ∷ []) (halt_line ∷ [])) two;
       knows = giving_knows (first_mapping old.jobs.works) (record x { produced = word }) old.ring old.page old.seen (Some (halt.Overrun word old.ring.prod)) old.entry old.fetched (record { over = refl; count = s.count; words = read });
       stands = stands_overrun before line x.start word old.ring.prod running refl (same_overrun before frame word x old.ring old.page old.seen old.halted old.entry old.fetched true s shows over) refl
-          (λ small. between before shown x old.ring old.page old.seen old.halted old.entry old.fetched s shows (low_word before x old.page.number frame 0 word (omega arith) shows s.mapped))
-          (λ small. own_stretch (before ++ line ∷ []) halt_line (record x { produced = word }) s.count one read refl);
+          (λ small. between before shown x old.ring old.page old.seen old.halted old.entry old.fetched s shows (low_word before x old.page.number frame 0 word (omega arith) shows s.mapped) (word_inside before old.page.number 0 (omega arith)))
+          (λ small. own_stretch (before ++ line ∷ []) halt_line (record x { produced = word }) s.count one read refl tt);
     })
 
 -- what a back that serves knows, once it saw the producer

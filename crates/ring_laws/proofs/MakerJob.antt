@@ -15,7 +15,7 @@ use Rattle.schedule_text.specs.declared.line.Line.{Line}
 use Rattle.schedule_text.specs.declared.line.Line.TheVariants as lines
 use Rattle.blk_layout.specs.declared.segment.Segment.{Segment}
 use Rattle.report_rules.specs.Standing.{this_epoch}
-use Rattle.report_rules.specs.Unmap.{left_to}
+use Rattle.report_rules.specs.Made.{left_to}
 use Rattle.back_jobs.specs.declared.stage.Stage.{Stage}
 use Rattle.back_jobs.specs.declared.stage.Stage.TheVariants as stage
 use Rattle.back_jobs.specs.Task.{Work, ask_at, step_at, map_ask, mode_of, last_of, rest_of, sector_stage, next_sector, next_segment, counted}
@@ -23,7 +23,7 @@ use Rattle.back_jobs.specs.Jobs.{mapping_at, effect_at}
 use Rattle.blk_back.specs.Step.{told_effect}
 use Rattle.split_model.proofs.SafeActs.{of_back}
 use Rattle.ring_laws.proofs.JobSteps.{told_at}
-use Rattle.ring_laws.proofs.Makers.{Holds, holds_has, holds_made, holds_gone, IsQuiet, AreQuiet, quiet_holds, IsMine, touches}
+use Rattle.ring_laws.proofs.Makers.{Holds, holds_has, holds_made, holds_gone, IsQuiet, AreQuiet, quiet_holds, IsMine}
 use Rattle.ring_laws.proofs.MakerLines.{calm_quiet, back_calm}
 
 abbrev hand : Work → Option Mapping
@@ -88,7 +88,7 @@ map_asked before h k t o a (s ∷ more) old e = of_back (Makes before k stage.Ma
 
 pub job_makes : (before : List Line) (h : Hypervisor) (k : ℕ) (s : Stage) (t : Work) (o : Outcome) (a : BackAct) → Holds (mapping_at s) (left_to k (this_epoch before)) → back_act h (back.Job k) (ask_at s t) o ≡ Some a → Makes before k s t a
 job_makes before h k stage.Map t o a old e = map_asked before h k t o a t.rest old e
-job_makes before h k (stage.ReadWord m j) t o a old e = of_back (Makes before k (stage.ReadWord m j) t) _ a (still before k (stage.ReadWord m j) t _ (either (j == 127) (stage.DiskWrite m) (stage.ReadWord m (j + 1)) m refl refl) (record { same_epoch = refl; none_gone = λ n. refl; none_made = λ j. refl }) (record { unmap = tt; touch = touches before k m.number (holds_has k m (this_epoch before) old) }) old) e
+job_makes before h k (stage.ReadWord m j) t o a old e = of_back (Makes before k (stage.ReadWord m j) t) _ a (still before k (stage.ReadWord m j) t _ (either (j == 127) (stage.DiskWrite m) (stage.ReadWord m (j + 1)) m refl refl) (record { same_epoch = refl; none_gone = λ n. refl; none_made = λ j. refl }) (record { unmap = tt; touch = holds_has k m (this_epoch before) old }) old) e
 job_makes before h k (stage.DiskWrite m) t Took a old e = of_back (Makes before k (stage.DiskWrite m) t) _ a (still before k (stage.DiskWrite m) t _ (next_hand (counted t) m) (record { same_epoch = refl; none_gone = λ n. refl; none_made = λ j. refl }) (record { unmap = tt; touch = tt }) old) e
 job_makes before h k (stage.DiskWrite m) t Failed a old e = of_back (Makes before k (stage.DiskWrite m) t) _ a (still before k (stage.DiskWrite m) t _ refl (record { same_epoch = refl; none_gone = λ n. refl; none_made = λ j. refl }) (record { unmap = tt; touch = tt }) old) e
 job_makes before h k (stage.DiskWrite m) t (Gave words) a old e = absurd (none-some a e)
@@ -96,7 +96,7 @@ job_makes before h k (stage.DiskRead m) t (Gave words) a old e = of_back (Makes 
 job_makes before h k (stage.DiskRead m) t Failed a old e = of_back (Makes before k (stage.DiskRead m) t) _ a (still before k (stage.DiskRead m) t _ refl (record { same_epoch = refl; none_gone = λ n. refl; none_made = λ j. refl }) (record { unmap = tt; touch = tt }) old) e
 job_makes before h k (stage.DiskRead m) t Took a old e = absurd (none-some a e)
 job_makes before h k (stage.WriteWord m j) t o a old e =
-    of_back (Makes before k (stage.WriteWord m j) t) _ a (still before k (stage.WriteWord m j) t _ (either_work (j == 127) (next_sector t m) (record t { stage = stage.WriteWord m (j + 1) }) m (next_hand t m) refl) (record { same_epoch = refl; none_gone = λ n. refl; none_made = λ j. refl }) (record { unmap = tt; touch = touches before k m.number (holds_has k m (this_epoch before) old) }) old) e
+    of_back (Makes before k (stage.WriteWord m j) t) _ a (still before k (stage.WriteWord m j) t _ (either_work (j == 127) (next_sector t m) (record t { stage = stage.WriteWord m (j + 1) }) m (next_hand t m) refl) (record { same_epoch = refl; none_gone = λ n. refl; none_made = λ j. refl }) (record { unmap = tt; touch = holds_has k m (this_epoch before) old }) old) e
 job_makes before h k (stage.Unmap m) t o a old e = of_back (Makes before k (stage.Unmap m) t) _ a (record { hand = subst (λ (x : Option Mapping). Holds x (left_to k (this_epoch before ++ lines.Move (moves.Unmap (back.Job k) m.number) ∷ []))) (sym (segment_hand t (rest_of t.rest))) (holds_gone k m (this_epoch before) old); way = gives m refl refl; mine = record { unmap = holds_has k m (this_epoch before) old; touch = tt } }) e
 job_makes before h k (stage.GiveUp m) t o a old e = of_back (Makes before k (stage.GiveUp m) t) _ a (record { hand = holds_gone k m (this_epoch before) old; way = gives m refl refl; mine = record { unmap = holds_has k m (this_epoch before) old; touch = tt } }) e
 job_makes before h k (stage.Done status) t o a old e = absurd (none-some a e)

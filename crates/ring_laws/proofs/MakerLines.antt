@@ -25,7 +25,7 @@ use Rattle.ring_words.specs.Ring.{requests_of}
 use Rattle.schedule_text.specs.declared.line.Line.{Line}
 use Rattle.schedule_text.specs.declared.line.Line.TheVariants as lines
 use Rattle.report_rules.specs.Standing.{mapping_made}
-use Rattle.report_rules.specs.Unmap.{made_by}
+use Rattle.report_rules.specs.Made.{made_by}
 use Rattle.blk_front.specs.declared.told.Told.{Told}
 use Rattle.blk_front.specs.declared.told.Told.TheVariants as front_told
 use Rattle.blk_front.specs.declared.told.Refusal.{Refusal}

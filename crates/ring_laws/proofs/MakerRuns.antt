@@ -13,8 +13,9 @@ use Rattle.schedule_text.specs.declared.line.Detail.{Detail}
 use Rattle.report_rules.specs.Obeys.{Obeys}
 use Rattle.report_rules.specs.Standing.{this_epoch}
 use Rattle.report_rules.specs.Job.{entry_values}
-use Rattle.report_rules.specs.Unmap.{left_to, AreUnmaps}
-use Rattle.report_rules.specs.Own.{AreOwn}
+use Rattle.report_rules.specs.Made.{left_to}
+use Rattle.ring_laws.specs.Unmaps.{AreUnmaps}
+use Rattle.ring_laws.specs.Own.{AreOwn}
 use Rattle.report_rules.proofs.Obeys.{obeys_none, obeys_more}
 use Rattle.back_jobs.specs.Task.{Work}
 use Rattle.back_jobs.specs.Jobs.{ask_job, place_of, work_of, mapping_at}
@@ -31,7 +32,7 @@ use Rattle.split_model.specs.Happening.{Happening, FrontMoves, BackMoves, JobMov
 use Rattle.split_model.specs.Report.{report_of, ended_report_of}
 use Rattle.split_model.specs.Shown.{back_lines, halt_lines}
 use Rattle.split_model.proofs.SafeAnswers.{backs_of}
-use Rattle.move_laws.specs.Within.{IsWithin}
+use Rattle.move_laws.specs.Permitted.{IsPermitted}
 use Rattle.move_laws.proofs.Always.{always_within}
 use Rattle.ring_laws.proofs.Knows.{Follows}
 use Rattle.ring_laws.proofs.Free.{job_running}
@@ -116,7 +117,7 @@ record StandMade (config : Options) (before : List Line) (w : World) : Type 0 wh
   stand : Stand config before w
   made : Made before w.back
 
-stand_made_happens : (config : Options) (w : World) (h : Happening) (before : List Line) → IsWithin w h → StandMade config before w → length (before ++ lines_at w h) < 2 ^ 64 → StandMade config (before ++ lines_at w h) (happens w h)
+stand_made_happens : (config : Options) (w : World) (h : Happening) (before : List Line) → IsPermitted w h → StandMade config before w → length (before ++ lines_at w h) < 2 ^ 64 → StandMade config (before ++ lines_at w h) (happens w h)
 stand_made_happens config w h before within s few =
     let t : Stand config (before ++ lines_at w h) (happens w h) = stand_happens config w h before within s.stand few in
     record { stand = t; made = made_happens config w h before s.stand t s.made }

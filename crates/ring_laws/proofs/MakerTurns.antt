@@ -21,7 +21,7 @@ use Rattle.segment_list.specs.Verdict.{verdict_of}
 use Rattle.report_rules.specs.declared.standing.Standing.{Standing}
 use Rattle.report_rules.specs.Obeys.{Obeys}
 use Rattle.report_rules.specs.Standing.{this_epoch, is_unmap_of, standing_behind, numbered}
-use Rattle.report_rules.specs.Unmap.{left_to}
+use Rattle.report_rules.specs.Made.{left_to}
 use Rattle.report_rules.proofs.Obeys.{obeys_more}
 use Rattle.back_jobs.specs.declared.stage.Stage.{Stage}
 use Rattle.back_jobs.specs.declared.stage.Stage.TheVariants as stage

@@ -1,5 +1,5 @@
 -- The mappings that a job made and that stand, with lines more: no others than what it has in its hand.
-use Rattle.std.proofs.Common.{◌≡◌, ℕ, ◌==◌, ◌||◌, ◌&&◌, not, Bool, true, false, List, [], ◌∷◌, ◌++◌, filter, refl, ap, sym, ◌∙◌, subst, append_assoc, append-nil, arith}
+use Rattle.std.proofs.Common.{◌≡◌, ℕ, ◌==◌, ◌||◌, not, Bool, true, false, List, [], ◌∷◌, ◌++◌, filter, refl, ap, sym, ◌∙◌, subst, append_assoc, append-nil, arith}
 use Rattle.std.specs.Prelude.{Option, Some, None, is_some, IsSomeAnd}
 use Rattle.std.specs.List.{AllByRecursion, list_any, cons_option}
 use Rattle.std.proofs.lemmas.Bool.Decides.{nat_tests}
@@ -14,9 +14,9 @@ use Rattle.schedule_text.specs.declared.line.Line.TheVariants as lines
 use Rattle.report_rules.specs.declared.standing.Standing.{Standing}
 use Rattle.report_rules.specs.Obeys.{Obeys}
 use Rattle.report_rules.specs.Standing.{is_epoch, this_epoch, is_unmap_of, unless_unmapped, standing_behind, numbered}
-use Rattle.report_rules.specs.Steps.{is_persistent}
-use Rattle.report_rules.specs.Unmap.{made_by, left_to, IsUnmapAt}
-use Rattle.report_rules.specs.Own.{is_kept_mapping, may_touch, IsOwnAt}
+use Rattle.report_rules.specs.Made.{made_by, left_to}
+use Rattle.ring_laws.specs.Unmaps.{IsUnmapAt}
+use Rattle.ring_laws.specs.Own.{IsOwnAt}
 use Rattle.report_rules.proofs.Obeys.{obeys_more}
 use Rattle.report_rules.proofs.Back.{left_more_by, standing_more}
 use Rattle.ring_laws.proofs.Shows.{epoch_longer}
@@ -128,10 +128,6 @@ IsOpen line = (before : List Line) → IsMine before line
 pub open_more : (before ys : List Line) → AllByRecursion IsOpen ys → Obeys IsMine before → Obeys IsMine (before ++ ys)
 open_more before [] all obeys = subst (λ (ls : List Line). Obeys IsMine ls) (sym (append-nil before)) obeys
 open_more before (y ∷ ys) all obeys = subst (λ (ls : List Line). Obeys IsMine ls) (append_assoc before (y ∷ []) ys) (open_more (before ++ y ∷ []) ys all.1 (obeys_more IsMine before y obeys (all.0 before)))
-
--- a job touches what it made
-pub touches : (before : List Line) (k n : ℕ) → has n k (this_epoch before) ≡ true → may_touch before k n ≡ true
-touches before k n e = ap (λ (b : Bool). b || (is_persistent before && is_kept_mapping before n)) e
 
 -- what stands behind an unmap is of another number
 none_left : (n : ℕ) (xs : List Standing) → numbered n (filter (λ (s : Standing). not (n == s.number)) xs ++ []) ≡ None

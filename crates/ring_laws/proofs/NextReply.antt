@@ -1,13 +1,16 @@
--- Each word of a reply that the back writes is one of a response that a job is due, and that no reply before had for it.
-use Rattle.std.proofs.Common.{◌≡◌, ◌≢◌, ℕ, List, [], ◌∷◌, ◌++◌, length, refl, ap, subst, arith, append-nil}
+-- Each word of a reply that the back writes is one of a response that a job is due, and that no reply before was for.
+use Rattle.std.proofs.Common.{◌≡◌, ◌≢◌, ℕ, ◌*◌, ◌/◌, ◌≤◌, ◌==◌, ◌||◌, Bool, false, List, [], ◌∷◌, ◌++◌, length, map, refl, ap, sym, ◌∙◌, subst, arith, append-nil}
 use Rattle.std.specs.Prelude.{Option, Some, None, IfSome}
 use Rattle.std.specs.List.{AllByRecursion}
-use Rattle.std.proofs.lemmas.List.{map-append}
+use Rattle.std.proofs.lemmas.Bool.Decides.{nat_tests}
 use Rattle.blk_base.specs.Options.{Options}
 use Rattle.blk_layout.specs.declared.response.Response.{Response}
+use Rattle.blk_layout.specs.Response.{response_words_of}
 use Rattle.schedule_text.specs.declared.line.Line.{Line}
 use Rattle.report_rules.specs.Job.{entry_values}
 use Rattle.report_rules.specs.Standing.{this_epoch}
+use Rattle.report_rules.specs.Made.{left_to}
+use Rattle.report_rules.specs.Reply.{response_due, is_one_of, most_jobs}
 use Rattle.back_jobs.specs.Task.{Work}
 use Rattle.back_jobs.proofs.Hands.{IsAmong, place_among}
 use Rattle.blk_back.specs.View.{View}
@@ -15,81 +18,103 @@ use Rattle.blk_back.specs.Ask.{next_reply}
 use Rattle.blk_back.specs.declared.stage.Reply.{Reply}
 use Rattle.blk_back.specs.declared.stage.Stage.TheVariants as stage
 use Rattle.blk_back.specs.declared.stage.Stage.{Stage}
-use Rattle.ring_laws.proofs.Shows.{Sight, Shows}
+use Rattle.ring_laws.proofs.Shows.{Sight}
 use Rattle.ring_laws.proofs.Knows.{KnowsAt}
-use Rattle.ring_laws.proofs.Touches.{IsPage}
-use Rattle.ring_laws.proofs.Bystanders.{Tale}
-use Rattle.ring_laws.proofs.Works.{AreApart, numbers, all_first, all_second, all_more}
-use Rattle.ring_laws.proofs.Pigeons.{IsWithin}
-use Rattle.ring_laws.proofs.Due.{IsWorkOver, Answered, HasAJob, response_in, next_word, replying}
-use Rattle.ring_laws.proofs.HasJob.{IsDue, job_of, jobs_of, has_a_job}
-use Rattle.ring_laws.proofs.Owed.{IsOwed, Owes, moved, numbers_of}
+use Rattle.ring_laws.proofs.Works.{AreApart, numbers, all_first, all_pairs, all_of_map}
+use Rattle.ring_laws.proofs.Fetched.{AreFetched}
+use Rattle.ring_laws.proofs.Matching.{Matched, IsFree, Passes, chosen_of, answer_of, job_in, jobs_in, moved, free}
+use Rattle.ring_laws.proofs.Due.{IsWorkOver, Answered, Candidate, jobs_of, response_in, next_word, replying}
+use Rattle.ring_laws.proofs.Owed.{IsOwed, Owes, numbers_of}
 use Rattle.ring_laws.proofs.Over.{due}
-use Rattle.ring_laws.proofs.Replying.{pending, pending_at, IsDone, done_found}
+use Rattle.ring_laws.proofs.Rows.{lines_none}
+use Rattle.ring_laws.proofs.Replying.{pending, pending_at, IsReplyOf, done_found}
+use Rattle.ring_laws.proofs.Chosen.{words_in, IsDueTo, IsChosen}
 
--- what the lines so far tell of the back, whose page is known
-record Told (config : Options) (before : List Line) (x : Sight) (number : ℕ) : Type 0 where
-  tale : Tale config before
-  shows : Shows before x
-  page : IsPage number x.pages
+-- a job that is due these words, and gave up what it mapped
+record IsGood (before : List Line) (words : List ℕ) (k : ℕ) : Type 0 where
+  due : response_due before k ≡ Some words
+  left : left_to k (this_epoch before) ≡ []
+  first : 1 ≤ k
+  last : k ≤ most_jobs before
 
-due_all : (config : Options) (before : List Line) (x : Sight) (number : ℕ) (answered : List Answered) → Told config before x number → AllByRecursion (IsOwed config x.values (this_epoch before)) answered → AllByRecursion (IsDue before) answered
-due_all config before x number answered t all = all_more (IsOwed config x.values (this_epoch before)) (IsDue before) answered (λ a over. due config before x number a.job a.response t.tale t.shows t.page over) all
+over_good : (config : Options) (before : List Line) (values words : List ℕ) (k : ℕ) (r : Response) → entry_values before ≡ values → AreFetched config before → response_words_of r ≡ words → IsWorkOver config values (this_epoch before) k r → IsGood before words k
+over_good config before values words k r same are is o =
+    let long : length (entry_values before) ≡ length values = ap (λ (vs : List ℕ). length vs) same in
+    let read = o.read in
+    record { due = due config before values k r same are o ∙ ap (λ (ws : List ℕ). Some ws) is; left = o.left; first = o.first; last = enough (length (entry_values before)) k (omega arith) }
+  where
+    enough : (n j : ℕ) → 28 * j ≤ n → j ≤ n / 27
+    enough n j h = omega arith
 
-within_one : (config : Options) (before : List Line) (x : Sight) (number k : ℕ) (r : Response) → Told config before x number → IsWorkOver config x.values (this_epoch before) k r → IsWithin (length (entry_values before)) k
-within_one config before x number k r t over =
-    let shows : Shows before x = t.shows in
-    let long : length (entry_values before) ≡ length x.values = ap (λ (vs : List ℕ). length vs) shows.values in
-    let read = over.read in
-    (over.first, omega arith)
+-- of one that was answered, where the one that the rule found is due these words
+passing : (config : Options) (before : List Line) (values words : List ℕ) (m : Matched) → entry_values before ≡ values → AreFetched config before → IsDueTo before m → IsOwed config values (this_epoch before) (answer_of m) → Passes (IsGood before words) m
+passing config before values words m same are found owed good =
+    let a : Answered = m.answer in
+    let is : words_in m ≡ words = same_words (sym found ∙ good.due) in
+    over_good config before values words a.job a.response same are is owed
+  where
+    same_words : {a b : List ℕ} → Some a ≡ Some b → a ≡ b
+    same_words e = cc
 
-within_all : (config : Options) (before : List Line) (x : Sight) (number : ℕ) (answered : List Answered) → Told config before x number → AllByRecursion (IsOwed config x.values (this_epoch before)) answered → AllByRecursion (IsWithin (length (entry_values before))) (jobs_of answered)
-within_all config before x number [] t all = tt
-within_all config before x number (a ∷ answered) t all = (within_one config before x number a.job a.response t all.0, within_all config before x number answered t all.1)
+jobs_same : (matched : List Matched) → jobs_of (map answer_of matched) ≡ jobs_in matched
+jobs_same [] = refl
+jobs_same (m ∷ matched) = ap (λ (js : List ℕ). job_in m ∷ js) (jobs_same matched)
 
 -- the first of different numbers are different
 apart_prefix : (xs ys : List ℕ) → AreApart (xs ++ ys) → AreApart xs
 apart_prefix [] ys apart = tt
 apart_prefix (x ∷ xs) ys apart = (all_first (λ (m : ℕ). m ≢ x) xs ys apart.0, apart_prefix xs ys apart.1)
 
-one_has : (config : Options) (before : List Line) (x : Sight) (number : ℕ) (answered : List Answered) (k : ℕ) (r : Reply) (last : ℕ) → Told config before x number → AllByRecursion (IsOwed config x.values (this_epoch before)) answered → IsOwed config x.values (this_epoch before) (pending k r) → AreApart (jobs_of answered ++ k ∷ [])
-    → HasAJob before answered (response_in r) last
-one_has config before x number answered k r last t all over apart =
-    has_a_job before answered k (response_in r) last (due_all config before x number answered t all) (due config before x number k (response_in r) t.tale t.shows t.page over) apart (within_all config before x number answered t all) (within_one config before x number k (response_in r) t over)
+none_chosen : (matched : List Matched) (k : ℕ) → AllByRecursion (λ (m : Matched). m.chosen ≢ k) matched → is_one_of k (map chosen_of matched) ≡ false
+none_chosen [] k others = refl
+none_chosen (m ∷ matched) k others = ap (λ (b : Bool). b || is_one_of k (map chosen_of matched)) (other m.chosen others.0) ∙ none_chosen matched k others.1
+  where
+    other : (n : ℕ) → n ≢ k → (n == k) ≡ false
+    other n differs = grind (arith, nat_tests)
 
--- the reply under way
-under_way_has : (config : Options) (before : List Line) (x : Sight) (number fetched : ℕ) (works : List Work) (answered : List Answered) (k : ℕ) (r : Reply) (last : ℕ) → Told config before x number → Owes config x.values (this_epoch before) fetched works (answered ++ pending k r ∷ []) → HasAJob before answered (response_in r) last
-under_way_has config before x number fetched works answered k r last t o =
-    let jobs : jobs_of (answered ++ pending k r ∷ []) ≡ jobs_of answered ++ k ∷ [] = map-append job_of answered (pending k r ∷ []) in
-    one_has config before x number answered k r last t (all_first (IsOwed config x.values (this_epoch before)) answered (pending k r ∷ []) o.each) (all_second (IsOwed config x.values (this_epoch before)) answered (pending k r ∷ []) o.each).0
-    (subst AreApart jobs (apart_prefix (jobs_of (answered ++ pending k r ∷ [])) (numbers works) o.apart))
-
--- one that begins
-begun_has : (config : Options) (before : List Line) (x : Sight) (number fetched : ℕ) (works : List Work) (answered : List Answered) (r : Reply) → Told config before x number → ((d : IsDone works r) → IsOwed config x.values (this_epoch before) (let t : Work = d.job in pending t.number r)) → Owes config x.values (this_epoch before) fetched works (answered ++ [])
-    → IsDone works r → HasAJob before answered (response_in r) 0
-begun_has config before x number fetched works answered r t done o d =
+-- a reply that begins
+begun_has : (config : Options) (before : List Line) (values : List ℕ) (fetched : ℕ) (works : List Work) (answered : List Answered) (s : Stage) (r : Reply) → entry_values before ≡ values → AreFetched config before → IsChosen before s answered → ((d : IsReplyOf works r) → IsOwed config values (this_epoch before) (let t : Work = d.job in pending t.number r))
+    → Owes config values (this_epoch before) fetched works (answered ++ []) → IsReplyOf works r → Candidate before 0 (response_in r)
+begun_has config before values fetched works answered s r same are c done o d =
     let job : Work = d.job in
+    let words : List ℕ = response_words_of (response_in r) in
     let among : IsAmong works d.place d.job = place_among works d.place d.job d.found in
     let split : numbers works ≡ numbers among.front ++ job.number ∷ numbers among.rest = numbers_of works among.front among.rest d.job among.is in
-    let all : AllByRecursion (IsOwed config x.values (this_epoch before)) answered = all_first (IsOwed config x.values (this_epoch before)) answered [] o.each in
     let apart : AreApart (jobs_of answered ++ numbers works) = subst (λ (l : List Answered). AreApart (jobs_of l ++ numbers works)) (append-nil answered) o.apart in
-    one_has config before x number answered job.number r 0 t all (done d)
-    (apart_prefix (jobs_of answered ++ job.number ∷ []) (numbers among.front ++ numbers among.rest) (moved (jobs_of answered) (numbers among.front) (numbers among.rest) job.number (subst (λ (ns : List ℕ). AreApart (jobs_of answered ++ ns)) split apart)))
+    let parted : AreApart (jobs_of answered ++ job.number ∷ []) = apart_prefix (jobs_of answered ++ job.number ∷ []) (numbers among.front ++ numbers among.rest) (moved (jobs_of answered) (numbers among.front) (numbers among.rest) job.number (subst (λ (ns : List ℕ). AreApart (jobs_of answered ++ ns)) split apart)) in
+    let turned : AreApart (job.number ∷ (jobs_of answered ++ [])) = moved [] (jobs_of answered) [] job.number parted in
+    let jobs : jobs_of answered ++ [] ≡ jobs_in c.matched = append-nil (jobs_of answered) ∙ (ap jobs_of (sym c.answers) ∙ jobs_same c.matched) in
+    let owed : AllByRecursion (IsOwed config values (this_epoch before)) answered = all_first (IsOwed config values (this_epoch before)) answered [] o.each in
+    let each : AllByRecursion (λ (m : Matched). IsOwed config values (this_epoch before) (answer_of m)) c.matched = all_of_map (IsOwed config values (this_epoch before)) answer_of c.matched (subst (λ (l : List Answered). AllByRecursion (IsOwed config values (this_epoch before)) l) (sym c.answers) owed) in
+    let passes : AllByRecursion (Passes (IsGood before (response_words_of (response_in r)))) c.matched =
+    all_pairs (IsDueTo before) (λ (m : Matched). IsOwed config values (this_epoch before) (answer_of m)) (Passes (IsGood before (response_words_of (response_in r)))) c.matched (λ m found over. passing config before values words m same are found over) c.due each in
+    let f : IsFree (IsGood before (response_words_of (response_in r))) c.matched =
+    free (length c.matched) (IsGood before (response_words_of (response_in r))) c.matched job.number refl (subst (λ (ns : List ℕ). AreApart (job.number ∷ ns)) jobs turned) passes (over_good config before values words job.number (response_in r) same are refl (done d)) in
+    let good : IsGood before (response_words_of (response_in r)) f.job = f.good in
+    record {
+      job = f.job;
+      other = ap (λ (js : List ℕ). is_one_of f.job js) c.chosen ∙ none_chosen c.matched f.job f.other;
+      due = ap (λ (ls : List Line). response_due ls f.job) (lines_none before) ∙ good.due;
+      first = good.first;
+      last = subst (λ (ls : List Line). f.job ≤ most_jobs ls) (sym (lines_none before)) good.last;
+      left = good.left;
+    }
 
-abbrev pub NextHas : List Line → List Answered → Option (Reply × ℕ) → Type 0
-NextHas before answered next = IfSome next (λ p. HasAJob before answered (response_in p.0) p.1)
+abbrev pub NextHas : List Line → Option (Reply × ℕ) → Type 0
+NextHas before next = IfSome next (λ (p : Reply × ℕ). Candidate before p.1 (response_in p.0))
 
-loop_has : (config : Options) (before : List Line) (x : Sight) (number : ℕ) (v : View) (answered : List Answered) (next : Option Reply) → next_reply v ≡ next → Told config before x number → ((r : Reply) (d : IsDone v.jobs.works r) → IsOwed config x.values (this_epoch before) (let t : Work = d.job in pending t.number r))
-    → Owes config x.values (this_epoch before) v.fetched v.jobs.works (answered ++ []) → NextHas before answered (next_word next)
-loop_has config before x number v answered None e t done o = tt
-loop_has config before x number v answered (Some r) e t done o = begun_has config before x number v.fetched v.jobs.works answered r t (done r) o (done_found v.jobs.works r e)
+loop_has : (config : Options) (before : List Line) (x : Sight) (v : View) (answered : List Answered) (s : Stage) (next : Option Reply) → next_reply v ≡ next → entry_values before ≡ x.values → AreFetched config before → IsChosen before s answered → ((r : Reply) (d : IsReplyOf v.jobs.works r) → IsOwed config x.values (this_epoch before) (let t : Work = d.job in pending t.number r))
+    → Owes config x.values (this_epoch before) v.fetched v.jobs.works (answered ++ []) → NextHas before (next_word next)
+loop_has config before x v answered s None e same are c done o = tt
+loop_has config before x v answered s (Some r) e same are c done o = begun_has config before x.values v.fetched v.jobs.works answered s r same are c (done r) o (done_found v.jobs.works r e)
 
 -- what is owed, as long as the back hasn't halted
-pub next_has : (config : Options) (before : List Line) (x : Sight) (s : Stage) (v : View) (answered : List Answered) (k : ℕ) → KnowsAt s x v.ring v.page v.seen v.halted v.entry v.fetched → Tale config before → Shows before x
-    → (v.halted ≡ None → (r : Reply) (d : IsDone v.jobs.works r) → IsOwed config x.values (this_epoch before) (let t : Work = d.job in pending t.number r))
+pub next_has : (config : Options) (before : List Line) (x : Sight) (s : Stage) (v : View) (answered : List Answered) (k : ℕ) → KnowsAt s x v.ring v.page v.seen v.halted v.entry v.fetched → entry_values before ≡ x.values → AreFetched config before → IsChosen before s answered
+    → (v.halted ≡ None → (r : Reply) (d : IsReplyOf v.jobs.works r) → IsOwed config x.values (this_epoch before) (let t : Work = d.job in pending t.number r))
     → (v.halted ≡ None → Owes config x.values (this_epoch before) v.fetched v.jobs.works (answered ++ pending_at s k))
-    → NextHas before answered (replying s v)
-next_has config before x stage.Loop v answered k knows tale shows done o = loop_has config before x v.page.number v answered (next_reply v) refl (record { tale = tale; shows = shows; page = knows.mapped }) (done knows.running) (o knows.running)
-next_has config before x (stage.ReplyHigh r) v answered k knows tale shows done o = under_way_has config before x v.page.number v.fetched v.jobs.works answered k r 1 (record { tale = tale; shows = shows; page = knows.mapped }) (o knows.running)
-next_has config before x (stage.ReplyLast r) v answered k knows tale shows done o = under_way_has config before x v.page.number v.fetched v.jobs.works answered k r 2 (record { tale = tale; shows = shows; page = knows.mapped }) (o knows.running)
-next_has config before x s v answered k knows tale shows done o = tt
+    → NextHas before (replying s v)
+next_has config before x stage.Loop v answered k knows same are c done o = loop_has config before x v answered stage.Loop (next_reply v) refl same are c (done knows.running) (o knows.running)
+next_has config before x (stage.ReplyHigh r) v answered k knows same are c done o = c.row
+next_has config before x (stage.ReplyLast r) v answered k knows same are c done o = c.row
+next_has config before x (stage.Producer r) v answered k knows same are c done o = c.row
+next_has config before x s v answered k knows same are c done o = tt

@@ -1,47 +1,43 @@
 -- A job whose work is over: what others' lines leave of it, and the response that it is due.
 use Rattle.std.proofs.Common.{◌≡◌, ℕ, ◌%◌, ◌/◌, ◌^◌, ◌<◌, ◌==◌, ◌||◌, Bool, true, false, if◌then◌else◌, List, [], ◌∷◌, ◌++◌, length, refl, ap, sym, ◌∙◌, subst, length-append, arith}
 use Rattle.std.specs.Prelude.{Option, Some, None, slice_index}
-use Rattle.std.specs.List.{list_any, list_all, cons_option}
+use Rattle.std.specs.List.{list_any, cons_option}
 use Rattle.std.proofs.lemmas.List.Folds.{list_any-append}
 use Rattle.blk_base.specs.Options.{Options}
 use Rattle.blk_base.specs.declared.operation.Abi.TheVariants.{X64}
 use Rattle.blk_base.specs.declared.operation.Status.{Status}
 use Rattle.blk_base.specs.declared.moves.Move.TheVariants as moves
 use Rattle.blk_layout.specs.declared.segment.Segment.{Segment}
-use Rattle.blk_layout.specs.declared.request.RawRequest.{RawRequest}
 use Rattle.blk_layout.specs.declared.request.RawRequest.TheVariants.{Direct, Discard, Indirect}
 use Rattle.blk_layout.specs.declared.response.Response.{Response}
 use Rattle.blk_layout.specs.Entry.{request_of}
 use Rattle.blk_layout.specs.Response.{response_words_of}
-use Rattle.segment_list.specs.declared.verdict.DiskInfo.{DiskInfo}
 use Rattle.schedule_text.specs.declared.line.Line.{Line}
 use Rattle.schedule_text.specs.declared.line.Line.TheVariants as lines
 use Rattle.report_rules.specs.declared.standing.Standing.{Standing}
 use Rattle.report_rules.specs.declared.work.Task.{Task}
 use Rattle.report_rules.specs.Standing.{this_epoch, is_unmap_of, unless_unmapped}
 use Rattle.report_rules.specs.Work.{work_tasks, work_verdict, status_by, work_response}
-use Rattle.report_rules.specs.Job.{is_job, words_of_job, request_of_job}
-use Rattle.report_rules.specs.Steps.{job_of, walk_of, failed_in, values_read, disk_of, is_persistent}
-use Rattle.report_rules.specs.Unmap.{made_by, left_to, may_be_kept}
+use Rattle.report_rules.specs.declared.job.Fetched.{Fetched}
+use Rattle.report_rules.specs.Job.{is_job, entry_values, words_of_job, back_mover_job}
+use Rattle.report_rules.specs.Steps.{walk_of, failed_in, values_read}
+use Rattle.report_rules.specs.Made.{made_by, left_to}
 use Rattle.report_rules.specs.Reply.{end_of, status_at_end, words_with, words_due, response_due}
 use Rattle.back_jobs.specs.declared.stage.Stage.{Stage}
 use Rattle.back_jobs.specs.declared.stage.Stage.TheVariants as stage
 use Rattle.back_jobs.specs.Task.{Work}
 use Rattle.blk_back.specs.View.{info_of as back_info}
 use Rattle.ring_laws.proofs.Lists.{either_false}
-use Rattle.ring_laws.proofs.Shows.{Sight, Shows}
-use Rattle.ring_laws.proofs.Touches.{IsPage}
 use Rattle.ring_laws.proofs.JobLines.{is_of, IsAside}
 use Rattle.ring_laws.proofs.Places.{ending, ending_aside, IsAt}
 use Rattle.ring_laws.proofs.Began.{IsPlan, HasCome, serves, over, IsJobOf, request_at}
 use Rattle.ring_laws.proofs.Due.{IsWorkOver}
 use Rattle.ring_laws.proofs.Works.{entry_kept}
-use Rattle.ring_laws.proofs.Bystanders.{Tale, disk_is, not_persistent}
-use Rattle.ring_laws.proofs.JobTurn.{asked_for}
+use Rattle.ring_laws.proofs.Fetched.{AreFetched, fetched_in, fetched_is}
 
 -- a line that is no step of a job makes no mapping of it
 made_none : (k : ℕ) (line : Line) → is_of k line ≡ false → made_by k line ≡ None
-made_none k (lines.Move (moves.Map who gref mode number frame)) e = none_if (is_job k (job_of who)) _ e
+made_none k (lines.Move (moves.Map who gref mode number frame)) e = none_if (is_job k (back_mover_job who)) _ e
   where
     none_if : (b : Bool) (s : Standing) → b ≡ false → (if b then Some s else None) ≡ None
     none_if true s e = absurd (cc)
@@ -116,29 +112,17 @@ over_of_done config values epoch t status j done left =
     }
 
 -- the rule finds that status
-status_is : (config : Options) (before : List Line) (values : List ℕ) (k : ℕ) (r : Response) → Tale config before → IsWorkOver config values (this_epoch before) k r → status_at_end before k (request_at values k) ≡ Some r.status
-status_is config before values k r tale o =
-    ap (λ (p : Bool). end_of failed (length (work_tasks request (disk_of before) p read)) (status_by (work_verdict request (disk_of before) read)) (walk_of p (work_tasks request (disk_of before) p read) k (this_epoch before))) (not_persistent config before tale)
-    ∙ (ap (λ (d : DiskInfo). end_of failed (length (work_tasks request d false read)) (status_by (work_verdict request d read)) (walk_of false (work_tasks request d false read) k (this_epoch before))) (disk_is config before tale)
-    ∙ (ap (λ (w : List Task). end_of failed (length w) (status_by (work_verdict request (back_info config) read)) (walk_of false w k (this_epoch before))) (o.tasks read)
-    ∙ (ap (λ (s : Status). ending o.work k (this_epoch before) s) (o.verdict read) ∙ o.ended)))
-  where
-    request : RawRequest
-    request = request_at values k
-
-    read : List ℕ
-    read = values_read before k
-
-    failed : Bool
-    failed = failed_in k (this_epoch before)
+status_is : (config : Options) (before : List Line) (values : List ℕ) (k : ℕ) (r : Response) → IsWorkOver config values (this_epoch before) k r → status_at_end before k (fetched_in config values k) ≡ Some r.status
+status_is config before values k r o =
+    ap (λ (w : List Task). end_of (failed_in k (this_epoch before)) (length w) (status_by (work_verdict (request_at values k) (back_info config) (values_read before k))) (walk_of false w k (this_epoch before))) (o.tasks (values_read before k))
+    ∙ (ap (λ (s : Status). ending o.work k (this_epoch before) s) (o.verdict (values_read before k)) ∙ o.ended)
 
 -- and that response
-pub due : (config : Options) (before : List Line) (x : Sight) (number k : ℕ) (r : Response) → Tale config before → Shows before x → IsPage number x.pages → IsWorkOver config x.values (this_epoch before) k r → response_due before k ≡ Some (response_words_of r)
-due config before x number k r tale shows page o =
-    ap (λ (l : List Standing). if list_all (may_be_kept (is_persistent before)) l then words_due before k (request_of_job before k) else None) o.left
-    ∙ (ap (λ (q : Option RawRequest). words_due before k q) (asked_for before x number k shows page o.first o.read)
-    ∙ (ap (λ (s : Option Status). words_with (request_at x.values k) s) (status_is config before x.values k r tale o)
-    ∙ ap (λ (a : Response). Some (response_words_of a)) o.names))
+pub due : (config : Options) (before : List Line) (values : List ℕ) (k : ℕ) (r : Response) → entry_values before ≡ values → AreFetched config before → IsWorkOver config values (this_epoch before) k r → response_due before k ≡ Some (response_words_of r)
+due config before values k r same are o =
+    ap (λ (f : Option Fetched). words_due before k f) (fetched_is config before values k same are o.first o.read)
+    ∙ (ap (λ (s : Option Status). words_with (request_at values k) s) (status_is config before values k r o)
+    ∙ ap (λ (a : Response). Some (response_words_of a)) o.names)
 
 -- an operation is a byte
 small_request : (words : List ℕ) (status : Status) → (let a : Response = work_response (request_of X64 words) status in a.op) < 2 ^ 8

@@ -8,9 +8,9 @@ use Rattle.schedule_text.specs.declared.line.Line.{Line}
 use Rattle.back_jobs.specs.Task.{Work}
 use Rattle.back_jobs.proofs.Hands.{IsAmong, place_among}
 use Rattle.ring_laws.proofs.JobLines.{IsAside}
-use Rattle.ring_laws.proofs.Works.{AreApart, numbers, number_of, all_first, all_second, all_both, all_more, all_pairs, all_of_map, apart_first, apart_second, apart_without, apart_push, numbers_split}
-use Rattle.ring_laws.proofs.Due.{IsWorkOver, Answered}
-use Rattle.ring_laws.proofs.HasJob.{job_of, jobs_of}
+use Rattle.ring_laws.proofs.Works.{AreApart, numbers, number_of, all_first, all_both, all_more, all_pairs, all_of_map, apart_first, apart_without, apart_push, numbers_split}
+use Rattle.ring_laws.proofs.Due.{IsWorkOver, Answered, job_answered, jobs_of}
+use Rattle.ring_laws.proofs.Matching.{moved}
 use Rattle.ring_laws.proofs.Over.{over_kept}
 
 abbrev pub IsOwed : Options → List ℕ → List Line → Answered → Type 0
@@ -45,7 +45,7 @@ pub owes_told : (config : Options) (values : List ℕ) (epoch ys : List Line) (f
 owes_told config values epoch ys fetched works owed place t new found same aside o =
     let among : IsAmong works place t = place_among works place t found in
     let split : numbers works ≡ numbers among.front ++ t.number ∷ numbers among.rest = numbers_of works among.front among.rest t among.is in
-    let others = all_of_map (λ (m : ℕ). m ≢ t.number) job_of owed (others_in (jobs_of owed) (numbers among.front) (numbers among.rest) t.number (subst (λ (ns : List ℕ). AreApart (jobs_of owed ++ ns)) split o.apart)) in
+    let others = all_of_map (λ (m : ℕ). m ≢ t.number) job_answered owed (others_in (jobs_of owed) (numbers among.front) (numbers among.rest) t.number (subst (λ (ns : List ℕ). AreApart (jobs_of owed ++ ns)) split o.apart)) in
     let now : numbers works ≡ numbers (slice_set works place new) = split ∙ (ap (λ (n : ℕ). numbers among.front ++ n ∷ numbers among.rest) (sym same) ∙ (sym (map-append number_of among.front (new ∷ among.rest)) ∙ ap numbers (sym (among.set new)))) in
     record {
       each = all_pairs (λ (a : Answered). a.job ≢ t.number) (IsOwed config values epoch) (IsOwed config values (epoch ++ ys)) owed (λ a other over. kept a other over) others o.each;
@@ -56,17 +56,6 @@ owes_told config values epoch ys fetched works owed place t new found same aside
     kept : (a : Answered) → a.job ≢ t.number → IsOwed config values epoch a → IsOwed config values (epoch ++ ys) a
     kept a other over = subst (λ (vs : List ℕ). IsOwed config vs (epoch ++ ys) a) (append-nil values) (over_kept config values [] epoch ys a.job a.response (aside a.job other) over)
 
--- a number that is taken out of the second list, and put behind the first
-around : (P : ℕ → Type 0) (xs front rest : List ℕ) (n : ℕ) → AllByRecursion P (xs ++ (front ++ n ∷ rest)) → AllByRecursion P ((xs ++ n ∷ []) ++ (front ++ rest))
-around P xs front rest n all =
-    let behind = all_second P xs (front ++ n ∷ rest) all in
-    let later = all_second P front (n ∷ rest) behind in
-    all_both P (xs ++ n ∷ []) (front ++ rest) (all_both P xs (n ∷ []) (all_first P xs (front ++ n ∷ rest) all) (later.0, tt)) (all_both P front rest (all_first P front (n ∷ rest) behind) later.1)
-
-pub moved : (xs front rest : List ℕ) (n : ℕ) → AreApart (xs ++ (front ++ n ∷ rest)) → AreApart ((xs ++ n ∷ []) ++ (front ++ rest))
-moved [] front rest n apart = (all_both (λ (m : ℕ). m ≢ n) front rest (apart_first front rest n apart) (apart_second front rest n apart), apart_without front rest n apart)
-moved (x ∷ xs) front rest n apart = (around (λ (m : ℕ). m ≢ x) xs front rest n apart.0, moved xs front rest n apart.1)
-
 -- a job that is over is held no longer: its reply begins
 pub owes_begun : (config : Options) (values : List ℕ) (epoch : List Line) (fetched : ℕ) (works : List Work) (owed : List Answered) (place : ℕ) (t : Work) (a : Answered) → slice_get works place ≡ Some t → a.job ≡ t.number → t.number ≤ fetched → IsOwed config values epoch a
     → Owes config values epoch fetched works owed → Owes config values epoch fetched (remove works place) (owed ++ a ∷ [])
@@ -74,7 +63,7 @@ owes_begun config values epoch fetched works owed place t a found is low over o 
     let among : IsAmong works place t = place_among works place t found in
     let split : numbers works ≡ numbers among.front ++ t.number ∷ numbers among.rest = numbers_of works among.front among.rest t among.is in
     let apart : AreApart ((jobs_of owed ++ t.number ∷ []) ++ (numbers among.front ++ numbers among.rest)) = moved (jobs_of owed) (numbers among.front) (numbers among.rest) t.number (subst (λ (ns : List ℕ). AreApart (jobs_of owed ++ ns)) split o.apart) in
-    let jobs : jobs_of owed ++ t.number ∷ [] ≡ jobs_of (owed ++ a ∷ []) = ap (λ (n : ℕ). jobs_of owed ++ n ∷ []) (sym is) ∙ sym (map-append job_of owed (a ∷ [])) in
+    let jobs : jobs_of owed ++ t.number ∷ [] ≡ jobs_of (owed ++ a ∷ []) = ap (λ (n : ℕ). jobs_of owed ++ n ∷ []) (sym is) ∙ sym (map-append job_answered owed (a ∷ [])) in
     let left : numbers among.front ++ numbers among.rest ≡ numbers (remove works place) = sym (map-append number_of among.front among.rest) ∙ ap numbers (sym among.removed) in
     record {
       each = all_both (IsOwed config values epoch) owed (a ∷ []) o.each (over, tt);

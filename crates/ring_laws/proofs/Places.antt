@@ -1,6 +1,6 @@
 -- How far a job is in the work of its entry, by its stage.
 use Rattle.std.proofs.Common.{◌≡◌, ℕ, ◌+◌, ◌-◌, ◌*◌, ◌<◌, ◌≤◌, Bool, true, false, if◌then◌else◌, List, [], ◌∷◌, ◌++◌, length, count_by, refl, ap, ◌∙◌, append-nil, arith}
-use Rattle.std.specs.Prelude.{slice_get, nat_le, Option, Some, None, option_and_then}
+use Rattle.std.specs.Prelude.{slice_get, nat_le, Option, Some, None, option_and_then, IfSome}
 use Rattle.std.specs.List.{AllByRecursion}
 use Rattle.std.proofs.lemmas.Bool.Decides.{nat_tests}
 use Rattle.blk_base.specs.declared.operation.Status.{Status}
@@ -15,7 +15,7 @@ use Rattle.report_rules.specs.declared.walk.Spot.{Spot}
 use Rattle.report_rules.specs.declared.work.Task.{Task}
 use Rattle.report_rules.specs.declared.work.Task.TheVariants as tasks
 use Rattle.report_rules.specs.Work.{stores_of, loads_of}
-use Rattle.report_rules.specs.Steps.{spot, advanced, walk_of, failed_in}
+use Rattle.report_rules.specs.Steps.{spot, advanced, walk_of, failed_in, touched_by}
 use Rattle.report_rules.specs.Data.{words_from}
 use Rattle.report_rules.specs.Reply.{end_of}
 use Rattle.back_jobs.specs.declared.stage.Stage.{Stage}
@@ -32,9 +32,8 @@ tasks_of false disk segments = loads_of disk segments
 -- between two segments: these are left
 pub record Before (work : List Task) (k : ℕ) (epoch : List Line) (rest : List Segment) (disk moved : ℕ) (writes : Bool) : Type 0 where
   pub done : List Task
-  pub gref : ℕ
   pub tail : work ≡ done ++ tasks_of writes disk rest
-  pub came : walk_of false work k epoch ≡ Some (spot (length done) 0 false gref)
+  pub came : walk_of false work k epoch ≡ Some (spot (length done) 0 false None)
   pub sound : AllByRecursion IsSound rest
   pub few : moved + sectors_of rest ≤ 88
   pub counted : count_by (is_disk_of k) epoch ≡ moved
@@ -52,7 +51,7 @@ pub record Within (work : List Task) (k : ℕ) (epoch : List Line) (rest : List 
   pub disk_is : disk + ahead ≡ begin + i + 1
   pub done : List Task
   pub tail : work ≡ done ++ tasks_of writes begin (segment ∷ more)
-  pub came : walk_of false work k epoch ≡ Some (spot (length done) (1 + (129 * i + j)) false segment.gref)
+  pub came : walk_of false work k epoch ≡ Some (spot (length done) (1 + (129 * i + j)) false (Some m.number))
   pub gref : m.gref ≡ segment.gref
   pub sound : AllByRecursion IsSound (segment ∷ more)
   pub few : moved + ahead + (segment.last - within) + sectors_of more ≤ 88
@@ -95,8 +94,8 @@ all_done work k epoch disk moved writes b =
     enough n = grind (arith, nat_tests)
 
 -- a map was refused
-pub refused_end : (work : List Task) (k : ℕ) (epoch : List Line) (done place gref : ℕ) → failed_in k epoch ≡ false → walk_of false work k epoch ≡ Some (spot done place true gref) → ending work k epoch Okay ≡ Some Error
-refused_end work k epoch done place gref whole came =
+pub refused_end : (work : List Task) (k : ℕ) (epoch : List Line) (done place : ℕ) (mapping : Option ℕ) → failed_in k epoch ≡ false → walk_of false work k epoch ≡ Some (spot done place true mapping) → ending work k epoch Okay ≡ Some Error
+refused_end work k epoch done place mapping whole came =
     ap (λ (failed : Bool). end_of failed (length work) Okay (walk_of false work k epoch)) whole ∙ ap (λ (s : Option Spot). end_of false (length work) Okay s) came
 
 -- the disk failed
@@ -140,10 +139,11 @@ passed work done segment more false begin tail = record {
   long = length_one done (tasks.Load segment.gref begin segment.first (length_of segment));
 }
 
--- a move is the next step of the job's work, about this reference
-pub record IsStepOn (work : List Task) (k : ℕ) (epoch : List Line) (shown : Move) (gref : ℕ) : Type 0 where
-  pub done : ℕ
-  pub place : ℕ
-  pub refused : Bool
-  pub taken : option_and_then (advanced false work shown) (walk_of false work k epoch) ≡ Some (spot done place refused gref)
+-- a move is the next step of the job's work, through the mapping in hand
+pub record IsStepOn (work : List Task) (k : ℕ) (epoch : List Line) (shown : Move) : Type 0 where
+  pub here : Spot
+  pub after : Spot
+  pub came : walk_of false work k epoch ≡ Some here
+  pub taken : option_and_then (advanced false work shown) (walk_of false work k epoch) ≡ Some after
+  pub hand : IfSome (touched_by shown) (λ (number : ℕ). here.mapping ≡ Some number)
   pub whole : failed_in k epoch ≡ false

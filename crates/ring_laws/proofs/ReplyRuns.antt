@@ -1,6 +1,7 @@
 -- Whatever happens from the start, the back replies only what a job is due, once.
-use Rattle.std.proofs.Common.{◌≡◌, ℕ, ◌<◌, ◌^◌, Bool, false, if◌then◌else◌, List, [], ◌∷◌, ◌++◌, length, refl, ap, sym, ◌∙◌, subst, append-nil}
+use Rattle.std.proofs.Common.{◌≡◌, ℕ, ◌<◌, ◌^◌, ◌||◌, Bool, false, if◌then◌else◌, List, [], ◌∷◌, ◌++◌, length, refl, ap, sym, ◌∙◌, subst, append-nil}
 use Rattle.std.specs.Prelude.{Option, Some, None, is_some}
+use Rattle.std.specs.List.{list_any}
 use Rattle.std.proofs.lemmas.Option.{none-some}
 use Rattle.blk_base.specs.Options.{Options}
 use Rattle.blk_base.specs.declared.ask.BackAsk.TheVariants as ask
@@ -10,7 +11,7 @@ use Rattle.schedule_text.specs.declared.line.Line.TheVariants as lines
 use Rattle.schedule_text.specs.declared.line.Detail.{Detail}
 use Rattle.hypervisor.specs.Act.{FrontAct, BackAct, Outcome, Took, back_act}
 use Rattle.report_rules.specs.Job.{entry_values}
-use Rattle.report_rules.specs.Standing.{this_epoch}
+use Rattle.report_rules.specs.Standing.{is_epoch, this_epoch}
 use Rattle.report_rules.specs.Reply.{AreReplies}
 use Rattle.back_jobs.specs.Jobs.{ask_job, asked, place_of, work_of, work_at, told_at as told_works}
 use Rattle.back_jobs.specs.Task.{Work, step_of}
@@ -28,16 +29,18 @@ use Rattle.hypervisor.specs.Hypervisor.{Hypervisor}
 use Rattle.split_model.specs.World.{World, start_of, is_quiet}
 use Rattle.split_model.specs.Happening.{Happening, FrontMoves, BackMoves, JobMoves, Submits, Notifies, Looks, Settles, happens, lines_at, after, front_after, front_shows, back_after, back_shows, job_after, job_shows, front_turn, back_turn, job_turn}
 use Rattle.split_model.specs.Report.{report_of, ended_report_of}
-use Rattle.move_laws.specs.Within.{IsWithin}
+use Rattle.move_laws.specs.Permitted.{IsPermitted}
 use Rattle.move_laws.proofs.Always.{always_within}
 use Rattle.split_model.proofs.SafeAnswers.{backs_of, jobs_of}
 use Rattle.back_jobs.specs.Jobs.{mapping_at}
 use Rattle.ring_laws.proofs.Shows.{Sight}
 use Rattle.ring_laws.proofs.Knows.{KnowsAt, Knows, Follows}
 use Rattle.ring_laws.proofs.Stages.{back_goes}
-use Rattle.ring_laws.proofs.Free.{AreFree, front_free, job_free, job_running, free_front, free_told, free_submit, free_look, free_settle}
+use Rattle.ring_laws.proofs.Sight.{other_epoch}
+use Rattle.ring_laws.proofs.Free.{IsFree, AreFree, front_free, job_free, job_running, free_front, free_told, free_submit, free_look, free_settle}
 use Rattle.ring_laws.proofs.Works.{AreJobs, job_found, all_second}
-use Rattle.ring_laws.proofs.Bystanders.{AreBystanders, Aside, bystanders_go, bystanders_aside}
+use Rattle.ring_laws.proofs.Bystanders.{Tale, IsBystander, AreBystanders, Aside, plain_epoch, bystanders_go, bystanders_aside}
+use Rattle.ring_laws.proofs.Stays.{IsOn, AreIdle, move_idle}
 use Rattle.ring_laws.proofs.BackChange.{Changed, change_at, back_by, told_by, front_by, front_told_by}
 use Rattle.ring_laws.proofs.Tells.{Tells, small_number}
 use Rattle.ring_laws.proofs.BackTells.{lines_of_back, told_none}
@@ -47,12 +50,13 @@ use Rattle.ring_laws.proofs.After.{kept_after}
 use Rattle.ring_laws.proofs.JobRuns.{Stand, same_values, stand_start, stand_happens, submit_by, look_by, settle_by}
 use Rattle.ring_laws.proofs.MakerTurns.{Made}
 use Rattle.ring_laws.proofs.MakerRuns.{made_happens, made_start, hand_empty}
-use Rattle.ring_laws.proofs.Due.{Answered, Writes, IsWorkOver, response_in}
+use Rattle.ring_laws.proofs.Due.{Answered, Writes, IsWorkOver, response_in, answered_then}
 use Rattle.ring_laws.proofs.Over.{over_of_done, over_kept, small_op}
 use Rattle.ring_laws.proofs.Owed.{IsOwed, Owes, owes_aside, owes_told, nothing_owed}
-use Rattle.ring_laws.proofs.Replying.{pending, pending_at, IsDone, IsOwing, Finds, OwesThen, owes_at}
+use Rattle.ring_laws.proofs.Replying.{pending, pending_at, IsReplyOf, IsOwing, Finds, OwesThen, owes_at}
 use Rattle.ring_laws.proofs.NextReply.{next_has}
-use Rattle.ring_laws.proofs.WrittenBack.{answered_after, back_writes}
+use Rattle.ring_laws.proofs.WrittenBack.{MoveWrites, back_writes}
+use Rattle.ring_laws.proofs.Chosen.{IsChosen, chosen_aside, chosen_goes}
 use Rattle.ring_laws.proofs.Written.{start_writes, end_writes}
 use Rattle.ring_laws.proofs.WrittenElse.{AreElse, other_writes, front_else, job_else, submit_else, look_else, settle_else}
 
@@ -62,12 +66,23 @@ pub record Replies (config : Options) (before : List Line) (v : back.View) : Typ
   pub job : ℕ
   pub writes : Writes before v.stage answered
   pub owes : IsOwing config (entry_values before) (this_epoch before) answered job v
+  pub chosen : IsChosen before v.stage answered
 
 same_owes : (config : Options) (values values' : List ℕ) (epoch epoch' : List Line) (fetched : ℕ) (works : List Work) (owed : List Answered) → values ≡ values' → epoch ≡ epoch' → Owes config values epoch fetched works owed → Owes config values' epoch' fetched works owed
 same_owes config values values' epoch epoch' fetched works owed p q o = subst (λ (ls : List Line). Owes config values' ls fetched works owed) q (subst (λ (vs : List ℕ). Owes config vs epoch fetched works owed) p o)
 
 no_lines : (config : Options) (before : List Line) (v : back.View) → Replies config before v → Replies config (before ++ []) v
 no_lines config before v r = subst (λ (ls : List Line). Replies config ls v) (sym (append-nil before)) r
+
+bystanders_idle : (before ys : List Line) → AreBystanders ys → AreIdle before ys
+bystanders_idle before ys all k words due = bystanders_aside k ys all
+
+bystanders_on : (config : Options) (before ys : List Line) → AreBystanders ys → this_epoch (before ++ ys) ≡ this_epoch before ++ ys → IsOn before ys
+bystanders_on config before ys all epoch = record { epoch = epoch; same = no_epoch ys all }
+  where
+    no_epoch : (ls : List Line) → AreBystanders ls → list_any is_epoch ls ≡ false
+    no_epoch [] all = refl
+    no_epoch (l ∷ ls) all = let b : IsBystander l = all.0 in ap (λ (c : Bool). c || list_any is_epoch ls) (plain_epoch l b.plain) ∙ no_epoch ls all.1
 
 -- lines of others
 others : (config : Options) (before ys : List Line) (v : back.View) → AreElse ys → AreBystanders ys → entry_values (before ++ ys) ≡ entry_values before → Tells config before v → Replies config before v → Replies config (before ++ ys) v
@@ -79,6 +94,7 @@ others config before ys v elses all same t r =
       writes = other_writes before ys v.stage r.answered elses r.writes;
       owes = λ runs. same_owes config (entry_values before ++ []) (entry_values (before ++ ys)) (this_epoch before ++ ys) (this_epoch (before ++ ys)) v.fetched v.jobs.works _ (append-nil (entry_values before) ∙ sym same) (sym go.epoch)
           (owes_aside config (entry_values before) [] (this_epoch before) ys v.fetched v.jobs.works _ (λ k. bystanders_aside k ys all) (r.owes runs));
+      chosen = chosen_aside before ys v.stage r.answered elses (bystanders_on config before ys all go.epoch) (bystanders_idle before ys all) r.chosen;
     }
 
 others_free : (config : Options) (w : World) (before ys : List Line) → AreElse ys → AreBystanders ys → AreFree (is_some w.back.halted) ys → Stand config before w → Replies config before w.back → Replies config (before ++ ys) w.back
@@ -98,7 +114,7 @@ front_after_replies config w before None r = r
 front_after_replies config w before (Some a) r = r
 
 -- the job whose reply begins is over
-done_owed : (config : Options) (before : List Line) (v : back.View) (r : Reply) (d : IsDone v.jobs.works r) → is_some v.halted ≡ false → Tells config before v → Made before v → IsOwed config (entry_values before) (this_epoch before) (let t : Work = d.job in pending t.number r)
+done_owed : (config : Options) (before : List Line) (v : back.View) (r : Reply) (d : IsReplyOf v.jobs.works r) → is_some v.halted ≡ false → Tells config before v → Made before v → IsOwed config (entry_values before) (this_epoch before) (let t : Work = d.job in pending t.number r)
 done_owed config before v r d runs t made =
     let job : Work = d.job in
     let left = hand_empty before v made runs d.place d.job d.found (ap mapping_at d.stage) in
@@ -152,14 +168,17 @@ back_replies config w before o (Some a) e s stand made r =
     let finds = λ (runs : is_some v.halted ≡ false). finds_of config before (lines_of_back w.back a) gone.more w.back (back_step.step_of w.back a.answer) f.sight f.knows all grown go.epoch runs t (record { tale = behind.tale; quiet = behind.quiet; info = behind.info; jobs = behind.jobs; unseen = behind.unseen }) made in
     let owes = λ (runs : is_some v.halted ≡ false). same_owes config (entry_values before ++ gone.more) (entry_values (before ++ lines_of_back w.back a)) (this_epoch before ++ lines_of_back w.back a) (this_epoch (before ++ lines_of_back w.back a)) v.fetched v.jobs.works (r.answered ++ pending_at v.stage r.job) grown (sym go.epoch)
     (owes_aside config (entry_values before) gone.more (this_epoch before) (lines_of_back w.back a) v.fetched v.jobs.works _ (λ k. bystanders_aside k (lines_of_back w.back a) all) (r.owes runs)) in
-    let next : OwesThen config (entry_values (before ++ lines_of_back w.back a)) (this_epoch (before ++ lines_of_back w.back a)) (answered_after v.stage r.answered r.job v.ring.prod) (back_step.step_of w.back a.answer) = owes_at config (entry_values (before ++ lines_of_back w.back a)) (this_epoch (before ++ lines_of_back w.back a)) r.answered r.job v.stage w.back f.sight a.answer refl f.knows finds owes in
+    let next : OwesThen config (entry_values (before ++ lines_of_back w.back a)) (this_epoch (before ++ lines_of_back w.back a)) (answered_then v.stage r.answered r.job v.ring.prod) (back_step.step_of w.back a.answer) = owes_at config (entry_values (before ++ lines_of_back w.back a)) (this_epoch (before ++ lines_of_back w.back a)) r.answered r.job v.stage w.back f.sight a.answer refl f.knows finds owes in
     let held = λ (none : v.halted ≡ None). same_owes config (entry_values before) f.sight.values (this_epoch before) (this_epoch before) v.fetched v.jobs.works (r.answered ++ pending_at v.stage r.job) f.shows.values refl (r.owes (runs_on none)) in
-    let done = λ (none : v.halted ≡ None) (q : Reply) (d : IsDone v.jobs.works q). subst (λ (vs : List ℕ). IsOwed config vs (this_epoch before) (let u : Work = d.job in pending u.number q)) f.shows.values (done_owed config before w.back q d (runs_on none) t made) in
+    let done = λ (none : v.halted ≡ None) (q : Reply) (d : IsReplyOf v.jobs.works q). subst (λ (vs : List ℕ). IsOwed config vs (this_epoch before) (let u : Work = d.job in pending u.number q)) f.shows.values (done_owed config before w.back q d (runs_on none) t made) in
+    let goes : MoveWrites before (answered_then v.stage r.answered r.job v.ring.prod) v.stage w.back a.answer a.shown (back_step.step_of w.back a.answer) =
+    back_writes before w.under w.back o a f.sight r.answered r.job f.knows f.shows s.ring.told r.writes (next_has config before f.sight v.stage w.back r.answered r.job f.knows f.shows.values s.fetched r.chosen done held) (producer_op config f.sight.values (this_epoch before) r.answered r.job v.stage w.back f.sight f.knows held) e in
     record {
-      answered = answered_after v.stage r.answered r.job v.ring.prod;
+      answered = answered_then v.stage r.answered r.job v.ring.prod;
       job = next.job;
-      writes = back_writes before w.under w.back o a f.sight r.answered r.job f.knows f.knows f.shows s.ring.told r.writes (next_has config before f.sight v.stage w.back r.answered r.job f.knows t.tale f.shows done held) (producer_op config f.sight.values (this_epoch before) r.answered r.job v.stage w.back f.sight f.knows held) e;
+      writes = goes.writes;
       owes = next.owes;
+      chosen = chosen_goes before (lines_of_back w.back a) v.stage new.stage r.answered r.job v.ring.prod goes.row (bystanders_on config before (lines_of_back w.back a) all go.epoch) (bystanders_idle before (lines_of_back w.back a) all) r.chosen;
     }
 
 -- a job moved: those that were answered are others
@@ -175,6 +194,10 @@ moved_owes config before h v k o a (Some place) (Some t) owed at is e same told 
     same_owes config (entry_values before) (entry_values (before ++ lines_of_job (Some t) a)) (this_epoch before ++ lines_of_job (Some t) a) (this_epoch (before ++ lines_of_job (Some t) a)) v.fetched _ owed (sym same) (sym behind.epoch)
     (owes_told config (entry_values before) (this_epoch before) (lines_of_job (Some t) a) v.fetched v.jobs.works owed place t (step_of t a.answer) is kept.number (λ n other. told.aside n (λ same_k. other (same_k ∙ sym number))) owes)
 
+free_epochs : (over : Bool) (ys : List Line) → AreFree over ys → list_any is_epoch ys ≡ false
+free_epochs over [] free = refl
+free_epochs over (y ∷ ys) free = let f : IsFree over y = free.0 in ap (λ (c : Bool). c || list_any is_epoch ys) (other_epoch y f.other) ∙ free_epochs over ys free.1
+
 job_replies : (config : Options) (w : World) (before : List Line) (k : ℕ) (o : Outcome) (act : Option BackAct) → job_turn w k o ≡ act → Stand config before w → Replies config before w.back → (let n : World = job_after w k act in Replies config (before ++ job_shows w k act) n.back)
 job_replies config w before k o None e s r = no_lines config before w.back r
 job_replies config w before k o (Some a) e s r =
@@ -183,13 +206,17 @@ job_replies config w before k o (Some a) e s r =
     let running : is_some v.halted ≡ false = job_running (is_some w.back.halted) w.under k (ask_job w.back.jobs k) o a e in
     let asks = ap (λ (b : Bool). back_act w.under (mover.Job k) (if b then ask.Wait else ask_job w.back.jobs k) o) (sym running) ∙ e in
     let free : AreFree (is_some w.back.halted) (job_shows w k (Some a)) = (job_free (is_some w.back.halted) w.under k (back_step.job_ask_of w.back k) o a running (jobs_of w.back k) e, free_told (is_some w.back.halted) _ a.answer running) in
-    let told = job_tells config config.start before w.under.pages w.under.grants w.under w.back k o a (place_of w.back.jobs.works k) (work_of w.back.jobs.works k) refl refl running f s.memory.tells s.safe.held free s.tells asks in
+    let told : JobTells config before (job_shows w k (Some a)) w.back k _ = job_tells config config.start before w.under w.back k o a (place_of w.back.jobs.works k) (work_of w.back.jobs.works k) refl refl running f s.fetched free s.tells asks in
     let same : entry_values (before ++ job_shows w k (Some a)) ≡ entry_values before = same_values (is_some w.back.halted) before (job_shows w k (Some a)) f.sight free f.shows in
+    let elses : AreElse (job_shows w k (Some a)) = job_else w.under k (back_step.job_ask_of w.back k) o a _ (jobs_of w.back k) e in
+    let behind : After config before (job_shows w k (Some a)) = told.after in
+    let behind_tale : Tale config (before ++ job_shows w k (Some a)) = behind.tale in
     record {
       answered = r.answered;
       job = r.job;
-      writes = other_writes before (job_shows w k (Some a)) v.stage r.answered (job_else w.under k (back_step.job_ask_of w.back k) o a _ (jobs_of w.back k) e) r.writes;
+      writes = other_writes before (job_shows w k (Some a)) v.stage r.answered elses r.writes;
       owes = λ runs. moved_owes config before w.under w.back k o a (place_of w.back.jobs.works k) (work_of w.back.jobs.works k) (r.answered ++ pending_at v.stage r.job) refl refl asks same told (r.owes running);
+      chosen = chosen_aside before (job_shows w k (Some a)) v.stage r.answered elses (record { epoch = behind.epoch; same = free_epochs (is_some w.back.halted) (job_shows w k (Some a)) free }) (move_idle before a.shown _ a.answer behind_tale.obeys) r.chosen;
     }
 
 replies_happen : (config : Options) (w : World) (h : Happening) (before : List Line) → Stand config before w → Stand config (before ++ lines_at w h) (happens w h) → Made before w.back → Replies config before w.back → (let n : World = happens w h in Replies config (before ++ lines_at w h) n.back)
@@ -207,13 +234,13 @@ record All (config : Options) (before : List Line) (w : World) : Type 0 where
   made : Made before w.back
   replies : Replies config before w.back
 
-all_happens : (config : Options) (w : World) (h : Happening) (before : List Line) → IsWithin w h → All config before w → length (before ++ lines_at w h) < 2 ^ 64 → All config (before ++ lines_at w h) (happens w h)
+all_happens : (config : Options) (w : World) (h : Happening) (before : List Line) → IsPermitted w h → All config before w → length (before ++ lines_at w h) < 2 ^ 64 → All config (before ++ lines_at w h) (happens w h)
 all_happens config w h before within all few =
     let t : Stand config (before ++ lines_at w h) (happens w h) = stand_happens config w h before within all.stand few in
     record { stand = t; made = made_happens config w h before all.stand t all.made; replies = replies_happen config w h before all.stand t all.made all.replies }
 
 start_replies : (config : Options) (detail : Detail) → (let w : World = start_of config in Replies config (lines.Begin config detail ∷ []) w.back)
-start_replies config detail = record { answered = []; job = 0; writes = start_writes config detail; owes = λ runs. nothing_owed config (entry_values (lines.Begin config detail ∷ [])) (this_epoch (lines.Begin config detail ∷ [])) 0 }
+start_replies config detail = record { answered = []; job = 0; writes = start_writes config detail; owes = λ runs. nothing_owed config (entry_values (lines.Begin config detail ∷ [])) (this_epoch (lines.Begin config detail ∷ [])) 0; chosen = record { matched = []; chosen = refl; answers = refl; due = tt; stays = λ k words due. due; row = tt } }
 
 report_all : (config : Options) (detail : Detail) (history : List Happening) → length (report_of config detail history) < 2 ^ 64 → All config (report_of config detail history) (after history (start_of config))
 report_all config detail history few = kept_after (All config) (all_happens config) history (start_of config) (lines.Begin config detail ∷ []) (always_within config history) (record { stand = stand_start config detail; made = made_start config detail; replies = start_replies config detail }) few

@@ -29,10 +29,8 @@ use Rattle.ring_laws.proofs.Shows.{Sight}
 use Rattle.ring_laws.proofs.Began.{IsJobOf}
 use Rattle.ring_laws.proofs.Works.{AreJobs, AreApart, numbers, all_first, all_second, all_both}
 use Rattle.ring_laws.proofs.BackTells.{begun_number}
-use Rattle.ring_laws.proofs.Due.{Answered, response_in}
-use Rattle.ring_laws.proofs.HasJob.{job_of, jobs_of}
+use Rattle.ring_laws.proofs.Due.{Answered, response_in, answered_then, job_answered, jobs_of}
 use Rattle.ring_laws.proofs.Owed.{IsOwed, Owes, owes_begun, owes_fetched}
-use Rattle.ring_laws.proofs.WrittenBack.{answered_after}
 
 -- the reply under way, and the job that it answers
 abbrev pub pending : ℕ → Reply → Answered
@@ -45,7 +43,7 @@ pending_at (stage.Producer r) k = pending k r ∷ []
 pending_at s k = []
 
 -- the job whose reply begins
-pub record IsDone (works : List Work) (r : Reply) : Type 0 where
+pub record IsReplyOf (works : List Work) (r : Reply) : Type 0 where
   pub place : ℕ
   pub job : Work
   pub status : Status
@@ -54,18 +52,18 @@ pub record IsDone (works : List Work) (r : Reply) : Type 0 where
   pub stage : job.stage ≡ job_stage.Done status
   pub is : response_in r ≡ record { id = job.id; op = job.op; status = status }
 
-pub done_found : (works : List Work) (r : Reply) → reply_of (option_and_then response_of (work_at works (position (λ (t : Work). is_done t) works))) ≡ Some r → IsDone works r
+pub done_found : (works : List Work) (r : Reply) → reply_of (option_and_then response_of (work_at works (position (λ (t : Work). is_done t) works))) ≡ Some r → IsReplyOf works r
 done_found works r = by_place (position (λ (t : Work). is_done t) works) refl
   where
-    by_stage : (i : ℕ) (t : Work) (s : JobStage) → position (λ (u : Work). is_done u) works ≡ Some i → slice_get works i ≡ Some t → t.stage ≡ s → reply_of (response_at s t) ≡ Some r → IsDone works r
+    by_stage : (i : ℕ) (t : Work) (s : JobStage) → position (λ (u : Work). is_done u) works ≡ Some i → slice_get works i ≡ Some t → t.stage ≡ s → reply_of (response_at s t) ≡ Some r → IsReplyOf works r
     by_stage i t (job_stage.Done status) p f s e = record { place = i; job = t; status = status; lowest = p; found = f; stage = s; is = ap response_in (sym (same_Some _ r e)) }
     by_stage i t s p f is e = absurd (none-some r e)
 
-    by_work : (i : ℕ) (found : Option Work) → position (λ (t : Work). is_done t) works ≡ Some i → slice_get works i ≡ found → reply_of (option_and_then response_of found) ≡ Some r → IsDone works r
+    by_work : (i : ℕ) (found : Option Work) → position (λ (t : Work). is_done t) works ≡ Some i → slice_get works i ≡ found → reply_of (option_and_then response_of found) ≡ Some r → IsReplyOf works r
     by_work i None p f e = absurd (none-some r e)
     by_work i (Some t) p f e = by_stage i t t.stage p f refl e
 
-    by_place : (place : Option ℕ) → position (λ (t : Work). is_done t) works ≡ place → reply_of (option_and_then response_of (work_at works place)) ≡ Some r → IsDone works r
+    by_place : (place : Option ℕ) → position (λ (t : Work). is_done t) works ≡ place → reply_of (option_and_then response_of (work_at works place)) ≡ Some r → IsReplyOf works r
     by_place None p e = absurd (none-some r e)
     by_place (Some i) p e = by_work i (slice_get works i) p refl e
 
@@ -95,8 +93,8 @@ pub record Finds (config : Options) (values : List ℕ) (epoch : List Line) (v :
   pub small : v.fetched < 2 ^ 64
   pub low : AllByRecursion (λ (n : ℕ). n ≤ v.fetched) (numbers v.jobs.works)
   pub later : is_some new.halted ≡ false → AreJobs config values epoch new.fetched new.jobs.works
-  pub done : (r : Reply) (d : IsDone v.jobs.works r) → IsOwed config values epoch (let t : Work = d.job in pending t.number r)
-  pub lower : (r : Reply) (d : IsDone v.jobs.works r) → (let t : Work = d.job in t.number ≤ v.fetched)
+  pub done : (r : Reply) (d : IsReplyOf v.jobs.works r) → IsOwed config values epoch (let t : Work = d.job in pending t.number r)
+  pub lower : (r : Reply) (d : IsReplyOf v.jobs.works r) → (let t : Work = d.job in t.number ≤ v.fetched)
 
 -- the job of an entry that was read to its end
 begins : (config : Options) (values : List ℕ) (epoch : List Line) (answered : List Answered) (k : ℕ) (v : View) (words : List ℕ) → (is_some v.halted ≡ false → Finds config values epoch v (fetched v words)) → IsResting config values epoch answered v → IsOwing config values epoch answered k (fetched v words)
@@ -126,11 +124,11 @@ stays config values epoch answered k v o = record { job = k; owes = o }
 replies : (config : Options) (values : List ℕ) (epoch : List Line) (answered : List Answered) (v : View) (r : Reply) (a : BackAnswer) → next_reply v ≡ Some r → (is_some v.halted ≡ false → Finds config values epoch v (loop_step v (Some r) a)) → IsResting config values epoch answered v
     → OwesThen config values epoch answered (loop_step v (Some r) a)
 replies config values epoch answered v r a e finds o =
-    let d : IsDone v.jobs.works r = done_found v.jobs.works r e in
+    let d : IsReplyOf v.jobs.works r = done_found v.jobs.works r e in
     let t : Work = d.job in
     record { job = t.number; owes = λ runs. subst (λ (p : Option ℕ). Owes config values epoch v.fetched (removed_at v.jobs.works p) (answered ++ pending t.number r ∷ [])) (sym d.lowest) (begun_reply d (finds runs) (o runs)) }
   where
-    begun_reply : (d : IsDone v.jobs.works r) → Finds config values epoch v (loop_step v (Some r) a) → Owes config values epoch v.fetched v.jobs.works (answered ++ []) → (let t : Work = d.job in Owes config values epoch v.fetched (remove v.jobs.works d.place) (answered ++ pending t.number r ∷ []))
+    begun_reply : (d : IsReplyOf v.jobs.works r) → Finds config values epoch v (loop_step v (Some r) a) → Owes config values epoch v.fetched v.jobs.works (answered ++ []) → (let t : Work = d.job in Owes config values epoch v.fetched (remove v.jobs.works d.place) (answered ++ pending t.number r ∷ []))
     begun_reply d f rest =
         let t : Work = d.job in
         let nothing : Owes config values epoch v.fetched v.jobs.works answered = subst (λ (l : List Answered). Owes config values epoch v.fetched v.jobs.works l) (append-nil answered) rest in
@@ -159,7 +157,7 @@ pushed : (config : Options) (values : List ℕ) (epoch : List Line) (answered : 
     → Owes config values epoch fetched works ((answered ++ record { job = k; response = response_in r; producer = producer } ∷ []) ++ [])
 pushed config values epoch answered k producer fetched works r o =
     let a : Answered = record { job = k; response = response_in r; producer = producer } in
-    let jobs : jobs_of (answered ++ pending k r ∷ []) ≡ jobs_of ((answered ++ record { job = k; response = response_in r; producer = producer } ∷ []) ++ []) = map-append job_of answered (pending k r ∷ []) ∙ (sym (map-append job_of answered (a ∷ [])) ∙ ap jobs_of (sym (append-nil (answered ++ a ∷ [])))) in
+    let jobs : jobs_of (answered ++ pending k r ∷ []) ≡ jobs_of ((answered ++ record { job = k; response = response_in r; producer = producer } ∷ []) ++ []) = map-append job_answered answered (pending k r ∷ []) ∙ (sym (map-append job_answered answered (a ∷ [])) ∙ ap jobs_of (sym (append-nil (answered ++ a ∷ [])))) in
     let last : IsOwed config values epoch (pending k r) = (all_second (IsOwed config values epoch) answered (pending k r ∷ []) o.each).0 in
     record {
       each = all_both (IsOwed config values epoch) (answered ++ a ∷ []) [] (all_both (IsOwed config values epoch) answered (a ∷ []) (all_first (IsOwed config values epoch) answered (pending k r ∷ []) o.each) (last, tt)) tt;
@@ -168,7 +166,7 @@ pushed config values epoch answered k producer fetched works r o =
     }
 
 pub owes_at : (config : Options) (values : List ℕ) (epoch : List Line) (answered : List Answered) (k : ℕ) (s : Stage) (v : View) (x : Sight) (a : BackAnswer) → v.stage ≡ s → KnowsAt s x v.ring v.page v.seen v.halted v.entry v.fetched → (is_some v.halted ≡ false → Finds config values epoch v (step_at s v a))
-    → (is_some v.halted ≡ false → Owes config values epoch v.fetched v.jobs.works (answered ++ pending_at s k)) → OwesThen config values epoch (answered_after s answered k v.ring.prod) (step_at s v a)
+    → (is_some v.halted ≡ false → Owes config values epoch v.fetched v.jobs.works (answered ++ pending_at s k)) → OwesThen config values epoch (answered_then s answered k v.ring.prod) (step_at s v a)
 owes_at config values epoch answered k stage.MapRing v x (answers.Mapped m) here knows finds o = stays config values epoch answered k _ (λ runs. o runs)
 owes_at config values epoch answered k stage.MapRing v x (answers.MapRefused status) here knows finds o = stays config values epoch answered k _ (λ runs. over true refl runs)
 owes_at config values epoch answered k stage.Bind v x answers.Done here knows finds o = stays config values epoch answered k _ (λ runs. o runs)

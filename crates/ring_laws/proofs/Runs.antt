@@ -80,7 +80,7 @@ follows_begin config detail = record {
   begun = refl;
   more = [];
   grown = refl;
-  shows = record { pages = refl; replied = refl; produced = refl; words = refl; start = refl; values = refl; abi = refl; fresh = λ none. refl };
+  shows = record { pages = refl; replied = refl; produced = refl; words = refl; start = refl; values = refl; abi = refl; fresh = λ none. refl; few = λ page pages e. absurd (cc) };
   knows = record { entries = refl; running = refl; unmapped = refl; replied = refl; produced = refl; words = refl; consumed = refl; values = refl; numbered = refl };
   stands = stands_more [] (lines.Begin config detail) config.start false (stands_none config.start) refl refl (λ over. refl) refl (λ small. foreign_stretch [] (lines.Begin config detail) refl refl);
 }

@@ -42,6 +42,7 @@ pub record Shows (before : List Line) (x : Sight) : Type 0 where
   pub values : entry_values before ≡ x.values
   pub abi : ring_abi before ≡ Some X64
   pub fresh : x.pages ≡ [] → list_any is_touch (this_epoch before) ≡ false
+  pub few : (page : Standing) (pages : List Standing) → x.pages ≡ page ∷ pages → pages ≡ []
 
 -- the lines of the epoch, with one more
 pub epoch_longer : (before : List Line) (line : Line) → is_epoch line ≡ false → this_epoch (before ++ line ∷ []) ≡ this_epoch before ++ line ∷ []
@@ -51,11 +52,11 @@ one_page : (made : Option Standing) → cons_option made [] ≡ option_to_list m
 one_page None = refl
 one_page (Some m) = refl
 
-untouched_value : (before : List Line) (line : Line) → is_touch line ≡ false → entry_value before line ≡ None
+pub untouched_value : (before : List Line) (line : Line) → is_touch line ≡ false → entry_value before line ≡ None
 untouched_value before (lines.Move (moves.Read back.Back number frame word value)) e = absurd (cc)
 untouched_value before line e = refl
 
-pages_more : (before : List Line) (line : Line) → is_epoch line ≡ false → ring_pages (before ++ line ∷ []) ≡ ring_pages before ++ option_to_list (page_made line)
+pub pages_more : (before : List Line) (line : Line) → is_epoch line ≡ false → ring_pages (before ++ line ∷ []) ≡ ring_pages before ++ option_to_list (page_made line)
 pages_more before line same =
     ap (λ (ls : List Line). filter_map page_made ls) (epoch_longer before line same)
     ∙ (filter_map-append page_made (this_epoch before) (line ∷ []) ∙ ap (λ (ps : List Standing). ring_pages before ++ ps) (one_page (page_made line)))
@@ -67,7 +68,7 @@ pages_kept before line same none =
 start_more : (before : List Line) (line : Line) → start_told (start_of before) line ≡ start_of before → start_of (before ++ line ∷ []) ≡ start_of before
 start_more before line same = fold-append start_told 0 before (line ∷ []) ∙ same
 
-abi_more : (before : List Line) (line : Line) → is_epoch line ≡ false → ring_abi (before ++ line ∷ []) ≡ abi_after (ring_abi before) line
+pub abi_more : (before : List Line) (line : Line) → is_epoch line ≡ false → ring_abi (before ++ line ∷ []) ≡ abi_after (ring_abi before) line
 abi_more before line same = ap (λ (ls : List Line). fold abi_after (Some X64) ls) (epoch_longer before line same) ∙ fold-append abi_after (Some X64) (this_epoch before) (line ∷ [])
 
 both_false : (a b : Bool) → a ≡ false → b ≡ false → (a || b) ≡ false
@@ -113,7 +114,7 @@ value_same : (a b : List Line) → ring_pages a ≡ ring_pages b → (line : Lin
 value_same a b same (lines.Move (moves.Read back.Back number frame word value)) = ap (λ (pages : List Standing). when (is_some (of_entries (word_in (page_from 0 number pages) word))) value) same
 value_same a b same line = refl
 
-values_more : (before : List Line) (line : Line) → IsOnPages line → entry_values (before ++ line ∷ []) ≡ entry_values before ++ option_to_list (entry_value before line)
+pub values_more : (before : List Line) (line : Line) → IsOnPages line → entry_values (before ++ line ∷ []) ≡ entry_values before ++ option_to_list (entry_value before line)
 values_more before line on =
     let longer = before ++ line ∷ [] in
     let pages = pages_kept before line on.same_epoch on.page in
@@ -150,6 +151,7 @@ shows_more before line x replied produced words values on shows r p w t vs = rec
   fresh = λ none. touched_more before line on.same_epoch ∙ both_false (list_any is_touch (this_epoch before)) (is_touch line) (shows.fresh none) (t none);
   values = values_more before line on ∙ (ap (λ (ws : List ℕ). ws ++ option_to_list (entry_value before line)) shows.values ∙ vs);
   abi = abi_more before line on.same_epoch ∙ (on.abi (ring_abi before) ∙ shows.abi);
+  few = shows.few;
 }
 
 -- a line that the rules on the ring pass over
@@ -181,7 +183,11 @@ shows_map before gref number frame mode x none shows =
       values = gathered_none (entry_value longer) is_touch (λ l e. untouched_value longer l e) (this_epoch longer) still ∙ (sym (gathered_none (entry_value before) is_touch (λ l e. untouched_value before l e) (this_epoch before) untouched) ∙ shows.values);
       abi = abi_more before line refl ∙ shows.abi;
       fresh = λ empty. still;
+      few = λ page pages e. sym (only _ page pages e);
     }
   where
+    only : (made page : Standing) (pages : List Standing) → made ∷ [] ≡ page ∷ pages → [] ≡ pages
+    only made page pages e = cc
+
     untouched_producer : (ls : List Line) (n : ℕ) (l : Line) → is_touch l ≡ false → produced_after ls n l ≡ n
     untouched_producer ls n l e = ap (λ (shown : Option ℕ). unwrap_or shown n) (untouched_produced ls l e)

@@ -7,8 +7,8 @@ use Rattle.blk_base.specs.declared.moves.Move.TheVariants as moves
 use Rattle.schedule_text.specs.declared.line.Line.{Line}
 use Rattle.schedule_text.specs.declared.line.Line.TheVariants as lines
 use Rattle.report_rules.specs.declared.standing.Standing.{Standing}
-use Rattle.report_rules.specs.Standing.{is_epoch}
-use Rattle.report_rules.specs.Ring.{page_made, ring_pages, has_number, start_told, produced_shown, replied_after, page_from, word_in, abi_after}
+use Rattle.report_rules.specs.Standing.{is_epoch, has_number}
+use Rattle.report_rules.specs.Ring.{page_made, ring_pages, start_told, produced_shown, replied_after, page_from, word_in, abi_after}
 use Rattle.report_rules.specs.Stretch.{of_entries, entry_word_read}
 
 -- the back reads or writes a word

@@ -27,7 +27,7 @@ use Rattle.blk_back.specs.Step.{at, give_up, replied, loop_step}
 use Rattle.split_model.proofs.SafeActs.{of_back, back_test}
 use Rattle.ring_laws.proofs.Shows.{Sight, Shows, shows_other}
 use Rattle.ring_laws.proofs.Touches.{shows_replied}
-use Rattle.ring_laws.proofs.Stands.{Stands, stands_more, shows_none, foreign_stretch}
+use Rattle.ring_laws.proofs.Stands.{Stands, stands_more, shows_none, foreign_stretch, word_inside}
 use Rattle.ring_laws.proofs.Knows.{unhalted, Serves, KnowsAt, Knows, Follows, BackGoes}
 use Rattle.ring_laws.proofs.Serving.{not_over, served_line, between, serve_other, serve_write, serve_slot, serve_index, over_other}
 use Rattle.ring_laws.proofs.Looking.{giving_knows, looked_goes, seen_producer}
@@ -55,7 +55,7 @@ producer_goes before v frame r answer x s shows stands =
     let reply : Line = lines.Reply r.id r.status in
     let longer : List Line = before ++ lines.Move shown ∷ [] in
     let one : Shows (before ++ lines.Move shown ∷ []) (record x { replied = next_of v.ring.prod }) = shows_replied before x v.page.number frame (next_of v.ring.prod) s.mapped shows in
-    let first : Stands (before ++ lines.Move shown ∷ []) x.start (is_some v.halted) = served_line before x v.halted shown s.running stands (shows_none before (lines.Move shown) refl) (λ small. between before shown x v.ring v.page v.seen v.halted v.entry v.fetched s shows refl) in
+    let first : Stands (before ++ lines.Move shown ∷ []) x.start (is_some v.halted) = served_line before x v.halted shown s.running stands (shows_none before (lines.Move shown) refl) (λ small. between before shown x v.ring v.page v.seen v.halted v.entry v.fetched s shows refl (word_inside before v.page.number 2 (omega arith))) in
     let second : Stands (longer ++ reply ∷ []) x.start (is_some v.halted) = stands_more longer reply x.start (is_some v.halted) first refl (shows_none longer reply refl) (λ over. not_over v.halted true s.running over) refl (λ small. foreign_stretch longer reply refl refl) in
     let two : Shows (longer ++ reply ∷ []) (record x { replied = next_of v.ring.prod }) = shows_other longer reply (record x { replied = next_of v.ring.prod }) refl one in
     let after : Follows x.start x.values (before ++ lines.Move shown ∷ reply ∷ []) (replied v r) = record {
@@ -87,7 +87,7 @@ back_goes before h (stage.ResponseEvent old) v o a x k kept shows stands told e 
     of_back (Goes x.start x.values before (stage.ResponseEvent old) v) _ a
     (serve_index before v (at (if notifies old v.ring.prod _ then stage.Send else stage.Loop) v) _ (frame_of h.grants v.page) 3 _ x k shows stands refl (omega arith) told refl (either_stage (notifies old v.ring.prod _) stage.Send stage.Loop x v k k)) e
 back_goes before h stage.Send v o a x k kept shows stands told e = of_back (Goes x.start x.values before stage.Send v) _ a (serve_other before v _ _ (moves.Send mover.Back) x k shows stands refl told refl k) e
-back_goes before h stage.StoreEvent v o a x k kept shows stands told e = of_back (Goes x.start x.values before stage.StoreEvent v) _ a (serve_write before v _ _ (frame_of h.grants v.page) 1 (next_of v.ring.cons) x k shows stands refl told refl k) e
+back_goes before h stage.StoreEvent v o a x k kept shows stands told e = of_back (Goes x.start x.values before stage.StoreEvent v) _ a (serve_write before v _ _ (frame_of h.grants v.page) 1 (next_of v.ring.cons) x k shows stands refl (omega arith) told refl k) e
 back_goes before h stage.EventFence v o a x k kept shows stands told e = of_back (Goes x.start x.values before stage.EventFence v) _ a (serve_other before v _ _ (moves.Fence mover.Back) x k shows stands refl told refl k) e
 back_goes before h stage.LookAgain v o a x k kept shows stands told e =
     of_back (Goes x.start x.values before stage.LookAgain v) _ a (looked_goes before v (record v { seen = _; stage = stage.Loop; asleep = true }) _ (frame_of h.grants v.page) _ x k shows stands told told refl (seen_producer _ x v.ring v.page v.seen v.halted v.entry v.fetched k)) e

@@ -4,16 +4,20 @@ use Rattle.std.specs.Prelude.{Option, Some, None, is_some, IfSome}
 use Rattle.std.proofs.lemmas.List.{reverse-append, reverse-reverse}
 use Rattle.blk_base.specs.declared.operation.Abi.{Abi}
 use Rattle.blk_base.specs.declared.operation.Abi.TheVariants.{X64}
+use Rattle.blk_base.specs.declared.moves.BackMover.TheVariants as back
+use Rattle.blk_base.specs.declared.moves.Move.TheVariants as moves
 use Rattle.schedule_text.specs.declared.line.Halt.TheVariants as halts
 use Rattle.schedule_text.specs.declared.line.Line.{Line}
 use Rattle.schedule_text.specs.declared.line.Line.TheVariants as lines
 use Rattle.report_rules.specs.Obeys.{Obeys}
 use Rattle.report_rules.specs.Standing.{is_epoch}
-use Rattle.report_rules.specs.Ring.{produced_shown, ring_order, shape_of, replied_before}
+use Rattle.report_rules.specs.Ring.{is_page, produced_shown, ring_order, shape_of, replied_before}
 use Rattle.report_rules.specs.Overrun.{overrun_of, overrun_by, overrun_shown, overran_after, overran_behind, is_service, IsOverrunAt}
-use Rattle.report_rules.specs.Stretch.{entry_word_read, words_within, is_of_back, IsStretchAt}
+use Rattle.report_rules.specs.Stretch.{entry_word_read, words_within, is_back_move, word_touched, IsStretchAt}
+use Rattle.report_rules.specs.Reply.{is_of_back}
 use Rattle.report_rules.proofs.Obeys.{obeys_none, obeys_more}
 use Rattle.ring_laws.proofs.Lists.{or_false}
+use Rattle.ring_laws.proofs.Sight.{is_touch}
 use Rattle.ring_laws.proofs.Shows.{Sight, Shows}
 
 -- the line of an overrun
@@ -97,13 +101,39 @@ stands_overrun before line start produced replied s same shown none stretch behi
         let same_r : replied ≡ r = cc in
         rw (← same_p, ← same_r) (shown_more before line ∙ shown)
 
+-- the back touches no word past the end of a page of the ring
+abbrev pub IsInside : List Line → Line → Type 0
+IsInside before line = IfSome (word_touched before line) (λ word. word < 1024)
+
+pub word_inside : (before : List Line) (number word : ℕ) → word < 1024 → IfSome (if is_page before number then Some word else None) (λ w. w < 1024)
+word_inside before number word low = by_page (is_page before number)
+  where
+    by_page : (b : Bool) → IfSome (if b then Some word else None) (λ w. w < 1024)
+    by_page true = low
+    by_page false = tt
+
+pub untouched_inside : (before : List Line) (line : Line) → is_touch line ≡ false → IsInside before line
+untouched_inside before (lines.Move (moves.Read back.Back number frame word value)) e = absurd (cc)
+untouched_inside before (lines.Move (moves.Write back.Back number frame word value)) e = absurd (cc)
+untouched_inside before line e = tt
+
+foreign_inside : (before : List Line) (line : Line) → is_back_move line ≡ false → IsInside before line
+foreign_inside before (lines.Move (moves.Read back.Back number frame word value)) e = absurd (cc)
+foreign_inside before (lines.Move (moves.Write back.Back number frame word value)) e = absurd (cc)
+foreign_inside before line e = tt
+
+foreign_move : (line : Line) → is_of_back line ≡ false → is_back_move line ≡ false
+foreign_move (lines.Halt halt) e = refl
+foreign_move line e = e
+
 -- a line of someone else's that reads no entry
 pub foreign_stretch : (before : List Line) (line : Line) → is_of_back line ≡ false → entry_word_read before line ≡ None → IsStretchAt before line
-foreign_stretch before line foreign none = record { next = rw none tt; whole = λ own. absurd (cc) }
+foreign_stretch before line foreign none = let other : is_back_move line ≡ false = foreign_move line foreign in record { next = rw none tt; whole = λ own. absurd (cc); inside = foreign_inside before line other }
 
 -- a line of the back's own between two stretches
-pub own_stretch : (before : List Line) (line : Line) (x : Sight) (n : ℕ) → Shows before x → x.words ≡ 28 * n → entry_word_read before line ≡ None → IsStretchAt before line
-own_stretch before line x n shows whole none = record {
+pub own_stretch : (before : List Line) (line : Line) (x : Sight) (n : ℕ) → Shows before x → x.words ≡ 28 * n → entry_word_read before line ≡ None → IsInside before line → IsStretchAt before line
+own_stretch before line x n shows whole none within = record {
+  inside = within;
   next = rw none tt;
   whole = λ own read. subst (λ (abi : Option Abi). IfSome (shape_of abi (ring_order before)) (λ s. words_within before s ≡ 0)) (sym shows.abi) (by_order (ring_order before));
 }

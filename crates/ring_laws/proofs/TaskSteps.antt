@@ -8,19 +8,19 @@ use Rattle.blk_base.specs.declared.moves.Move.{Move}
 use Rattle.blk_base.specs.declared.moves.Move.TheVariants as moves
 use Rattle.report_rules.specs.declared.work.Task.{Task}
 use Rattle.report_rules.specs.declared.work.Task.TheVariants as tasks
-use Rattle.report_rules.specs.Steps.{spot, step_at, is_step_at, is_refusal, gref_of, spot_behind, spot_in, advanced}
+use Rattle.report_rules.specs.Steps.{spot, step_at, is_step_at, is_refusal, mapping_after, spot_behind, spot_in, advanced}
 
 pub task_at : (done more : List Task) (task : Task) → slice_get (done ++ task ∷ more) (length done) ≡ Some task
 task_at [] more task = refl
 task_at (d ∷ done) more task = task_at done more task
 
 -- where a move is the next step, it takes the job one place on, or to the next task
-pub advances : (work : List Task) (n place gref : ℕ) (task : Task) (move : Move) (last : Bool) → slice_get work n ≡ Some task → is_step_at (step_at task place) move ≡ true → is_none (step_at task (place + 1)) ≡ last
-    → option_and_then (advanced false work move) (Some (spot n place false gref)) ≡ Some (if last then spot (n + 1) 0 (is_refusal move) (gref_of task) else spot n (place + 1) (is_refusal move) (gref_of task))
-advances work n place gref task move last found is next =
-    ap (λ (t : Option Task). spot_in false n t place move) found
-    ∙ (ap (λ (b : Bool). if b then Some (spot_behind n task place move) else None) is
-    ∙ ap (λ (b : Bool). Some (if b then spot (n + 1) 0 (is_refusal move) (gref_of task) else spot n (place + 1) (is_refusal move) (gref_of task))) next)
+pub advances : (work : List Task) (n place : ℕ) (mapping : Option ℕ) (task : Task) (move : Move) (last : Bool) → slice_get work n ≡ Some task → is_step_at (step_at task place) move ≡ true → is_none (step_at task (place + 1)) ≡ last
+    → option_and_then (advanced false work move) (Some (spot n place false mapping)) ≡ Some (if last then spot (n + 1) 0 (is_refusal move) None else spot n (place + 1) (is_refusal move) (mapping_after mapping move))
+advances work n place mapping task move last found is next =
+    ap (λ (t : Option Task). spot_in false n t place mapping move) found
+    ∙ (ap (λ (b : Bool). if b then Some (spot_behind n task place mapping move) else None) is
+    ∙ ap (λ (b : Bool). Some (if b then spot (n + 1) 0 (is_refusal move) None else spot n (place + 1) (is_refusal move) (mapping_after mapping move))) next)
 
 -- the place of step j of sector i of a segment
 pub record IsPlace (place i j count : ℕ) : Type 0 where

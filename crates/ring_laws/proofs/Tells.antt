@@ -1,5 +1,5 @@
 -- What the lines tell of the jobs of a back, kept by each move.
-use Rattle.std.proofs.Common.{◌≡◌, ℕ, ◌%◌, ◌^◌, ◌≤◌, ◌<◌, ◌||◌, Bool, true, false, List, [], ◌∷◌, ◌++◌, length, refl, ap, sym, ◌∙◌, subst, append_assoc, append-nil, arith}
+use Rattle.std.proofs.Common.{◌≡◌, ℕ, ◌%◌, ◌^◌, ◌<◌, ◌||◌, Bool, true, false, List, [], ◌∷◌, ◌++◌, refl, ap, sym, ◌∙◌, subst, append_assoc, append-nil, arith}
 use Rattle.std.specs.Prelude.{None, is_some}
 use Rattle.std.specs.List.{list_any}
 use Rattle.std.proofs.lemmas.List.Folds.{list_any-append}
@@ -13,7 +13,6 @@ use Rattle.blk_back.specs.declared.stage.Stage.{Stage}
 use Rattle.blk_back.specs.declared.stage.Stage.TheVariants as stage
 use Rattle.blk_back.specs.View.{View, info_of as back_info}
 use Rattle.ring_laws.proofs.Shows.{Sight, Shows, shows_other}
-use Rattle.ring_laws.proofs.Touches.{IsPage}
 use Rattle.ring_laws.proofs.Knows.{Serves, KnowsAt}
 use Rattle.ring_laws.proofs.Free.{IsFree, AreFree}
 use Rattle.ring_laws.proofs.JobLines.{is_of}
@@ -79,23 +78,3 @@ small_number s v x = by_stage s
     by_stage stage.UnmapUnbound k r = both k.over r
     by_stage stage.Halted k r = both k.over r
     by_stage s k r = of_rest v.fetched k.count k.numbered
-
--- and the ring's page is known where an entry was read
-pub known_page : (s : Stage) (v : View) (x : Sight) → KnowsAt s x v.ring v.page v.seen v.halted v.entry v.fetched → is_some v.halted ≡ false → 1 ≤ length x.values → IsPage v.page.number x.pages
-known_page s v x = by_stage s
-  where
-    both : {A : Type 0} → is_some v.halted ≡ true → is_some v.halted ≡ false → A
-    both p q = absurd (cc)
-
-    empty : {A : Type 0} → x.values ≡ [] → 1 ≤ length x.values → A
-    empty p q = let none : length x.values ≡ 0 = ap (λ (vs : List ℕ). length vs) p in absurd (omega arith)
-
-    by_stage : (s : Stage) → KnowsAt s x v.ring v.page v.seen v.halted v.entry v.fetched → is_some v.halted ≡ false → 1 ≤ length x.values → IsPage v.page.number x.pages
-    by_stage stage.MapRing k r some = empty k.values some
-    by_stage (stage.Fetch n) k r some = let s : Serves n x v.ring v.page v.seen v.halted v.entry v.fetched = k.1 in s.mapped
-    by_stage (stage.GiveUp m) k r some = both k.over r
-    by_stage stage.UnmapRing k r some = both k.over r
-    by_stage stage.ClosePort k r some = both k.over r
-    by_stage stage.UnmapUnbound k r some = both k.over r
-    by_stage stage.Halted k r some = both k.over r
-    by_stage s k r some = k.mapped

@@ -7,8 +7,8 @@ use Rattle.blk_base.specs.declared.moves.Move.TheVariants as moves
 use Rattle.schedule_text.specs.declared.line.Line.{Line}
 use Rattle.schedule_text.specs.declared.line.Line.TheVariants as lines
 use Rattle.report_rules.specs.declared.standing.Standing.{Standing}
-use Rattle.report_rules.specs.Ring.{has_number, is_first_page, page_made, start_told, abi_after, produced_shown, page_from, word_in, ring_word, order_of, ring_order}
-use Rattle.report_rules.specs.Standing.{is_epoch}
+use Rattle.report_rules.specs.Ring.{is_first_page, page_made, start_told, abi_after, produced_shown, page_from, word_in, ring_word, order_of, ring_order}
+use Rattle.report_rules.specs.Standing.{is_epoch, has_number}
 use Rattle.blk_base.specs.declared.operation.Abi.{Abi}
 use Rattle.report_rules.specs.Job.{when, entry_value}
 use Rattle.std.specs.Option.{option_to_list}

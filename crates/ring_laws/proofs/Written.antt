@@ -16,8 +16,7 @@ use Rattle.report_rules.specs.declared.standing.Standing.{Standing}
 use Rattle.report_rules.specs.Obeys.{Obeys}
 use Rattle.report_rules.specs.Standing.{this_epoch}
 use Rattle.report_rules.specs.Ring.{page_from, word_in, ring_pages}
-use Rattle.report_rules.specs.Stretch.{is_of_back}
-use Rattle.report_rules.specs.Reply.{is_event, value_written, values_written, within_reply, row_of, reply_pushed, ends_with_write, is_reply, IsReplyAt}
+use Rattle.report_rules.specs.Reply.{is_event, value_written, values_written, within_reply, row_of, reply_pushed, ends_with_write, is_reply, is_of_back, IsReplyAt}
 use Rattle.report_rules.proofs.Obeys.{obeys_none, obeys_more}
 use Rattle.blk_back.specs.declared.stage.Stage.{Stage}
 use Rattle.blk_back.specs.declared.stage.Stage.TheVariants as stage
@@ -29,7 +28,7 @@ use Rattle.ring_laws.proofs.Due.{Answered, rows_of, under_way, Writes}
 use Rattle.ring_laws.proofs.WrittenRows.{within_is}
 
 -- which words are a reply's depends on the pages alone
-written_same : (a b : List Line) → ring_pages a ≡ ring_pages b → (line : Line) → value_written a line ≡ value_written b line
+pub written_same : (a b : List Line) → ring_pages a ≡ ring_pages b → (line : Line) → value_written a line ≡ value_written b line
 written_same a b same (lines.Move (moves.Write back.Back number frame word value)) = ap (λ (pages : List Standing). if is_event (word_in (page_from 0 number pages) word) then None else Some value) same
 written_same a b same line = refl
 

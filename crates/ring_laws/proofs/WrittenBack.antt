@@ -1,5 +1,5 @@
 -- Whatever the back is at, its move keeps the rule on replies.
-use Rattle.std.proofs.Common.{◌≡◌, ℕ, ◌+◌, ◌^◌, ◌<◌, ◌==◌, Bool, true, false, if◌then◌else◌, List, [], ◌∷◌, ◌++◌, refl, ap, sym, ◌∙◌, subst, arith}
+use Rattle.std.proofs.Common.{◌≡◌, ℕ, ◌+◌, ◌^◌, ◌<◌, ◌==◌, Bool, true, false, if◌then◌else◌, List, [], ◌∷◌, ◌++◌, length, refl, ap, sym, ◌∙◌, subst, arith}
 use Rattle.std.specs.Prelude.{Option, Some, None, Result, Ok, Err, IfSome}
 use Rattle.blk_base.specs.declared.parts.Mapping.{Mapping}
 use Rattle.blk_base.specs.declared.parts.Mode.TheVariants.{ReadWrite}
@@ -22,7 +22,8 @@ use Rattle.hypervisor.specs.Act.{BackAct, Outcome, back_act, map_act, bind_act}
 use Rattle.ring_words.specs.Ring.{next_of, requests_of, overruns, notifies}
 use Rattle.schedule_text.specs.declared.line.Line.{Line}
 use Rattle.schedule_text.specs.declared.line.Line.TheVariants as lines
-use Rattle.report_rules.specs.Reply.{is_reply, value_written}
+use Rattle.blk_layout.specs.Response.{response_words_of}
+use Rattle.report_rules.specs.Reply.{is_reply, value_written, response_due, lines_before, answered_in}
 use Rattle.back_jobs.specs.Jobs.{first_mapping}
 use Rattle.blk_back.specs.declared.stage.Reply.{Reply}
 use Rattle.blk_back.specs.declared.stage.Stage.{Stage}
@@ -35,28 +36,32 @@ use Rattle.split_model.specs.Shown.{back_lines, halt_lines, halt_line}
 use Rattle.split_model.proofs.SafeActs.{of_back, back_test}
 use Rattle.ring_laws.proofs.Sight.{is_other}
 use Rattle.ring_laws.proofs.Shows.{Sight, Shows, IsOnPages}
-use Rattle.ring_laws.proofs.Touches.{read_on, write_on}
-use Rattle.ring_laws.proofs.Knows.{untold, unhalted, Serves, KnowsAt, Knows}
-use Rattle.ring_laws.proofs.BackTells.{lines_of_back}
-use Rattle.ring_laws.proofs.Due.{Answered, response_in, under_way, next_word, replying, HasAJob, Writes}
+use Rattle.ring_laws.proofs.Touches.{IsPage, read_on, write_on}
+use Rattle.ring_laws.proofs.Entry.{high_slot}
+use Rattle.ring_laws.proofs.Knows.{untold, unhalted, Serves, KnowsAt}
+use Rattle.ring_laws.proofs.Due.{Answered, Candidate, response_in, under_way, row_at, answered_then, next_word, replying, Writes}
+use Rattle.ring_laws.proofs.Rows.{answered_one, answered_aside}
 use Rattle.ring_laws.proofs.Written.{Passes, AllPass, passes_other, written_behind, written_still, written_map, unwritten_at, writes_still, writes_all, writes_stage}
-use Rattle.ring_laws.proofs.WrittenWord.{written_event, slot_writes, producer_writes}
+use Rattle.ring_laws.proofs.WrittenWord.{written_event, not_one, slot_writes, slot_lines, IsRaised, producer_writes}
 
--- the replies behind a move: one more where the producer is raised, to job k
-abbrev pub answered_after : Stage → List Answered → ℕ → ℕ → List Answered
-answered_after (stage.Producer r) answered k prod = answered ++ record { job = k; response = response_in r; producer = next_of prod } ∷ []
-answered_after s answered k prod = answered
+-- what the lines of a move make of the reply under way: none is, or one has a word more, or it is told
+pub data RowGoes (before ys : List Line) (s t : Stage) : Type 0 where
+  rests : under_way s ≡ [] → under_way t ≡ [] → answered_in (before ++ ys) ≡ answered_in before → RowGoes before ys s t
+  grows : (r : Reply) → Candidate before (length (under_way s)) (response_in r) → row_at t ≡ Some r → length (under_way t) ≡ length (under_way s) + 1 → lines_before (before ++ ys) (length (under_way s) + 1) ≡ lines_before before (length (under_way s)) → answered_in (before ++ ys) ≡ answered_in before
+      → ((answered : List Answered) (k prod : ℕ) → answered_then s answered k prod ≡ answered) → RowGoes before ys s t
+  ends : (r : Reply) (chosen : ℕ) → s ≡ stage.Producer r → under_way t ≡ [] → response_due (lines_before before 3) chosen ≡ Some (response_words_of (response_in r)) → answered_in (before ++ ys) ≡ answered_in before ++ chosen ∷ [] → RowGoes before ys s t
 
 -- a move of the back, with the lines behind it
-record MoveWrites (before : List Line) (answered : List Answered) (old : View) (answer : BackAnswer) (shown : Move) (new : View) : Type 0 where
+pub record MoveWrites (before : List Line) (answered : List Answered) (s : Stage) (old : View) (answer : BackAnswer) (shown : Move) (new : View) : Type 0 where
   pub writes : Writes (before ++ lines.Move shown ∷ (back_lines new.told answer ++ halt_lines old.halted new.halted)) new.stage answered
+  pub row : RowGoes before (lines.Move shown ∷ (back_lines new.told answer ++ halt_lines old.halted new.halted)) s new.stage
 
 -- a move at which nothing is told and the back does not halt
-alone : (before : List Line) (answered : List Answered) (old : View) (answer : BackAnswer) (shown : Move) (new : View) → new.told ≡ None → new.halted ≡ old.halted → Writes (before ++ lines.Move shown ∷ []) new.stage answered → MoveWrites before answered old answer shown new
-alone before answered old answer shown new told halted w =
+alone : (before : List Line) (answered : List Answered) (s : Stage) (old : View) (answer : BackAnswer) (shown : Move) (new : View) → new.told ≡ None → new.halted ≡ old.halted → Writes (before ++ lines.Move shown ∷ []) new.stage answered → RowGoes before (lines.Move shown ∷ []) s new.stage → MoveWrites before answered s old answer shown new
+alone before answered s old answer shown new told halted w row =
     let none : halt_lines old.halted new.halted ≡ [] = ap (λ (h : Option Halt). halt_lines old.halted h) halted ∙ unhalted old.halted in
     let all : back_lines new.told answer ++ halt_lines old.halted new.halted ≡ [] = untold new.told answer (halt_lines old.halted new.halted) told ∙ none in
-    record { writes = subst (λ (ls : List Line). Writes (before ++ lines.Move shown ∷ ls) new.stage answered) (sym all) w }
+    record { writes = subst (λ (ls : List Line). Writes (before ++ lines.Move shown ∷ ls) new.stage answered) (sym all) w; row = subst (λ (ls : List Line). RowGoes before (lines.Move shown ∷ ls) s new.stage) (sym all) row }
 
 own_passes : (line : Line) → is_other line ≡ true → is_reply line ≡ false → Passes true line
 own_passes line other plain = passes_other true line other plain (λ own. absurd (cc))
@@ -70,10 +75,11 @@ halt_passes None (Some h) = (own_passes (lines.Halt (halt_line h)) refl refl, tt
 halt_passes (Some g) new = tt
 
 -- a move between two replies that writes no word of one; the back may halt
-quiet : (before : List Line) (answered : List Answered) (s : Stage) (old : View) (answer : BackAnswer) (shown : Move) (new : View) → Writes before s answered → under_way s ≡ [] → Passes true (lines.Move shown) → new.told ≡ None → under_way new.stage ≡ [] → MoveWrites before answered old answer shown new
+quiet : (before : List Line) (answered : List Answered) (s : Stage) (old : View) (answer : BackAnswer) (shown : Move) (new : View) → Writes before s answered → under_way s ≡ [] → Passes true (lines.Move shown) → new.told ≡ None → under_way new.stage ≡ [] → MoveWrites before answered s old answer shown new
 quiet before answered s old answer shown new w none p told still =
     let tail : AllPass true (back_lines new.told answer ++ halt_lines old.halted new.halted) = subst (λ (ls : List Line). AllPass true ls) (sym (untold new.told answer (halt_lines old.halted new.halted) told)) (halt_passes old.halted new.halted) in
-    record { writes = writes_stage _ s new.stage answered (none ∙ sym still) (writes_all true before (lines.Move shown ∷ (back_lines new.told answer ++ halt_lines old.halted new.halted)) s answered (λ own. none) (p, tail) w) }
+    let ys : List Line = lines.Move shown ∷ (back_lines new.told answer ++ halt_lines old.halted new.halted) in
+    record { writes = writes_stage _ s new.stage answered (none ∙ sym still) (writes_all true before ys s answered (λ own. none) (p, tail) w); row = rests none still (answered_aside true ys before (p, tail)) }
 
 either_view : (P : View → Type 0) (b : Bool) (x y : View) → P x → P y → P (if b then x else y)
 either_view P true x y p q = p
@@ -89,19 +95,20 @@ two_stages false = refl
 
 -- an act of a back at a stage
 abbrev BackWrites : List Line → Stage → List Answered → ℕ → View → BackAct → Type 0
-BackWrites before s answered k v a = MoveWrites before (answered_after s answered k v.ring.prod) v a.answer a.shown (step_at s v a.answer)
+BackWrites before s answered k v a = MoveWrites before (answered_then s answered k v.ring.prod) s v a.answer a.shown (step_at s v a.answer)
 
 -- and of one in its loop, by what it replies
 abbrev Loops : List Line → List Answered → Option Reply → View → BackAct → Type 0
-Loops before answered r v a = MoveWrites before answered v a.answer a.shown (loop_step v r a.answer)
+Loops before answered r v a = MoveWrites before answered stage.Loop v a.answer a.shown (loop_step v r a.answer)
 
 -- the ring's page is mapped, or it isn't
 map_writes : (before : List Line) (h : Hypervisor) (v : View) (x : Sight) (answered : List Answered) (k : ℕ) (verdict : Result ℕ MapRefusal) → x.pages ≡ [] → Shows before x → v.told ≡ None → Writes before stage.MapRing answered → BackWrites before stage.MapRing answered k v (map_act h back.Back 8 ReadWrite verdict)
 map_writes before h v x answered k (Ok frame) none shows told w =
     let line : Line = lines.Move (moves.Map back.Back 8 ReadWrite (h.grants.made + 1) frame) in
-    alone before answered v _ (moves.Map back.Back 8 ReadWrite (h.grants.made + 1) frame) _ told refl
+    alone before answered stage.MapRing v _ (moves.Map back.Back 8 ReadWrite (h.grants.made + 1) frame) _ told refl
     (writes_stage _ stage.MapRing stage.Bind answered refl
     (writes_still before line stage.MapRing answered w (unwritten_at before line stage.MapRing answered w refl refl (λ own. refl)) (written_map before 8 (h.grants.made + 1) frame ReadWrite x none shows) refl))
+    (rests refl refl (answered_one before line refl refl))
 map_writes before h v x answered k (Err refusal) none shows told w =
     quiet before answered stage.MapRing v _ (moves.MapRefused back.Back 8 ReadWrite (status_of refusal)) _ w refl (own_passes (lines.Move (moves.MapRefused back.Back 8 ReadWrite (status_of refusal))) refl refl) told refl
 
@@ -111,32 +118,32 @@ bind_writes before h v answered k port.Closed told w = quiet before answered sta
 bind_writes before h v answered k port.Bound told w = quiet before answered stage.Bind v _ (moves.BindRefused 1) _ w refl (own_passes (lines.Move (moves.BindRefused 1)) refl refl) told refl
 
 -- a word is read, whatever the back makes of it
-read_writes : (before : List Line) (answered : List Answered) (s : Stage) (old : View) (answer : BackAnswer) (frame word value : ℕ) (new : View) → Writes before s answered → under_way s ≡ [] → new.told ≡ None → under_way new.stage ≡ [] → MoveWrites before answered old answer (moves.Read back.Back old.page.number frame word value) new
+read_writes : (before : List Line) (answered : List Answered) (s : Stage) (old : View) (answer : BackAnswer) (frame word value : ℕ) (new : View) → Writes before s answered → under_way s ≡ [] → new.told ≡ None → under_way new.stage ≡ [] → MoveWrites before answered s old answer (moves.Read back.Back old.page.number frame word value) new
 read_writes before answered s old answer frame word value new w none told still = quiet before answered s old answer (moves.Read back.Back old.page.number frame word value) new w none (read_passes old.page.number frame word value) told still
 
-looked_writes : (before : List Line) (answered : List Answered) (s : Stage) (v otherwise : View) (answer : BackAnswer) (frame place word : ℕ) → Writes before s answered → under_way s ≡ [] → v.told ≡ None → otherwise.told ≡ None → under_way otherwise.stage ≡ [] → MoveWrites before answered v answer (moves.Read back.Back v.page.number frame place word) (looked v word otherwise)
+looked_writes : (before : List Line) (answered : List Answered) (s : Stage) (v otherwise : View) (answer : BackAnswer) (frame place word : ℕ) → Writes before s answered → under_way s ≡ [] → v.told ≡ None → otherwise.told ≡ None → under_way otherwise.stage ≡ [] → MoveWrites before answered s v answer (moves.Read back.Back v.page.number frame place word) (looked v word otherwise)
 looked_writes before answered s v otherwise answer frame place word w none told other still =
-    let P : View → Type 0 = λ (new : View). MoveWrites before answered v answer (moves.Read back.Back v.page.number frame place word) new in
+    let P : View → Type 0 = λ (new : View). MoveWrites before answered s v answer (moves.Read back.Back v.page.number frame place word) new in
     either_view P (overruns v.ring word) (overrun v word) _
     (read_writes before answered s v answer frame place word (overrun v word) w none told (giving_nothing (first_mapping v.jobs.works)))
     (either_view P (word == v.ring.cons) otherwise (record v { seen = word; stage = stage.Loop })
     (read_writes before answered s v answer frame place word otherwise w none other still)
     (read_writes before answered s v answer frame place word (record v { seen = word; stage = stage.Loop }) w none told refl))
 
-loop_word_writes : (before : List Line) (answered : List Answered) (v : View) (answer : BackAnswer) (frame place word : ℕ) → Writes before stage.Loop answered → v.told ≡ None → MoveWrites before answered v answer (moves.Read back.Back v.page.number frame place word) (loop_word v word)
+loop_word_writes : (before : List Line) (answered : List Answered) (v : View) (answer : BackAnswer) (frame place word : ℕ) → Writes before stage.Loop answered → v.told ≡ None → MoveWrites before answered stage.Loop v answer (moves.Read back.Back v.page.number frame place word) (loop_word v word)
 loop_word_writes before answered v answer frame place word w told =
-    either_view (λ (new : View). MoveWrites before answered v answer (moves.Read back.Back v.page.number frame place word) new) (requests_of v.ring v.seen == 0) (looked v word (record v { seen = word; stage = stage.StoreEvent })) (record v { entry = word ∷ []; stage = stage.Fetch 1 })
+    either_view (λ (new : View). MoveWrites before answered stage.Loop v answer (moves.Read back.Back v.page.number frame place word) new) (requests_of v.ring v.seen == 0) (looked v word (record v { seen = word; stage = stage.StoreEvent })) (record v { entry = word ∷ []; stage = stage.Fetch 1 })
     (looked_writes before answered stage.Loop v (record v { seen = word; stage = stage.StoreEvent }) answer frame place word w refl told told refl)
     (read_writes before answered stage.Loop v answer frame place word (record v { entry = word ∷ []; stage = stage.Fetch 1 }) w refl told refl)
 
-fetch_writes : (before : List Line) (answered : List Answered) (n : ℕ) (v : View) (answer : BackAnswer) (frame place word : ℕ) → Writes before (stage.Fetch n) answered → v.told ≡ None → MoveWrites before answered v answer (moves.Read back.Back v.page.number frame place word) (fetch_step v n word)
+fetch_writes : (before : List Line) (answered : List Answered) (n : ℕ) (v : View) (answer : BackAnswer) (frame place word : ℕ) → Writes before (stage.Fetch n) answered → v.told ≡ None → MoveWrites before answered (stage.Fetch n) v answer (moves.Read back.Back v.page.number frame place word) (fetch_step v n word)
 fetch_writes before answered n v answer frame place word w told =
-    either_view (λ (new : View). MoveWrites before answered v answer (moves.Read back.Back v.page.number frame place word) new) (n == 27) (fetched v (v.entry ++ word ∷ [])) (record v { entry = v.entry ++ word ∷ []; stage = stage.Fetch (n + 1) })
+    either_view (λ (new : View). MoveWrites before answered (stage.Fetch n) v answer (moves.Read back.Back v.page.number frame place word) new) (n == 27) (fetched v (v.entry ++ word ∷ [])) (record v { entry = v.entry ++ word ∷ []; stage = stage.Fetch (n + 1) })
     (read_writes before answered (stage.Fetch n) v answer frame place word (fetched v (v.entry ++ word ∷ [])) w refl told refl)
     (read_writes before answered (stage.Fetch n) v answer frame place word (record v { entry = v.entry ++ word ∷ []; stage = stage.Fetch (n + 1) }) w refl told refl)
 
 -- the back waits; its stage stays
-wait_writes : (before : List Line) (answered : List Answered) (s : Stage) (old new : View) (answer : BackAnswer) → Writes before s answered → under_way s ≡ [] → new.told ≡ None → under_way new.stage ≡ under_way s → MoveWrites before answered old answer (moves.Event mover.Back) new
+wait_writes : (before : List Line) (answered : List Answered) (s : Stage) (old new : View) (answer : BackAnswer) → Writes before s answered → under_way s ≡ [] → new.told ≡ None → under_way new.stage ≡ under_way s → MoveWrites before answered s old answer (moves.Event mover.Back) new
 wait_writes before answered s old new answer w none told same = quiet before answered s old answer (moves.Event mover.Back) new w none (own_passes (lines.Move (moves.Event mover.Back)) refl refl) told (same ∙ none)
 
 idle_writes : (before : List Line) (h : Hypervisor) (v : View) (o : Outcome) (a : BackAct) (answered : List Answered) (asleep none : Bool) → under_way v.stage ≡ [] → v.told ≡ None → Writes before stage.Loop answered
@@ -145,34 +152,47 @@ idle_writes before h v o a answered true none same told w e = back_test (Loops b
 idle_writes before h v o a answered false true same told w e = of_back (Loops before answered None v) _ a (loop_word_writes before answered v _ (frame_of h.grants v.page) 0 _ w told) e
 idle_writes before h v o a answered false false same told w e = of_back (Loops before answered None v) _ a (loop_word_writes before answered v _ (frame_of h.grants v.page) (slot_word v.ring.cons 0) _ w told) e
 
+-- a word of a response is written: the row has it
+slot_goes : (before : List Line) (x : Sight) (number frame prod i w : ℕ) (r : Reply) (s t : Stage) → IsPage number x.pages → Shows before x → length (under_way s) < 3 → Candidate before (length (under_way s)) (response_in r) → row_at t ≡ Some r → length (under_way t) ≡ length (under_way s) + 1
+    → ((answered : List Answered) (k p : ℕ) → answered_then s answered k p ≡ answered) → i < 28 → RowGoes before (lines.Move (moves.Write back.Back number frame (slot_word prod i) w) ∷ []) s t
+slot_goes before x number frame prod i w r s t is shows small c at long same within =
+    let line : Line = lines.Move (moves.Write back.Back number frame (slot_word prod i) w) in
+    grows r c at long (slot_lines before x number frame (slot_word prod i) w (length (under_way s)) (not_one (slot_word prod i) (high_slot prod i within)) is shows) (answered_one before line refl refl) same
+
 loop_writes : (before : List Line) (h : Hypervisor) (v : View) (o : Outcome) (a : BackAct) (x : Sight) (answered : List Answered) (r : Option Reply) → Serves 0 x v.ring v.page v.seen v.halted v.entry v.fetched → Shows before x → under_way v.stage ≡ [] → v.told ≡ None → Writes before stage.Loop answered
-    → IfSome (next_word r) (λ (p : Reply × ℕ). HasAJob before answered (response_in p.0) p.1) → back_act h back.Back (loop_ask v r) o ≡ Some a → Loops before answered r v a
+    → IfSome (next_word r) (λ (p : Reply × ℕ). Candidate before p.1 (response_in p.0)) → back_act h back.Back (loop_ask v r) o ≡ Some a → Loops before answered r v a
 loop_writes before h v o a x answered (Some r) k shows same told w job e =
     of_back (Loops before answered (Some r) v) _ a
-    (alone before answered v _ _ _ told refl
-    (slot_writes before x v.page.number (frame_of h.grants v.page) v.ring.prod 0 (response_word r 0) (response_in r) stage.Loop (stage.ReplyHigh r) answered k.mapped k.replied shows w refl (omega arith) refl (λ words. refl) job)) e
+    (alone before answered stage.Loop v _ _ _ told refl
+    (slot_writes before x v.page.number (frame_of h.grants v.page) v.ring.prod 0 (response_word r 0) (response_in r) stage.Loop (stage.ReplyHigh r) answered k.mapped k.replied shows w refl (omega arith) refl (λ words. refl) job)
+    (slot_goes before x v.page.number (frame_of h.grants v.page) v.ring.prod 0 (response_word r 0) r stage.Loop (stage.ReplyHigh r) k.mapped shows (omega arith) job refl refl (λ l n m. refl) (omega arith))) e
 loop_writes before h v o a x answered None k shows same told w job e = idle_writes before h v o a answered v.asleep (requests_of v.ring v.seen == 0) same told w e
 
 -- req_event is no word of a reply
-event_writes : (before : List Line) (x : Sight) (v : View) (frame value : ℕ) (answered : List Answered) → Serves 0 x v.ring v.page v.seen v.halted v.entry v.fetched → Shows before x → v.told ≡ None → Writes before stage.StoreEvent answered → MoveWrites before answered v answers.Done (moves.Write back.Back v.page.number frame 1 value) (at stage.EventFence v)
+event_writes : (before : List Line) (x : Sight) (v : View) (frame value : ℕ) (answered : List Answered) → Serves 0 x v.ring v.page v.seen v.halted v.entry v.fetched → Shows before x → v.told ≡ None → Writes before stage.StoreEvent answered → MoveWrites before answered stage.StoreEvent v answers.Done (moves.Write back.Back v.page.number frame 1 value) (at stage.EventFence v)
 event_writes before x v frame value answered k shows told w =
     let line : Line = lines.Move (moves.Write back.Back v.page.number frame 1 value) in
     let on : IsOnPages (lines.Move (moves.Write back.Back v.page.number frame 1 value)) = write_on v.page.number frame 1 value in
     let none : value_written before (lines.Move (moves.Write back.Back v.page.number frame 1 value)) ≡ None = written_event before x v.page.number frame value k.mapped shows in
-    alone before answered v answers.Done (moves.Write back.Back v.page.number frame 1 value) (at stage.EventFence v) told refl
+    alone before answered stage.StoreEvent v answers.Done (moves.Write back.Back v.page.number frame 1 value) (at stage.EventFence v) told refl
     (writes_stage _ stage.StoreEvent stage.EventFence answered refl
     (writes_still before line stage.StoreEvent answered w (unwritten_at before line stage.StoreEvent answered w none refl (λ own. refl)) (written_still before line on none) (written_behind before line on ∙ none)))
+    (rests refl refl (answered_one before line refl refl))
 
 -- the producer is raised, and the reply told
-raised_writes : (before : List Line) (x : Sight) (v : View) (frame k : ℕ) (r : Reply) (answered : List Answered) → Serves 0 x v.ring v.page v.seen v.halted v.entry v.fetched → Shows before x → r.op < 2 ^ 8 → Writes before (stage.Producer r) answered
-    → MoveWrites before (answered ++ record { job = k; response = response_in r; producer = next_of v.ring.prod } ∷ []) v answers.Done (moves.Write back.Back v.page.number frame 2 (next_of v.ring.prod)) (replied v r)
-raised_writes before x v frame k r answered s shows small w =
+raised_writes : (before : List Line) (x : Sight) (v : View) (frame k : ℕ) (r : Reply) (answered : List Answered) → Serves 0 x v.ring v.page v.seen v.halted v.entry v.fetched → Shows before x → r.op < 2 ^ 8 → Writes before (stage.Producer r) answered → Candidate before 3 (response_in r)
+    → MoveWrites before (answered ++ record { job = k; response = response_in r; producer = next_of v.ring.prod } ∷ []) (stage.Producer r) v answers.Done (moves.Write back.Back v.page.number frame 2 (next_of v.ring.prod)) (replied v r)
+raised_writes before x v frame k r answered s shows small w c =
     let all = answered ++ record { job = k; response = response_in r; producer = next_of v.ring.prod } ∷ [] in
-    let behind : List Line → List Line = λ (ls : List Line). before ++ lines.Move (moves.Write back.Back v.page.number frame 2 (next_of v.ring.prod)) ∷ lines.Reply r.id r.status ∷ ls in
-    record { writes = subst (λ (ls : List Line). Writes (behind ls) (stage.ProducerFence v.ring.prod) all) (sym (unhalted v.halted)) (producer_writes before x v.page.number frame v.ring.prod k r answered s.mapped s.replied shows small w) }
+    let line : Line = lines.Move (moves.Write back.Back v.page.number frame 2 (next_of v.ring.prod)) in
+    let up : IsRaised before (lines.Move (moves.Write back.Back v.page.number frame 2 (next_of v.ring.prod)) ∷ lines.Reply r.id r.status ∷ []) v.ring.prod k r answered = producer_writes before x v.page.number frame v.ring.prod k r answered s.mapped s.replied shows small w c in
+    record {
+      writes = subst (λ (ls : List Line). Writes (before ++ line ∷ lines.Reply r.id r.status ∷ ls) (stage.ProducerFence v.ring.prod) all) (sym (unhalted v.halted)) up.writes;
+      row = subst (λ (ls : List Line). RowGoes before (line ∷ lines.Reply r.id r.status ∷ ls) (stage.Producer r) (stage.ProducerFence v.ring.prod)) (sym (unhalted v.halted)) (ends r up.chosen refl refl up.due up.told);
+    }
 
 writes_at : (before : List Line) (h : Hypervisor) (s : Stage) (v : View) (o : Outcome) (a : BackAct) (x : Sight) (answered : List Answered) (k : ℕ) → KnowsAt s x v.ring v.page v.seen v.halted v.entry v.fetched → Shows before x → under_way v.stage ≡ under_way s → v.told ≡ None → Writes before s answered
-    → IfSome (replying s v) (λ (p : Reply × ℕ). HasAJob before answered (response_in p.0) p.1) → ((r : Reply) → s ≡ stage.Producer r → r.op < 2 ^ 8)
+    → IfSome (replying s v) (λ (p : Reply × ℕ). Candidate before p.1 (response_in p.0)) → ((r : Reply) → s ≡ stage.Producer r → r.op < 2 ^ 8)
     → back_act h back.Back (ask_at s v) o ≡ Some a → BackWrites before s answered k v a
 writes_at before h stage.MapRing v o a x answered k n shows same told w job small e = of_back (BackWrites before stage.MapRing answered k v) _ a (map_writes before h v x answered k (verdict_at h.pages 8 ReadWrite) n.unmapped shows told w) e
 writes_at before h stage.Bind v o a x answered k n shows same told w job small e = of_back (BackWrites before stage.Bind answered k v) _ a (bind_writes before h v answered k (state_of h.channels 1) told w) e
@@ -180,13 +200,15 @@ writes_at before h stage.Loop v o a x answered k n shows same told w job small e
 writes_at before h (stage.Fetch i) v o a x answered k n shows same told w job small e = of_back (BackWrites before (stage.Fetch i) answered k v) _ a (fetch_writes before answered i v _ (frame_of h.grants v.page) (slot_word v.ring.cons i) _ w told) e
 writes_at before h (stage.ReplyHigh r) v o a x answered k n shows same told w job small e =
     of_back (BackWrites before (stage.ReplyHigh r) answered k v) _ a
-    (alone before answered v _ _ _ told refl
-    (slot_writes before x v.page.number (frame_of h.grants v.page) v.ring.prod 1 (response_word r 1) (response_in r) (stage.ReplyHigh r) (stage.ReplyLast r) answered n.mapped n.replied shows w refl (omega arith) refl (λ words. refl) job)) e
+    (alone before answered (stage.ReplyHigh r) v _ _ _ told refl
+    (slot_writes before x v.page.number (frame_of h.grants v.page) v.ring.prod 1 (response_word r 1) (response_in r) (stage.ReplyHigh r) (stage.ReplyLast r) answered n.mapped n.replied shows w refl (omega arith) refl (λ words. refl) job)
+    (slot_goes before x v.page.number (frame_of h.grants v.page) v.ring.prod 1 (response_word r 1) r (stage.ReplyHigh r) (stage.ReplyLast r) n.mapped shows (omega arith) job refl refl (λ l n m. refl) (omega arith))) e
 writes_at before h (stage.ReplyLast r) v o a x answered k n shows same told w job small e =
     of_back (BackWrites before (stage.ReplyLast r) answered k v) _ a
-    (alone before answered v _ _ _ told refl
-    (slot_writes before x v.page.number (frame_of h.grants v.page) v.ring.prod 2 (response_word r 2) (response_in r) (stage.ReplyLast r) (stage.Producer r) answered n.mapped n.replied shows w refl (omega arith) refl (λ words. refl) job)) e
-writes_at before h (stage.Producer r) v o a x answered k n shows same told w job small e = of_back (BackWrites before (stage.Producer r) answered k v) _ a (raised_writes before x v (frame_of h.grants v.page) k r answered n shows (small r refl) w) e
+    (alone before answered (stage.ReplyLast r) v _ _ _ told refl
+    (slot_writes before x v.page.number (frame_of h.grants v.page) v.ring.prod 2 (response_word r 2) (response_in r) (stage.ReplyLast r) (stage.Producer r) answered n.mapped n.replied shows w refl (omega arith) refl (λ words. refl) job)
+    (slot_goes before x v.page.number (frame_of h.grants v.page) v.ring.prod 2 (response_word r 2) r (stage.ReplyLast r) (stage.Producer r) n.mapped shows (omega arith) job refl refl (λ l n m. refl) (omega arith))) e
+writes_at before h (stage.Producer r) v o a x answered k n shows same told w job small e = of_back (BackWrites before (stage.Producer r) answered k v) _ a (raised_writes before x v (frame_of h.grants v.page) k r answered n shows (small r refl) w job) e
 writes_at before h (stage.ProducerFence old) v o a x answered k n shows same told w job small e = of_back (BackWrites before (stage.ProducerFence old) answered k v) _ a (quiet before answered (stage.ProducerFence old) v _ (moves.Fence mover.Back) _ w refl (own_passes (lines.Move (moves.Fence mover.Back)) refl refl) told refl) e
 writes_at before h (stage.ResponseEvent old) v o a x answered k n shows same told w job small e =
     of_back (BackWrites before (stage.ResponseEvent old) answered k v) _ a
@@ -203,10 +225,8 @@ writes_at before h stage.UnmapUnbound v o a x answered k n shows same told w job
 writes_at before h stage.Halted v o a x answered k n shows same told w job small e = back_test (BackWrites before stage.Halted answered k v) (is_pending h.channels end.Back) _ a (wait_writes before answered stage.Halted v v _ w refl told same) e
 
 -- a move of the back, where a job is due the response that it writes
-pub back_writes : (before : List Line) (h : Hypervisor) (v : View) (o : Outcome) (a : BackAct) (x : Sight) (answered : List Answered) (k : ℕ) → KnowsAt v.stage x v.ring v.page v.seen v.halted v.entry v.fetched → Knows x v → Shows before x → v.told ≡ None → Writes before v.stage answered
-    → IfSome (replying v.stage v) (λ (p : Reply × ℕ). HasAJob before answered (response_in p.0) p.1) → ((r : Reply) → v.stage ≡ stage.Producer r → r.op < 2 ^ 8)
+pub back_writes : (before : List Line) (h : Hypervisor) (v : View) (o : Outcome) (a : BackAct) (x : Sight) (answered : List Answered) (k : ℕ) → KnowsAt v.stage x v.ring v.page v.seen v.halted v.entry v.fetched → Shows before x → v.told ≡ None → Writes before v.stage answered
+    → IfSome (replying v.stage v) (λ (p : Reply × ℕ). Candidate before p.1 (response_in p.0)) → ((r : Reply) → v.stage ≡ stage.Producer r → r.op < 2 ^ 8)
     → back_act h back.Back (ask_of v) o ≡ Some a
-    → (let new : View = step_of v a.answer in Writes (before ++ lines_of_back v a) new.stage (answered_after v.stage answered k v.ring.prod))
-back_writes before h v o a x answered k knows kept shows told w job small e =
-    let gone : MoveWrites before (answered_after v.stage answered k v.ring.prod) v a.answer a.shown (step_at v.stage v a.answer) = writes_at before h v.stage v o a x answered k knows shows refl told w job small e in
-    gone.writes
+    → MoveWrites before (answered_then v.stage answered k v.ring.prod) v.stage v a.answer a.shown (step_of v a.answer)
+back_writes before h v o a x answered k knows shows told w job small e = writes_at before h v.stage v o a x answered k knows shows refl told w job small e

@@ -1,13 +1,16 @@
--- The words of replies that were written, four a reply, and how many of the replies are alike.
-use Rattle.std.proofs.Common.{◌≡◌, ℕ, zero, suc, ◌+◌, ◌*◌, ◌/◌, ◌%◌, ◌<◌, Bool, true, false, cond, List, [], ◌∷◌, ◌++◌, length, count_by, refl, ap, sym, ◌∙◌, length-append, arith}
-use Rattle.std.specs.Prelude.{Option, Some, None}
+-- The words of replies that were written, four a reply, and the jobs that a row may answer.
+use Rattle.std.proofs.Common.{◌≡◌, ℕ, zero, suc, ◌+◌, ◌*◌, ◌/◌, ◌%◌, ◌<◌, ◌==◌, ◌&&◌, ◌||◌, not, Bool, true, false, if◌then◌else◌, List, [], ◌∷◌, ◌++◌, length, refl, ap, sym, ◌∙◌, length-append, arith}
+use Rattle.std.specs.Prelude.{Option, Some, None, is_some, nat_lt}
+use Rattle.std.proofs.lemmas.Bool.Decides.{nat_tests}
 use Rattle.std.proofs.lemmas.List.{get_or-append-add}
-use Rattle.std.proofs.lemmas.List.Sums.{sum_by-cons}
 use Rattle.std.proofs.lemmas.Option.{unwrap_or-slice_get}
 use Rattle.schedule_text.specs.declared.line.Line.{Line}
 use Rattle.blk_layout.specs.Response.{response_words_of}
-use Rattle.report_rules.specs.Reply.{value_at, row_of, are_alike, is_like, one_if, replies_like, response_due, jobs_due}
-use Rattle.ring_laws.proofs.Due.{Answered, rows_of}
+use Rattle.blk_layout.specs.declared.response.Response.{Response}
+use Rattle.report_rules.specs.Job.{when}
+use Rattle.report_rules.specs.Reply.{value_at, row_of, are_alike, is_like, is_one_of, response_due, may_answer, lowest, most_jobs, lines_before, answered_in}
+use Rattle.report_rules.proofs.Lowest.{lowest_some}
+use Rattle.ring_laws.proofs.Due.{Answered, Candidate, rows_of}
 
 rows_long : (answered : List Answered) → length (rows_of answered) ≡ 4 * length answered
 rows_long [] = refl
@@ -46,39 +49,38 @@ row_behind xs ys m n e =
 pub row_after : (answered : List Answered) (u : List ℕ) → row_of (rows_of answered ++ u) (length answered) ≡ row_of u 0
 row_after answered u = let rows = rows_long answered in row_behind (rows_of answered) u (length answered) 0 (omega arith)
 
--- one reply more before them
-replies_shift : (first second third producer : ℕ) (values : List ℕ) (last : ℕ) (row : List ℕ) (n : ℕ) → replies_like (first ∷ second ∷ third ∷ producer ∷ values) last row (suc n) ≡ one_if (are_alike last row (first ∷ second ∷ third ∷ [])) + replies_like values last row n
-replies_shift first second third producer values last row zero = omega arith
-replies_shift first second third producer values last row (suc n) =
-    let before = replies_shift first second third producer values last row n in
-    let here : one_if (are_alike last row (row_of (first ∷ second ∷ third ∷ producer ∷ values) (suc n))) ≡ one_if (are_alike last row (row_of values n)) = ap (λ (r : List ℕ). one_if (are_alike last row r)) (row_behind (first ∷ second ∷ third ∷ producer ∷ []) values (suc n) n (omega arith)) in
-    ap (λ (m : ℕ). m + one_if (are_alike last row (row_of (first ∷ second ∷ third ∷ producer ∷ values) (suc n)))) before
-    ∙ (ap (λ (m : ℕ). one_if (are_alike last row (first ∷ second ∷ third ∷ [])) + replies_like values last row n + m) here ∙ flat (one_if (are_alike last row (first ∷ second ∷ third ∷ []))) (replies_like values last row n) (one_if (are_alike last row (row_of values n))))
-  where
-    flat : (a b c : ℕ) → a + b + c ≡ a + (b + c)
-    flat a b c = omega arith
-
-counted_one : (b : Bool) → one_if b ≡ cond b 1 0
-counted_one true = refl
-counted_one false = refl
-
--- of the first replies those are alike whose responses are
-pub replies_counted : (answered : List Answered) (u : List ℕ) (last : ℕ) (row : List ℕ) → replies_like (rows_of answered ++ u) last row (length answered) ≡ count_by (λ (a : Answered). are_alike last row (response_words_of a.response)) answered
-replies_counted [] u last row = refl
-replies_counted (a ∷ answered) u last row =
-    let rest = replies_counted answered u last row in
-    let shift = replies_shift (value_at (response_words_of a.response) 0) (value_at (response_words_of a.response) 1) (value_at (response_words_of a.response) 2) a.producer (rows_of answered ++ u) last row (length answered) in
-    let one = sum_by-cons (λ (b : Answered). cond (are_alike last row (response_words_of b.response)) 1 0) a answered in
-    let here = counted_one (are_alike last row (response_words_of a.response)) in
-    shift ∙ (ap (λ (n : ℕ). n + replies_like (rows_of answered ++ u) last row (length answered)) here ∙ (ap (λ (n : ℕ). cond (are_alike last row (response_words_of a.response)) 1 0 + n) rest ∙ sym one))
-
 like_same : (last : ℕ) (row other : List ℕ) → ((words : List ℕ) → are_alike last row words ≡ are_alike last other words) → (due : Option (List ℕ)) → is_like last row due ≡ is_like last other due
 like_same last row other same None = refl
 like_same last row other same (Some words) = same words
 
--- the jobs that are due a response depend on what rows are alike
-pub due_same : (before : List Line) (last : ℕ) (row other : List ℕ) → ((words : List ℕ) → are_alike last row words ≡ are_alike last other words) → (n : ℕ) → jobs_due before last row n ≡ jobs_due before last other n
-due_same before last row other same zero = refl
-due_same before last row other same (suc n) =
-    ap (λ (m : ℕ). m + one_if (is_like last row (response_due before (suc n)))) (due_same before last row other same n)
-    ∙ ap (λ (b : Bool). jobs_due before last other n + one_if b) (like_same last row other same (response_due before (suc n)))
+-- which jobs a row may answer depends on what rows are alike
+pub answers_same : (early : List Line) (answered : List ℕ) (last : ℕ) (row other : List ℕ) → ((words : List ℕ) → are_alike last row words ≡ are_alike last other words) → (n : ℕ) → lowest (may_answer early answered last row) n ≡ lowest (may_answer early answered last other) n
+answers_same early answered last row other same zero = refl
+answers_same early answered last row other same (suc n) =
+    let before = answers_same early answered last row other same n in
+    let here : may_answer early answered last row (suc n) ≡ may_answer early answered last other (suc n) = ap (λ (b : Bool). not (is_one_of (suc n) answered) && b) (like_same last row other same (response_due early (suc n))) in
+    ap (λ (o : Option ℕ). if is_some o then o else when (may_answer early answered last row (suc n)) (suc n)) before
+    ∙ ap (λ (b : Bool). if is_some (lowest (may_answer early answered last other) n) then lowest (may_answer early answered last other) n else when b (suc n)) here
+
+-- words are like themselves
+pub alike_itself : (last : ℕ) (words : List ℕ) → are_alike last words words ≡ true
+alike_itself last words = tests (value_at words 0) (value_at words 1) (value_at words 2) (last == 0) (nat_lt last 2)
+  where
+    itself : (n : ℕ) → (n == n) ≡ true
+    itself n = grind (arith, nat_tests)
+
+    or_true : (b : Bool) → (b || true) ≡ true
+    or_true true = refl
+    or_true false = refl
+
+    tests : (x y z : ℕ) (p q : Bool) → ((x == x) && (p || (y == y)) && (q || (z == z))) ≡ true
+    tests x y z p q = rw (itself x, itself y, itself z, or_true p, or_true q) refl
+
+-- a candidate may be the one that is answered
+pub candidate_may : (before : List Line) (n last : ℕ) (r : Response) (c : Candidate before n r) → may_answer (lines_before before n) (answered_in before) last (response_words_of r) c.job ≡ true
+candidate_may before n last r c =
+    let like : is_like last (response_words_of r) (response_due (lines_before before n) c.job) ≡ true = ap (λ (due : Option (List ℕ)). is_like last (response_words_of r) due) c.due ∙ alike_itself last (response_words_of r) in
+    rw (c.other, like) refl
+
+pub candidate_found : (before : List Line) (n : ℕ) (r : Response) → Candidate before n r → is_some (lowest (may_answer (lines_before before n) (answered_in before) n (response_words_of r)) (most_jobs (lines_before before n))) ≡ true
+candidate_found before n r c = lowest_some (may_answer (lines_before before n) (answered_in before) n (response_words_of r)) (most_jobs (lines_before before n)) c.job (candidate_may before n n r c) c.first c.last

@@ -1,7 +1,8 @@
 -- A word of a reply that the back writes is the next one, of a response that a job is due; behind the producer stands the line that tells of the reply.
-use Rattle.std.proofs.Common.{◌≡◌, ℕ, ◌+◌, ◌-◌, ◌/◌, ◌%◌, ◌^◌, ◌<◌, ◌≤◌, ◌&&◌, ◌==◌, Bool, true, false, if◌then◌else◌, List, [], ◌∷◌, ◌++◌, length, count_by, refl, ap, sym, ◌∙◌, subst, append_assoc, append-nil, length-append, arith}
-use Rattle.std.specs.Prelude.{Option, Some, None, is_some, nat_lt}
+use Rattle.std.proofs.Common.{◌≡◌, ℕ, ◌+◌, ◌-◌, ◌/◌, ◌%◌, ◌^◌, ◌<◌, ◌≤◌, ◌&&◌, ◌==◌, Bool, true, false, if◌then◌else◌, List, [], ◌∷◌, ◌++◌, length, refl, ap, sym, ◌∙◌, subst, append_assoc, append-nil, length-append, arith}
+use Rattle.std.specs.Prelude.{Option, Some, None, is_some}
 use Rattle.std.specs.Option.{option_to_list}
+use Rattle.std.proofs.lemmas.Option.{none-some}
 use Rattle.std.proofs.lemmas.Bool.Decides.{nat_tests}
 use Rattle.blk_base.specs.declared.moves.BackMover.TheVariants as back
 use Rattle.blk_base.specs.declared.moves.Move.TheVariants as moves
@@ -14,20 +15,23 @@ use Rattle.blk_layout.specs.Response.{response_words_of}
 use Rattle.blk_layout.proofs.ResponseLaid.{response_back}
 use Rattle.report_rules.specs.Obeys.{Obeys}
 use Rattle.report_rules.specs.Ring.{replied_before}
-use Rattle.report_rules.specs.Job.{entry_values}
-use Rattle.report_rules.specs.Reply.{is_event, value_written, values_written, within_reply, row_of, are_alike, replies_like, jobs_due, next_place, is_next_value, is_due_row, reply_pushed, line_of, IsReplyAt}
+use Rattle.report_rules.specs.Standing.{this_epoch}
+use Rattle.report_rules.specs.Made.{left_to}
+use Rattle.report_rules.specs.Reply.{is_event, value_written, values_written, within_reply, row_of, are_alike, response_due, most_jobs, lines_before, answered_in, is_answer, next_place, is_next_value, reply_pushed, line_of, IsReplyAt}
 use Rattle.report_rules.proofs.Obeys.{obeys_more}
 use Rattle.blk_back.specs.declared.stage.Reply.{Reply}
 use Rattle.blk_back.specs.declared.stage.Stage.{Stage}
 use Rattle.blk_back.specs.declared.stage.Stage.TheVariants as stage
 use Rattle.blk_back.specs.View.{slot_word, shape}
-use Rattle.ring_laws.proofs.Lists.{count_same}
-use Rattle.ring_laws.proofs.Shows.{Sight, Shows, other_on_pages}
+use Rattle.ring_laws.proofs.Shows.{Sight, Shows, other_on_pages, epoch_longer}
 use Rattle.ring_laws.proofs.Touches.{IsPage, page_word, write_on}
 use Rattle.ring_laws.proofs.Entry.{one_shape, high_slot, slot_is}
 use Rattle.ring_laws.proofs.Bystanders.{if_none, if_some, some_and}
-use Rattle.ring_laws.proofs.Due.{Answered, response_in, rows_of, under_way, HasAJob, Writes}
-use Rattle.ring_laws.proofs.WrittenRows.{within_is, replies_are, row_after, rows_more, replies_counted, due_same}
+use Rattle.ring_laws.proofs.Due.{Answered, response_in, rows_of, under_way, Candidate, Writes}
+use Rattle.ring_laws.proofs.WrittenRows.{within_is, replies_are, row_after, rows_more, answers_same, candidate_found}
+use Rattle.ring_laws.proofs.Over.{left_aside}
+use Rattle.ring_laws.proofs.Rows.{lines_take, answered_one, answered_told}
+use Rattle.ring_laws.proofs.Choice.{IsChoice, choice}
 use Rattle.ring_laws.proofs.Written.{written_behind, written_more, written_still, pushed_more, pushes_none}
 
 -- what the back writes into the ring's page: a word of a reply, but for req_event
@@ -41,7 +45,7 @@ written_event before x number frame value is shows = ap (λ (w : Option ℕ). if
 not_three : (i : ℕ) → i < 3 → (i == 3) ≡ false
 not_three i small = grind (arith, nat_tests)
 
-not_one : (word : ℕ) → 16 ≤ word → (word == 1) ≡ false
+pub not_one : (word : ℕ) → 16 ≤ word → (word == 1) ≡ false
 not_one word high = grind (arith, nat_tests)
 
 not_none : (n k : ℕ) → n ≡ k + 1 → (n == 0) ≡ false
@@ -51,25 +55,23 @@ is_same : (n m : ℕ) → n ≡ m → (m == n) ≡ true
 is_same n m e = grind (arith, nat_tests)
 
 -- the next word is that of a response to a job that has no reply yet
-due_word : (before : List Line) (answered : List Answered) (u : List ℕ) (i w : ℕ) (r : Response) → values_written before ≡ rows_of answered ++ u → length u ≡ i → i < 3 → ((words : List ℕ) → are_alike i (row_of (u ++ w ∷ []) 0) words ≡ are_alike i (response_words_of r) words) → HasAJob before answered r i → is_next_value before w ≡ true
-due_word before answered u i w r e long small alike job =
+due_word : (before : List Line) (answered : List Answered) (u : List ℕ) (i w : ℕ) (r : Response) → values_written before ≡ rows_of answered ++ u → length u ≡ i → i < 3 → ((words : List ℕ) → are_alike i (row_of (u ++ w ∷ []) 0) words ≡ are_alike i (response_words_of r) words) → Candidate before i r → is_next_value before w ≡ true
+due_word before answered u i w r e long small alike c =
     let now : List ℕ = values_written before ++ w ∷ [] in
     let row : List ℕ = row_of (u ++ w ∷ []) 0 in
-    let jobs : ℕ = length (entry_values before) in
     let last : Bool = w == (replied_before before + 1) % 2 ^ 32 in
     let within : within_reply before ≡ i = within_is (values_written before) answered u e (omega arith) ∙ long in
     let other : (i == 3) ≡ false = not_three i small in
     let replies : length (values_written before) / 4 ≡ length answered = replies_are (values_written before) answered u e (omega arith) in
     let all : values_written before ++ w ∷ [] ≡ rows_of answered ++ (u ++ w ∷ []) = ap (λ (vs : List ℕ). vs ++ w ∷ []) e ∙ append_assoc (rows_of answered) u (w ∷ []) in
-    ap (λ (n : ℕ). if n == 3 then last else nat_lt (replies_like now n (row_of now (length (values_written before) / 4)) (length (values_written before) / 4)) (jobs_due before n (row_of now (length (values_written before) / 4)) jobs)) within
-    ∙ (ap (λ (b : Bool). if b then last else nat_lt (replies_like now i (row_of now (length (values_written before) / 4)) (length (values_written before) / 4)) (jobs_due before i (row_of now (length (values_written before) / 4)) jobs)) other
-    ∙ (ap (λ (n : ℕ). nat_lt (replies_like now i (row_of now n) n) (jobs_due before i (row_of now n) jobs)) replies
-    ∙ (ap (λ (vs : List ℕ). nat_lt (replies_like vs i (row_of vs (length answered)) (length answered)) (jobs_due before i (row_of vs (length answered)) jobs)) all
-    ∙ (ap (λ (ws : List ℕ). nat_lt (replies_like (rows_of answered ++ (u ++ w ∷ [])) i ws (length answered)) (jobs_due before i ws jobs)) (row_after answered (u ++ w ∷ []))
-    ∙ (ap (λ (n : ℕ). nat_lt n (jobs_due before i row jobs)) (replies_counted answered (u ++ w ∷ []) i row)
-    ∙ (ap (λ (n : ℕ). nat_lt n (jobs_due before i row jobs)) (count_same (λ (a : Answered). are_alike i row (response_words_of a.response)) (λ (a : Answered). are_alike i (response_words_of r) (response_words_of a.response)) (λ a. alike (response_words_of a.response)) answered)
-    ∙ (ap (λ (n : ℕ). nat_lt (count_by (λ (a : Answered). are_alike i (response_words_of r) (response_words_of a.response)) answered) n) (due_same before i row (response_words_of r) alike jobs)
-    ∙ job)))))))
+    let most : ℕ = most_jobs (lines_before before i) in
+    ap (λ (n : ℕ). if n == 3 then last else is_answer before n (row_of now (length (values_written before) / 4))) within
+    ∙ (ap (λ (b : Bool). if b then last else is_answer before i (row_of now (length (values_written before) / 4))) other
+    ∙ (ap (λ (n : ℕ). is_answer before i (row_of now n)) replies
+    ∙ (ap (λ (vs : List ℕ). is_answer before i (row_of vs (length answered))) all
+    ∙ (ap (λ (ws : List ℕ). is_answer before i ws) (row_after answered (u ++ w ∷ []))
+    ∙ (ap (λ (o : Option ℕ). is_some o) (answers_same (lines_before before i) (answered_in before) i row (response_words_of r) alike most)
+    ∙ candidate_found before i r c)))))
 
 -- its place is in the slot of the back's producer
 slot_place : (before : List Line) (prod i : ℕ) → within_reply before ≡ i → i < 3 → replied_before before ≡ prod → slot_word prod i ≡ next_place before shape
@@ -113,7 +115,7 @@ amid before line answered u e small some =
 pub slot_writes : (before : List Line) (x : Sight) (number frame prod i w : ℕ) (r : Response) (s t : Stage) (answered : List Answered) → IsPage number x.pages → x.replied ≡ prod → Shows before x → Writes before s answered
     → length (under_way s) ≡ i → i < 3 → under_way s ++ w ∷ [] ≡ under_way t
     → ((words : List ℕ) → are_alike i (row_of (under_way s ++ w ∷ []) 0) words ≡ are_alike i (response_words_of r) words)
-    → HasAJob before answered r i → Writes (before ++ lines.Move (moves.Write back.Back number frame (slot_word prod i) w) ∷ []) t answered
+    → Candidate before i r → Writes (before ++ lines.Move (moves.Write back.Back number frame (slot_word prod i) w) ∷ []) t answered
 slot_writes before x number frame prod i w r s t answered is replied shows writes long small same alike job =
     let high : 16 ≤ slot_word prod i = high_slot prod i (omega arith) in
     let other : (slot_word prod i == 1) ≡ false = not_one (slot_word prod i) high in
@@ -130,13 +132,25 @@ slot_writes before x number frame prod i w r s t answered is replied shows write
 
 next_value : (before : List Line) (prod : ℕ) → within_reply before ≡ 3 → replied_before before ≡ prod → is_next_value before (next_of prod) ≡ true
 next_value before prod within replied =
-    ap (λ (n : ℕ). if n == 3 then next_of prod == (replied_before before + 1) % 2 ^ 32 else is_due_row before (values_written before ++ next_of prod ∷ []) (row_of (values_written before ++ next_of prod ∷ []) (length (values_written before) / 4))) within
+    ap (λ (n : ℕ). if n == 3 then next_of prod == (replied_before before + 1) % 2 ^ 32 else is_answer before n (row_of (values_written before ++ next_of prod ∷ []) (length (values_written before) / 4))) within
     ∙ is_same ((replied_before before + 1) % 2 ^ 32) (next_of prod) (ap (λ (n : ℕ). (n + 1) % 2 ^ 32) replied)
 
+-- and the lines before the row, with that word
+pub slot_lines : (before : List Line) (x : Sight) (number frame word value n : ℕ) → (word == 1) ≡ false → IsPage number x.pages → Shows before x → lines_before (before ++ lines.Move (moves.Write back.Back number frame word value) ∷ []) (n + 1) ≡ lines_before before n
+slot_lines before x number frame word value n other is shows =
+    let line : Line = lines.Move (moves.Write back.Back number frame word value) in
+    lines_take before line n value (write_on number frame word value) (written_behind before line (write_on number frame word value) ∙ written_word before x number frame word value other is shows)
+
 -- the producer is raised, and the reply told
-pub producer_writes : (before : List Line) (x : Sight) (number frame prod k : ℕ) (r : Reply) (answered : List Answered) → IsPage number x.pages → x.replied ≡ prod → Shows before x → r.op < 2 ^ 8 → Writes before (stage.Producer r) answered
-    → Writes (before ++ lines.Move (moves.Write back.Back number frame 2 (next_of prod)) ∷ lines.Reply r.id r.status ∷ []) (stage.ProducerFence prod) (answered ++ record { job = k; response = response_in r; producer = next_of prod } ∷ [])
-producer_writes before x number frame prod k r answered is replied shows small writes =
+pub record IsRaised (before : List Line) (lines : List Line) (prod k : ℕ) (r : Reply) (answered : List Answered) : Type 0 where
+  pub writes : Writes (before ++ lines) (stage.ProducerFence prod) (answered ++ record { job = k; response = response_in r; producer = next_of prod } ∷ [])
+  pub chosen : ℕ
+  pub due : response_due (lines_before before 3) chosen ≡ Some (response_words_of (response_in r))
+  pub told : answered_in (before ++ lines) ≡ answered_in before ++ chosen ∷ []
+
+pub producer_writes : (before : List Line) (x : Sight) (number frame prod k : ℕ) (r : Reply) (answered : List Answered) → IsPage number x.pages → x.replied ≡ prod → Shows before x → r.op < 2 ^ 8 → Writes before (stage.Producer r) answered → Candidate before 3 (response_in r)
+    → IsRaised before (lines.Move (moves.Write back.Back number frame 2 (next_of prod)) ∷ lines.Reply r.id r.status ∷ []) prod k r answered
+producer_writes before x number frame prod k r answered is replied shows small writes c =
     let line : Line = lines.Move (moves.Write back.Back number frame 2 (next_of prod)) in
     let reply : Line = lines.Reply r.id r.status in
     let longer : List Line = before ++ lines.Move (moves.Write back.Back number frame 2 (next_of prod)) ∷ [] in
@@ -160,15 +174,25 @@ producer_writes before x number frame prod k r answered is replied shows small w
     ∙ (ap (λ (vs : List ℕ). Some (row_of vs (length answered))) behind
     ∙ ap (λ (ws : List ℕ). Some ws) (row_after answered (u ++ next_of prod ∷ [])))))) in
     let one : Obeys IsReplyAt longer = obeys_more IsReplyAt before line writes.obeys (word_allowed before x number frame 2 (next_of prod) refl is shows writes.pushed place next) in
+    let early : lines_before longer 4 ≡ lines_before before 3 = slot_lines before x number frame 2 (next_of prod) 3 refl is shows in
+    let same : answered_in longer ≡ answered_in before = answered_one before line refl refl in
+    let left : left_to c.job (this_epoch longer) ≡ [] = ap (λ (ls : List Line). left_to c.job ls) (epoch_longer before line refl) ∙ left_aside c.job (line ∷ []) (this_epoch before) refl c.left in
+    let ch : IsChoice longer (lines_before before 3) (response_in r) = choice longer before line (response_in r) c refl early same pushed left in
     let two : IsReplyAt longer reply = record {
       next = tt;
-      told = if_some _ pushed (ap line_of (response_back (response_in r) small));
+      told = if_some _ pushed (record { says = ap line_of (response_back (response_in r) small); job = λ none. none-some ch.job (sym none ∙ ch.found) });
       only = λ told none. absurd (cc);
       whole = λ own none. absurd (cc);
     } in
-    subst (λ (ls : List Line). Writes ls (stage.ProducerFence prod) (answered ++ a ∷ [])) (append_assoc before (line ∷ []) (reply ∷ []))
-    (record {
-      obeys = obeys_more IsReplyAt longer reply one two;
-      words = written_still longer reply (other_on_pages reply refl) refl ∙ flat;
-      pushed = pushes_none longer reply refl;
-    })
+    let joined : longer ++ reply ∷ [] ≡ before ++ line ∷ reply ∷ [] = append_assoc before (line ∷ []) (reply ∷ []) in
+    record {
+      writes = subst (λ (ls : List Line). Writes ls (stage.ProducerFence prod) (answered ++ a ∷ [])) joined
+          (record {
+            obeys = obeys_more IsReplyAt longer reply one two;
+            words = written_still longer reply (other_on_pages reply refl) refl ∙ flat;
+            pushed = pushes_none longer reply refl;
+          });
+      chosen = ch.job;
+      due = ch.due;
+      told = ap answered_in (sym joined) ∙ (answered_told longer reply refl refl ∙ (ap (λ (o : Option ℕ). answered_in longer ++ option_to_list o) ch.found ∙ ap (λ (js : List ℕ). js ++ ch.job ∷ []) same));
+    }

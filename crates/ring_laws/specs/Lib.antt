@@ -1,0 +1,2 @@
+pub mod Unmaps
+pub mod Own

@@ -13,9 +13,9 @@ ghost use Rattle.report_rules.specs.Stretch.{AreStretches};
 ghost use Rattle.report_rules.specs.Steps.{AreSteps};
 ghost use Rattle.report_rules.specs.Data.{AreData};
 ghost use Rattle.report_rules.specs.Effect.{AreEffects};
-ghost use Rattle.report_rules.specs.Unmap.{AreUnmaps};
-ghost use Rattle.report_rules.specs.Own.{AreOwn};
 ghost use Rattle.report_rules.specs.Reply.{AreReplies};
+ghost use Rattle.ring_laws.specs.Unmaps.{AreUnmaps};
+ghost use Rattle.ring_laws.specs.Own.{AreOwn};
 ghost use Rattle.split_model.specs.Happening.{Happening};
 ghost use Rattle.split_model.specs.Report.{report_of, ended_report_of};
 
@@ -27,51 +27,68 @@ pub fn the_overruns_halt_the_back()
 {}
 
 /// Each entry is fetched in one stretch, each of its words read once, in order; a stretch begins
-/// only where a request is unconsumed, and the back does nothing else before its end. An index has
+/// only where a request is unconsumed, and the back makes no other move before its end, and touches
+/// only the 1024 words of the ring's page. An index has
 /// 32 bits (`RING_IDX`), so a ring starts at one below 2^32: that is the one premise.
 pub fn the_entries_are_fetched_in_stretches()
     ensures report { (config : Options) (detail : Detail) (history : List Happening) → config.start < 2 ^ 32 → AreStretches (report_of config detail history) }
-    ensures ended { (config : Options) (detail : Detail) (history : List Happening) → config.start < 2 ^ 32 → AreStretches (ended_report_of config detail history) }
+    ensures ended { (config : Options) (detail : Detail) (history : List Happening) → config.start < 2 ^ 32
+        → AreStretches (ended_report_of config detail history) }
 {}
 
-/// The moves of the job of the k-th entry, apart from unmaps, are in order the steps of the work of
-/// that entry as its words were read, through mappings of the references that it names, and none
-/// follows a failure of the disk. The numbers of jobs have 64 bits and begin anew past the last, so
-/// the report has fewer than 2^64 lines: that is the one premise here and in the laws below.
+/// The moves of the job of the k-th entry, apart from unmaps, are the first steps of the work of that
+/// entry as its words were read, in order; the words of each segment are touched through the mapping
+/// that the job's own map of it gave, and no step follows a failure of the disk. The numbers of jobs
+/// have 64 bits and begin anew past the last, so the report has fewer than 2^64 lines: that is the
+/// one premise here and in the laws below.
 pub fn the_jobs_do_the_work_of_their_entries()
-    ensures report { (config : Options) (detail : Detail) (history : List Happening) → length (report_of config detail history) < 2 ^ 64 → AreSteps (report_of config detail history) }
-    ensures ended { (config : Options) (detail : Detail) (history : List Happening) → length (report_of config detail history) < 2 ^ 64 → AreSteps (ended_report_of config detail history) }
+    ensures report { (config : Options) (detail : Detail) (history : List Happening) → length (report_of config detail history) < 2 ^ 64
+        → AreSteps (report_of config detail history) }
+    ensures ended { (config : Options) (detail : Detail) (history : List Happening) → length (report_of config detail history) < 2 ^ 64
+        → AreSteps (ended_report_of config detail history) }
 {}
 
 /// Each word that a job writes to the guest is the one that the disk gave for that place.
 pub fn the_data_are_what_the_disk_gave()
-    ensures report { (config : Options) (detail : Detail) (history : List Happening) → length (report_of config detail history) < 2 ^ 64 → AreData (report_of config detail history) }
-    ensures ended { (config : Options) (detail : Detail) (history : List Happening) → length (report_of config detail history) < 2 ^ 64 → AreData (ended_report_of config detail history) }
+    ensures report { (config : Options) (detail : Detail) (history : List Happening) → length (report_of config detail history) < 2 ^ 64
+        → AreData (report_of config detail history) }
+    ensures ended { (config : Options) (detail : Detail) (history : List Happening) → length (report_of config detail history) < 2 ^ 64
+        → AreData (ended_report_of config detail history) }
 {}
 
 /// Behind each move of the disk stands what came of it, by the request's id and the place in it, and
 /// nowhere else does such a line stand.
 pub fn the_effects_stand_behind_their_moves()
-    ensures report { (config : Options) (detail : Detail) (history : List Happening) → length (report_of config detail history) < 2 ^ 64 → AreEffects (report_of config detail history) }
-    ensures ended { (config : Options) (detail : Detail) (history : List Happening) → length (report_of config detail history) < 2 ^ 64 → AreEffects (ended_report_of config detail history) }
+    ensures report { (config : Options) (detail : Detail) (history : List Happening) → length (report_of config detail history) < 2 ^ 64
+        → AreEffects (report_of config detail history) }
+    ensures ended { (config : Options) (detail : Detail) (history : List Happening) → length (report_of config detail history) < 2 ^ 64
+        → AreEffects (ended_report_of config detail history) }
 {}
 
-/// A job unmaps only what stands and what it mapped itself.
+/// A fact about this machine that no rule asks for: a job unmaps only what stands and what it mapped
+/// itself.
 pub fn the_jobs_give_up_what_they_mapped()
-    ensures report { (config : Options) (detail : Detail) (history : List Happening) → length (report_of config detail history) < 2 ^ 64 → AreUnmaps (report_of config detail history) }
-    ensures ended { (config : Options) (detail : Detail) (history : List Happening) → length (report_of config detail history) < 2 ^ 64 → AreUnmaps (ended_report_of config detail history) }
+    ensures report { (config : Options) (detail : Detail) (history : List Happening) → length (report_of config detail history) < 2 ^ 64
+        → AreUnmaps (report_of config detail history) }
+    ensures ended { (config : Options) (detail : Detail) (history : List Happening) → length (report_of config detail history) < 2 ^ 64
+        → AreUnmaps (ended_report_of config detail history) }
 {}
 
-/// A job reads and writes the guest's memory only through mappings that it made itself.
+/// Another such fact: a job reads and writes the guest's memory only through mappings that it made
+/// itself.
 pub fn the_jobs_touch_what_they_mapped()
-    ensures report { (config : Options) (detail : Detail) (history : List Happening) → length (report_of config detail history) < 2 ^ 64 → AreOwn (report_of config detail history) }
-    ensures ended { (config : Options) (detail : Detail) (history : List Happening) → length (report_of config detail history) < 2 ^ 64 → AreOwn (ended_report_of config detail history) }
+    ensures report { (config : Options) (detail : Detail) (history : List Happening) → length (report_of config detail history) < 2 ^ 64
+        → AreOwn (report_of config detail history) }
+    ensures ended { (config : Options) (detail : Detail) (history : List Happening) → length (report_of config detail history) < 2 ^ 64
+        → AreOwn (ended_report_of config detail history) }
 {}
 
-/// The back writes a response only for a job whose work is over and that gave up what it mapped,
-/// with the status that its work ended with; each reply has a job of its own, is written word by
-/// word into the next slot, pushed, and told at once.
+/// There is a job for each reply, no two the same, that was at its end before the first word of the
+/// reply was written and whose response its words are; the reply is written word by word into the
+/// next slot, pushed, and told at once, and then nothing that the job mapped stands.
 pub fn the_replies_are_those_of_the_work()
-    ensures report { (config : Options) (detail : Detail) (history : List Happening) → length (report_of config detail history) < 2 ^ 64 → AreReplies (report_of config detail history) }
-    ensures ended { (config : Options) (detail : Detail) (history : List Happening) → length (report_of config detail history) < 2 ^ 64 → AreReplies (ended_report_of config detail history) }
+    ensures report { (config : Options) (detail : Detail) (history : List Happening) → length (report_of config detail history) < 2 ^ 64
+        → AreReplies (report_of config detail history) }
+    ensures ended { (config : Options) (detail : Detail) (history : List Happening) → length (report_of config detail history) < 2 ^ 64
+        → AreReplies (ended_report_of config detail history) }
 {}

@@ -1,6 +1,6 @@
 // What the back writes into the ring.
 ghost use Rattle.std.specs.Prelude.{◌≡◌, ◌≤◌, IfOk, length};
-ghost use Rattle.report_rules.specs.Reply.{is_event, word_written, value_written, values_written, value_at, row_of, are_alike, replies_like};
+ghost use Rattle.report_rules.specs.Reply.{is_event, word_written, value_written, values_written, value_at, row_of, are_alike, back_before, lines_before, is_reply};
 
 use crate::ring::ring_word;
 use crate::standing::this_epoch;
@@ -95,16 +95,23 @@ pub(super) fn are_alike(last: usize, xs: &[u32; 3], ys: &[u32; 3]) -> bool
         && (last < 2 || value_at(xs, 2) == value_at(ys, 2))
 }
 
-// How many of the first replies have these words.
-pub(super) fn replies_like(values: &[u32], last: usize, row: &[u32; 3], count: usize) -> usize
-    requires { count ≤ length values.now }
-    ensures { result ≡ replies_like values.now last row.now count }
+/// The lines before the last `n` words that the back wrote.
+pub(super) fn lines_before(before: &[Line], n: usize) -> &[Line]
+    ensures { result.now ≡ lines_before before.now n }
 {
-    let mut like = 0usize;
-    for r in 0..count {
-        if are_alike(last, row, &row_of(values, r)) {
-            like += 1;
+    let mut left = n;
+    let mut at = before.len();
+    while left > 0 && at > 0 {
+        at -= 1;
+        if value_written(before, &before[at]).is_some() {
+            left -= 1;
         }
     }
-    like
+    &before[..at]
+}
+
+pub(super) fn is_reply(line: &Line) -> bool
+    ensures { result ≡ is_reply line.now }
+{
+    matches!(*line, Line::Reply { .. })
 }

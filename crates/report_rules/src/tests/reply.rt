@@ -1,6 +1,6 @@
 // Replies and unmaps, over the report of one write.
 use super::worked::{add, before_reply, change, connected, entry_read, one_write, with_line};
-use crate::{are_own, are_replies, are_unmaps};
+use crate::are_replies;
 use schedule_text::LineList;
 use std::alloc::Global;
 use std::test::Fail;
@@ -104,57 +104,17 @@ fn each_job_has_one_reply(rt: HostRuntime) -> Result<(), Fail> {
     Ok(())
 }
 
-// Whether jobs unmap what is their own in the report with a line changed.
-fn unmaps_with(alloc: Global, new: &str) -> Result<bool, Fail> {
-    let report = with_line(alloc, "m job 1 unmap 2", new)?;
-    Ok(are_unmaps(report.lines.as_slice()))
-}
-
 #[test]
-fn a_job_unmaps_what_it_mapped(rt: HostRuntime) -> Result<(), Fail> {
+fn a_job_gives_up_what_it_mapped_before_its_reply(rt: HostRuntime) -> Result<(), Fail> {
     let alloc = rt.alloc();
-    assert_eq!(rt; unmaps_with(alloc, "m job 1 unmap 2")?, true);
-    assert_eq!(rt; unmaps_with(alloc, "m job 1 unmap 3")?, false);
-    assert_eq!(rt; unmaps_with(alloc, "m job 1 unmap 1")?, false);
-    assert_eq!(rt; unmaps_with(alloc, "m job 2 unmap 2")?, false);
-    assert_eq!(rt; unmaps_with(alloc, "m back unmap 1")?, true);
-    Ok(())
-}
-
-// Whether jobs touch what is their own in the report with a line changed.
-fn own_with(alloc: Global, old: &str, new: &str) -> Result<bool, Fail> {
-    let report = with_line(alloc, old, new)?;
-    Ok(are_own(report.lines.as_slice()))
-}
-
-#[test]
-fn a_job_touches_what_it_mapped(rt: HostRuntime) -> Result<(), Fail> {
-    let alloc = rt.alloc();
-    let read = "m job 1 read 2 18 5 00000007";
-    let map = "m job 1 map 24 r ok 2 18";
-    assert_eq!(rt; own_with(alloc, read, read)?, true);
+    let unmap = "m job 1 unmap 2";
+    assert_eq!(rt; replies_with(alloc, unmap, "m job 1 unmap 3")?, false);
+    assert_eq!(rt; replies_with(alloc, unmap, "m job 2 unmap 2")?, true);
+    assert_eq!(rt; replies_with(alloc, unmap, "m back unmap 2")?, true);
     assert_eq!(rt;
-        own_with(alloc, read, "m job 2 read 2 18 5 00000007")?,
-        false
+        replies_with(alloc, "m front event", "m job 1 unmap 9")?,
+        true
     );
-    assert_eq!(rt;
-        own_with(alloc, read, "m job 1 write 1 2 5 00000007")?,
-        false
-    );
-    assert_eq!(rt; own_with(alloc, read, "m job 1 unmap 2")?, false);
-    assert_eq!(rt; own_with(alloc, map, "m job 2 map 24 w ok 2 18")?, false);
-    let mut report = with_line(alloc, map, "m job 2 map 24 w ok 2 18")?;
-    change(
-        &mut report,
-        "m back setkey /local/domain/0/backend/vbd/1/51712/feature-persistent =0",
-        "m back setkey /local/domain/0/backend/vbd/1/51712/feature-persistent =1",
-    )?;
-    change(
-        &mut report,
-        "m back getkey /local/domain/1/device/vbd/51712/feature-persistent =0",
-        "m back getkey /local/domain/1/device/vbd/51712/feature-persistent =1",
-    )?;
-    assert_eq!(rt; are_own(report.lines.as_slice()), true);
     Ok(())
 }
 

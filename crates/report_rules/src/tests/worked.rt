@@ -189,6 +189,51 @@ pub fn entry_read(report: &mut LineList, i: u32) -> Result<(), Fail> {
     )
 }
 
+/// The back is shown `n` requests, and fetches the entry at place `n - 1`: a transfer of one sector
+/// through reference 24, of this operation and number 1.
+pub fn fetch(report: &mut LineList, n: u32, op: u32) -> Result<(), Fail> {
+    put(report, &back_read(BackMover::Back, 1, 2, 0, n))?;
+    let slot = n.saturating_sub(1).saturating_mul(28).saturating_add(16);
+    for i in 0..28u32 {
+        let value = if i == 0 {
+            0xca00_0100 | op
+        } else {
+            entry_word(i)
+        };
+        let word = slot.saturating_add(i);
+        put(report, &back_read(BackMover::Back, 1, 2, word, value))?;
+    }
+    Ok(())
+}
+
+/// A job reads the words of a sector of frame 18, `from` its word on, through a mapping.
+pub fn read_sector(report: &mut LineList, job: u64, mapping: u64, from: u32) -> Result<(), Fail> {
+    for i in 0..128u32 {
+        let word = from.saturating_add(i);
+        put(
+            report,
+            &back_read(BackMover::Job(job), mapping, 18, word, 7),
+        )?;
+    }
+    Ok(())
+}
+
+/// The lines until both ends are connected and asleep, where grants are persistent.
+pub fn connected_to_keep(alloc: Global) -> Result<LineList, Fail> {
+    let mut report = connected(alloc)?;
+    change(
+        &mut report,
+        "m back setkey /local/domain/0/backend/vbd/1/51712/feature-persistent =0",
+        "m back setkey /local/domain/0/backend/vbd/1/51712/feature-persistent =1",
+    )?;
+    change(
+        &mut report,
+        "m back getkey /local/domain/1/device/vbd/51712/feature-persistent =0",
+        "m back getkey /local/domain/1/device/vbd/51712/feature-persistent =1",
+    )?;
+    Ok(report)
+}
+
 // The back fetches the entry, and its job does the write.
 fn serve(report: &mut LineList) -> Result<(), Fail> {
     add(report, &["m back event", "m back read 1 2 0 00000001"])?;

@@ -1,5 +1,5 @@
 use Rattle.std.proofs.Common.{◌≡◌, fold, take}
-use Rattle.report_rules.specs.Steps.{info_told, no_disk}
+use Rattle.report_rules.specs.Published.{info_told, no_disk}
 use Rattle.report_rules.proofs.published.disk_told.Given as goal
 
 -- the disk that the lines so far tell

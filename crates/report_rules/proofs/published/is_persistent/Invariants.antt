@@ -1,6 +1,6 @@
 use Rattle.std.proofs.Common.{◌≡◌, fold, take, false}
 use Rattle.report_rules.specs.Standing.{this_epoch}
-use Rattle.report_rules.specs.Steps.{keeping_after, kept_by}
+use Rattle.report_rules.specs.Published.{keeping_after, kept_by}
 use Rattle.report_rules.proofs.published.is_persistent.Given as goal
 
 -- what the lines so far say of persistent grants

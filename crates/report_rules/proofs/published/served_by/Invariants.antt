@@ -1,6 +1,6 @@
 use Rattle.std.proofs.Common.{◌≡◌, fold, take, false}
 use Rattle.report_rules.specs.Standing.{this_epoch}
-use Rattle.report_rules.specs.Steps.{serving, serving_after}
+use Rattle.report_rules.specs.Published.{serving, serving_after}
 use Rattle.report_rules.proofs.published.served_by.Given as goal
 
 -- what the lines so far say that the back serves
