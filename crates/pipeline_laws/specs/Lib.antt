@@ -1,0 +1,14 @@
+pub mod Station
+pub mod Move
+pub mod Ring
+pub mod Pipeline
+pub mod Allowed
+pub mod Disk
+pub mod Run
+pub mod Submissions
+pub mod Answered
+pub mod Unbroken
+pub mod States
+pub mod Samples
+pub mod Queue
+pub mod Recorded

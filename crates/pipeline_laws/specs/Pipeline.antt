@@ -1,0 +1,94 @@
+-- The pipeline: requests on their way to the disk and back (`io/blkif.h`, `io/ring.h`), and nothing of memory. It stands between the machine of shared words and the plain disk.
+use Rattle.std.specs.Prelude.{ℕ, Bool, true, false, List, [], ◌∷◌, ◌++◌, length, map, slice_set, ◌+◌}
+use Rattle.blk_base.specs.Options.{Options}
+use Rattle.blk_base.specs.declared.config.Job.{Job}
+use Rattle.schedule_text.specs.declared.line.Detail.{Detail}
+use Rattle.schedule_text.specs.declared.line.Halt.{Halt}
+use Rattle.schedule_text.specs.declared.line.Refusal.{Refusal}
+use Rattle.schedule_text.specs.declared.line.Line.{Line}
+use Rattle.schedule_text.specs.declared.line.Line.TheVariants as lines
+use Rattle.pipeline_laws.specs.Station.{Station, Waiting, Telling, Finished, Request, submitted}
+use Rattle.pipeline_laws.specs.Move.{Move, moved, move_lines}
+use Rattle.pipeline_laws.specs.Ring.{Ring, empty_ring, ring_after}
+
+-- whether the front is connected in this epoch, whether it began to close, and whether it is closed (`io/xenbus.h`)
+pub record Front : Type 0 where
+  pub connected : Bool
+  pub closing : Bool
+  pub closed : Bool
+
+-- the options of the run, the front's state, the requests, number 1 first, and the ring of this epoch
+pub record Pipeline : Type 0 where
+  pub options : Options
+  pub front : Front
+  pub requests : List Request
+  pub ring : Ring
+
+abbrev pub pipeline_of : Options → Pipeline
+pipeline_of options = record { options = options; front = record { connected = false; closing = false; closed = false }; requests = []; ring = empty_ring }
+
+pub data Step : Type 0 where
+  -- a submission is accepted, or refused
+  Submits : (job : Job) → Step
+  Refuses : (job : Job) (refusal : Refusal) → Step
+  -- the request at this place of the list, as it stands, makes a move
+  Moves : (k : ℕ) (x : Request) (move : Move) → Step
+  -- the front connects, begins to close, and is closed; the back leaves a front that is gone
+  Connects : Step
+  StartsToClose : Step
+  Closes : Step
+  Leaves : (why : Halt) → Step
+  -- the guest is suspended and resumed
+  Resumes : Step
+  -- somebody looks, and nothing is left to do
+  Rests : Step
+  -- a line that tells nothing of a request
+  Shows : (line : Line) → Step
+
+-- in a new epoch each request whose answer wasn't told waits again
+abbrev pub station_again : Station → Station
+station_again (Telling next) = Telling next
+station_again (Finished status) = Finished status
+station_again station = Waiting
+
+abbrev pub again : Request → Request
+again x = record x { station = station_again x.station }
+
+abbrev pub next : Pipeline → Step → Pipeline
+next p (Submits job) = record p { requests = p.requests ++ submitted job ∷ [] }
+next p (Refuses job refusal) = p
+next p (Moves k x move) = record p { requests = slice_set p.requests k (moved x move); ring = ring_after p.ring k move }
+next p Connects = record p { front = record p.front { connected = true } }
+next p StartsToClose = record p { front = record p.front { closing = true } }
+next p Closes = record p { front = record p.front { closed = true } }
+next p (Leaves why) = p
+next p Resumes = record p { front = record p.front { connected = false }; requests = map again p.requests; ring = empty_ring }
+next p Rests = p
+next p (Shows line) = p
+
+-- the lines of a step
+abbrev pub step_lines : Pipeline → Step → List Line
+step_lines p (Submits job) = lines.Submit (length p.requests + 1) job ∷ []
+step_lines p (Refuses job refusal) = lines.Refuse refusal ∷ []
+step_lines p (Moves k x move) = move_lines k move
+step_lines p Connects = lines.Ready ∷ []
+step_lines p StartsToClose = lines.Closing ∷ []
+step_lines p Closes = lines.Closed ∷ []
+step_lines p (Leaves why) = lines.Halt why ∷ []
+step_lines p Resumes = lines.Epoch ∷ []
+step_lines p Rests = lines.Quiet ∷ []
+step_lines p (Shows line) = line ∷ []
+
+-- the pipeline after these steps
+abbrev pub after_steps : List Step → Pipeline → Pipeline
+after_steps [] p = p
+after_steps (s ∷ steps) p = after_steps steps (next p s)
+
+-- their lines
+abbrev pub lines_of : List Step → Pipeline → List Line
+lines_of [] p = []
+lines_of (s ∷ steps) p = step_lines p s ++ lines_of steps (next p s)
+
+-- the report of these steps from the start
+abbrev pub report_of : Options → Detail → List Step → List Line
+report_of options detail steps = lines.Begin options detail ∷ lines_of steps (pipeline_of options)
