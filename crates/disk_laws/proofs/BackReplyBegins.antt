@@ -69,7 +69,7 @@ pub record IsLowestDone (works : List Work) (rep : Reply) : Type 0 where
   pub id : rep.id ≡ t.id
   pub op : rep.op ≡ t.op
 
-lowest_done : (works : List Work) (rep : Reply) (place : Option ℕ) → position (λ (u : Work). is_done u) works ≡ place → reply_of (option_and_then response_of (work_at works place)) ≡ Some rep → IsLowestDone works rep
+pub lowest_done : (works : List Work) (rep : Reply) (place : Option ℕ) → position (λ (u : Work). is_done u) works ≡ place → reply_of (option_and_then response_of (work_at works place)) ≡ Some rep → IsLowestDone works rep
 lowest_done works rep None found e = absurd (none-some rep e)
 lowest_done works rep (Some place) found e = by_work (slice_get works place) refl e
   where
@@ -92,7 +92,7 @@ lowest_done works rep (Some place) found e = by_work (slice_get works place) ref
     by_work (Some t) at e = by_stage t t.stage at refl e
 
 -- the job's result is taken: what is known of its response
-replying : (submitted : List Request) (fetched : ℕ) (asked : List Asked) (done : List Place) (works : List Work) (rep : Reply) (l : IsLowestDone works rep) → AreWorks submitted fetched asked done works → IsReplying fetched asked done (remove works l.place) rep
+pub replying : (submitted : List Request) (fetched : ℕ) (asked : List Asked) (done : List Place) (works : List Work) (rep : Reply) (l : IsLowestDone works rep) → AreWorks submitted fetched asked done works → IsReplying fetched asked done (remove works l.place) rep
 replying submitted fetched asked done works rep l h =
     let t : Work = l.t in
     let within : l.place < length works = slice_get_within works l.place t l.at in

@@ -18,7 +18,6 @@ use Rattle.plain_disk.specs.Request.{filling}
 use Rattle.plain_disk.specs.Disk.{Disk, request_of}
 use Rattle.plain_disk.specs.Step.{after, effect_of, fault_of, served, place, one_sector, lost_of, with_request}
 use Rattle.hypervisor.specs.Act.{BackAct, Outcome, Gave, Took, Failed, back_act}
-use Rattle.hypervisor.specs.Disk.{DiskDoes}
 use Rattle.blk_front.specs.declared.request.Request.{Request}
 use Rattle.back_jobs.specs.declared.stage.Stage.{Stage as JobStage}
 use Rattle.back_jobs.specs.declared.stage.Stage.TheVariants as job
@@ -35,13 +34,14 @@ use Rattle.disk_laws.proofs.JobMoves.{IsAt, act_at, job_says}
 use Rattle.disk_laws.proofs.JobDisk.{next_of, run_one}
 use Rattle.disk_laws.proofs.Steps.{effect_taken, fault_taken}
 use Rattle.disk_laws.proofs.Content.{kept_same, kept_effect, kept_fault}
+use Rattle.disk_laws.proofs.Sectors.{SectorsDo}
 
 -- what a call with these lines makes of the sectors is what they say
 abbrev pub KeepsOn : ℕ → Disk → BackAsk → Outcome → List Line → Type 0
-KeepsOn sectors d a o said = (before later : Option (List (List ℕ))) (d' : Disk) → DiskDoes a o before later → after said d ≡ Some d' → IsKept sectors d before → IsKept sectors d' later
+KeepsOn sectors d a o said = (before later : Option (List (List ℕ))) (d' : Disk) → SectorsDo a o before later → after said d ≡ Some d' → IsKept sectors d before → IsKept sectors d' later
 
 -- no call of the disk, and no line that the plain disk reads
-silent : (sectors : ℕ) (d : Disk) (a : BackAsk) (o : Outcome) (said : List Line) → ((before later : Option (List (List ℕ))) → DiskDoes a o before later → later ≡ before) → after said d ≡ Some d → KeepsOn sectors d a o said
+silent : (sectors : ℕ) (d : Disk) (a : BackAsk) (o : Outcome) (said : List Line) → ((before later : Option (List (List ℕ))) → SectorsDo a o before later → later ≡ before) → after said d ≡ Some d → KeepsOn sectors d a o said
 silent sectors d a o said same none before later d' does run k =
     let e : d ≡ d' = same_Some d d' (sym none ∙ run) in
     kept_same sectors d d' before later (ap (λ (x : Disk). x.first) (sym e), ap (λ (x : Disk). x.written) (sym e)) (same before later does) k

@@ -23,13 +23,14 @@ use Rattle.blk_back.specs.View as back
 use Rattle.blk_back.specs.Step as back_step
 use Rattle.split_model.specs.World.{World, is_quiet}
 use Rattle.split_model.specs.Shown.{front_lines, back_lines, halt_lines}
-use Rattle.split_model.specs.Happening.{Happening, FrontMoves, BackMoves, JobMoves, Submits, Notifies, Looks, Settles, lines_at, front_turn, back_turn, front_shows, back_shows, submit_line, DiskGoes}
+use Rattle.split_model.specs.Happening.{Happening, FrontMoves, BackMoves, JobMoves, Submits, Notifies, Looks, Settles, lines_at, front_turn, back_turn, front_shows, back_shows, submit_line}
 use Rattle.disk_laws.specs.Content.{IsKept}
 use Rattle.disk_laws.proofs.Flow.{Flow}
 use Rattle.disk_laws.proofs.Holds.{Stands}
 use Rattle.disk_laws.proofs.SightBack.{IsReplyOnly, back_tells}
 use Rattle.disk_laws.proofs.Content.{touches_sectors, run_same, kept_same}
 use Rattle.disk_laws.proofs.ContentJobs.{job_keeps}
+use Rattle.disk_laws.proofs.Sectors.{SectorsGo}
 
 -- no line of these is of a sector
 abbrev AreBeside : List Line → Type 0
@@ -76,7 +77,7 @@ quiet_beside false other e = (e, tt)
 
 pub kept_goes : (config : Options) (w : World) (g : Flow) (d d' : Disk) (h : Happening) (before later : Option (List (List ℕ)))
     → Stands config w g d
-    → DiskGoes w h before later
+    → SectorsGo w h before later
     → after (lines_at w h) d ≡ Some d'
     → IsKept config.sectors d before
     → IsKept config.sectors d' later

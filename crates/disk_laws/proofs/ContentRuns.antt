@@ -6,7 +6,7 @@ use Rattle.blk_base.specs.Options.{Options}
 use Rattle.plain_disk.specs.Disk.{Disk, disk_of}
 use Rattle.plain_disk.specs.Step.{after}
 use Rattle.split_model.specs.World.{World, start_of}
-use Rattle.split_model.specs.Happening.{Happening, happens, lines_at, lines_of, DiskRuns}
+use Rattle.split_model.specs.Happening.{Happening, happens, lines_at, lines_of}
 use Rattle.disk_laws.specs.Plain.{IsPlain}
 use Rattle.disk_laws.specs.Allowed.{AreAllowed}
 use Rattle.disk_laws.specs.Content.{IsKept}
@@ -16,12 +16,13 @@ use Rattle.disk_laws.proofs.StartingHolds.{start_holds}
 use Rattle.disk_laws.proofs.Together.{step_kept, after_append}
 use Rattle.disk_laws.proofs.Content.{kept_first}
 use Rattle.disk_laws.proofs.ContentKept.{kept_goes}
+use Rattle.disk_laws.proofs.Sectors.{SectorsRun}
 
 pub kept_runs : (config : Options) (hs : List Happening) (w : World) (g : Flow) (d d' : Disk) (before later : Option (List (List ℕ)))
     → IsPlain config
     → Stands config w g d
     → AreAllowed hs w
-    → DiskRuns hs w before later
+    → SectorsRun hs w before later
     → after (lines_of hs w) d ≡ Some d'
     → IsKept config.sectors d before
     → IsKept config.sectors d' later
@@ -38,7 +39,7 @@ pub always_kept : (config : Options) (hs : List Happening) (first : List (List �
     → IsPlain config
     → AreAllowed hs (start_of config)
     → length first ≡ config.sectors
-    → DiskRuns hs (start_of config) (Some first) later
+    → SectorsRun hs (start_of config) (Some first) later
     → after (lines_of hs (start_of config)) (disk_of first) ≡ Some d
     → IsKept config.sectors d later
 always_kept config hs first d later plain may sized goes run =

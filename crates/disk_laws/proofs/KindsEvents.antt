@@ -15,7 +15,7 @@ use Rattle.blk_front.specs.Submit.{is_connected}
 use Rattle.blk_back.specs.declared.stage.Stage.{Stage as BackStage}
 use Rattle.split_model.specs.World.{World, is_quiet}
 use Rattle.split_model.specs.Happening.{Happening, FrontMoves, BackMoves, Submits, Notifies, Looks, Settles, happens, after}
-use Rattle.split_model.specs.Kind.{is_carried_job, front_move, front_moves, back_moves, AreJobMoves, AreEachJobs, round_start, IsBeginning, IsRoundSoFar, AreRounds, never, settle_bound, AreRoundsSoFar, IsSettling, IsSettlingSoFar, AreOf, AreOfSoFar, AreOfAll}
+use Rattle.split_model.specs.Kind.{is_carried, is_carried_job, Makes, MakesSoFar, front_move, front_moves, back_moves, AreJobMoves, AreEachJobs, round_start, IsBeginning, IsRoundSoFar, AreRounds, never, settle_bound, AreRoundsSoFar, IsSettling, IsSettlingSoFar, AreOf, AreOfSoFar, AreOfAll}
 use Rattle.disk_laws.specs.Allowed.{IsOneWrite, IsAllowed, AreAllowed}
 use Rattle.disk_laws.proofs.Flow.{Flow}
 use Rattle.disk_laws.proofs.Holds.{Holds}
@@ -137,24 +137,30 @@ one_write job carried widths = absurd (true≢false (sym carried))
 only : (h : Happening) (w : World) (hs : List Happening) → IsAllowed w h → hs ≡ h ∷ [] → AreAllowed hs w
 only h w hs allowed all = subst (λ (l : List Happening). AreAllowed l w) (sym all) (allowed, tt)
 
+made_allowed : (e : Event) (w : World) (hs : List Happening) → Connects w.front.stage → is_carried e ≡ true → Makes e w hs → AreAllowed hs w
+made_allowed (events.Submit job) w hs c carried k = only (Submits job) w hs (one_write job carried k.1) k.0
+made_allowed (events.Front n) w hs c carried k = subst (λ (l : List Happening). AreAllowed l w) (sym k) (front_moves_allowed w n c)
+made_allowed (events.Back n) w hs c carried k = subst (λ (l : List Happening). AreAllowed l w) (sym k) (back_moves_allowed w n)
+made_allowed (events.Job number n) w hs c carried k = jobs_allowed number hs w k.0
+made_allowed (events.Turn n) w hs c carried k = rounds_allowed never n w hs c k
+made_allowed events.Settle w hs c carried k = settling_allowed w hs c k
+made_allowed events.Look w hs c carried k = only Looks w hs tt k
+made_allowed (events.Notify at) w hs c carried k = only (Notifies at) w hs tt k
+made_allowed e w hs c carried k = absurd k
+
+made_so_far_allowed : (e : Event) (w : World) (hs : List Happening) → Connects w.front.stage → is_carried e ≡ true → MakesSoFar e w hs → AreAllowed hs w
+made_so_far_allowed (events.Front n) w hs c carried k = beginning_allowed hs (front_moves w n) w k (front_moves_allowed w n c)
+made_so_far_allowed (events.Back n) w hs c carried k = beginning_allowed hs (back_moves w n) w k (back_moves_allowed w n)
+made_so_far_allowed (events.Job number n) w hs c carried k = jobs_allowed number hs w k.0
+made_so_far_allowed (events.Turn n) w hs c carried k = rounds_so_far_allowed never n w hs c k
+made_so_far_allowed events.Settle w hs c carried k = settling_so_far_allowed w hs c k
+made_so_far_allowed e w hs c carried k = made_allowed e w hs c carried k
+
 pub event_allowed : (e : Event) (w : World) (hs : List Happening) → Connects w.front.stage → AreOf e w hs → AreAllowed hs w
-event_allowed (events.Submit job) w hs c k = only (Submits job) w hs (one_write job k.2 k.1) k.0
-event_allowed (events.Front n) w hs c k = subst (λ (l : List Happening). AreAllowed l w) (sym k) (front_moves_allowed w n c)
-event_allowed (events.Back n) w hs c k = subst (λ (l : List Happening). AreAllowed l w) (sym k) (back_moves_allowed w n)
-event_allowed (events.Job number n) w hs c k = jobs_allowed number hs w k.0
-event_allowed (events.Turn n) w hs c k = rounds_allowed never n w hs c k
-event_allowed events.Settle w hs c k = settling_allowed w hs c k
-event_allowed events.Look w hs c k = only Looks w hs tt k
-event_allowed (events.Notify at) w hs c k = only (Notifies at) w hs tt k
-event_allowed e w hs c k = absurd k
+event_allowed e w hs c k = made_allowed e w hs c k.0 k.1
 
 pub event_so_far_allowed : (e : Event) (w : World) (hs : List Happening) → Connects w.front.stage → AreOfSoFar e w hs → AreAllowed hs w
-event_so_far_allowed (events.Front n) w hs c k = beginning_allowed hs (front_moves w n) w k (front_moves_allowed w n c)
-event_so_far_allowed (events.Back n) w hs c k = beginning_allowed hs (back_moves w n) w k (back_moves_allowed w n)
-event_so_far_allowed (events.Job number n) w hs c k = jobs_allowed number hs w k.0
-event_so_far_allowed (events.Turn n) w hs c k = rounds_so_far_allowed never n w hs c k
-event_so_far_allowed events.Settle w hs c k = settling_so_far_allowed w hs c k
-event_so_far_allowed e w hs c k = event_allowed e w hs c k
+event_so_far_allowed e w hs c k = made_so_far_allowed e w hs c k.0 k.1
 
 pub events_allowed : (es : List Event) (w : World) (hs : List Happening) → Connects w.front.stage → AreOfAll es w hs → AreAllowed hs w
 events_allowed [] w hs c k = subst (λ (l : List Happening). AreAllowed l w) (sym k) tt

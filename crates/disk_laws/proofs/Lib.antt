@@ -66,6 +66,7 @@ pub mod Together
 pub mod KindsFront
 pub mod KindsEvents
 pub mod Runs
+pub mod Sectors
 pub mod ContentRuns
 pub mod Sight
 pub mod SubmissionsOf
@@ -75,5 +76,3 @@ pub mod SubmissionsLines
 pub mod SubmissionsRun
 pub mod SubmissionsKept
 pub mod Reports
-pub mod Answered
-pub mod AnsweredRuns

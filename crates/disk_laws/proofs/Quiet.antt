@@ -37,6 +37,7 @@ use Rattle.disk_laws.proofs.Turns.{Goes}
 
 -- a front that waits sleeps in its loop, and has no request to issue
 record FrontSleeps (s : FrontStage) (asleep : Bool) (next : Option Request) : Type 0 where
+  pub looping : s ≡ front.Loop
   pub sleeps : asleep ≡ true
   pub none_next : next ≡ None
   pub no_ending : ending_at s ≡ None
@@ -54,7 +55,7 @@ front_sleeps start pushed taken seen submitted replies asked entry v front.Loop 
   where
     in_loop : (next : Option Request) (asleep : Bool) → front_submit.is_wait (front_ask.loop_ask (record v { asleep = asleep }) next) ≡ true → FrontSleeps front.Loop asleep next
     in_loop (Some r) asleep t = absurd (true≢false (sym t))
-    in_loop None true t = record { sleeps = refl; none_next = refl; no_ending = refl; sends_none = λ p f x. x }
+    in_loop None true t = record { looping = refl; sleeps = refl; none_next = refl; no_ending = refl; sends_none = λ p f x. x }
     in_loop None false t = absurd (front_acts (responses_of v.ring v.seen == 0) _ _ refl refl t)
 front_sleeps start pushed taken seen submitted replies asked entry v (front.Broken word) waits at = absurd at
 front_sleeps start pushed taken seen submitted replies asked entry v s waits at = absurd (true≢false (sym waits))
@@ -132,9 +133,24 @@ all_finished (q ∷ asked) none = by_test (is_finished q.stage) refl (all_finish
         let here : ◌≡◌ {A = ℕ} (cond (not (is_finished q.stage)) 1 0) 1 = rw t refl in
         absurd (omega arith)
 
--- where all is quiet, the line that says so stands
-pub quiet_taken : (config : Options) (w : World) (g : Flow) (d : Disk) → is_quiet w ≡ true → Stands config w g d → step d lines.Quiet ≡ Some d
-quiet_taken config w g d quiet stands = rw (all_finished d.requests none_open) refl
+-- where all is quiet the front is in its loop, and nothing is left: each request was pushed, fetched and replied to, each response taken, and no job is held
+pub record IsCaughtUp (w : World) (g : Flow) : Type 0 where
+  pub looping : w.front.stage ≡ front.Loop
+  pub fetched : g.fetched ≡ g.pushed
+  pub replied : g.replied ≡ g.pushed
+  pub taken : g.taken ≡ g.pushed
+  pub no_request : length w.front.requests ≡ 0
+  pub no_job : length w.back.jobs.works ≡ 0
+
+pub caught_up_at : (config : Options) (w : World) (g : Flow) (d : Disk) → is_quiet w ≡ true → Stands config w g d → IsCaughtUp w g
+caught_up_at config w g d quiet stands = record {
+  looping = front_side.looping;
+  fetched = sym all_fetched;
+  replied = all_replied ∙ sym all_fetched;
+  taken = sym all_taken ∙ (all_replied ∙ sym all_fetched);
+  no_request = none_waits w.front.requests w.front.waiting all_wait front_side.none_next;
+  no_job = no_job;
+}
   where
     h : Holds config w g d w.front.stage w.back.stage
     h = stands.holds
@@ -161,10 +177,18 @@ quiet_taken config w g d quiet stands = rw (all_finished d.requests none_open) r
         let sleep = h.back_sleep in
         caught_up g.pushed g.fetched w.under.channels.back_pending (FrontSends w.front.stage g.pushed g.fetched) parts.no_back (front_side.sends_none g.pushed g.fetched) (sleep.woken back_side.sleeps)
 
+    no_job : length w.back.jobs.works ≡ 0
+    no_job = let t = idle.1 in grind (arith, nat_tests)
+
+    all_replied : g.replied ≡ g.fetched
+    all_replied =
+        let none = no_job in
+        let counted : length w.back.jobs.works + 0 + g.replied ≡ g.fetched = subst (λ (r : Option Reply). length w.back.jobs.works + reply_count r + g.replied ≡ g.fetched) back_side.no_reply h.counted in
+        omega arith
+
     all_wait : length w.front.requests ≡ w.front.waiting
     all_wait =
-        let no_job : length w.back.jobs.works ≡ 0 = let t = idle.1 in grind (arith, nat_tests) in
-        let counted : length w.back.jobs.works + 0 + g.replied ≡ g.fetched = subst (λ (r : Option Reply). length w.back.jobs.works + reply_count r + g.replied ≡ g.fetched) back_side.no_reply h.counted in
+        let replied = all_replied in
         let taken = all_taken in
         let fetched = all_fetched in
         let indices = h.indices in
@@ -172,15 +196,17 @@ quiet_taken config w g d quiet stands = rw (all_finished d.requests none_open) r
         let held = indices.held in
         omega arith
 
-    no_request : length w.front.requests ≡ 0
-    no_request = none_waits w.front.requests w.front.waiting all_wait front_side.none_next
-
+-- so the line that says so stands
+pub quiet_taken : (config : Options) (w : World) (g : Flow) (d : Disk) → is_quiet w ≡ true → Stands config w g d → step d lines.Quiet ≡ Some d
+quiet_taken config w g d quiet stands = rw (all_finished d.requests none_open) refl
+  where
     none_open : count_by (λ (q : Asked). not (is_finished q.stage)) d.requests ≡ 0
     none_open =
-        let opened = h.opened in
+        let rest = caught_up_at config w g d quiet stands in
+        let opened = stands.holds.opened in
         let unfinished = opened.unfinished in
-        let none = no_request in
-        let no_ending : count_of (ending_at w.front.stage) ≡ 0 = ap count_of front_side.no_ending in
+        let none = rest.no_request in
+        let no_ending : count_of (ending_at w.front.stage) ≡ 0 = ap (λ (s : FrontStage). count_of (ending_at s)) rest.looping in
         omega arith
 
 -- a look tells what is so

@@ -7,12 +7,13 @@ use Rattle.schedule_text.specs.declared.line.Line.{Line}
 use Rattle.schedule_text.specs.declared.line.Line.TheVariants as lines
 use Rattle.split_model.specs.World.{start_of}
 use Rattle.split_model.specs.Happening.{Happening}
-use Rattle.split_model.specs.Leads.{kept_of}
+use Rattle.schedule_text.specs.Recorder.{kept_of}
 use Rattle.split_model.specs.Report.{report_of, ended_report_of}
 use Rattle.disk_laws.specs.Plain.{IsPlain}
 use Rattle.disk_laws.specs.Allowed.{AreAllowed}
-use Rattle.disk_laws.specs.Submissions.{submitted_of, AreAnswered}
-use Rattle.disk_laws.specs.Unbroken.{is_breach, IsUnbroken}
+use Rattle.disk_laws.specs.Submissions.{submitted_of}
+use Rattle.pipeline_laws.specs.Submissions.{AreAnswered}
+use Rattle.pipeline_laws.specs.Unbroken.{is_breach, IsUnbroken}
 use Rattle.disk_laws.proofs.SubmissionsLines.{answered_past}
 use Rattle.disk_laws.proofs.SubmissionsRun.{always_so_far}
 use Rattle.disk_laws.proofs.SubmissionsKept.{answered_kept, unbroken_kept}

@@ -3,7 +3,7 @@ use Rattle.std.proofs.Common.{◌≡◌, ℕ, List, [], ◌∷◌, ◌++◌, ref
 use Rattle.std.specs.Prelude.{Option, Some, None, option_and_then}
 use Rattle.std.proofs.lemmas.Option.{none-some}
 use Rattle.blk_base.specs.Options.{Options}
-use Rattle.blk_io.specs.Disk.{HasLength}
+use Rattle.blk_io.specs.Disk.{DiskSeen, HasLength}
 use Rattle.schedule_text.specs.declared.line.Detail.{Detail}
 use Rattle.schedule_text.specs.declared.line.Detail.TheVariants.{Lines, Moves}
 use Rattle.schedule_text.specs.declared.line.Line.{Line}
@@ -13,7 +13,7 @@ use Rattle.plain_disk.specs.Disk.{Disk, disk_of}
 use Rattle.plain_disk.specs.Step.{step, after}
 use Rattle.split_model.specs.World.{World, start_of}
 use Rattle.split_model.specs.Happening.{Happening, happens, lines_at, after as world_after, lines_of, DiskRuns}
-use Rattle.split_model.specs.Leads.{kept_of}
+use Rattle.schedule_text.specs.Recorder.{kept_of}
 use Rattle.split_model.proofs.Running.{kept_of-append}
 use Rattle.split_model.specs.Report.{report_of, ended_report_of}
 use Rattle.disk_laws.specs.Plain.{IsPlain}
@@ -26,6 +26,7 @@ use Rattle.disk_laws.proofs.StartingHolds.{start_holds}
 use Rattle.disk_laws.proofs.Content.{kept_first}
 use Rattle.disk_laws.proofs.ContentKept.{kept_goes}
 use Rattle.disk_laws.proofs.Together.{step_kept, after_append, always_runs}
+use Rattle.disk_laws.proofs.Sectors.{SectorsRun, sectors_run}
 
 -- the plain disk after these happenings, with the disk's content
 record GoesWith (config : Options) (said : List Line) (w : World) (d : Disk) (content : Option (List (List ℕ))) : Type 0 where
@@ -35,7 +36,7 @@ record GoesWith (config : Options) (said : List Line) (w : World) (d : Disk) (co
   stands : Stands config w flow disk
   kept : IsKept config.sectors disk content
 
-with_content : (config : Options) (hs : List Happening) (w : World) (g : Flow) (d : Disk) (before now : Option (List (List ℕ))) → IsPlain config → Stands config w g d → AreAllowed hs w → IsKept config.sectors d before → DiskRuns hs w before now → GoesWith config (lines_of hs w) (world_after hs w) d now
+with_content : (config : Options) (hs : List Happening) (w : World) (g : Flow) (d : Disk) (before now : Option (List (List ℕ))) → IsPlain config → Stands config w g d → AreAllowed hs w → IsKept config.sectors d before → SectorsRun hs w before now → GoesWith config (lines_of hs w) (world_after hs w) d now
 with_content config [] w g d before now plain s may kept runs = record { flow = g; disk = d; run = refl; stands = s; kept = subst (IsKept config.sectors d) (sym runs) kept }
 with_content config (h ∷ hs) w g d before now plain s may kept runs =
     let one = step_kept config w g d h plain s may.0 in
@@ -84,7 +85,7 @@ kept_at_first sectors None long = tt
 kept_at_first sectors (Some content) long = kept_first sectors content long
 
 -- the report of a history, and with its last line
-report_run : (config : Options) (detail : Detail) (hs : List Happening) (before now : Option (List (List ℕ))) → IsPlain config → AreAllowed hs (start_of config) → HasLength before config.sectors → DiskRuns hs (start_of config) before now → IsRun config.sectors before now (report_of config detail hs)
+report_run : (config : Options) (detail : Detail) (hs : List Happening) (before now : Option (List (List ℕ))) → IsPlain config → AreAllowed hs (start_of config) → HasLength before config.sectors → SectorsRun hs (start_of config) before now → IsRun config.sectors before now (report_of config detail hs)
 report_run config detail hs before now plain may long runs =
     let gone = with_content config hs (start_of config) (start_flow config.start) (disk_of (first_of before)) before now plain (start_holds config plain (first_of before)) may (kept_at_first config.sectors before long) runs in
     record { first = first_of before; begins = begins before; disk = gone.disk; run = gone.run; kept = gone.kept }
@@ -95,11 +96,14 @@ ended_run config detail hs before now h = record { first = h.first; begins = h.b
 kept_is_run : (detail : Detail) (sectors : ℕ) (before now : Option (List (List ℕ))) (report : List Line) → IsRun sectors before now report → IsRun sectors before now (kept_of detail report)
 kept_is_run detail sectors before now report h = record { first = h.first; begins = h.begins; disk = h.disk; run = kept_run detail report (disk_of h.first) h.disk h.run; kept = h.kept }
 
-pub reports_run : (config : Options) (detail : Detail) (hs : List Happening) (before now : Option (List (List ℕ))) → IsPlain config → AreAllowed hs (start_of config) → HasLength before config.sectors → DiskRuns hs (start_of config) before now → IsRun config.sectors before now (kept_of detail (report_of config detail hs))
-reports_run config detail hs before now plain may long runs = kept_is_run detail config.sectors before now (report_of config detail hs) (report_run config detail hs before now plain may long runs)
+pub reports_run : (config : Options) (detail : Detail) (hs : List Happening) (a b : DiskSeen) → IsPlain config → AreAllowed hs (start_of config) → HasLength a.content config.sectors → DiskRuns hs (start_of config) a b → IsRun config.sectors a.content b.content (kept_of detail (report_of config detail hs))
+reports_run config detail hs a b plain may long runs =
+    kept_is_run detail config.sectors a.content b.content (report_of config detail hs) (report_run config detail hs a.content b.content plain may long (sectors_run hs (start_of config) a b runs))
 
-pub ended_reports_run : (config : Options) (detail : Detail) (hs : List Happening) (before now : Option (List (List ℕ))) → IsPlain config → AreAllowed hs (start_of config) → HasLength before config.sectors → DiskRuns hs (start_of config) before now → IsRun config.sectors before now (kept_of detail (ended_report_of config detail hs))
-ended_reports_run config detail hs before now plain may long runs = kept_is_run detail config.sectors before now (ended_report_of config detail hs) (ended_run config detail hs before now (report_run config detail hs before now plain may long runs))
+pub ended_reports_run : (config : Options) (detail : Detail) (hs : List Happening) (a b : DiskSeen) → IsPlain config → AreAllowed hs (start_of config) → HasLength a.content config.sectors → DiskRuns hs (start_of config) a b → IsRun config.sectors a.content b.content (kept_of detail (ended_report_of config detail hs))
+ended_reports_run config detail hs a b plain may long runs =
+    kept_is_run detail config.sectors a.content b.content (ended_report_of config detail hs)
+    (ended_run config detail hs a.content b.content (report_run config detail hs a.content b.content plain may long (sectors_run hs (start_of config) a b runs)))
 
 -- and the beginning of a report with its last line
 pub begun_run : (config : Options) (detail : Detail) (hs : List Happening) (before : Option (List (List ℕ))) (said rest : List Line) → IsPlain config → AreAllowed hs (start_of config) → said ++ rest ≡ ended_report_of config detail hs → IsRunSoFar before (kept_of detail said)

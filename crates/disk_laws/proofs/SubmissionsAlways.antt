@@ -11,12 +11,13 @@ use Rattle.report_rules.proofs.Obeys.{obeys_before}
 use Rattle.split_model.specs.World.{start_of}
 use Rattle.split_model.specs.Happening.{Happening, after}
 use Rattle.split_model.specs.Kind.{AreOfAll, AreOfSoFar}
-use Rattle.split_model.specs.Leads.{kept_of}
+use Rattle.schedule_text.specs.Recorder.{kept_of}
 use Rattle.split_model.specs.Report.{report_of}
 use Rattle.disk_laws.specs.Plain.{IsPlain}
 use Rattle.disk_laws.specs.Allowed.{AreAllowed}
-use Rattle.disk_laws.specs.Submissions.{jobs_of, IsAnswerAt, AreAnswered}
-use Rattle.disk_laws.specs.Unbroken.{is_breach, IsUnbroken}
+use Rattle.disk_laws.specs.Submissions.{jobs_of}
+use Rattle.pipeline_laws.specs.Submissions.{IsAnswerAt, AreAnswered}
+use Rattle.pipeline_laws.specs.Unbroken.{is_breach, IsUnbroken}
 use Rattle.disk_laws.proofs.SubmissionsOf.{events_submit, events_so_far_submit}
 use Rattle.disk_laws.proofs.SubmissionsRun.{always_so_far}
 use Rattle.disk_laws.proofs.SubmissionsKept.{answered_kept}

@@ -15,10 +15,10 @@ use Rattle.plain_disk.specs.Step.{step, after}
 use Rattle.plain_disk.specs.Refusal.{seen, nothing_seen, refusal_of, refusal_at, requests_in}
 use Rattle.report_rules.specs.Obeys.{Obeys}
 use Rattle.report_rules.proofs.Obeys.{obeys_more, obeys_none}
-use Rattle.split_model.specs.Leads.{kept_of}
+use Rattle.schedule_text.specs.Recorder.{kept_of}
 use Rattle.split_model.proofs.Running.{kept_of-append}
-use Rattle.disk_laws.specs.Submissions.{answers_submission, answer_count, IsAnswerAt, AreAnswered}
-use Rattle.disk_laws.specs.Unbroken.{is_breach, IsUnbroken}
+use Rattle.pipeline_laws.specs.Submissions.{answers_submission, answer_count, IsAnswerAt, AreAnswered}
+use Rattle.pipeline_laws.specs.Unbroken.{is_breach, IsUnbroken}
 use Rattle.disk_laws.proofs.Runs.{one_kept}
 
 -- one line, as it is kept, is seen as the same, and takes the plain disk as far

@@ -17,8 +17,8 @@ use Rattle.plain_disk.specs.Step.{step, after, replied_of}
 use Rattle.plain_disk.specs.Refusal.{refusal_of}
 use Rattle.report_rules.specs.Obeys.{Obeys}
 use Rattle.report_rules.proofs.Obeys.{obeys_more}
-use Rattle.disk_laws.specs.Submissions.{answers_submission, answer_count, IsAnswerAt, AreAnswered}
-use Rattle.disk_laws.specs.Unbroken.{is_breach, IsUnbroken}
+use Rattle.pipeline_laws.specs.Submissions.{answers_submission, answer_count, IsAnswerAt, AreAnswered}
+use Rattle.pipeline_laws.specs.Unbroken.{is_breach, IsUnbroken}
 use Rattle.disk_laws.proofs.Lists.{get_append}
 use Rattle.disk_laws.proofs.Sight.{passes}
 

@@ -8,7 +8,7 @@ use Rattle.schedule_text.specs.declared.event.Event.{Event}
 use Rattle.schedule_text.specs.declared.event.Event.TheVariants as events
 use Rattle.split_model.specs.World.{World, is_quiet}
 use Rattle.split_model.specs.Happening.{Happening, FrontMoves, BackMoves, JobMoves, Submits, Notifies, Looks, Settles, after}
-use Rattle.split_model.specs.Kind.{AreOf, AreOfSoFar, AreOfAll, front_moves, back_moves, round_start, IsBeginning, IsRoundSoFar, AreRoundsSoFar, IsSettlingSoFar, never, settle_bound}
+use Rattle.split_model.specs.Kind.{Makes, MakesSoFar, AreOf, AreOfSoFar, AreOfAll, front_moves, back_moves, round_start, IsBeginning, IsRoundSoFar, AreRoundsSoFar, IsSettlingSoFar, never, settle_bound}
 use Rattle.split_model.proofs.Echo.{is_move, front_are_moves, back_are_moves, job_are_moves, each_are_moves, start_are_moves, rounds_are_moves}
 use Rattle.blk_front.specs.Submit.{is_connected}
 use Rattle.disk_laws.specs.Submissions.{job_of, jobs_of, submitted_at, submitted_of}
@@ -39,20 +39,20 @@ begun_submits : (hs all : List Happening) → IsBeginning hs all → AllByRecurs
 begun_submits hs all is moves = first_empty (submitted_of hs) (submitted_of is.0) (sym (both_submit hs is.0) ∙ (ap submitted_of (sym is.1) ∙ moves_submit all moves))
 
 -- an event submits its own request, or none
-pub event_submits : (e : Event) (w : World) (hs : List Happening) → AreOf e w hs → submitted_of hs ≡ jobs_of (e ∷ [])
-event_submits (events.Submit job) w hs is = ap submitted_of is.0
-event_submits (events.Front n) w hs is = ap submitted_of is ∙ moves_submit (front_moves w n) (front_are_moves w n)
-event_submits (events.Back n) w hs is = ap submitted_of is ∙ moves_submit (back_moves w n) (back_are_moves (is_connected w.front.stage) n)
-event_submits (events.Job number n) w hs is = moves_submit hs (job_are_moves number hs is.0)
-event_submits (events.Turn n) w hs is = moves_submit hs (rounds_are_moves never n w hs is)
-event_submits events.Settle w hs is = joined hs is.rounds (Settles ∷ []) [] is.all (moves_submit is.rounds (rounds_are_moves is_quiet is.are_rounds.count w is.rounds is.are_rounds.are_rounds)) refl
-event_submits events.Look w hs is = ap submitted_of is
-event_submits (events.Notify at) w hs is = ap submitted_of is
-event_submits events.Suspend w hs is = absurd is
-event_submits (events.Close at) w hs is = absurd is
-event_submits (events.Poke frame word value) w hs is = absurd is
-event_submits (events.Key name text) w hs is = absurd is
-event_submits events.Dump w hs is = absurd is
+made_submits : (e : Event) (w : World) (hs : List Happening) → Makes e w hs → submitted_of hs ≡ jobs_of (e ∷ [])
+made_submits (events.Submit job) w hs is = ap submitted_of is.0
+made_submits (events.Front n) w hs is = ap submitted_of is ∙ moves_submit (front_moves w n) (front_are_moves w n)
+made_submits (events.Back n) w hs is = ap submitted_of is ∙ moves_submit (back_moves w n) (back_are_moves (is_connected w.front.stage) n)
+made_submits (events.Job number n) w hs is = moves_submit hs (job_are_moves number hs is.0)
+made_submits (events.Turn n) w hs is = moves_submit hs (rounds_are_moves never n w hs is)
+made_submits events.Settle w hs is = joined hs is.rounds (Settles ∷ []) [] is.all (moves_submit is.rounds (rounds_are_moves is_quiet is.are_rounds.count w is.rounds is.are_rounds.are_rounds)) refl
+made_submits events.Look w hs is = ap submitted_of is
+made_submits (events.Notify at) w hs is = ap submitted_of is
+made_submits events.Suspend w hs is = absurd is
+made_submits (events.Close at) w hs is = absurd is
+made_submits (events.Poke frame word value) w hs is = absurd is
+made_submits (events.Key name text) w hs is = absurd is
+made_submits events.Dump w hs is = absurd is
 
 round_so_far_submits : (w : World) (hs : List Happening) → IsRoundSoFar w hs → submitted_of hs ≡ []
 round_so_far_submits w hs (inl is) = begun_submits hs (round_start w) is (start_are_moves w)
@@ -63,16 +63,22 @@ rounds_so_far_submit test bound w hs is = joined hs is.whole is.begun [] is.all 
 
 settling_so_far_submits : (w : World) (hs : List Happening) → IsSettlingSoFar w hs → submitted_of hs ≡ []
 settling_so_far_submits w hs (inl is) = rounds_so_far_submit is_quiet (settle_bound w) w hs is
-settling_so_far_submits w hs (inr is) = event_submits events.Settle w hs is
+settling_so_far_submits w hs (inr is) = made_submits events.Settle w hs is
 
 -- also where it was stopped in the midst
+made_so_far_submits : (e : Event) (w : World) (hs : List Happening) → MakesSoFar e w hs → submitted_of hs ≡ jobs_of (e ∷ [])
+made_so_far_submits (events.Front n) w hs is = begun_submits hs (front_moves w n) is (front_are_moves w n)
+made_so_far_submits (events.Back n) w hs is = begun_submits hs (back_moves w n) is (back_are_moves (is_connected w.front.stage) n)
+made_so_far_submits (events.Job number n) w hs is = moves_submit hs (job_are_moves number hs is.0)
+made_so_far_submits (events.Turn n) w hs is = rounds_so_far_submit never n w hs is
+made_so_far_submits events.Settle w hs is = settling_so_far_submits w hs is
+made_so_far_submits e w hs is = made_submits e w hs is
+
+pub event_submits : (e : Event) (w : World) (hs : List Happening) → AreOf e w hs → submitted_of hs ≡ jobs_of (e ∷ [])
+event_submits e w hs is = made_submits e w hs is.1
+
 pub so_far_submits : (e : Event) (w : World) (hs : List Happening) → AreOfSoFar e w hs → submitted_of hs ≡ jobs_of (e ∷ [])
-so_far_submits (events.Front n) w hs is = begun_submits hs (front_moves w n) is (front_are_moves w n)
-so_far_submits (events.Back n) w hs is = begun_submits hs (back_moves w n) is (back_are_moves (is_connected w.front.stage) n)
-so_far_submits (events.Job number n) w hs is = moves_submit hs (job_are_moves number hs is.0)
-so_far_submits (events.Turn n) w hs is = rounds_so_far_submit never n w hs is
-so_far_submits events.Settle w hs is = settling_so_far_submits w hs is
-so_far_submits e w hs is = event_submits e w hs is
+so_far_submits e w hs is = made_so_far_submits e w hs is.1
 
 -- the events of a schedule, one after another
 pub events_submit : (es : List Event) (w : World) (hs : List Happening) → AreOfAll es w hs → submitted_of hs ≡ jobs_of es

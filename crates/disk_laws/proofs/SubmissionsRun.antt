@@ -22,8 +22,8 @@ use Rattle.split_model.proofs.SafeFront.{submit_kept}
 use Rattle.split_model.specs.Report.{report_of}
 use Rattle.disk_laws.specs.Plain.{IsPlain}
 use Rattle.disk_laws.specs.Allowed.{IsAllowed, AreAllowed}
-use Rattle.disk_laws.specs.Submissions.{answers_submission, answer_count, IsAnswerAt, AreAnswered}
-use Rattle.disk_laws.specs.Unbroken.{is_breach, IsUnbroken}
+use Rattle.pipeline_laws.specs.Submissions.{answers_submission, answer_count, IsAnswerAt, AreAnswered}
+use Rattle.pipeline_laws.specs.Unbroken.{is_breach, IsUnbroken}
 use Rattle.disk_laws.proofs.Flow.{Flow, start_flow}
 use Rattle.disk_laws.proofs.Holds.{Stands}
 use Rattle.disk_laws.proofs.Lists.{get_last}

@@ -8,49 +8,49 @@
 //! happenings that the events of a schedule make are such.
 #![tactic(auto)]
 
-ghost use Rattle.std.specs.Prelude.{◌≡◌, ℕ, List, Option, Some};
+ghost use Rattle.std.specs.Prelude.{List};
 ghost use Rattle.blk_base.specs.Options.{Options};
-ghost use Rattle.blk_io.specs.Disk.{HasLength};
+ghost use Rattle.blk_io.specs.Disk.{DiskSeen, HasLength};
 ghost use Rattle.schedule_text.specs.declared.line.Detail.{Detail};
-ghost use Rattle.schedule_text.specs.declared.line.Line.{Line};
-ghost use Rattle.plain_disk.specs.Disk.{Disk, disk_of};
-ghost use Rattle.plain_disk.specs.Step.{after};
 ghost use Rattle.split_model.specs.World.{World, start_of};
 ghost use Rattle.split_model.specs.Happening.{Happening, DiskRuns};
-ghost use Rattle.split_model.specs.Leads.{kept_of};
+ghost use Rattle.schedule_text.specs.Recorder.{kept_of};
 ghost use Rattle.split_model.specs.Report.{report_of, ended_report_of};
 ghost use Rattle.disk_laws.specs.Plain.{IsPlain};
 ghost use Rattle.disk_laws.specs.Allowed.{AreAllowed};
 ghost use Rattle.disk_laws.specs.Run.{IsRun};
-ghost use Rattle.disk_laws.specs.Submissions.{submitted_of, AreAnswered};
-ghost use Rattle.disk_laws.specs.Answered.{AreAnsweredOnce, IsQuietAnswered};
-ghost use Rattle.disk_laws.specs.Unbroken.{IsUnbroken};
+ghost use Rattle.disk_laws.specs.Submissions.{submitted_of};
+ghost use Rattle.pipeline_laws.specs.Submissions.{AreAnswered};
+ghost use Rattle.pipeline_laws.specs.Unbroken.{IsUnbroken};
 
 /// What a recorder keeps of the report of a history is a run of the plain disk, from what the disk
 /// held to what it holds; where the disk doesn't tell, from sectors that nobody knows. So too with
 /// the report's last line.
 pub fn every_report_is_a_run_of_the_plain_disk()
-    ensures report { (config : Options) (detail : Detail) (history : List Happening) (before now : Option (List (List ℕ))) → IsPlain config → AreAllowed history (start_of config) → HasLength before config.sectors → DiskRuns history (start_of config) before now → IsRun config.sectors before now (kept_of detail (report_of config detail history)) }
-    ensures ended { (config : Options) (detail : Detail) (history : List Happening) (before now : Option (List (List ℕ))) → IsPlain config → AreAllowed history (start_of config) → HasLength before config.sectors → DiskRuns history (start_of config) before now → IsRun config.sectors before now (kept_of detail (ended_report_of config detail history)) }
+    ensures report { (config : Options) (detail : Detail) (history : List Happening) (before now : DiskSeen)
+        → IsPlain config → AreAllowed history (start_of config) → HasLength before.content config.sectors
+        → DiskRuns history (start_of config) before now
+        → IsRun config.sectors before.content now.content (kept_of detail (report_of config detail history)) }
+    ensures ended { (config : Options) (detail : Detail) (history : List Happening) (before now : DiskSeen)
+        → IsPlain config → AreAllowed history (start_of config) → HasLength before.content config.sectors
+        → DiskRuns history (start_of config) before now
+        → IsRun config.sectors before.content now.content (kept_of detail (ended_report_of config detail history)) }
 {}
 
 /// It answers the submissions of the history, one line each, in order: accepted or refused as the
 /// lines before say.
 pub fn every_submission_is_answered_by_the_rule()
-    ensures report { (config : Options) (detail : Detail) (history : List Happening) → IsPlain config → AreAllowed history (start_of config) → AreAnswered (submitted_of history) (kept_of detail (report_of config detail history)) }
-    ensures ended { (config : Options) (detail : Detail) (history : List Happening) → IsPlain config → AreAllowed history (start_of config) → AreAnswered (submitted_of history) (kept_of detail (ended_report_of config detail history)) }
+    ensures report { (config : Options) (detail : Detail) (history : List Happening) → IsPlain config → AreAllowed history (start_of config)
+        → AreAnswered (submitted_of history) (kept_of detail (report_of config detail history)) }
+    ensures ended { (config : Options) (detail : Detail) (history : List Happening) → IsPlain config → AreAllowed history (start_of config)
+        → AreAnswered (submitted_of history) (kept_of detail (ended_report_of config detail history)) }
 {}
 
 /// No line of it says that the front was broken, that the back halted, or that a request wasn't
 /// supported.
 pub fn no_end_breaks_the_protocol()
-    ensures report { (config : Options) (detail : Detail) (history : List Happening) → IsPlain config → AreAllowed history (start_of config) → IsUnbroken (kept_of detail (report_of config detail history)) }
-    ensures ended { (config : Options) (detail : Detail) (history : List Happening) → IsPlain config → AreAllowed history (start_of config) → IsUnbroken (kept_of detail (ended_report_of config detail history)) }
-{}
-
-/// A run of the plain disk answers each request at most once, and none that wasn't submitted
-/// before; and where it is quiet, each request that was submitted has its answer.
-pub fn a_run_answers_each_request_once()
-    ensures once { (report : List Line) (first : List (List ℕ)) (disk : Disk) → after report (disk_of first) ≡ Some disk → AreAnsweredOnce report }
-    ensures quiet { (report : List Line) (first : List (List ℕ)) (disk : Disk) → after report (disk_of first) ≡ Some disk → IsQuietAnswered report }
+    ensures report { (config : Options) (detail : Detail) (history : List Happening) → IsPlain config → AreAllowed history (start_of config)
+        → IsUnbroken (kept_of detail (report_of config detail history)) }
+    ensures ended { (config : Options) (detail : Detail) (history : List Happening) → IsPlain config → AreAllowed history (start_of config)
+        → IsUnbroken (kept_of detail (ended_report_of config detail history)) }
 {}
