@@ -1,0 +1,187 @@
+-- An act's move is a line of the grammar without text, and leaves memory words of 32 bits, where what was asked has the widths.
+use Rattle.std.proofs.Common.{◌≡◌, ℕ, ◌+◌, ◌^◌, ◌<◌, ◌≤◌, ◌==◌, Bool, true, false, List, [], ◌∷◌, refl, subst, arith}
+use Rattle.std.specs.Prelude.{All, Some, Result, Ok, Err, nat_lt}
+use Rattle.std.specs.List.{AllByRecursion}
+use Rattle.std.proofs.lemmas.Option.{none-some, same_Some}
+use Rattle.std.proofs.lemmas.List.Elements.{recursion_from_All, All-contains}
+use Rattle.blk_base.specs.declared.parts.Mapping.{Mapping}
+use Rattle.blk_base.specs.declared.parts.Mode.{Mode}
+use Rattle.blk_base.specs.declared.parts.End.TheVariants as end
+use Rattle.blk_base.specs.declared.ask.FrontAsk.{FrontAsk}
+use Rattle.blk_base.specs.declared.ask.FrontAsk.TheVariants as front_ask
+use Rattle.blk_base.specs.declared.ask.BackAsk.{BackAsk}
+use Rattle.blk_base.specs.declared.ask.BackAsk.TheVariants as back_ask
+use Rattle.blk_base.specs.declared.moves.BackMover.{BackMover}
+use Rattle.blk_base.specs.declared.moves.BackMover.TheVariants as back_mover
+use Rattle.blk_base.specs.declared.moves.Mover.TheVariants as mover
+use Rattle.blk_base.specs.declared.moves.Move.{Move}
+use Rattle.blk_base.specs.declared.moves.Move.TheVariants as moves
+use Rattle.xen_pages.specs.Pages.{word_of}
+use Rattle.grant_table.specs.declared.held.Held.{Held}
+use Rattle.grant_table.specs.declared.entry.MapRefusal.{MapRefusal}
+use Rattle.grant_table.specs.declared.entry.MapRefusal.TheVariants.{General, BadRef}
+use Rattle.grant_table.specs.Entry.{status_of}
+use Rattle.grant_table.specs.Table.{GrantTable, IsLive, entry_word0, entry_word1, frame_of, held_of, verdict_at}
+use Rattle.grant_table.specs.Sound.{IsGrantable}
+use Rattle.event_channel.specs.declared.channels.PortState.{PortState}
+use Rattle.event_channel.specs.declared.channels.PortState.TheVariants as port
+use Rattle.event_channel.specs.Channels.{state_of, is_pending}
+use Rattle.schedule_text.specs.declared.line.Line.TheVariants as lines
+use Rattle.schedule_text.specs.Plain.{plain_move}
+use Rattle.schedule_text.specs.Range.{IsInRange, MoveHasWidths, MoverHasWidths, BackHasWidths, is_move_allowed, is_mover_allowed, is_back_allowed}
+use Rattle.hypervisor.specs.Hypervisor.{Hypervisor}
+use Rattle.hypervisor.specs.Act.{FrontAct, BackAct, Outcome, Gave, Took, Failed, front_act, back_act, mover_of, job_of, map_act, bind_act, wait_act, read_act, disk_act}
+use Rattle.blk_front.specs.Ask.{IsWithin}
+use Rattle.back_jobs.specs.Hands.{Names}
+use Rattle.split_model.specs.Safe.{AreHeld}
+use Rattle.split_model.proofs.SafeActs.{of_front, of_back, front_test, back_test}
+use Rattle.move_laws.proofs.Entries.{Found, found, frame_found, IsGranted, granted}
+use Rattle.report_laws.proofs.Words.{AreWords, word_fits, write_fits, exchange_fits, map_fits, unmap_fits}
+
+pub record ActFits (shown : Move) (pages : List ℕ) : Type 0 where
+  pub line : IsInRange (lines.Move shown)
+  pub bare : plain_move shown ≡ shown
+  pub words : AreWords pages
+
+act_fits : (shown : Move) (pages : List ℕ) → MoveHasWidths shown → is_move_allowed shown ≡ true → plain_move shown ≡ shown → AreWords pages → ActFits shown pages
+act_fits shown pages widths allowed bare words = record { line = record { widths = widths; allowed = allowed }; bare = bare; words = words }
+
+-- the values that the front asks to write have 32 bits, and so has the number of a port that it makes
+abbrev pub FrontFits : Hypervisor → FrontAsk → Type 0
+FrontFits h (front_ask.Write frame word value) = value < 2 ^ 32
+FrontFits h (front_ask.Cas frame word old new) = (old < 2 ^ 32) × (new < 2 ^ 32)
+FrontFits h front_ask.NewPort = h.channels.made + 1 < 2 ^ 32
+FrontFits h ask = Unit {0}
+
+abbrev FrontActFits : FrontAct → Type 0
+FrontActFits a = ActFits a.shown a.under.pages
+
+pub front_act_fits : (h : Hypervisor) (ask : FrontAsk) (a : FrontAct) → AreWords h.pages → IsWithin ask → FrontFits h ask → front_act h ask ≡ Some a → ActFits a.shown a.under.pages
+front_act_fits h front_ask.Wait a words within fits e = front_test FrontActFits (is_pending h.channels end.Front) _ a (act_fits (moves.Event mover.Front) h.pages tt refl refl words) e
+front_act_fits h front_ask.Fence a words within fits e = of_front FrontActFits _ a (act_fits (moves.Fence mover.Front) h.pages tt refl refl words) e
+front_act_fits h (front_ask.Read frame word) a words within fits e =
+    of_front FrontActFits _ a (act_fits (moves.FrontRead frame word (word_of h.pages frame word)) h.pages (omega (arith, within.0), omega (arith, within.1), word_fits h.pages frame word words) refl refl words) e
+front_act_fits h (front_ask.Write frame word value) a words within fits e =
+    of_front FrontActFits _ a (act_fits (moves.FrontWrite frame word value) _ (omega (arith, within.0), omega (arith, within.1), fits) refl refl (write_fits h.pages frame word value words fits)) e
+front_act_fits h (front_ask.Cas frame word old new) a words within fits e =
+    of_front FrontActFits _ a (act_fits (moves.FrontCas frame word old new (word_of h.pages frame word)) _ (omega (arith, within.0), omega (arith, within.1), fits.0, fits.1, word_fits h.pages frame word words) refl refl (exchange_fits h.pages frame word old new words fits.1)) e
+front_act_fits h front_ask.NewPort a words within fits e = of_front FrontActFits _ a (act_fits (moves.FrontPort (h.channels.made + 1)) h.pages fits refl refl words) e
+front_act_fits h front_ask.Send a words within fits e = of_front FrontActFits _ a (act_fits (moves.Send mover.Front) h.pages tt refl refl words) e
+front_act_fits h front_ask.ClosePort a words within fits e = of_front FrontActFits _ a (act_fits (moves.ClosePort mover.Front) h.pages tt refl refl words) e
+front_act_fits h (front_ask.GetKey path) a words within fits e = absurd (none-some a e)
+front_act_fits h (front_ask.SetKey path text) a words within fits e = absurd (none-some a e)
+front_act_fits h (front_ask.Watch path) a words within fits e = absurd (none-some a e)
+
+-- the back or a job of a number of 64 bits, above 0
+pub record IsMover (who : BackMover) : Type 0 where
+  pub widths : BackHasWidths who
+  pub allowed : is_back_allowed who ≡ true
+
+mover_widths : (who : BackMover) → BackHasWidths who → MoverHasWidths (mover_of who)
+mover_widths back_mover.Back h = tt
+mover_widths (back_mover.Job k) h = h
+
+mover_allowed : (who : BackMover) → is_back_allowed who ≡ true → is_mover_allowed (mover_of who) ≡ true
+mover_allowed back_mover.Back h = refl
+mover_allowed (back_mover.Job k) h = h
+
+-- a call of the disk is a job's
+abbrev pub IsCaller : BackMover → Type 0
+IsCaller who = (job_of who < 2 ^ 64) × (nat_lt 0 (job_of who) ≡ true)
+
+-- the values that the back or a job asks to write have 32 bits, and so have references and ports; sectors have 64
+abbrev pub BackFits : BackMover → BackAsk → Type 0
+BackFits who (back_ask.Write m word value) = value < 2 ^ 32
+BackFits who (back_ask.Map gref mode) = gref < 2 ^ 32
+BackFits who (back_ask.Bind p) = p < 2 ^ 32
+BackFits who (back_ask.DiskRead sector) = (sector < 2 ^ 64) × IsCaller who
+BackFits who (back_ask.DiskWrite sector words) = (sector < 2 ^ 64) × IsCaller who
+BackFits who back_ask.Flush = IsCaller who
+BackFits who (back_ask.Trim sector count) = (sector < 2 ^ 64) × (count < 2 ^ 64) × IsCaller who
+BackFits who ask = Unit {0}
+
+-- what holds of each live mapping holds of the one of a number
+found_holds : (P : Held → Type 0) (number : ℕ) (live : List Held) (held : Held) → AllByRecursion P live → held_of number live ≡ Some held → P held
+found_holds P number [] held all e = absurd (none-some held e)
+found_holds P number (h ∷ live) held all e = by_test (h.mapping.number == number) refl (found_holds P number live held all.1)
+  where
+    by_test : (same : Bool) → (h.mapping.number == number) ≡ same → (held_of number live ≡ Some held → P held) → P held
+    by_test true t later =
+        let first : Some h ≡ Some held = rw t at e in
+        subst P (same_Some h held first) all.0
+    by_test false t later = later (rw t at e)
+
+-- a mapping in a hand has a number of one that was made, and a frame that may be granted
+pub record IsHeldWell (table : GrantTable) (m : Mapping) : Type 0 where
+  pub number : m.number ≤ table.made
+  pub frame : frame_of table m ≤ 1023
+
+held_well : (table : GrantTable) (hands : List Mapping) (m : Mapping) → All IsGrantable table.live → AreHeld table hands → IsLive table m → IsHeldWell table m
+held_well table hands m grantable held live =
+    let f : Found table m = found table m live grantable in
+    let number : f.held.mapping.number ≤ table.made = found_holds (λ (h : Held). h.mapping.number ≤ table.made) m.number table.live f.held (recursion_from_All (λ (h : Held). h.mapping.number ≤ table.made) table.live held.made_before) f.is in
+    let high : f.held.frame ≤ 1023 = f.fits.high in
+    let frame : frame_of table m ≡ f.held.frame = frame_found table m f in
+    record { number = subst (λ (x : Mapping). x.number ≤ table.made) f.same number; frame = omega arith }
+
+abbrev BackActFits : BackAct → Type 0
+BackActFits a = ActFits a.shown a.under.pages
+
+refusal_fits : (who : BackMover) (gref : ℕ) (mode : Mode) (refusal : MapRefusal) → BackHasWidths who → gref < 2 ^ 32 → MoveHasWidths (moves.MapRefused who gref mode (status_of refusal))
+refusal_fits who gref mode General w g = (w, g, omega arith)
+refusal_fits who gref mode BadRef w g = (w, g, omega arith)
+
+map_act_fits : (h : Hypervisor) (who : BackMover) (gref : ℕ) (mode : Mode) (verdict : Result ℕ MapRefusal) → AreWords h.pages → IsMover who → gref < 2 ^ 32 → h.grants.made + 1 < 2 ^ 64 → verdict_at h.pages gref mode ≡ verdict → BackActFits (map_act h who gref mode verdict)
+map_act_fits h who gref mode (Ok frame) words is fits few e =
+    let g : IsGranted gref frame = granted gref (entry_word0 h.pages gref) (entry_word1 h.pages gref) mode frame e in
+    let high : frame ≤ 1023 = g.high in
+    act_fits (moves.Map who gref mode (h.grants.made + 1) frame) _ (is.widths, fits, few, omega arith) is.allowed refl (map_fits h.pages gref mode words)
+map_act_fits h who gref mode (Err refusal) words is fits few e = act_fits (moves.MapRefused who gref mode (status_of refusal)) h.pages (refusal_fits who gref mode refusal is.widths fits) is.allowed refl words
+
+bind_act_fits : (h : Hypervisor) (p : ℕ) (state : PortState) → AreWords h.pages → p < 2 ^ 32 → BackActFits (bind_act h p state)
+bind_act_fits h p port.Unbound words fits = act_fits (moves.Bind p) h.pages fits refl refl words
+bind_act_fits h p port.Closed words fits = act_fits (moves.BindRefused p) h.pages fits refl refl words
+bind_act_fits h p port.Bound words fits = act_fits (moves.BindRefused p) h.pages fits refl refl words
+
+wait_act_fits : (h : Hypervisor) (who : BackMover) (a : BackAct) → AreWords h.pages → wait_act h who ≡ Some a → BackActFits a
+wait_act_fits h back_mover.Back a words e = back_test BackActFits (is_pending h.channels end.Back) _ a (act_fits (moves.Event mover.Back) h.pages tt refl refl words) e
+wait_act_fits h (back_mover.Job k) a words e = absurd (none-some a e)
+
+read_act_fits : (h : Hypervisor) (shown : Move) (o : Outcome) (a : BackAct) → ActFits shown h.pages → read_act h shown o ≡ Some a → BackActFits a
+read_act_fits h shown (Gave words) a fits e = of_back BackActFits _ a fits e
+read_act_fits h shown Failed a fits e = of_back BackActFits _ a fits e
+read_act_fits h shown Took a fits e = absurd (none-some a e)
+
+disk_act_fits : (h : Hypervisor) (shown : Move) (o : Outcome) (a : BackAct) → ActFits shown h.pages → disk_act h shown o ≡ Some a → BackActFits a
+disk_act_fits h shown Took a fits e = of_back BackActFits _ a fits e
+disk_act_fits h shown Failed a fits e = of_back BackActFits _ a fits e
+disk_act_fits h shown (Gave words) a fits e = absurd (none-some a e)
+
+pub back_act_fits : (h : Hypervisor) (who : BackMover) (ask : BackAsk) (o : Outcome) (a : BackAct) (hands : List Mapping) → AreWords h.pages → All IsGrantable h.grants.live → AreHeld h.grants hands → h.grants.made + 1 < 2 ^ 64 → IsMover who → Names hands ask → BackFits who ask → back_act h who ask o ≡ Some a → ActFits a.shown a.under.pages
+back_act_fits h who back_ask.Wait o a hands words grantable held few is names fits e = wait_act_fits h who a words e
+back_act_fits h who back_ask.Fence o a hands words grantable held few is names fits e = of_back BackActFits _ a (act_fits (moves.Fence (mover_of who)) h.pages (mover_widths who is.widths) (mover_allowed who is.allowed) refl words) e
+back_act_fits h who (back_ask.Read m word) o a hands words grantable held few is names fits e =
+    let well = held_well h.grants hands m grantable held (All-contains (IsLive h.grants) hands m held.live names.0) in
+    let number = well.number in
+    let frame = well.frame in
+    of_back BackActFits _ a (act_fits (moves.Read who m.number (frame_of h.grants m) word (word_of h.pages (frame_of h.grants m) word)) h.pages (is.widths, omega arith, omega arith, omega (arith, names.1), word_fits h.pages (frame_of h.grants m) word words) is.allowed refl words) e
+back_act_fits h who (back_ask.Write m word value) o a hands words grantable held few is names fits e =
+    let well = held_well h.grants hands m grantable held (All-contains (IsLive h.grants) hands m held.live names.0) in
+    let number = well.number in
+    let frame = well.frame in
+    of_back BackActFits _ a (act_fits (moves.Write who m.number (frame_of h.grants m) word value) _ (is.widths, omega arith, omega arith, omega (arith, names.2), fits) is.allowed refl (write_fits h.pages (frame_of h.grants m) word value words fits)) e
+back_act_fits h who (back_ask.Map gref mode) o a hands words grantable held few is names fits e = of_back BackActFits _ a (map_act_fits h who gref mode (verdict_at h.pages gref mode) words is fits few refl) e
+back_act_fits h who (back_ask.Unmap m) o a hands words grantable held few is names fits e =
+    let well = held_well h.grants hands m grantable held (All-contains (IsLive h.grants) hands m held.live names) in
+    let number = well.number in
+    of_back BackActFits _ a (act_fits (moves.Unmap who m.number) _ (is.widths, omega arith) is.allowed refl (unmap_fits h.grants h.pages m words)) e
+back_act_fits h who (back_ask.Bind p) o a hands words grantable held few is names fits e = of_back BackActFits _ a (bind_act_fits h p (state_of h.channels p) words fits) e
+back_act_fits h who back_ask.Send o a hands words grantable held few is names fits e = of_back BackActFits _ a (act_fits (moves.Send (mover_of who)) h.pages (mover_widths who is.widths) (mover_allowed who is.allowed) refl words) e
+back_act_fits h who back_ask.ClosePort o a hands words grantable held few is names fits e = of_back BackActFits _ a (act_fits (moves.ClosePort (mover_of who)) h.pages (mover_widths who is.widths) (mover_allowed who is.allowed) refl words) e
+back_act_fits h who (back_ask.GetKey path) o a hands words grantable held few is names fits e = absurd (none-some a e)
+back_act_fits h who (back_ask.SetKey path text) o a hands words grantable held few is names fits e = absurd (none-some a e)
+back_act_fits h who (back_ask.Watch path) o a hands words grantable held few is names fits e = absurd (none-some a e)
+back_act_fits h who (back_ask.DiskRead sector) o a hands words grantable held few is names fits e = read_act_fits h (moves.DiskRead (job_of who) sector) o a (act_fits (moves.DiskRead (job_of who) sector) h.pages (fits.1.0, fits.0) fits.1.1 refl words) e
+back_act_fits h who (back_ask.DiskWrite sector sector_words) o a hands words grantable held few is names fits e = disk_act_fits h (moves.DiskWrite (job_of who) sector) o a (act_fits (moves.DiskWrite (job_of who) sector) h.pages (fits.1.0, fits.0) fits.1.1 refl words) e
+back_act_fits h who back_ask.Flush o a hands words grantable held few is names fits e = disk_act_fits h (moves.DiskFlush (job_of who)) o a (act_fits (moves.DiskFlush (job_of who)) h.pages fits.0 fits.1 refl words) e
+back_act_fits h who (back_ask.Trim sector count) o a hands words grantable held few is names fits e = disk_act_fits h (moves.DiskTrim (job_of who) sector count) o a (act_fits (moves.DiskTrim (job_of who) sector count) h.pages (fits.2.0, fits.0, fits.1) fits.2.1 refl words) e

@@ -1,0 +1,141 @@
+-- Whatever happens, the consumer of responses is as far ahead of the first index as answers were told.
+use Rattle.std.proofs.Common.{◌≡◌, ℕ, Bool, true, false, not, cond, if◌then◌else◌, List, [], ◌∷◌, ◌++◌, refl, sym, ap, subst, append_assoc, arith}
+use Rattle.std.specs.Prelude.{Option, Some, None, Result, Ok, Err, ◌==◌, nat_le}
+use Rattle.std.specs.List.{AllByRecursion}
+use Rattle.std.proofs.lemmas.List.{append-nil}
+use Rattle.std.proofs.lemmas.List.Sums.{sum_by-cons, sum_by-append}
+use Rattle.blk_base.specs.Options.{Options}
+use Rattle.blk_base.specs.declared.config.Job.{Job}
+use Rattle.blk_base.specs.declared.moves.Move.{Move}
+use Rattle.ring_words.specs.Shape.{entries_of}
+use Rattle.schedule_text.specs.declared.line.Detail.{Detail}
+use Rattle.schedule_text.specs.declared.line.Line.{Line}
+use Rattle.schedule_text.specs.declared.line.Line.TheVariants as lines
+use Rattle.hypervisor.specs.Act.{FrontAct, BackAct, Took}
+use Rattle.blk_front.specs.declared.told.Told.{Told}
+use Rattle.blk_front.specs.declared.told.Told.TheVariants as told
+use Rattle.blk_front.specs.declared.told.Refusal.{Refusal}
+use Rattle.blk_front.specs.declared.told.Refusal.TheVariants as refusal
+use Rattle.blk_front.specs.Pool.{lowest_of}
+use Rattle.blk_front.specs.View.{View, shape}
+use Rattle.blk_front.specs.Step.{step_of}
+use Rattle.blk_front.specs.Submit.{is_ready, unfinished, one_sector, submit_with, submit_one, submit_of}
+use Rattle.split_model.specs.World.{World, start_of, is_quiet}
+use Rattle.split_model.specs.Safe.{IsSafe}
+use Rattle.split_model.specs.Shown.{front_lines}
+use Rattle.split_model.specs.Happening.{Happening, FrontMoves, BackMoves, JobMoves, Submits, Notifies, Looks, Settles, happens, lines_at, after, lines_of, front_after, front_shows, back_after, back_shows, job_after, job_shows, front_turn, back_turn, job_turn, submit_line}
+use Rattle.split_model.specs.Report.{report_of}
+use Rattle.split_model.proofs.Safe.{safe_start, safe_happens}
+use Rattle.disk_laws.specs.Plain.{IsPlain}
+use Rattle.report_laws.specs.QuietRing.{says_answer, answers_told}
+use Rattle.report_laws.proofs.Lines.{OfBack, back_all, job_all}
+use Rattle.report_laws.proofs.Counts.{CountsAt, with_told, front_counts}
+
+abbrev AreUnanswered : List Line → Type 0
+AreUnanswered ls = AllByRecursion (λ (line : Line). says_answer line ≡ false) ls
+
+none_answered : (ls : List Line) → AreUnanswered ls → answers_told ls ≡ 0
+none_answered [] all = refl
+none_answered (line ∷ ls) all =
+    let one = sum_by-cons (λ (x : Line). cond (says_answer x) 1 0) line ls in
+    let here : ◌≡◌ {A = ℕ} (cond (says_answer line) 1 0) 0 = ap (λ (b : Bool). cond b 1 0) all.0 in
+    let rest = none_answered ls all.1 in
+    omega arith
+
+answers_more : (before ls : List Line) → AreUnanswered ls → answers_told (before ++ ls) ≡ answers_told before
+answers_more before ls all =
+    let both = sum_by-append (λ (x : Line). cond (says_answer x) 1 0) before ls in
+    let none = none_answered ls all in
+    omega arith
+
+-- the front's lines
+told_counted : (before : List Line) (shown : Move) (t : Option Told) → answers_told (before ++ lines.Move shown ∷ front_lines t) ≡ with_told (answers_told before) t
+told_counted before shown None = answers_more before (lines.Move shown ∷ []) (refl, tt)
+told_counted before shown (Some told.Ready) = answers_more before (lines.Move shown ∷ lines.Ready ∷ []) (refl, (refl, tt))
+told_counted before shown (Some (told.Broken word)) = answers_more before (lines.Move shown ∷ lines.Broken word ∷ []) (refl, (refl, tt))
+told_counted before shown (Some (told.Answer id status)) = sum_by-append (λ (x : Line). cond (says_answer x) 1 0) before (lines.Move shown ∷ lines.Answer id status ∷ [])
+
+-- what these lines tell of the front
+abbrev pub CountsTo : ℕ → List Line → World → Type 0
+CountsTo start before w = CountsAt start (answers_told before) w.front.ring.cons w.front.stage
+
+front_counts_on : (start : ℕ) (w : World) (before : List Line) (act : Option FrontAct) → IsSafe w → CountsTo start before w → CountsTo start (before ++ front_shows w act) (front_after w act)
+front_counts_on start w before None safe h = subst (λ (ls : List Line). CountsTo start ls w) (sym (append-nil before)) h
+front_counts_on start w before (Some a) safe h =
+    let v : View = step_of w.front a.answer in
+    subst (λ (n : ℕ). CountsAt start n v.ring.cons v.stage) (sym (told_counted before a.shown v.told))
+    (front_counts start (answers_told before) w.front.stage w.front a.answer safe.front_told refl h)
+
+-- what leaves the front as it was, and tells no answer
+same_counts : (start : ℕ) (w w' : World) (before ls : List Line) → AreUnanswered ls → w'.front.ring.cons ≡ w.front.ring.cons → w'.front.stage ≡ w.front.stage → CountsTo start before w → CountsTo start (before ++ ls) w'
+same_counts start w w' before ls none cons stage h =
+    subst (λ (n : ℕ). CountsAt start n w'.front.ring.cons w'.front.stage) (sym (answers_more before ls none))
+    (subst (λ (c : ℕ). CountsAt start (answers_told before) c w'.front.stage) (sym cons) (subst (CountsAt start (answers_told before) w.front.ring.cons) (sym stage) h))
+
+back_unanswered : OfBack (λ (line : Line). says_answer line ≡ false)
+back_unanswered = record { move = λ m. refl; effect = λ id index. refl; effect_read = λ id index words. refl; fault = λ id index. refl; reply = λ id status. refl; halt = λ why. refl }
+
+back_counts : (start : ℕ) (w : World) (before : List Line) (act : Option BackAct) → CountsTo start before w → CountsTo start (before ++ back_shows w act) (back_after w act)
+back_counts start w before None h = same_counts start w w before [] tt refl refl h
+back_counts start w before (Some a) h = same_counts start w (back_after w (Some a)) before (back_shows w (Some a)) (back_all _ back_unanswered w (Some a)) refl refl h
+
+job_counts : (start : ℕ) (w : World) (before : List Line) (number : ℕ) (act : Option BackAct) → CountsTo start before w → CountsTo start (before ++ job_shows w number act) (job_after w number act)
+job_counts start w before number None h = same_counts start w w before [] tt refl refl h
+job_counts start w before number (Some a) h = same_counts start w (job_after w number (Some a)) before (job_shows w number (Some a)) (job_all _ back_unanswered w number (Some a)) refl refl h
+
+-- a submission takes no response
+record IsUntaken (v x : View) : Type 0 where
+  cons : x.ring.cons ≡ v.ring.cons
+  stage : x.stage ≡ v.stage
+
+untaken : (v : View) → IsUntaken v v
+untaken v = record { cons = refl; stage = refl }
+
+either_submit : (b : Bool) (v : View) (x y : Result ℕ Refusal × View) → IsUntaken v x.1 → IsUntaken v y.1 → IsUntaken v (if b then x else y).1
+either_submit true v x y p q = p
+either_submit false v x y p q = q
+
+with_frame : (v : View) (what : ℕ × ℕ) (frame : Option ℕ) → IsUntaken v (submit_with v what frame).1
+with_frame v what None = untaken v
+with_frame v what (Some frame) = record { cons = refl; stage = refl }
+
+one_submitted : (v : View) (what : Option (ℕ × ℕ)) → IsUntaken v (submit_one v what).1
+one_submitted v None = untaken v
+one_submitted v (Some what) =
+    either_submit (nat_le v.sectors what.0) v (Err refusal.Range, v) (if nat_le (entries_of shape.order) (unfinished v) then (Err refusal.Full, v) else submit_with v what (lowest_of v.pool)) (untaken v)
+    (either_submit (nat_le (entries_of shape.order) (unfinished v)) v (Err refusal.Full, v) (submit_with v what (lowest_of v.pool)) (untaken v) (with_frame v what (lowest_of v.pool)))
+
+submit_untaken : (v : View) (job : Job) → IsUntaken v (submit_of v job).1
+submit_untaken v job =
+    either_submit (v.last == 4294967295) v (Err refusal.Spent, v) (if not (is_ready v.stage) then (Err refusal.NotReady, v) else submit_one v (one_sector job)) (untaken v)
+    (either_submit (not (is_ready v.stage)) v (Err refusal.NotReady, v) (submit_one v (one_sector job)) (untaken v) (one_submitted v (one_sector job)))
+
+submit_unanswered : (job : Job) (r : Result ℕ Refusal) → AreUnanswered (submit_line job r ∷ [])
+submit_unanswered job (Ok number) = (refl, tt)
+submit_unanswered job (Err r) = (refl, tt)
+
+look_unanswered : (quiet : Bool) (other : Line) → says_answer other ≡ false → AreUnanswered ((if quiet then lines.Quiet else other) ∷ [])
+look_unanswered true other e = (refl, tt)
+look_unanswered false other e = (e, tt)
+
+one_counts : (start : ℕ) (w : World) (before : List Line) (h : Happening) → IsSafe w → CountsTo start before w → CountsTo start (before ++ lines_at w h) (happens w h)
+one_counts start w before FrontMoves safe h = front_counts_on start w before (front_turn w) safe h
+one_counts start w before BackMoves safe h = back_counts start w before (back_turn w Took) h
+one_counts start w before (JobMoves number outcome) safe h = job_counts start w before number (job_turn w number outcome) h
+one_counts start w before (Submits job) safe h =
+    let kept = submit_untaken w.front job in
+    same_counts start w (happens w (Submits job)) before _ (submit_unanswered job (submit_of w.front job).0) kept.cons kept.stage h
+one_counts start w before (Notifies at) safe h = same_counts start w (happens w (Notifies at)) before [] tt refl refl h
+one_counts start w before Looks safe h = same_counts start w w before _ (look_unanswered (is_quiet w) lines.Busy refl) refl refl h
+one_counts start w before Settles safe h = same_counts start w w before _ (look_unanswered (is_quiet w) lines.Unsettled refl) refl refl h
+
+all_count : (start : ℕ) (history : List Happening) (w : World) (before : List Line) → IsSafe w → CountsTo start before w → CountsTo start (before ++ lines_of history w) (after history w)
+all_count start [] w before safe h = subst (λ (ls : List Line). CountsTo start ls w) (sym (append-nil before)) h
+all_count start (h ∷ history) w before safe counts =
+    subst (λ (ls : List Line). CountsTo start ls (after history (happens w h))) (append_assoc before (lines_at w h) (lines_of history (happens w h)))
+    (all_count start history (happens w h) (before ++ lines_at w h) (safe_happens w h safe) (one_counts start w before h safe counts))
+
+pub report_counts : (config : Options) (detail : Detail) (history : List Happening) → IsPlain config → CountsTo config.start (report_of config detail history) (after history (start_of config))
+report_counts config detail history plain =
+    let first = plain.start in
+    all_count config.start history (start_of config) (lines.Begin config detail ∷ []) (safe_start config) (omega arith)

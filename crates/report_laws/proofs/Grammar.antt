@@ -1,0 +1,258 @@
+-- Whatever happens, each line is one of the grammar, with no text in it.
+use Rattle.std.proofs.Common.{◌≡◌, ℕ, ◌+◌, ◌^◌, ◌<◌, ◌⊎◌, inl, inr, Bool, true, false, if◌then◌else◌, List, [], ◌∷◌, ◌++◌, length, map, refl, sym, ap, ◌∙◌, subst, arith}
+use Rattle.std.specs.Prelude.{Option, Some, None, Result, Ok, Err, slice_get}
+use Rattle.std.specs.List.{AllByRecursion}
+use Rattle.std.proofs.lemmas.Bool.Decides.{nat_tests}
+use Rattle.std.proofs.lemmas.Option.{none-some, same_Some, cond_some, option_and_then_some, slice_get_within}
+use Rattle.std.proofs.lemmas.List.{append-nil}
+use Rattle.std.proofs.lemmas.List.Elements.{All-from_recursion}
+use Rattle.blk_base.specs.Options.{Options}
+use Rattle.blk_base.specs.declared.config.Job.{Job}
+use Rattle.blk_base.specs.declared.config.Job.TheVariants.{Write}
+use Rattle.blk_base.specs.declared.moves.Move.{Move}
+use Rattle.blk_base.specs.declared.moves.BackMover.TheVariants as back_mover
+use Rattle.schedule_text.specs.declared.line.Detail.{Detail}
+use Rattle.schedule_text.specs.declared.line.Detail.TheVariants.{Lines, Moves}
+use Rattle.schedule_text.specs.declared.line.Line.{Line}
+use Rattle.schedule_text.specs.declared.line.Line.TheVariants as lines
+use Rattle.schedule_text.specs.Plain.{plain}
+use Rattle.schedule_text.specs.Range.{IsInRange, JobHasWidths, AreOptions}
+use Rattle.schedule_text.specs.Recorder.{recorded}
+use Rattle.plain_disk.specs.declared.request.Request.{Request as Asked}
+use Rattle.plain_disk.specs.Request.{opened}
+use Rattle.plain_disk.specs.Disk.{Disk, disk_of}
+use Rattle.plain_disk.specs.Step.{step, after as run_after}
+use Rattle.hypervisor.specs.Act.{FrontAct, BackAct, Outcome, Took}
+use Rattle.blk_front.specs.declared.told.Told.{Told}
+use Rattle.blk_front.specs.declared.told.Refusal.{Refusal}
+use Rattle.blk_front.specs.declared.request.Request.{Request}
+use Rattle.blk_front.specs.declared.stage.Stage.TheVariants as front_stage
+use Rattle.blk_front.specs.View as front
+use Rattle.blk_front.specs.Ask as front_ask
+use Rattle.blk_front.specs.Step as front_step
+use Rattle.blk_front.specs.Submit as front_submit
+use Rattle.blk_back.specs.declared.told.Halt.{Halt}
+use Rattle.blk_back.specs.View as back
+use Rattle.blk_back.specs.Ask as back_ask
+use Rattle.blk_back.specs.Step as back_step
+use Rattle.blk_back.specs.Hands.{hands_of}
+use Rattle.split_model.specs.World.{World, start_of, is_quiet}
+use Rattle.split_model.specs.Shown.{back_lines, halt_lines, refusal_word}
+use Rattle.split_model.specs.Happening.{Happening, FrontMoves, BackMoves, JobMoves, Submits, Notifies, Looks, Settles, happens, lines_at, lines_of, front_after, front_shows, back_after, back_shows, job_after, job_shows, front_turn, back_turn, job_turn, submit_line}
+use Rattle.schedule_text.specs.Recorder.{kept_of}
+use Rattle.split_model.specs.Report.{report_of, ended_report_of}
+use Rattle.split_model.proofs.SafeActs.{made_front}
+use Rattle.move_laws.specs.Permitted.{IsPermitted, ArePermitted}
+use Rattle.move_laws.proofs.Always.{always_within}
+use Rattle.move_laws.proofs.Runs.{FollowsTo, follows_happens, follows_begin}
+use Rattle.disk_laws.specs.Plain.{IsPlain}
+use Rattle.disk_laws.specs.Allowed.{AreAllowed}
+use Rattle.disk_laws.proofs.Flow.{Flow, start_flow}
+use Rattle.disk_laws.proofs.Holds.{Holds, Stands, FrontAt, IsSubmitted}
+use Rattle.disk_laws.proofs.Lists.{get_within, get_last}
+use Rattle.disk_laws.proofs.StartingHolds.{start_holds}
+use Rattle.disk_laws.proofs.SightFront.{front_tells, Tells}
+use Rattle.disk_laws.proofs.Together.{HasGone, step_kept}
+use Rattle.report_laws.specs.Grammar.{IsInGrammar}
+use Rattle.report_laws.proofs.Words.{AreWords, fresh_words}
+use Rattle.report_laws.proofs.Acts.{ActFits, front_act_fits, back_act_fits}
+use Rattle.report_laws.proofs.Told.{IsGood, AreGood, good, both_good, AreFewWrites, front_lines_good, back_lines_good}
+use Rattle.report_laws.proofs.FrontAsks.{front_asks}
+use Rattle.report_laws.proofs.BackAsks.{few_fetched, back_asks, JobAsks, job_asks}
+use Rattle.report_laws.proofs.Maps.{FewMaps}
+use Rattle.report_laws.proofs.Mapped.{back_few, job_few}
+use Rattle.report_laws.proofs.Texts.{given_back}
+
+-- each request that was asked is one of the front's
+asked_of : (config : Options) (w : World) (g : Flow) (d : Disk) → Stands config w g d → (k : ℕ) (q : Asked) → slice_get d.requests k ≡ Some q → (r : Request) × (q.job ≡ Write r.sector 1 r.tag) × IsSubmitted w.front.sectors k r
+asked_of config w g d stands k q e =
+    let within = slice_get_within d.requests k q e in
+    let many = stands.holds.known.as_many in
+    let its = get_within g.submitted k (omega arith) in
+    (its.0, stands.holds.known.each k its.0 q its.1 e, stands.holds.submitted.each k its.0 its.1)
+
+few_writes : (config : Options) (w : World) (g : Flow) (d : Disk) → Stands config w g d → AreFewWrites d.requests
+few_writes config w g d stands =
+    let many = stands.holds.known.as_many in
+    let counted = stands.holds.submitted.counted in
+    let few = stands.holds.indices.few in
+    record { few = omega arith; writes = λ k q e. let its = asked_of config w g d stands k q e in let r : Request = its.0 in (r.sector, r.tag, its.1) }
+
+asked_fits : (config : Options) (w : World) (g : Flow) (d : Disk) (k : ℕ) (q : Asked) → Stands config w g d → slice_get d.requests k ≡ Some q → JobHasWidths q.job
+asked_fits config w g d k q stands e =
+    let its = asked_of config w g d stands k q e in
+    let r : Request = its.0 in
+    let is : IsSubmitted w.front.sectors k r = its.2 in
+    let sector = is.sector in
+    let sized = stands.holds.submitted.sized in
+    subst JobHasWidths (sym its.1) (omega arith, (omega arith, omega arith), is.tag)
+
+-- fewer mappings than 2 ^ 64 are made
+few_made : (config : Options) (w : World) (g : Flow) (d : Disk) → Stands config w g d → FewMaps w.under.grants.made w.back → w.under.grants.made + 1 < 2 ^ 64
+few_made config w g d stands few =
+    let count = stands.holds.indices.count in
+    let small = few_fetched config w g d w.back.stage stands.holds in
+    omega arith
+
+-- what stands before a happening, and what it shows and leaves
+record IsWell (config : Options) (before : List Line) (w : World) : Type 0 where
+  flow : Flow
+  disk : Disk
+  stands : Stands config w flow disk
+  follows : FollowsTo before w
+  words : AreWords w.under.pages
+  few : FewMaps w.under.grants.made w.back
+
+record ShowsGood (ls : List Line) (w : World) : Type 0 where
+  good_lines : AreGood ls
+  words : AreWords w.under.pages
+  few : FewMaps w.under.grants.made w.back
+
+move_good : (shown : Move) (pages : List ℕ) → ActFits shown pages → IsGood (lines.Move shown)
+move_good shown pages fits = record { in_range = fits.line; bare = ap (λ (m : Move). lines.Move m) fits.bare }
+
+-- the front
+unbroken : (config : Options) (w : World) (g : Flow) (d : Disk) (word : ℕ) → Stands config w g d → w.front.stage ≡ front_stage.Broken word → ⊥
+unbroken config w g d word stands e =
+    let h : Holds config w g d w.front.stage w.back.stage = stands.holds in
+    subst (FrontAt g.start g.pushed g.taken g.front_seen g.submitted g.replies d.requests (front.next_request w.front) w.front.entry) e h.front_at
+
+front_good : (config : Options) (before : List Line) (w : World) (act : Option FrontAct) → IsPlain config → (is : IsWell config before w) → IsPermitted w FrontMoves → front_turn w ≡ act → HasGone config (front_shows w act) (front_after w act) is.disk → ShowsGood (front_shows w act) (front_after w act)
+front_good config before w None plain is within e gone = record { good_lines = tt; words = is.words; few = is.few }
+front_good config before w (Some a) plain is within e gone =
+    let v : front.View = front_step.step_of w.front a.answer in
+    let fits : ActFits a.shown a.under.pages = front_act_fits w.under (front_ask.ask_of w.front) a is.words within (front_asks config w is.flow is.disk plain is.stands) e in
+    let tells = front_tells w.front.stage w.front a.answer is.stands.safe.front_told refl in
+    record {
+      good_lines = (
+        move_good a.shown a.under.pages fits,
+        front_lines_good is.disk gone.disk v.told (few_writes config w is.flow is.disk is.stands)
+            (λ word same. unbroken config (front_after w (Some a)) gone.flow gone.disk word gone.stands (subst (λ (t : Option Told). Tells (front_submit.is_connected w.front.stage) t v.stage) same tells)) gone.run,
+      );
+      words = fits.words;
+      few = subst (λ (n : ℕ). FewMaps n w.back) (sym (ap (λ t. t.made) (made_front w.under (front_ask.ask_of w.front) a e))) is.few;
+    }
+
+-- the back, which doesn't halt
+unhalted : (before now : Option Halt) → before ≡ None → now ≡ None → halt_lines before now ≡ []
+unhalted before now p q = rw (p, q) refl
+
+back_good : (config : Options) (before : List Line) (w : World) (act : Option BackAct) → (is : IsWell config before w) → IsPermitted w BackMoves → back_turn w Took ≡ act → HasGone config (back_shows w act) (back_after w act) is.disk → ShowsGood (back_shows w act) (back_after w act)
+back_good config before w None is within e gone = record { good_lines = tt; words = is.words; few = is.few }
+back_good config before w (Some a) is within e gone =
+    let b : back.View = back_step.step_of w.back a.answer in
+    let fits : ActFits a.shown a.under.pages = back_act_fits w.under back_mover.Back (back_ask.ask_of w.back) Took a (hands_of w.back) is.words is.follows.tells.grantable is.stands.safe.held
+    (few_made config w is.flow is.disk is.stands is.few) (record { widths = tt; allowed = refl }) within (back_asks config w is.flow is.disk is.stands) e in
+    let none : back_lines b.told a.answer ++ halt_lines w.back.halted b.halted ≡ back_lines b.told a.answer =
+    ap (λ (ls : List Line). back_lines b.told a.answer ++ ls) (unhalted w.back.halted b.halted is.stands.holds.unhalted gone.stands.holds.unhalted) ∙ append-nil (back_lines b.told a.answer) in
+    let run : run_after (back_lines b.told a.answer) is.disk ≡ Some gone.disk = subst (λ (ls : List Line). run_after ls is.disk ≡ Some gone.disk) none gone.run in
+    record {
+      good_lines = (move_good a.shown a.under.pages fits, subst AreGood (sym none) (back_lines_good is.disk gone.disk b.told a.answer (few_writes config w is.flow is.disk is.stands) run));
+      words = fits.words;
+      few = back_few config w is.flow is.disk a is.stands is.few e;
+    }
+
+-- a job
+job_good : (config : Options) (before : List Line) (w : World) (number : ℕ) (o : Outcome) (act : Option BackAct) → (is : IsWell config before w) → IsPermitted w (JobMoves number o) → job_turn w number o ≡ act → HasGone config (job_shows w number act) (job_after w number act) is.disk → ShowsGood (job_shows w number act) (job_after w number act)
+job_good config before w number o None is within e gone = record { good_lines = tt; words = is.words; few = is.few }
+job_good config before w number o (Some a) is within e gone = by_asks (job_asks config w is.flow is.disk number o is.stands)
+  where
+    b : back.View
+    b = back_step.job_step w.back number a.answer
+
+    by_asks : (job_turn w number o ≡ None) ⊎ JobAsks w number → ShowsGood (job_shows w number (Some a)) (job_after w number (Some a))
+    by_asks (inl none) = absurd (none-some a (sym none ∙ e))
+    by_asks (inr asks) =
+        let fits : ActFits a.shown a.under.pages = back_act_fits w.under (back_mover.Job number) (back_step.job_ask_of w.back number) o a (hands_of w.back) is.words is.follows.tells.grantable is.stands.safe.held
+        (few_made config w is.flow is.disk is.stands is.few) asks.mover within asks.fits e in
+        record {
+          good_lines = (move_good a.shown a.under.pages fits, back_lines_good is.disk gone.disk b.told a.answer (few_writes config w is.flow is.disk is.stands) gone.run);
+          words = fits.words;
+          few = job_few config w is.flow is.disk number o a is.stands is.few e;
+        }
+
+-- a submission
+submit_good : (config : Options) (w : World) (g : Flow) (d d' : Disk) (job : Job) (r : Result ℕ Refusal) → Stands config w g d' → run_after (submit_line job r ∷ []) d ≡ Some d' → AreGood (submit_line job r ∷ [])
+submit_good config w g d d' job (Err r) stands run = (good (lines.Refuse (refusal_word r)) tt refl refl, tt)
+submit_good config w g d d' job (Ok number) stands run = option_and_then_some (run_after []) (step d (lines.Submit number job)) d' run (λ x taken same.
+    let both = cond_some _ _ _ taken in
+    let is : x ≡ d' = same_Some x d' same in
+    let requests : d.requests ++ opened job ∷ [] ≡ d'.requests = ap (λ (y : Disk). y.requests) (both.1 ∙ is) in
+    let last : slice_get d'.requests (length d.requests) ≡ Some (opened job) = ap (λ (rs : List Asked). slice_get rs (length d.requests)) (sym requests) ∙ get_last d.requests (opened job) in
+    let within = slice_get_within d'.requests (length d.requests) (opened job) last in
+    let few = (few_writes config w g d' stands).few in
+    let numbered = both.0 in
+    let id : number ≡ length d.requests + 1 = grind (arith, nat_tests) in
+    (good (lines.Submit number job) (omega arith, asked_fits config w g d' (length d.requests) (opened job) stands last) refl refl, tt))
+
+look_good : (quiet : Bool) (other : Line) → IsGood other → AreGood ((if quiet then lines.Quiet else other) ∷ [])
+look_good true other h = (good lines.Quiet tt refl refl, tt)
+look_good false other h = (h, tt)
+
+one_good : (config : Options) (before : List Line) (w : World) (h : Happening) → IsPlain config → (is : IsWell config before w) → IsPermitted w h → HasGone config (lines_at w h) (happens w h) is.disk → ShowsGood (lines_at w h) (happens w h)
+one_good config before w FrontMoves plain is within gone = front_good config before w (front_turn w) plain is within refl gone
+one_good config before w BackMoves plain is within gone = back_good config before w (back_turn w Took) is within refl gone
+one_good config before w (JobMoves number outcome) plain is within gone = job_good config before w number outcome (job_turn w number outcome) is within refl gone
+one_good config before w (Submits job) plain is within gone = record { good_lines = submit_good config (happens w (Submits job)) gone.flow is.disk gone.disk job (front_submit.submit_of w.front job).0 gone.stands gone.run; words = is.words; few = is.few }
+one_good config before w (Notifies at) plain is within gone = record { good_lines = tt; words = is.words; few = is.few }
+one_good config before w Looks plain is within gone = record { good_lines = look_good (is_quiet w) lines.Busy (good lines.Busy tt refl refl); words = is.words; few = is.few }
+one_good config before w Settles plain is within gone = record { good_lines = look_good (is_quiet w) lines.Unsettled (good lines.Unsettled tt refl refl); words = is.words; few = is.few }
+
+all_good : (config : Options) (hs : List Happening) (before : List Line) (w : World) → IsPlain config → IsWell config before w → AreAllowed hs w → ArePermitted hs w → AreGood (lines_of hs w)
+all_good config [] before w plain is may within = tt
+all_good config (h ∷ hs) before w plain is may within =
+    let gone = step_kept config w is.flow is.disk h plain is.stands may.0 in
+    let shows = one_good config before w h plain is within.0 gone in
+    let next : IsWell config (before ++ lines_at w h) (happens w h) = record {
+      flow = gone.flow;
+      disk = gone.disk;
+      stands = gone.stands;
+      follows = follows_happens w h before is.stands.safe within.0 is.follows;
+      words = shows.words;
+      few = shows.few;
+    } in
+    both_good (lines_at w h) (lines_of hs (happens w h)) shows.good_lines (all_good config hs (before ++ lines_at w h) (happens w h) plain next may.1 within.1)
+
+start_well : (config : Options) (detail : Detail) → IsPlain config → IsWell config (lines.Begin config detail ∷ []) (start_of config)
+start_well config detail plain = record {
+  flow = start_flow config.start;
+  disk = disk_of [];
+  stands = start_holds config plain [];
+  follows = follows_begin config detail;
+  words = fresh_words 1114112;
+  few = omega arith;
+}
+
+-- a recorder keeps them so
+one_kept : (detail : Detail) (line : Line) → IsGood line → AreGood (recorded detail line)
+one_kept detail (lines.Begin config other) h = (good (lines.Begin config detail) h.in_range.widths refl refl, tt)
+one_kept Lines (lines.Move move) h = tt
+one_kept Moves (lines.Move move) h = (h, tt)
+one_kept detail line h = (h, tt)
+
+good_kept : (detail : Detail) (ls : List Line) → AreGood ls → AreGood (kept_of detail ls)
+good_kept detail [] all = tt
+good_kept detail (line ∷ ls) all = both_good (recorded detail line) (kept_of detail ls) (one_kept detail line all.0) (good_kept detail ls all.1)
+
+good_ranges : (ls : List Line) → AreGood ls → AllByRecursion IsInRange ls
+good_ranges [] all = tt
+good_ranges (line ∷ ls) all = (all.0.in_range, good_ranges ls all.1)
+
+good_bare : (ls : List Line) → AreGood ls → map plain ls ≡ ls
+good_bare [] all = refl
+good_bare (line ∷ ls) all = let here = all.0.bare in let rest = good_bare ls all.1 in cc
+
+good_grammar : (ls : List Line) → AreGood ls → IsInGrammar ls
+good_grammar ls all = given_back ls (All-from_recursion IsInRange ls (good_ranges ls all)) (good_bare ls all)
+
+report_good : (config : Options) (detail : Detail) (history : List Happening) → AreOptions config → IsPlain config → AreAllowed history (start_of config) → AreGood (report_of config detail history)
+report_good config detail history options plain may =
+    (good (lines.Begin config detail) options refl refl, all_good config history (lines.Begin config detail ∷ []) (start_of config) plain (start_well config detail plain) may (always_within config history))
+
+pub report_grammar : (config : Options) (detail : Detail) (history : List Happening) → IsPlain config → AreAllowed history (start_of config) → AreOptions config → IsInGrammar (kept_of detail (report_of config detail history))
+report_grammar config detail history plain may options = good_grammar (kept_of detail (report_of config detail history)) (good_kept detail (report_of config detail history) (report_good config detail history options plain may))
+
+pub ended_grammar : (config : Options) (detail : Detail) (history : List Happening) → IsPlain config → AreAllowed history (start_of config) → AreOptions config → IsInGrammar (kept_of detail (ended_report_of config detail history))
+ended_grammar config detail history plain may options =
+    good_grammar (kept_of detail (ended_report_of config detail history))
+    (good_kept detail (ended_report_of config detail history) (both_good (report_of config detail history) (lines.End ∷ []) (report_good config detail history options plain may) (good lines.End tt refl refl, tt)))

@@ -1,0 +1,138 @@
+-- Which lines a happening shows: no `begin`, and `quiet` only where it looks.
+use Rattle.std.proofs.Common.{◌≡◌, ℕ, Bool, true, false, if◌then◌else◌, List, [], ◌∷◌, ◌++◌, refl, sym, true≢false}
+use Rattle.std.specs.Prelude.{Option, Some, None, Result, Ok, Err}
+use Rattle.std.specs.List.{AllByRecursion}
+use Rattle.blk_base.specs.declared.config.Job.{Job}
+use Rattle.blk_base.specs.declared.ask.BackAnswer.{BackAnswer}
+use Rattle.blk_base.specs.declared.ask.BackAnswer.TheVariants as answers
+use Rattle.blk_base.specs.declared.moves.Move.{Move}
+use Rattle.blk_base.specs.declared.operation.Status.{Status}
+use Rattle.schedule_text.specs.declared.line.Halt.{Halt as HaltLine}
+use Rattle.schedule_text.specs.declared.line.Line.{Line}
+use Rattle.schedule_text.specs.declared.line.Line.TheVariants as lines
+use Rattle.hypervisor.specs.Act.{FrontAct, BackAct, Took}
+use Rattle.blk_front.specs.declared.told.Told.{Told}
+use Rattle.blk_front.specs.declared.told.Told.TheVariants as front_told
+use Rattle.blk_front.specs.declared.told.Refusal.{Refusal}
+use Rattle.blk_front.specs.View as front
+use Rattle.blk_front.specs.Step as front_step
+use Rattle.blk_front.specs.Submit as front_submit
+use Rattle.blk_back.specs.declared.told.BackTold.{BackTold}
+use Rattle.blk_back.specs.declared.told.BackTold.TheVariants as back_told
+use Rattle.blk_back.specs.declared.told.Halt.{Halt}
+use Rattle.blk_back.specs.View as back
+use Rattle.blk_back.specs.Step as back_step
+use Rattle.split_model.specs.World.{World, is_quiet}
+use Rattle.split_model.specs.Shown.{front_lines, back_lines, halt_line, halt_lines, effect_line}
+use Rattle.split_model.specs.Happening.{Happening, FrontMoves, BackMoves, JobMoves, Submits, Notifies, Looks, Settles, happens, lines_at, lines_of, front_shows, back_shows, job_shows, front_turn, back_turn, job_turn, submit_line}
+use Rattle.report_laws.specs.Begun.{is_begin}
+
+abbrev pub says_quiet : Line → Bool
+says_quiet lines.Quiet = true
+says_quiet line = false
+
+-- a line that neither begins a report nor says `quiet`
+abbrev pub is_usual : Line → Bool
+is_usual (lines.Begin config detail) = false
+is_usual lines.Quiet = false
+is_usual line = true
+
+abbrev pub AreUsual : List Line → Type 0
+AreUsual ls = AllByRecursion (λ (line : Line). is_usual line ≡ true) ls
+
+pub usual_begin : (line : Line) → is_usual line ≡ true → is_begin line ≡ false
+usual_begin (lines.Begin config detail) e = absurd (true≢false (sym e))
+usual_begin line e = refl
+
+pub usual_quiet : (line : Line) → is_usual line ≡ true → says_quiet line ≡ false
+usual_quiet lines.Quiet e = absurd (true≢false (sym e))
+usual_quiet line e = refl
+
+front_lines_usual : (t : Option Told) → AreUsual (front_lines t)
+front_lines_usual None = tt
+front_lines_usual (Some front_told.Ready) = (refl, tt)
+front_lines_usual (Some (front_told.Answer id status)) = (refl, tt)
+front_lines_usual (Some (front_told.Broken word)) = (refl, tt)
+
+-- what holds of each line that the back or a job may show
+pub record OfBack (P : Line → Type 0) : Type 0 where
+  pub move : (shown : Move) → P (lines.Move shown)
+  pub effect : (id index : ℕ) → P (lines.Effect id index)
+  pub effect_read : (id index : ℕ) (words : List ℕ) → P (lines.EffectRead id index words)
+  pub fault : (id index : ℕ) → P (lines.Fault id index)
+  pub reply : (id : ℕ) (status : Status) → P (lines.Reply id status)
+  pub halt : (why : HaltLine) → P (lines.Halt why)
+
+effect_all : (P : Line → Type 0) → OfBack P → (id index : ℕ) (a : BackAnswer) → P (effect_line id index a)
+effect_all P of id index (answers.Sector words) = of.effect_read id index words
+effect_all P of id index a = of.effect id index
+
+back_lines_all : (P : Line → Type 0) → OfBack P → (t : Option BackTold) (a : BackAnswer) → AllByRecursion P (back_lines t a)
+back_lines_all P of None a = tt
+back_lines_all P of (Some (back_told.Effect id index)) a = (effect_all P of id index a, tt)
+back_lines_all P of (Some (back_told.Fault id index)) a = (of.fault id index, tt)
+back_lines_all P of (Some (back_told.Reply id status)) a = (of.reply id status, tt)
+
+halt_lines_all : (P : Line → Type 0) → OfBack P → (before now : Option Halt) → AllByRecursion P (halt_lines before now)
+halt_lines_all P of None None = tt
+halt_lines_all P of None (Some h) = (of.halt (halt_line h), tt)
+halt_lines_all P of (Some g) now = tt
+
+pub both_all : (P : Line → Type 0) (a b : List Line) → AllByRecursion P a → AllByRecursion P b → AllByRecursion P (a ++ b)
+both_all P [] b p q = q
+both_all P (line ∷ a) b p q = (p.0, both_all P a b p.1 q)
+
+pub back_all : (P : Line → Type 0) → OfBack P → (w : World) (act : Option BackAct) → AllByRecursion P (back_shows w act)
+back_all P of w None = tt
+back_all P of w (Some a) =
+    let b : back.View = back_step.step_of w.back a.answer in
+    (of.move a.shown, both_all P (back_lines b.told a.answer) (halt_lines w.back.halted b.halted) (back_lines_all P of b.told a.answer) (halt_lines_all P of w.back.halted b.halted))
+
+pub job_all : (P : Line → Type 0) → OfBack P → (w : World) (number : ℕ) (act : Option BackAct) → AllByRecursion P (job_shows w number act)
+job_all P of w number None = tt
+job_all P of w number (Some a) = (of.move a.shown, back_lines_all P of (let b : back.View = back_step.job_step w.back number a.answer in b.told) a.answer)
+
+back_is_usual : OfBack (λ (line : Line). is_usual line ≡ true)
+back_is_usual = record { move = λ m. refl; effect = λ id index. refl; effect_read = λ id index words. refl; fault = λ id index. refl; reply = λ id status. refl; halt = λ why. refl }
+
+pub front_usual : (w : World) (act : Option FrontAct) → AreUsual (front_shows w act)
+front_usual w None = tt
+front_usual w (Some a) = (refl, front_lines_usual (let f : front.View = front_step.step_of w.front a.answer in f.told))
+
+pub back_usual : (w : World) (act : Option BackAct) → AreUsual (back_shows w act)
+back_usual w act = back_all _ back_is_usual w act
+
+pub job_usual : (w : World) (number : ℕ) (act : Option BackAct) → AreUsual (job_shows w number act)
+job_usual w number act = job_all _ back_is_usual w number act
+
+pub submit_usual : (job : Job) (r : Result ℕ Refusal) → AreUsual (submit_line job r ∷ [])
+submit_usual job (Ok number) = (refl, tt)
+submit_usual job (Err r) = (refl, tt)
+
+-- no line begins a report
+abbrev pub AreBehind : List Line → Type 0
+AreBehind ls = AllByRecursion (λ (line : Line). is_begin line ≡ false) ls
+
+usual_behind : (ls : List Line) → AreUsual ls → AreBehind ls
+usual_behind [] all = tt
+usual_behind (line ∷ ls) all = (usual_begin line all.0, usual_behind ls all.1)
+
+pub both_behind : (a b : List Line) → AreBehind a → AreBehind b → AreBehind (a ++ b)
+both_behind a b p q = both_all (λ (line : Line). is_begin line ≡ false) a b p q
+
+look_behind : (quiet : Bool) (other : Line) → is_begin other ≡ false → AreBehind ((if quiet then lines.Quiet else other) ∷ [])
+look_behind true other e = (refl, tt)
+look_behind false other e = (e, tt)
+
+one_behind : (w : World) (h : Happening) → AreBehind (lines_at w h)
+one_behind w FrontMoves = usual_behind (front_shows w (front_turn w)) (front_usual w (front_turn w))
+one_behind w BackMoves = usual_behind (back_shows w (back_turn w Took)) (back_usual w (back_turn w Took))
+one_behind w (JobMoves number outcome) = usual_behind (job_shows w number (job_turn w number outcome)) (job_usual w number (job_turn w number outcome))
+one_behind w (Submits job) = usual_behind (submit_line job (front_submit.submit_of w.front job).0 ∷ []) (submit_usual job (front_submit.submit_of w.front job).0)
+one_behind w (Notifies at) = tt
+one_behind w Looks = look_behind (is_quiet w) lines.Busy refl
+one_behind w Settles = look_behind (is_quiet w) lines.Unsettled refl
+
+pub all_behind : (history : List Happening) (w : World) → AreBehind (lines_of history w)
+all_behind [] w = tt
+all_behind (h ∷ history) w = both_behind (lines_at w h) (lines_of history (happens w h)) (one_behind w h) (all_behind history (happens w h))

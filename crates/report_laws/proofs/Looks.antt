@@ -1,0 +1,86 @@
+-- What holds wherever the machine is quiet holds at each `quiet` line of its report.
+use Rattle.std.proofs.Common.{◌≡◌, Bool, true, false, if◌then◌else◌, List, [], ◌∷◌, ◌++◌, refl, ap, sym, ◌∙◌, subst, append_assoc}
+use Rattle.std.proofs.lemmas.List.{append-nil}
+use Rattle.blk_base.specs.Options.{Options}
+use Rattle.schedule_text.specs.declared.line.Detail.{Detail}
+use Rattle.schedule_text.specs.declared.line.Detail.TheVariants.{Lines, Moves}
+use Rattle.schedule_text.specs.declared.line.Line.{Line}
+use Rattle.schedule_text.specs.declared.line.Line.TheVariants as lines
+use Rattle.schedule_text.specs.Recorder.{recorded}
+use Rattle.report_rules.specs.Obeys.{Obeys}
+use Rattle.report_rules.proofs.Obeys.{obeys_none, obeys_more}
+use Rattle.hypervisor.specs.Act.{Took}
+use Rattle.blk_front.specs.Submit as front_submit
+use Rattle.split_model.specs.World.{World, start_of, is_quiet}
+use Rattle.split_model.specs.Happening.{Happening, FrontMoves, BackMoves, JobMoves, Submits, Notifies, Looks, Settles, lines_at, after, lines_of, front_turn, back_turn, job_turn}
+use Rattle.schedule_text.specs.Recorder.{kept_of}
+use Rattle.split_model.specs.Report.{report_of, ended_report_of}
+use Rattle.split_model.proofs.Running.{lines_of-append, kept_of-append}
+use Rattle.report_laws.proofs.Lines.{says_quiet, AreUsual, usual_quiet, front_usual, back_usual, job_usual, submit_usual}
+
+-- a rule that says nothing of any other line than `quiet`
+abbrev pub SpeaksOfQuiet : (List Line → Line → Type 0) → Type 0
+SpeaksOfQuiet Rule = (before : List Line) (line : Line) → says_quiet line ≡ false → Rule before line
+
+usual_obey : (Rule : List Line → Line → Type 0) → SpeaksOfQuiet Rule → (more before : List Line) → AreUsual more → Obeys Rule before → Obeys Rule (before ++ more)
+usual_obey Rule free [] before all obeys = subst (Obeys Rule) (sym (append-nil before)) obeys
+usual_obey Rule free (line ∷ more) before all obeys =
+    subst (Obeys Rule) (append_assoc before (line ∷ []) more)
+    (usual_obey Rule free more (before ++ line ∷ []) all.1 (obeys_more Rule before line obeys (free before line (usual_quiet line all.0))))
+
+look_obeys : (Rule : List Line → Line → Type 0) → SpeaksOfQuiet Rule → (before : List Line) (quiet : Bool) (other : Line) → says_quiet other ≡ false → (quiet ≡ true → Rule before lines.Quiet) → Obeys Rule before → Obeys Rule (before ++ (if quiet then lines.Quiet else other) ∷ [])
+look_obeys Rule free before true other e holds obeys = obeys_more Rule before lines.Quiet obeys (holds refl)
+look_obeys Rule free before false other e holds obeys = obeys_more Rule before other obeys (free before other e)
+
+one_obeys : (Rule : List Line → Line → Type 0) → SpeaksOfQuiet Rule → (before : List Line) (w : World) (h : Happening) → (is_quiet w ≡ true → Rule before lines.Quiet) → Obeys Rule before → Obeys Rule (before ++ lines_at w h)
+one_obeys Rule free before w FrontMoves holds obeys = usual_obey Rule free _ before (front_usual w (front_turn w)) obeys
+one_obeys Rule free before w BackMoves holds obeys = usual_obey Rule free _ before (back_usual w (back_turn w Took)) obeys
+one_obeys Rule free before w (JobMoves number outcome) holds obeys = usual_obey Rule free _ before (job_usual w number (job_turn w number outcome)) obeys
+one_obeys Rule free before w (Submits job) holds obeys = usual_obey Rule free _ before (submit_usual job (front_submit.submit_of w.front job).0) obeys
+one_obeys Rule free before w (Notifies at) holds obeys = usual_obey Rule free [] before tt obeys
+one_obeys Rule free before w Looks holds obeys = look_obeys Rule free before (is_quiet w) lines.Busy refl holds obeys
+one_obeys Rule free before w Settles holds obeys = look_obeys Rule free before (is_quiet w) lines.Unsettled refl holds obeys
+
+-- the report of one happening more
+pub report_more : (config : Options) (detail : Detail) (earlier : List Happening) (h : Happening) → report_of config detail (earlier ++ h ∷ []) ≡ report_of config detail earlier ++ lines_at (after earlier (start_of config)) h
+report_more config detail earlier h =
+    ap (λ (ls : List Line). lines.Begin config detail ∷ ls)
+    (lines_of-append earlier (h ∷ []) (start_of config) ∙ ap (λ (ls : List Line). lines_of earlier (start_of config) ++ ls) (append-nil (lines_at (after earlier (start_of config)) h)))
+
+-- the rule holds at `quiet` behind each beginning of this history after which the machine is quiet
+abbrev pub HoldsWhereQuiet : (List Line → Line → Type 0) → Options → Detail → List Happening → Type 0
+HoldsWhereQuiet Rule config detail history =
+    (first rest : List Happening) → history ≡ first ++ rest → is_quiet (after first (start_of config)) ≡ true → Rule (report_of config detail first) lines.Quiet
+
+all_obey : (Rule : List Line → Line → Type 0) → SpeaksOfQuiet Rule → (config : Options) (detail : Detail) (later earlier : List Happening) → HoldsWhereQuiet Rule config detail (earlier ++ later) → Obeys Rule (report_of config detail earlier) → Obeys Rule (report_of config detail (earlier ++ later))
+all_obey Rule free config detail [] earlier holds obeys = subst (λ (hs : List Happening). Obeys Rule (report_of config detail hs)) (sym (append-nil earlier)) obeys
+all_obey Rule free config detail (h ∷ later) earlier holds obeys =
+    let next : Obeys Rule (report_of config detail earlier ++ lines_at (after earlier (start_of config)) h) = one_obeys Rule free (report_of config detail earlier) (after earlier (start_of config)) h (holds earlier (h ∷ later) refl) obeys in
+    subst (λ (hs : List Happening). Obeys Rule (report_of config detail hs)) (append_assoc earlier (h ∷ []) later)
+    (all_obey Rule free config detail later (earlier ++ h ∷ []) (subst (HoldsWhereQuiet Rule config detail) (sym (append_assoc earlier (h ∷ []) later)) holds) (subst (Obeys Rule) (sym (report_more config detail earlier h)) next))
+
+pub reports_obey : (Rule : List Line → Line → Type 0) → SpeaksOfQuiet Rule → (config : Options) (detail : Detail) (history : List Happening) → HoldsWhereQuiet Rule config detail history → Obeys Rule (report_of config detail history)
+reports_obey Rule free config detail history holds =
+    all_obey Rule free config detail history [] holds (obeys_more Rule [] (lines.Begin config detail) (obeys_none Rule) (free [] (lines.Begin config detail) refl))
+
+pub ended_obey : (Rule : List Line → Line → Type 0) → SpeaksOfQuiet Rule → (config : Options) (detail : Detail) (history : List Happening) → HoldsWhereQuiet Rule config detail history → Obeys Rule (ended_report_of config detail history)
+ended_obey Rule free config detail history holds = obeys_more Rule (report_of config detail history) lines.End (reports_obey Rule free config detail history holds) (free (report_of config detail history) lines.End refl)
+
+-- and of what a recorder keeps of it, where the rule asks for nothing that isn't kept
+kept_more : (Rule : List Line → Line → Type 0) → SpeaksOfQuiet Rule → (detail : Detail) (before : List Line) (line : Line) → (Rule before lines.Quiet → Rule (kept_of detail before) lines.Quiet) → Rule before line → Obeys Rule (kept_of detail before) → Obeys Rule (kept_of detail before ++ recorded detail line)
+kept_more Rule free detail before (lines.Begin config other) stays h obeys = obeys_more Rule (kept_of detail before) (lines.Begin config detail) obeys (free _ _ refl)
+kept_more Rule free Lines before (lines.Move move) stays h obeys = subst (Obeys Rule) (sym (append-nil (kept_of Lines before))) obeys
+kept_more Rule free Moves before (lines.Move move) stays h obeys = obeys_more Rule (kept_of Moves before) (lines.Move move) obeys (free _ _ refl)
+kept_more Rule free detail before lines.Quiet stays h obeys = obeys_more Rule (kept_of detail before) lines.Quiet obeys (stays h)
+kept_more Rule free detail before line stays h obeys = obeys_more Rule (kept_of detail before) line obeys (free _ _ refl)
+
+kept_all : (Rule : List Line → Line → Type 0) → SpeaksOfQuiet Rule → (detail : Detail) → ((before : List Line) → Rule before lines.Quiet → Rule (kept_of detail before) lines.Quiet) → (ls before : List Line) → Obeys Rule (before ++ ls) → Obeys Rule (kept_of detail before) → Obeys Rule (kept_of detail (before ++ ls))
+kept_all Rule free detail stays [] before obeys kept = subst (λ (xs : List Line). Obeys Rule (kept_of detail xs)) (sym (append-nil before)) kept
+kept_all Rule free detail stays (line ∷ ls) before obeys kept =
+    let more : Obeys Rule (kept_of detail before ++ recorded detail line) = kept_more Rule free detail before line (stays before) (obeys before ls line refl) kept in
+    let same : kept_of detail (before ++ line ∷ []) ≡ kept_of detail before ++ recorded detail line = kept_of-append detail before (line ∷ []) ∙ ap (λ (xs : List Line). kept_of detail before ++ xs) (append-nil (recorded detail line)) in
+    subst (λ (xs : List Line). Obeys Rule (kept_of detail xs)) (append_assoc before (line ∷ []) ls)
+    (kept_all Rule free detail stays ls (before ++ line ∷ []) (subst (Obeys Rule) (sym (append_assoc before (line ∷ []) ls)) obeys) (subst (Obeys Rule) (sym same) more))
+
+pub kept_obeys : (Rule : List Line → Line → Type 0) → SpeaksOfQuiet Rule → (detail : Detail) → ((before : List Line) → Rule before lines.Quiet → Rule (kept_of detail before) lines.Quiet) → (report : List Line) → Obeys Rule report → Obeys Rule (kept_of detail report)
+kept_obeys Rule free detail stays report obeys = kept_all Rule free detail stays report [] obeys (obeys_none Rule)

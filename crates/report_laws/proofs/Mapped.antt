@@ -1,0 +1,182 @@
+-- Each move of the back or a job leaves few mappings made.
+use Rattle.std.proofs.Common.{◌≡◌, ℕ, ◌+◌, ◌-◌, ◌^◌, ◌<◌, ◌≤◌, ◌==◌, Bool, true, false, cond, if◌then◌else◌, List, [], ◌∷◌, refl, sym, ap, ◌∙◌, subst, arith, true≢false}
+use Rattle.std.specs.Prelude.{Option, Some, None, Result, Ok, Err, slice_get, slice_set}
+use Rattle.std.proofs.lemmas.Option.{none-some}
+use Rattle.blk_base.specs.Options.{Options}
+use Rattle.blk_base.specs.declared.parts.End.TheVariants as end
+use Rattle.blk_base.specs.declared.parts.Mapping.{Mapping}
+use Rattle.blk_base.specs.declared.parts.Mode.{Mode}
+use Rattle.blk_base.specs.declared.parts.Mode.TheVariants.{ReadWrite}
+use Rattle.blk_base.specs.declared.ask.BackAsk.{BackAsk}
+use Rattle.blk_base.specs.declared.ask.BackAsk.TheVariants as ask
+use Rattle.blk_base.specs.declared.ask.BackAnswer.{BackAnswer}
+use Rattle.blk_base.specs.declared.ask.BackAnswer.TheVariants as answer
+use Rattle.blk_base.specs.declared.moves.BackMover.{BackMover}
+use Rattle.blk_base.specs.declared.moves.BackMover.TheVariants.{Back, Job}
+use Rattle.grant_table.specs.declared.entry.MapRefusal.{MapRefusal}
+use Rattle.grant_table.specs.Table.{verdict_at}
+use Rattle.event_channel.specs.declared.channels.PortState.{PortState}
+use Rattle.event_channel.specs.declared.channels.PortState.TheVariants as port
+use Rattle.event_channel.specs.Channels.{state_of, is_pending}
+use Rattle.ring_words.specs.Ring.{requests_of}
+use Rattle.blk_layout.specs.declared.segment.Segment.{Segment}
+use Rattle.plain_disk.specs.Disk.{Disk}
+use Rattle.plain_disk.specs.declared.request.Request.{Request as Asked}
+use Rattle.plain_disk.specs.declared.request.Place.{Place}
+use Rattle.hypervisor.specs.Hypervisor.{Hypervisor}
+use Rattle.hypervisor.specs.Act.{BackAct, Outcome, Took, back_act, map_act, bind_act, wait_act}
+use Rattle.blk_front.specs.declared.request.Request.{Request}
+use Rattle.back_jobs.specs.declared.stage.Stage.{Stage as JobStage}
+use Rattle.back_jobs.specs.declared.stage.Stage.TheVariants as job
+use Rattle.back_jobs.specs.Task as task
+use Rattle.back_jobs.specs.Task.{Work, map_ask, mode_of, sector_stage, last_of, rest_of, next_segment, next_sector, counted}
+use Rattle.back_jobs.specs.Jobs.{place_of}
+use Rattle.blk_back.specs.declared.stage.Reply.{Reply}
+use Rattle.blk_back.specs.declared.stage.Stage.{Stage}
+use Rattle.blk_back.specs.declared.stage.Stage.TheVariants as stage
+use Rattle.blk_back.specs.View.{View, slot_word}
+use Rattle.blk_back.specs.Ask.{ask_at, loop_ask, next_reply}
+use Rattle.blk_back.specs.Step.{step_at, step_of, job_ask_of, job_step}
+use Rattle.split_model.specs.World.{World}
+use Rattle.split_model.specs.Happening.{back_turn, job_turn}
+use Rattle.split_model.proofs.SafeActs.{of_back, back_test, of_read, of_disk}
+use Rattle.disk_laws.proofs.Flow.{Flow, segment_for}
+use Rattle.disk_laws.proofs.Holds.{Stands, AtWork, IsWork}
+use Rattle.disk_laws.proofs.Lists.{all_at, found_at, count_set}
+use Rattle.report_laws.proofs.Maps.{maps_next, ring_to_map, FewAt, FewMaps, step_few, ring_few}
+use Rattle.report_laws.proofs.BackAsks.{few_fetched}
+
+abbrev is_map : BackAsk → Bool
+is_map (ask.Map gref mode) = true
+is_map a = false
+
+-- no other ask makes a mapping
+abbrev MakesNone : Hypervisor → BackAct → Type 0
+MakesNone h a = a.under.grants.made ≡ h.grants.made
+
+bind_unmade : (h : Hypervisor) (p : ℕ) (state : PortState) → MakesNone h (bind_act h p state)
+bind_unmade h p port.Unbound = refl
+bind_unmade h p port.Closed = refl
+bind_unmade h p port.Bound = refl
+
+wait_unmade : (h : Hypervisor) (who : BackMover) (a : BackAct) → wait_act h who ≡ Some a → MakesNone h a
+wait_unmade h Back a e = back_test (MakesNone h) (is_pending h.channels end.Back) _ a refl e
+wait_unmade h (Job k) a e = absurd (none-some a e)
+
+unmade : (h : Hypervisor) (who : BackMover) (x : BackAsk) (o : Outcome) (a : BackAct) → is_map x ≡ false → back_act h who x o ≡ Some a → MakesNone h a
+unmade h who ask.Wait o a free e = wait_unmade h who a e
+unmade h who ask.Fence o a free e = of_back (MakesNone h) _ a refl e
+unmade h who (ask.Read m word) o a free e = of_back (MakesNone h) _ a refl e
+unmade h who (ask.Write m word value) o a free e = of_back (MakesNone h) _ a refl e
+unmade h who (ask.Map gref mode) o a free e = absurd (true≢false free)
+unmade h who (ask.Unmap m) o a free e = of_back (MakesNone h) _ a refl e
+unmade h who (ask.Bind p) o a free e = of_back (MakesNone h) _ a (bind_unmade h p (state_of h.channels p)) e
+unmade h who ask.Send o a free e = of_back (MakesNone h) _ a refl e
+unmade h who ask.ClosePort o a free e = of_back (MakesNone h) _ a refl e
+unmade h who (ask.GetKey path) o a free e = absurd (none-some a e)
+unmade h who (ask.SetKey path text) o a free e = absurd (none-some a e)
+unmade h who (ask.Watch path) o a free e = absurd (none-some a e)
+unmade h who (ask.DiskRead sector) o a free e = of_read (MakesNone h) h _ o a (λ x same. ap (λ (u : Hypervisor). u.grants.made) same) e
+unmade h who (ask.DiskWrite sector words) o a free e = of_disk (MakesNone h) h _ o a (λ x same. ap (λ (u : Hypervisor). u.grants.made) same) e
+unmade h who ask.Flush o a free e = of_disk (MakesNone h) h _ o a (λ x same. ap (λ (u : Hypervisor). u.grants.made) same) e
+unmade h who (ask.Trim sector count) o a free e = of_disk (MakesNone h) h _ o a (λ x same. ap (λ (u : Hypervisor). u.grants.made) same) e
+
+-- the back maps nothing but the ring's page
+plain_loop : (a b : Bool) (m : Mapping) (word word' : ℕ) → is_map (if a then ask.Wait else (if b then ask.Read m word else ask.Read m word')) ≡ false
+plain_loop true b m word word' = refl
+plain_loop false true m word word' = refl
+plain_loop false false m word word' = refl
+
+loop_unmapped : (v : View) (next : Option Reply) → is_map (loop_ask v next) ≡ false
+loop_unmapped v (Some r) = refl
+loop_unmapped v None = plain_loop v.asleep (requests_of v.ring v.seen == 0) v.page 0 (slot_word v.ring.cons 0)
+
+back_unmapped : (b : Stage) (v : View) → ring_to_map b ≡ 0 → is_map (ask_at b v) ≡ false
+back_unmapped stage.MapRing v e = absurd (omega arith)
+back_unmapped stage.Loop v e = loop_unmapped v (next_reply v)
+back_unmapped b v e = refl
+
+back_few_at : (b : Stage) (v : View) (h : Hypervisor) (a : BackAct) → v.stage ≡ b → v.fetched < 2 ^ 32 → back_act h Back (ask_at b v) Took ≡ Some a → FewAt h.grants.made v.jobs.works b v.fetched → FewMaps a.under.grants.made (step_at b v a.answer)
+back_few_at stage.MapRing v h a same small e few = of_back (λ (x : BackAct). FewMaps x.under.grants.made (step_at stage.MapRing v x.answer)) _ a (ring_few h v (verdict_at h.pages 8 ReadWrite) few) e
+back_few_at b v h a same small e few = subst (λ (n : ℕ). FewMaps n (step_at b v a.answer)) (sym (unmade h Back (ask_at b v) Took a (back_unmapped b v refl) e)) (step_few h.grants.made b v a.answer same small refl few)
+
+pub back_few : (config : Options) (w : World) (g : Flow) (d : Disk) (a : BackAct) → Stands config w g d → FewMaps w.under.grants.made w.back → back_turn w Took ≡ Some a → FewMaps a.under.grants.made (step_of w.back a.answer)
+back_few config w g d a stands few e =
+    let small = few_fetched config w g d w.back.stage stands.holds in
+    let count = stands.holds.indices.count in
+    back_few_at w.back.stage w.back w.under a refl (omega arith) e few
+
+-- a job maps once
+sector_unmapped : (writes : Bool) (m : Mapping) → maps_next (sector_stage writes m) ≡ false
+sector_unmapped true m = refl
+sector_unmapped false m = refl
+
+either_stage : (b : Bool) (s s' : JobStage) → maps_next s ≡ false → maps_next s' ≡ false → maps_next (if b then s else s') ≡ false
+either_stage true s s' p q = p
+either_stage false s s' p q = q
+
+either_work : (b : Bool) (t t' : Work) → maps_next t.stage ≡ false → maps_next t'.stage ≡ false → maps_next (let x : Work = if b then t else t' in x.stage) ≡ false
+either_work true t t' p q = p
+either_work false t t' p q = q
+
+last_segment : (t : Work) (r : Request) → t.rest ≡ segment_for r ∷ [] → maps_next (let x : Work = next_segment t (rest_of t.rest) in x.stage) ≡ false
+last_segment t r e = subst (λ (rest : List Segment). maps_next (let x : Work = next_segment t (rest_of rest) in x.stage) ≡ false) (sym e) refl
+
+later_unmapped : (asked : List Asked) (done : List Place) (k : ℕ) (r : Request) (t : Work) (s : JobStage) (a : BackAnswer) → maps_next s ≡ false → t.stage ≡ s → AtWork asked done k r t s → maps_next (let x : Work = task.step_at s t a in x.stage) ≡ false
+later_unmapped asked done k r t job.Map a free same at = absurd (true≢false free)
+later_unmapped asked done k r t (job.ReadWord m i) (answer.Word word) free same at = either_stage (i == 127) (job.DiskWrite m) (job.ReadWord m (i + 1)) refl refl
+later_unmapped asked done k r t (job.DiskWrite m) answer.Done free same at =
+    let next = counted t in
+    either_work (next.within == last_of next.rest) (record next { stage = job.Unmap m }) (record next { within = next.within + 1; stage = sector_stage next.writes m }) refl (sector_unmapped next.writes m)
+later_unmapped asked done k r t (job.DiskWrite m) answer.DiskFailed free same at = refl
+later_unmapped asked done k r t (job.DiskRead m) a free same at = absurd at
+later_unmapped asked done k r t (job.WriteWord m i) a free same at = absurd at
+later_unmapped asked done k r t (job.Unmap m) answer.Done free same at = last_segment t r at.0
+later_unmapped asked done k r t (job.GiveUp m) answer.Done free same at = refl
+later_unmapped asked done k r t s a free same at = ap maps_next same ∙ free
+
+work_unmapped : (s : JobStage) (t : Work) → maps_next s ≡ false → is_map (task.ask_at s t) ≡ false
+work_unmapped job.Map t free = absurd (true≢false free)
+work_unmapped s t free = refl
+
+-- the mappings that were made, and one more where this job maps next
+abbrev MadeWith : ℕ → JobStage → ℕ
+MadeWith made s = made + cond (maps_next s) 1 0
+
+made_few : (made : ℕ) (s : JobStage) → maps_next s ≡ false → MadeWith (made + 1) s ≤ MadeWith made job.Map
+made_few made s free = let none : ◌≡◌ {A = ℕ} (cond (maps_next s) 1 0) 0 = ap (λ (b : Bool). cond b 1 0) free in omega arith
+
+map_few : (h : Hypervisor) (number gref : ℕ) (mode : Mode) (t : Work) (verdict : Result ℕ MapRefusal) → (let a : BackAct = map_act h (Job number) gref mode verdict in MadeWith a.under.grants.made (let x : Work = task.step_at job.Map t a.answer in x.stage)) ≤ MadeWith h.grants.made job.Map
+map_few h number gref mode t (Ok frame) = made_few (h.grants.made) (sector_stage t.writes (record { number = h.grants.made + 1; gref = gref; mode = mode })) (sector_unmapped t.writes (record { number = h.grants.made + 1; gref = gref; mode = mode }))
+map_few h number gref mode t (Err refusal) = omega arith
+
+still_few : (made made' : ℕ) (s s' : JobStage) → made' ≡ made → maps_next s' ≡ false → MadeWith made' s' ≤ MadeWith made s
+still_few made made' s s' same free = let none : ◌≡◌ {A = ℕ} (cond (maps_next s') 1 0) 0 = ap (λ (b : Bool). cond b 1 0) free in omega arith
+
+work_few : (asked : List Asked) (done : List Place) (k number : ℕ) (h : Hypervisor) (r : Request) (t : Work) (s : JobStage) (o : Outcome) (a : BackAct) → t.stage ≡ s → AtWork asked done k r t s → back_act h (Job number) (task.ask_at s t) o ≡ Some a → MadeWith a.under.grants.made (let x : Work = task.step_at s t a.answer in x.stage) ≤ MadeWith h.grants.made s
+work_few asked done k number h r t job.Map o a same at e =
+    let asks : back_act h (Job number) (ask.Map (r.frame + 6) (mode_of t.writes)) o ≡ Some a = subst (λ (rest : List Segment). back_act h (Job number) (map_ask rest t.writes) o ≡ Some a) at.0.rest e in
+    of_back (λ (x : BackAct). MadeWith x.under.grants.made (let y : Work = task.step_at job.Map t x.answer in y.stage) ≤ MadeWith h.grants.made job.Map) _ a (map_few h number (r.frame + 6) (mode_of t.writes) t (verdict_at h.pages (r.frame + 6) (mode_of t.writes))) asks
+work_few asked done k number h r t s o a same at e =
+    still_few h.grants.made a.under.grants.made s _ (unmade h (Job number) (task.ask_at s t) o a (work_unmapped s t refl) e) (later_unmapped asked done k r t s a.answer refl same at)
+
+found_few : (config : Options) (w : World) (g : Flow) (d : Disk) (number p : ℕ) (t : Work) (o : Outcome) (a : BackAct) → Stands config w g d → FewMaps w.under.grants.made w.back → job_turn w number o ≡ Some a → place_of w.back.jobs.works number ≡ Some p → slice_get w.back.jobs.works p ≡ Some t → IsWork g.submitted g.fetched d.requests d.done t → FewMaps a.under.grants.made (job_step w.back number a.answer)
+found_few config w g d number p t o a stands few e place here work =
+    let asked : job_ask_of w.back number ≡ task.ask_at t.stage t = rw (stands.holds.unhalted, place, here) refl in
+    let acts : back_act w.under (Job number) (task.ask_at t.stage t) o ≡ Some a = subst (λ (x : BackAsk). back_act w.under (Job number) x o ≡ Some a) asked e in
+    let less = work_few d.requests d.done (t.number - 1) number w.under work.r t t.stage o a refl work.at acts in
+    let now : Work = task.step_at t.stage t a.answer in
+    let set = count_set (λ (x : Work). maps_next x.stage) w.back.jobs.works p t now here in
+    let works : (let v : View = job_step w.back number a.answer in v.jobs.works) ≡ slice_set w.back.jobs.works p now = rw (place, here) refl in
+    subst (λ (ws : List Work). FewAt a.under.grants.made ws w.back.stage w.back.fetched) (sym works) (omega arith)
+
+pub job_few : (config : Options) (w : World) (g : Flow) (d : Disk) (number : ℕ) (o : Outcome) (a : BackAct) → Stands config w g d → FewMaps w.under.grants.made w.back → job_turn w number o ≡ Some a → FewMaps a.under.grants.made (job_step w.back number a.answer)
+job_few config w g d number o a stands few e = by_place (place_of w.back.jobs.works number) refl
+  where
+    by_place : (place : Option ℕ) → place_of w.back.jobs.works number ≡ place → FewMaps a.under.grants.made (job_step w.back number a.answer)
+    by_place None none =
+        let waits : job_ask_of w.back number ≡ ask.Wait = rw (stands.holds.unhalted, none) refl in
+        absurd (none-some a (sym (ap (λ (x : BackAsk). back_act w.under (Job number) x o) waits) ∙ e))
+    by_place (Some p) place =
+        let found = found_at (λ (t : Work). t.number == number) w.back.jobs.works p place in
+        found_few config w g d number p found.0 o a stands few e place found.1 (all_at (IsWork g.submitted g.fetched d.requests d.done) w.back.jobs.works p found.0 stands.holds.works.each found.1)

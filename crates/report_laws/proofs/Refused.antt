@@ -1,0 +1,50 @@
+-- Wrong reports that the rules refuse.
+use Rattle.std.proofs.Common.{◌≡◌, ℕ, ◌+◌, ◌%◌, ◌^◌, ◌≤◌, false, List, [], ◌∷◌, refl, sym, subst, arith, true≢false}
+use Rattle.std.specs.Prelude.{All}
+use Rattle.std.proofs.lemmas.List.Elements.{recursion_from_All}
+use Rattle.blk_base.specs.Options.{Options}
+use Rattle.blk_base.specs.declared.operation.Status.{Status}
+use Rattle.blk_base.specs.declared.moves.Move.{Move}
+use Rattle.blk_base.specs.declared.moves.Move.TheVariants.{FrontWrite}
+use Rattle.schedule_text.specs.declared.line.Detail.{Detail}
+use Rattle.schedule_text.specs.declared.line.Detail.TheVariants.{Lines, Moves}
+use Rattle.schedule_text.specs.declared.line.Line.{Line}
+use Rattle.schedule_text.specs.declared.line.Line.TheVariants as lines
+use Rattle.schedule_text.specs.Range.{IsInRange}
+use Rattle.report_laws.specs.Begun.{is_begin, is_move, IsBegun}
+use Rattle.report_laws.specs.Ready.{IsReadyFirst}
+use Rattle.report_laws.specs.QuietRing.{IsQuietRing, IsServedRing}
+use Rattle.report_laws.specs.Grammar.{AreInGrammar}
+
+-- what stands behind the first line
+behind : (P : Line → Type 0) (a b : Line) (rest : List Line) (first : Line) → first ∷ a ∷ [] ≡ b ∷ rest → All P rest → P a
+behind P a b rest first e all =
+    let tails : a ∷ [] ≡ rest = cc in
+    (recursion_from_All P (a ∷ []) (subst (All P) (sym tails) all)).0
+
+pub begun_twice : (config : Options) (detail : Detail) → IsBegun config detail (lines.Begin config detail ∷ lines.Begin config detail ∷ []) → ⊥
+begun_twice config detail h = true≢false (behind (λ (line : Line). is_begin line ≡ false) (lines.Begin config detail) (lines.Begin config detail) h.rest (lines.Begin config detail) h.first h.once)
+
+pub moved : (config : Options) (move : Move) → IsBegun config Lines (lines.Begin config Lines ∷ lines.Move move ∷ []) → ⊥
+moved config move h = true≢false (behind (λ (line : Line). is_move line ≡ false) (lines.Move move) (lines.Begin config Lines) h.rest (lines.Begin config Lines) h.first (h.unmoved refl))
+
+pub ready_late : (config : Options) (detail : Detail) → IsReadyFirst (lines.Begin config detail ∷ lines.Quiet ∷ lines.Ready ∷ []) → ⊥
+ready_late config detail h = true≢false (sym (h (lines.Begin config detail ∷ []) (lines.Ready ∷ []) lines.Quiet refl))
+
+pub unserved : (config : Options) → IsQuietRing (lines.Begin config Moves ∷ lines.Move (FrontWrite 2 0 1) ∷ lines.Quiet ∷ []) → ⊥
+unserved config h =
+    let is : IsServedRing (lines.Begin config Moves ∷ lines.Move (FrontWrite 2 0 1) ∷ []) = h (lines.Begin config Moves ∷ lines.Move (FrontWrite 2 0 1) ∷ []) [] lines.Quiet refl in
+    let served : ◌≡◌ {A = ℕ} 1 0 = is.served in
+    omega arith
+
+pub unread : (config : Options) → config.start ≡ 0 → IsQuietRing (lines.Begin config Moves ∷ lines.Move (FrontWrite 2 0 1) ∷ lines.Move (FrontWrite 2 2 1) ∷ lines.Quiet ∷ []) → ⊥
+unread config start h =
+    let before : List Line = lines.Begin config Moves ∷ lines.Move (FrontWrite 2 0 1) ∷ lines.Move (FrontWrite 2 2 1) ∷ [] in
+    let is : IsServedRing before = h before [] lines.Quiet refl in
+    let read : 1 ≡ (config.start + 0) % 2 ^ 32 = is.read in
+    omega arith
+
+pub out_of_range : (id : ℕ) (status : Status) → 2 ^ 64 ≤ id → AreInGrammar (lines.Answer id status ∷ []) → ⊥
+out_of_range id status far h =
+    let widths = (recursion_from_All IsInRange (lines.Answer id status ∷ []) h).0.widths in
+    omega arith

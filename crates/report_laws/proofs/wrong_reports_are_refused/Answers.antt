@@ -1,0 +1,20 @@
+use Rattle.report_laws.proofs.Refused.{begun_twice, moved, ready_late, unserved, unread, out_of_range}
+use Rattle.report_laws.proofs.wrong_reports_are_refused.Goals as goal
+
+pub returns-clause-begun_twice : goal.returns-clause-begun_twice
+returns-clause-begun_twice c config detail h = begun_twice config detail h
+
+pub returns-clause-moved : goal.returns-clause-moved
+returns-clause-moved c config move h = moved config move h
+
+pub returns-clause-ready_late : goal.returns-clause-ready_late
+returns-clause-ready_late c config detail h = ready_late config detail h
+
+pub returns-clause-unserved : goal.returns-clause-unserved
+returns-clause-unserved c config h = unserved config h
+
+pub returns-clause-unread : goal.returns-clause-unread
+returns-clause-unread c config start h = unread config start h
+
+pub returns-clause-out_of_range : goal.returns-clause-out_of_range
+returns-clause-out_of_range c id status far h = out_of_range id status far h

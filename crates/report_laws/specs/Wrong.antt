@@ -1,0 +1,29 @@
+-- Worked reports that no machine gives.
+use Rattle.std.specs.Prelude.{List, [], ◌∷◌}
+use Rattle.blk_base.specs.Options.{Options}
+use Rattle.blk_base.specs.declared.moves.Move.{Move}
+use Rattle.blk_base.specs.declared.moves.Move.TheVariants.{FrontWrite}
+use Rattle.schedule_text.specs.declared.line.Detail.{Detail}
+use Rattle.schedule_text.specs.declared.line.Detail.TheVariants.{Lines, Moves}
+use Rattle.schedule_text.specs.declared.line.Line.{Line}
+use Rattle.schedule_text.specs.declared.line.Line.TheVariants as lines
+
+-- it begins a second time
+abbrev pub begun_twice : Options → Detail → List Line
+begun_twice config detail = lines.Begin config detail ∷ lines.Begin config detail ∷ []
+
+-- it shows a move, and said that it doesn't
+abbrev pub moved : Options → Move → List Line
+moved config move = lines.Begin config Lines ∷ lines.Move move ∷ []
+
+-- it is quiet before it is ready
+abbrev pub ready_late : Options → Detail → List Line
+ready_late config detail = lines.Begin config detail ∷ lines.Quiet ∷ lines.Ready ∷ []
+
+-- it is quiet while a request was pushed (req_prod is 1) that has no response
+abbrev pub unserved : Options → List Line
+unserved config = lines.Begin config Moves ∷ lines.Move (FrontWrite 2 0 1) ∷ lines.Quiet ∷ []
+
+-- it is quiet while a response was pushed (rsp_prod is 1) and no answer told
+abbrev pub unread : Options → List Line
+unread config = lines.Begin config Moves ∷ lines.Move (FrontWrite 2 0 1) ∷ lines.Move (FrontWrite 2 2 1) ∷ lines.Quiet ∷ []

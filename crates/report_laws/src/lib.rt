@@ -1,0 +1,80 @@
+//! What every report of the machine is, as a list of lines: it begins with `begin` and nowhere
+//! else, says `quiet` only of a front that was connected and of a ring that is served and read
+//! (`io/ring.h`), and its text gives back exactly its lines. The machine is the pure function of
+//! `split_model`; each law is over every list of happenings, of what a recorder keeps of the
+//! report, so with and without the lines of moves (`OfEachReport`), and where it says `OfPlain`
+//! the premises are those of `disk_laws`. What obeys a rule obeys it up to each of its lines.
+#![tactic(auto)]
+
+ghost use Rattle.std.specs.Prelude.{◌≡◌, ℕ, ◌≤◌, ◌^◌, List, [], ◌∷◌, ◌++◌, map, Contains};
+ghost use Rattle.blk_base.specs.Options.{Options};
+ghost use Rattle.blk_base.specs.declared.operation.Status.{Status};
+ghost use Rattle.blk_base.specs.declared.moves.Move.{Move};
+ghost use Rattle.schedule_text.specs.declared.line.Detail.{Detail};
+ghost use Rattle.schedule_text.specs.declared.line.Detail.TheVariants.{Lines, Moves};
+ghost use Rattle.schedule_text.specs.declared.line.Line.{Line};
+ghost use Rattle.schedule_text.specs.declared.line.Line.TheVariants.{Quiet, Answer};
+ghost use Rattle.schedule_text.specs.Plain.{plain};
+ghost use Rattle.schedule_text.specs.Range.{AreOptions};
+ghost use Rattle.schedule_text.specs.Recorder.{report_text};
+ghost use Rattle.split_model.specs.Happening.{Happening, lines_at};
+ghost use Rattle.report_laws.specs.Begun.{IsBegun, IsBegunSoFar};
+ghost use Rattle.report_laws.specs.Ready.{IsReadyFirst};
+ghost use Rattle.report_laws.specs.AtRest.{IsAtRest};
+ghost use Rattle.report_laws.specs.QuietRing.{IsQuietRing};
+ghost use Rattle.report_laws.specs.Grammar.{AreInGrammar, IsInGrammar};
+ghost use Rattle.report_laws.specs.Reports.{OfEachReport, OfEachEnded, OfPlainReports, OfPlainEnded, OfPlainMachines};
+ghost use Rattle.report_laws.specs.Wrong.{begun_twice, moved, ready_late, unserved, unread};
+
+/// `begin` is its first line and stands nowhere else, and lines of moves stand only where it says
+/// `moves`.
+pub fn every_report_begins_once()
+    ensures report { OfEachReport IsBegun }
+    ensures ended { OfEachEnded IsBegun }
+    ensures before { (config : Options) (detail : Detail) (first more : List Line) → IsBegun config detail (first ++ more) → IsBegunSoFar config detail first }
+{}
+
+/// A `ready` line stands before each `quiet` line.
+pub fn no_report_is_quiet_before_it_is_ready()
+    ensures report { OfEachReport (λ config detail report. IsReadyFirst report) }
+    ensures ended { OfEachEnded (λ config detail report. IsReadyFirst report) }
+    ensures before { (first more : List Line) → IsReadyFirst (first ++ more) → IsReadyFirst first }
+{}
+
+/// Wherever the machine shows `quiet`, for a `settle` or a `look`, its ring holds no request that
+/// isn't served and no response that isn't read, and nothing is left at either end.
+pub fn a_quiet_machine_is_at_rest()
+    ensures { OfPlainMachines (λ w. (next : Happening) → Contains (lines_at w next) Quiet → IsAtRest w) }
+{}
+
+/// So the ring's words say, by the moves before each `quiet` line.
+pub fn a_quiet_ring_is_served_and_read()
+    ensures report { OfPlainReports (λ config detail report. detail ≡ Moves → IsQuietRing report) }
+    ensures ended { OfPlainEnded (λ config detail report. detail ≡ Moves → IsQuietRing report) }
+    ensures before { (first more : List Line) → IsQuietRing (first ++ more) → IsQuietRing first }
+{}
+
+/// Each line is one of the grammar, and the report's text gives back exactly its lines.
+pub fn every_report_is_in_the_grammar()
+    ensures report { OfPlainReports (λ config detail report. AreOptions config → IsInGrammar report) }
+    ensures ended { OfPlainEnded (λ config detail report. AreOptions config → IsInGrammar report) }
+    ensures before { (first more : List Line) → IsInGrammar (first ++ more) → IsInGrammar first }
+{}
+
+/// Two lists of lines of the grammar that have one text are the same, but for what lies unused
+/// behind a line's texts.
+pub fn one_text_has_one_reading()
+    ensures { (one other : List Line) → AreInGrammar one → AreInGrammar other → report_text one ≡ report_text other → map plain one ≡ map plain other }
+{}
+
+/// The rules refuse a second `begin`, a move where none is shown, `quiet` before `ready`, `quiet`
+/// over a request without a response or over a response that wasn't read, and a number that has
+/// more than 64 bits.
+pub fn wrong_reports_are_refused()
+    ensures begun_twice { (config : Options) (detail : Detail) → ¬ IsBegun config detail (begun_twice config detail) }
+    ensures moved { (config : Options) (move : Move) → ¬ IsBegun config Lines (moved config move) }
+    ensures ready_late { (config : Options) (detail : Detail) → ¬ IsReadyFirst (ready_late config detail) }
+    ensures unserved { (config : Options) → ¬ IsQuietRing (unserved config) }
+    ensures unread { (config : Options) → config.start ≡ 0 → ¬ IsQuietRing (unread config) }
+    ensures out_of_range { (id : ℕ) (status : Status) → 2 ^ 64 ≤ id → ¬ AreInGrammar (Answer id status ∷ []) }
+{}
