@@ -1,40 +1,51 @@
 -- The laws of the machine, of what a recorder keeps of a history's report.
-use Rattle.std.proofs.Common.{◌≡◌, ℕ, ◌+◌, ◌^◌, ◌<◌, ◌≤◌, length, length-append, arith, List, [], ◌∷◌, ◌++◌, Option, ap, sym, ◌∙◌, subst}
+use Rattle.std.proofs.Common.{◌≡◌, ℕ, ◌^◌, ◌<◌, false, length, List, [], ◌∷◌, ◌++◌, Option, Some, None, refl, ap, sym, ◌∙◌, subst, arith, length-append}
+use Rattle.std.specs.Prelude.{map}
+use Rattle.std.proofs.lemmas.List.Elements.{All-nil}
 use Rattle.blk_base.specs.Options.{Options}
-use Rattle.blk_io.specs.Disk.{HasLength}
+use Rattle.blk_io.specs.Disk.{DiskSeen, HasLength}
 use Rattle.schedule_text.specs.declared.line.Detail.{Detail}
 use Rattle.schedule_text.specs.declared.line.Detail.TheVariants.{Moves}
 use Rattle.schedule_text.specs.declared.line.Line.{Line}
-use Rattle.schedule_text.specs.declared.line.Line.TheVariants.{End}
 use Rattle.report_rules.specs.Obeys.{Obeys}
-use Rattle.report_rules.proofs.Obeys.{obeys_before}
+use Rattle.report_rules.proofs.Obeys.{obeys_none, obeys_before}
 use Rattle.move_laws.proofs.Recorded.{report_kept, ended_kept}
 use Rattle.move_laws.proofs.Runs.{report_obeys, ended_obeys, coherent_of, answers_of, touches_of, grantable_of}
 use Rattle.ring_laws.proofs.JobRuns.{report_rules, ended_rules, steps_of, data_of, effects_of}
 use Rattle.ring_laws.proofs.MakerRuns.{report_unmaps, ended_unmaps, report_own, ended_own}
 use Rattle.ring_laws.proofs.ReplyRuns.{report_replies, ended_replies}
-use Rattle.schedule_run.proofs.Lengths.{kept_long}
 use Rattle.ring_laws.proofs.Runs.{report_overruns, ended_overruns, report_stretches, ended_stretches}
-use Rattle.disk_laws.specs.Run.{IsRun}
-use Rattle.disk_laws.specs.Answered.{AreAnsweredOnce, IsQuietAnswered}
-use Rattle.disk_laws.proofs.AnsweredRuns.{run_answers_once, run_answers_at_quiet}
+use Rattle.disk_laws.specs.Run.{IsRun, IsRunSoFar}
+use Rattle.pipeline_laws.specs.Answered.{AreAnsweredOnce, IsQuietAnswered}
+use Rattle.pipeline_laws.proofs.AnsweredRuns.{run_answers_once, run_answers_at_quiet}
 use Rattle.disk_laws.proofs.SubmissionsAlways.{unbroken_before}
-use Rattle.split_model.specs.World.{World, start_of}
-use Rattle.split_model.specs.Happening.{Happening, after, DiskRuns}
-use Rattle.split_model.specs.Leads.{kept_of}
+use Rattle.split_model.specs.World.{start_of}
+use Rattle.split_model.specs.Happening.{Happening, DiskRuns}
+use Rattle.schedule_text.specs.Recorder.{kept_of, line_bytes, report_text}
 use Rattle.split_model.specs.Report.{report_of, ended_report_of}
 use Rattle.split_model.proofs.Running.{kept_of-append}
 use Rattle.disk_laws.specs.Plain.{IsPlain}
 use Rattle.disk_laws.specs.Allowed.{AreAllowed}
-use Rattle.disk_laws.specs.Submissions.{submitted_of, IsAnswerAt}
-use Rattle.disk_laws.specs.Unbroken.{IsUnbroken}
+use Rattle.disk_laws.specs.Submissions.{submitted_of}
+use Rattle.pipeline_laws.specs.Submissions.{IsAnswerAt}
+use Rattle.pipeline_laws.specs.Unbroken.{is_breach, IsUnbroken}
 use Rattle.disk_laws.proofs.Runs.{reports_run, ended_reports_run, begun_run}
 use Rattle.disk_laws.proofs.Reports.{reports_answered, ended_answered, reports_unbroken, ended_unbroken}
-use Rattle.schedule_text.specs.declared.event.Event.{Event}
-use Rattle.split_model.specs.Kind.{AreOf, AreOfSoFar}
-use Rattle.disk_laws.proofs.KindsFront.{Connects, start_connects, connects_after}
-use Rattle.disk_laws.proofs.KindsEvents.{allowed_append, event_allowed, event_so_far_allowed}
-use Rattle.schedule_run.specs.Lawful.{ObeysMoves, ShowsWork, IsLawful, IsLawfulSoFar, AreLawful}
+use Rattle.schedule_text.specs.Range.{AreOptions, IsInRange}
+use Rattle.schedule_text.specs.Plain.{plain}
+use Rattle.schedule_text.specs.Line.{text_of}
+use Rattle.plain_disk.specs.Disk.{disk_of}
+use Rattle.blk_base.specs.declared.config.Job.{Job}
+use Rattle.report_laws.specs.Begun.{IsBegun}
+use Rattle.report_laws.specs.Grammar.{IsInGrammar}
+use Rattle.report_laws.specs.Ready.{IsReadyAt}
+use Rattle.report_laws.specs.QuietRing.{IsQuietRingAt}
+use Rattle.report_laws.proofs.Begun.{report_begun, ended_begun, begun_before}
+use Rattle.report_laws.proofs.Grammar.{report_grammar, ended_grammar}
+use Rattle.report_laws.proofs.Texts.{grammar_before}
+use Rattle.report_laws.proofs.Ready.{report_ready, ended_ready}
+use Rattle.report_laws.proofs.QuietRing.{report_quiet, ended_quiet}
+use Rattle.schedule_run.specs.Lawful.{ObeysMoves, ShowsWork, IsLawful, IsLawfulSoFar}
 
 -- the moves, where they are shown
 whole_moves : (config : Options) (history : List Happening) → IsPlain config → ObeysMoves (report_of config Moves history)
@@ -71,24 +82,6 @@ ended_shown : (detail : Detail) (config : Options) (history : List Happening) �
 ended_shown detail config history plain same =
     subst (λ (d : Detail). ObeysMoves (kept_of d (ended_report_of config d history))) (sym same) (subst ObeysMoves (sym (ended_kept config history)) (ended_moves config history plain))
 
--- how long a report is, by what is kept of it
-long_kept : (detail : Detail) (ls : List Line) → detail ≡ Moves → length (kept_of detail ls) ≡ length ls
-long_kept detail ls same = subst (λ (d : Detail). length (kept_of d ls) ≡ length ls) (sym same) (kept_long ls)
-
-ended_fewer : (detail : Detail) (config : Options) (history : List Happening) → detail ≡ Moves → length (kept_of detail (ended_report_of config detail history)) < 2 ^ 64 → length (report_of config detail history) < 2 ^ 64
-ended_fewer detail config history same few =
-    let kept = long_kept detail (ended_report_of config detail history) same in
-    let more = length-append (report_of config detail history) (End ∷ []) in
-    omega arith
-
-begun_fewer : (detail : Detail) (config : Options) (history : List Happening) (said rest : List Line) → detail ≡ Moves → said ++ rest ≡ ended_report_of config detail history → length rest ≤ 4 → length (kept_of detail said) + 4 < 2 ^ 64 → length (report_of config detail history) < 2 ^ 64
-begun_fewer detail config history said rest same all few short =
-    let kept = long_kept detail said same in
-    let both = length-append said rest in
-    let whole : length (said ++ rest) ≡ length (ended_report_of config detail history) = ap (λ (ls : List Line). length ls) all in
-    let more = length-append (report_of config detail history) (End ∷ []) in
-    omega arith
-
 -- the work
 whole_work : (config : Options) (history : List Happening) → length (report_of config Moves history) < 2 ^ 64 → ShowsWork (report_of config Moves history)
 whole_work config history few =
@@ -102,10 +95,10 @@ ended_work config history few =
     let report = ended_report_of config Moves history in
     record { steps = steps_of report obeys; data_given = data_of report obeys; effects = effects_of report obeys; unmaps = ended_unmaps config Moves history few; own = ended_own config Moves history few; replies = ended_replies config Moves history few }
 
-worked : (detail : Detail) (config : Options) (history : List Happening) → detail ≡ Moves → length (kept_of detail (report_of config detail history)) < 2 ^ 64 → ShowsWork (kept_of detail (report_of config detail history))
+worked : (detail : Detail) (config : Options) (history : List Happening) → detail ≡ Moves → length (report_of config detail history) < 2 ^ 64 → ShowsWork (kept_of detail (report_of config detail history))
 worked detail config history same =
-    subst (λ (d : Detail). length (kept_of d (report_of config d history)) < 2 ^ 64 → ShowsWork (kept_of d (report_of config d history))) (sym same)
-    (subst (λ (report : List Line). length report < 2 ^ 64 → ShowsWork report) (sym (report_kept config history)) (whole_work config history))
+    subst (λ (d : Detail). length (report_of config d history) < 2 ^ 64 → ShowsWork (kept_of d (report_of config d history))) (sym same)
+    (λ few. subst ShowsWork (sym (report_kept config history)) (whole_work config history few))
 
 ended_worked : (detail : Detail) (config : Options) (history : List Happening) → detail ≡ Moves → length (report_of config detail history) < 2 ^ 64 → ShowsWork (kept_of detail (ended_report_of config detail history))
 ended_worked detail config history same =
@@ -140,53 +133,98 @@ once_of sectors before now report h = run_answers_once report h.first h.disk h.r
 quiet_of : (sectors : ℕ) (before now : Option (List (List ℕ))) (report : List Line) → IsRun sectors before now report → IsQuietAnswered report
 quiet_of sectors before now report h = run_answers_at_quiet report h.first h.disk h.run
 
-pub report_lawful : (config : Options) (detail : Detail) (history : List Happening) (before now : Option (List (List ℕ))) → IsPlain config → AreAllowed history (start_of config) → HasLength before config.sectors → DiskRuns history (start_of config) before now → IsLawful config detail (submitted_of history) before now (kept_of detail (report_of config detail history))
-report_lawful config detail history before now plain may long runs = record {
-  disk = reports_run config detail history before now plain may long runs;
-  once = once_of config.sectors before now (kept_of detail (report_of config detail history)) (reports_run config detail history before now plain may long runs);
-  quiet = quiet_of config.sectors before now (kept_of detail (report_of config detail history)) (reports_run config detail history before now plain may long runs);
-  submissions = reports_answered config detail history plain may;
-  unbroken = reports_unbroken config detail history plain may;
-  moves = shown detail config history plain;
-  work = worked detail config history;
-}
+-- a history of the machine with these options, short enough
+pub record IsTold (config : Options) (detail : Detail) (history : List Happening) : Type 0 where
+  pub plain : IsPlain config
+  pub options : AreOptions config
+  pub allowed : AreAllowed history (start_of config)
+  pub short : length (report_of config detail history) < 2 ^ 64
 
-pub ended_lawful : (config : Options) (detail : Detail) (history : List Happening) (before now : Option (List (List ℕ))) → IsPlain config → AreAllowed history (start_of config) → HasLength before config.sectors → DiskRuns history (start_of config) before now → IsLawful config detail (submitted_of history) before now (kept_of detail (ended_report_of config detail history))
-ended_lawful config detail history before now plain may long runs = record {
-  disk = ended_reports_run config detail history before now plain may long runs;
-  once = once_of config.sectors before now (kept_of detail (ended_report_of config detail history)) (ended_reports_run config detail history before now plain may long runs);
-  quiet = quiet_of config.sectors before now (kept_of detail (ended_report_of config detail history)) (ended_reports_run config detail history before now plain may long runs);
-  submissions = ended_answered config detail history plain may;
-  unbroken = ended_unbroken config detail history plain may;
-  moves = ended_shown detail config history plain;
-  work = λ same few. ended_worked detail config history same (ended_fewer detail config history same few);
-}
-
-pub begun_lawful : (config : Options) (detail : Detail) (history : List Happening) (before : Option (List (List ℕ))) (said rest : List Line) → IsPlain config → AreAllowed history (start_of config) → said ++ rest ≡ ended_report_of config detail history → length rest ≤ 4 → IsLawfulSoFar detail (submitted_of history) before (kept_of detail said)
-begun_lawful config detail history before said rest plain may all few =
-    let split : kept_of detail said ++ kept_of detail rest ≡ kept_of detail (ended_report_of config detail history) = sym (kept_of-append detail said rest) ∙ ap (kept_of detail) all in
-    let answered = ended_answered config detail history plain may in
-    let run = begun_run config detail history before said rest plain may all in
+pub report_lawful : (config : Options) (detail : Detail) (history : List Happening) (before now : DiskSeen) → IsTold config detail history → HasLength before.content config.sectors → DiskRuns history (start_of config) before now → IsLawful config detail (submitted_of history) before.content now.content (kept_of detail (report_of config detail history))
+report_lawful config detail history before now h long runs =
+    let report = kept_of detail (report_of config detail history) in
+    let run = reports_run config detail history before now h.plain h.allowed long runs in
     record {
+      begun = report_begun config detail history;
+      grammar = report_grammar config detail history h.plain h.allowed h.options;
       disk = run;
-      once = run_answers_once (kept_of detail said) run.first run.disk run.run;
-      quiet = run_answers_at_quiet (kept_of detail said) run.first run.disk run.run;
-      submissions = obeys_before (IsAnswerAt (submitted_of history)) (kept_of detail said) (kept_of detail rest) (subst (Obeys (IsAnswerAt (submitted_of history))) (sym split) answered.rightly);
-      unbroken = unbroken_before (kept_of detail said) (kept_of detail rest) (subst IsUnbroken (sym split) (ended_unbroken config detail history plain may));
-      moves = λ same. moves_before (kept_of detail said) (kept_of detail rest) (subst ObeysMoves (sym split) (ended_shown detail config history plain same));
-      work = λ same short. work_before (kept_of detail said) (kept_of detail rest) (subst ShowsWork (sym split) (ended_worked detail config history same (begun_fewer detail config history said rest same all few short)));
+      submissions = reports_answered config detail history h.plain h.allowed;
+      once = once_of config.sectors before.content now.content report run;
+      quiet = quiet_of config.sectors before.content now.content report run;
+      ready = report_ready config detail history;
+      unbroken = reports_unbroken config detail history h.plain h.allowed;
+      ring = λ same. report_quiet config detail history h.plain h.allowed same;
+      moves = shown detail config history h.plain;
+      work = λ same. worked detail config history same h.short;
     }
 
--- so what an event makes happen leaves every report lawful
-further_lawful : (w : World) (history : List Happening) → ((config : Options) (earlier : List Happening) → w ≡ after earlier (start_of config) → AreAllowed history (after earlier (start_of config))) → AreLawful w history
-further_lawful w history may config detail earlier before now plain allowed leads long runs =
-    report_lawful config detail (earlier ++ history) before now plain (allowed_append earlier history (start_of config) allowed (may config earlier leads)) long runs
+-- with its last line
+pub ended_lawful : (config : Options) (detail : Detail) (history : List Happening) (before now : DiskSeen) → IsTold config detail history → HasLength before.content config.sectors → DiskRuns history (start_of config) before now → IsLawful config detail (submitted_of history) before.content now.content (kept_of detail (ended_report_of config detail history))
+ended_lawful config detail history before now h long runs =
+    let report = kept_of detail (ended_report_of config detail history) in
+    let run = ended_reports_run config detail history before now h.plain h.allowed long runs in
+    record {
+      begun = ended_begun config detail history;
+      grammar = ended_grammar config detail history h.plain h.allowed h.options;
+      disk = run;
+      submissions = ended_answered config detail history h.plain h.allowed;
+      once = once_of config.sectors before.content now.content report run;
+      quiet = quiet_of config.sectors before.content now.content report run;
+      ready = ended_ready config detail history;
+      unbroken = ended_unbroken config detail history h.plain h.allowed;
+      ring = λ same. ended_quiet config detail history h.plain h.allowed same;
+      moves = ended_shown detail config history h.plain;
+      work = λ same. ended_worked detail config history same h.short;
+    }
 
-led_connects : (config : Options) (earlier : List Happening) → (let x : World = after earlier (start_of config) in Connects x.front.stage)
-led_connects config earlier = connects_after earlier (start_of config) (start_connects config)
+-- and the beginning of one
+pub begun_lawful : (config : Options) (detail : Detail) (history : List Happening) (before : Option (List (List ℕ))) (said rest : List Line) → IsTold config detail history → said ++ rest ≡ ended_report_of config detail history → IsLawfulSoFar config detail (submitted_of history) before (kept_of detail said)
+begun_lawful config detail history before said rest h all =
+    let one = kept_of detail said in
+    let other = kept_of detail rest in
+    let split : one ++ other ≡ kept_of detail (ended_report_of config detail history) = sym (kept_of-append detail said rest) ∙ ap (kept_of detail) all in
+    let answered = ended_answered config detail history h.plain h.allowed in
+    let run = begun_run config detail history before said rest h.plain h.allowed all in
+    record {
+      begun = begun_before config detail one other (subst (IsBegun config detail) (sym split) (ended_begun config detail history));
+      grammar = grammar_before one other (subst IsInGrammar (sym split) (ended_grammar config detail history h.plain h.allowed h.options));
+      disk = run;
+      submissions = obeys_before (IsAnswerAt (submitted_of history)) one other (subst (Obeys (IsAnswerAt (submitted_of history))) (sym split) answered.rightly);
+      once = run_answers_once one run.first run.disk run.run;
+      quiet = run_answers_at_quiet one run.first run.disk run.run;
+      ready = obeys_before IsReadyAt one other (subst (Obeys IsReadyAt) (sym split) (ended_ready config detail history));
+      unbroken = unbroken_before one other (subst IsUnbroken (sym split) (ended_unbroken config detail history h.plain h.allowed));
+      ring = λ same. obeys_before IsQuietRingAt one other (subst (Obeys IsQuietRingAt) (sym split) (ended_quiet config detail history h.plain h.allowed same));
+      moves = λ same. moves_before one other (subst ObeysMoves (sym split) (ended_shown detail config history h.plain same));
+      work = λ same. work_before one other (subst ShowsWork (sym split) (ended_worked detail config history same h.short));
+    }
 
-pub event_lawful : (event : Event) (w : World) (history : List Happening) → AreOf event w history → AreLawful w history
-event_lawful event w history kind = further_lawful w history (λ config earlier leads. event_allowed event (after earlier (start_of config)) history (led_connects config earlier) (subst (λ (x : World). AreOf event x history) leads kind))
+-- no lines
+none_read_otherwise : (other : List Line) → report_text other ≡ [] → map plain other ≡ []
+none_read_otherwise [] e = refl
+none_read_otherwise (line ∷ other) e =
+    let long : length (report_text (line ∷ other)) ≡ 0 = ap length e in
+    let all = length-append (line_bytes line) (report_text other) in
+    let feed = length-append (text_of line) (10 ∷ []) in
+    absurd (omega arith)
 
-pub event_so_far_lawful : (event : Event) (w : World) (history : List Happening) → AreOfSoFar event w history → AreLawful w history
-event_so_far_lawful event w history kind = further_lawful w history (λ config earlier leads. event_so_far_allowed event (after earlier (start_of config)) history (led_connects config earlier) (subst (λ (x : World). AreOfSoFar event x history) leads kind))
+pub nothing_lawful : (config : Options) (detail : Detail) (jobs : List Job) (before : Option (List (List ℕ))) → IsLawfulSoFar config detail jobs before []
+nothing_lawful config detail jobs before =
+    let run = nothing_run before in
+    record {
+      begun = tt;
+      grammar = record { lines = All-nil IsInRange; exact = λ other all same. none_read_otherwise other same };
+      disk = run;
+      submissions = obeys_none (IsAnswerAt jobs);
+      once = run_answers_once [] run.first run.disk run.run;
+      quiet = run_answers_at_quiet [] run.first run.disk run.run;
+      ready = obeys_none IsReadyAt;
+      unbroken = All-nil (λ (line : Line). is_breach line ≡ false);
+      ring = λ same. obeys_none IsQuietRingAt;
+      moves = λ same. record { coherent = obeys_none _; answered = obeys_none _; touched = obeys_none _; grantable = obeys_none _; overruns = obeys_none _; stretches = obeys_none _ };
+      work = λ same. record { steps = obeys_none _; data_given = obeys_none _; effects = obeys_none _; unmaps = obeys_none _; own = obeys_none _; replies = obeys_none _ };
+    }
+  where
+    nothing_run : (before : Option (List (List ℕ))) → IsRunSoFar before []
+    nothing_run None = record { first = []; begins = refl; disk = disk_of []; run = refl }
+    nothing_run (Some content) = record { first = content; begins = refl; disk = disk_of content; run = refl }

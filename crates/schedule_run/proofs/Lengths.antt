@@ -1,10 +1,10 @@
--- How many lines a happening shows, and how many a recorder of moves keeps.
-use Rattle.std.proofs.Common.{◌≡◌, ℕ, ◌≤◌, List, [], ◌∷◌, length, Option, Some, None, refl, arith, length-append}
+-- How many lines a happening shows, and how long a report is at most.
+use Rattle.std.proofs.Common.{◌≡◌, ℕ, ◌+◌, ◌*◌, ◌^◌, ◌<◌, ◌≤◌, List, [], ◌∷◌, ◌++◌, length, Option, Some, None, refl, arith, length-append}
+use Rattle.blk_base.specs.Options.{Options}
 use Rattle.blk_base.specs.declared.ask.BackAnswer.{BackAnswer}
-use Rattle.schedule_text.specs.declared.line.Detail.TheVariants.{Moves}
+use Rattle.schedule_text.specs.declared.event.Event.{Event}
+use Rattle.schedule_text.specs.declared.line.Detail.{Detail}
 use Rattle.schedule_text.specs.declared.line.Line.{Line}
-use Rattle.schedule_text.specs.declared.line.Line.TheVariants as lines
-use Rattle.schedule_text.specs.Recorder.{recorded}
 use Rattle.hypervisor.specs.Act.{FrontAct, BackAct, Took}
 use Rattle.blk_front.specs.declared.told.Told.{Told}
 use Rattle.blk_front.specs.declared.told.Told.TheVariants as front_told
@@ -15,10 +15,15 @@ use Rattle.blk_back.specs.declared.told.BackTold.TheVariants as back_told
 use Rattle.blk_back.specs.declared.told.Halt.{Halt}
 use Rattle.blk_back.specs.View as back
 use Rattle.blk_back.specs.Step as back_step
-use Rattle.split_model.specs.World.{World}
+use Rattle.split_model.specs.World.{World, start_of}
 use Rattle.split_model.specs.Shown.{front_lines, back_lines, halt_lines}
-use Rattle.split_model.specs.Happening.{Happening, FrontMoves, BackMoves, JobMoves, Submits, Notifies, Looks, Settles, lines_at, front_shows, back_shows, job_shows, front_turn, back_turn, job_turn}
-use Rattle.split_model.specs.Leads.{kept_of}
+use Rattle.split_model.specs.Happening.{Happening, FrontMoves, BackMoves, JobMoves, Submits, Notifies, Looks, Settles, happens, lines_at, after, lines_of, front_shows, back_shows, job_shows, front_turn, back_turn, job_turn}
+use Rattle.split_model.specs.Kind.{AreOfAll, AreOfSoFar}
+use Rattle.split_model.specs.Report.{report_of}
+use Rattle.disk_laws.specs.Plain.{IsPlain}
+use Rattle.disk_laws.proofs.KindsFront.{start_connects}
+use Rattle.disk_laws.proofs.KindsEvents.{events_allowed}
+use Rattle.schedule_run.proofs.Counts.{event_so_far_few, events_few}
 
 front_few : (told : Option Told) → length (front_lines told) ≤ 1
 front_few None = omega arith
@@ -70,16 +75,30 @@ lines_few w (Notifies at) = omega arith
 lines_few w Looks = omega arith
 lines_few w Settles = omega arith
 
-one_kept : (line : Line) → length (recorded Moves line) ≡ 1
-one_kept (lines.Begin config other) = refl
-one_kept (lines.Move move) = refl
-one_kept line = refl
+-- three lines for each happening at most
+lines_by : (hs : List Happening) (w : World) → length (lines_of hs w) ≤ 3 * length hs
+lines_by [] w = omega arith
+lines_by (h ∷ hs) w =
+    let one = lines_few w h in
+    let rest = lines_by hs (happens w h) in
+    let both = length-append (lines_at w h) (lines_of hs (happens w h)) in
+    omega arith
 
--- of moves each line is kept
-pub kept_long : (ls : List Line) → length (kept_of Moves ls) ≡ length ls
-kept_long [] = refl
-kept_long (line ∷ ls) =
-    let both = length-append (recorded Moves line) (kept_of Moves ls) in
-    let one = one_kept line in
-    let rest = kept_long ls in
+begun_by : (config : Options) (detail : Detail) (history : List Happening) (n : ℕ) → length history ≤ n → length (report_of config detail history) ≤ 3 * n + 1
+begun_by config detail history n few = let lines = lines_by history (start_of config) in omega arith
+
+-- the report of 10^9 events is short
+pub report_short : (config : Options) (detail : Detail) (es : List Event) (history : List Happening) → IsPlain config → AreOfAll es (start_of config) history → length es ≤ 10 ^ 9 → length (report_of config detail history) < 2 ^ 64
+report_short config detail es history plain are few =
+    let all = events_few config [] es history plain tt are in
+    let lines = begun_by config detail history (10 ^ 8 * length es) all in
+    omega arith
+
+-- and of one more, as far as it came
+pub report_so_far_short : (config : Options) (detail : Detail) (es : List Event) (e : Event) (first more : List Happening) → IsPlain config → AreOfAll es (start_of config) first → AreOfSoFar e (after first (start_of config)) more → length es ≤ 10 ^ 9 → length (report_of config detail (first ++ more)) < 2 ^ 64
+report_so_far_short config detail es e first more plain are far few =
+    let all = events_few config [] es first plain tt are in
+    let last = event_so_far_few config first e more plain (events_allowed es (start_of config) first (start_connects config) are) far in
+    let both = length-append first more in
+    let lines = begun_by config detail (first ++ more) (10 ^ 8 * length es + 10 ^ 8) (omega arith) in
     omega arith

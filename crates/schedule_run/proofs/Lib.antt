@@ -1,9 +1,13 @@
+pub mod Attached
+pub mod Within
 pub mod Lines
 pub mod Carrying
 pub mod Taking
 pub mod Ending
+pub mod Jobs
+pub mod Counts
 pub mod Lengths
 pub mod Lawful
+pub mod Begins
+pub mod Told
 pub mod LawfulEnds
-pub mod Two
-pub mod Unsent

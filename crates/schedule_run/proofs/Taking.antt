@@ -1,16 +1,23 @@
 -- What was read of a source, and what of it was carried out.
-use Rattle.std.proofs.Common.{◌≡◌, ◌≢◌, ℕ, ◌+◌, ◌*◌, ◌<◌, ◌≤◌, ◌^◌, List, [], ◌++◌, length, take, drop, Option, Some, None, inl, inr, Result, Ok, Err, OnOk, IfErr, OnErr, refl, sym, ap, ◌∙◌, subst, arith, append_assoc, append-nil, length-append}
+use Rattle.std.proofs.Common.{◌≡◌, ◌≢◌, ℕ, ◌+◌, ◌*◌, ◌^◌, ◌<◌, ◌≤◌, List, [], ◌∷◌, ◌++◌, length, take, drop, Option, Some, None, inl, inr, Result, Ok, Err, refl, sym, ap, ◌∙◌, subst, arith, append_assoc, append-nil, length-append}
 use Rattle.std.proofs.lemmas.List.{take-append-drop, length-take, take-append-le, take_all}
 use Rattle.std.proofs.lemmas.List.Elements.{All-nil}
-use Rattle.blk_io.specs.Outside.{IsRead}
-use Rattle.schedule_text.specs.declared.line.Detail.{Detail}
-use Rattle.split_model.specs.Leads.{Moment}
-use Rattle.schedule_run.specs.Reading.{text_of, IsUnbroken, IsBadLine, last_line, IsWholeSchedule, HasBadLine, IsTooLong, HasBegun, HasComeTo, Tells}
-use Rattle.schedule_run.specs.Carrying.{Standing, EventsLead, StopsInLine, StopsAtLine, CarriesLast, Carries, MeetsBad, MeetsStop, Halts, Reads, ReadsToStop, ReadStops}
+use Rattle.blk_io.specs.Outside.{IsRead, SourceSeen}
+use Rattle.blk_io.specs.Disk.{DiskSeen, attached_of}
+use Rattle.schedule_text.specs.declared.event.Event.{Event}
+use Rattle.schedule_text.specs.declared.line.Line.{Line}
+use Rattle.schedule_text.specs.declared.recorder.RecordStop.{RecordStop}
+use Rattle.schedule_text.specs.declared.recorder.RecordStop.TheVariants as record_stop
+use Rattle.schedule_text.specs.Recorder.{RecorderSeen, Gained, HandsOnLines, FailsHandingOn}
+use Rattle.split_model.specs.Happening.{lines_of, DiskRuns}
+use Rattle.split_model.specs.Leads.{Moment, moment}
+use Rattle.schedule_run.specs.Machine.{Run}
+use Rattle.schedule_run.specs.Reading.{text_of, IsUnbroken, IsBadLine, AreLinesOf, last_line, IsWholeSchedule, HasBadLine, IsTooLong, HasBegun, HasComeTo, HasReadTo, Tells, TellsRest}
+use Rattle.schedule_run.specs.Carrying.{Standing, standing, IsFresh, IsReadyToTake, EventsLead, StopsInLine, StopsAtLine, CarriesLast, Finishes, Carries, MeetsBad, MeetsStop, Halts, Reads, ReadsToStop, ReadsUnsent, ReadStops, ReadsAll}
 use Rattle.schedule_run.specs.declared.schedule.RunStop.{RunStop}
 use Rattle.schedule_run.specs.declared.schedule.RunStop.TheVariants as stop
-use Rattle.schedule_run.proofs.Lines.{lines_on, first_line_all}
-use Rattle.schedule_run.proofs.Carrying.{carries_nothing, carries_on, halts_on, carries_few, carries_few_lines, events_lead_on, rose_on}
+use Rattle.schedule_run.proofs.Lines.{lines_on, first_line_all, events_few, text-cons}
+use Rattle.schedule_run.proofs.Carrying.{carries_nothing, carries_on, halts_on, events_lead_on, ready_after}
 
 -- these bytes were read, and the rest is left
 abbrev pub SoFar : Option (List ℕ) → Option (List ℕ) → List ℕ → Type 0
@@ -43,59 +50,141 @@ tells_all claim (Some all) now after done buffer n e some s r f =
     subst claim (sym (s.1 ∙ (ap (λ b. done ++ b) (t.3 e some) ∙ append-nil done))) f
 
 -- the reader began with nothing, and took these bytes
-pub record HasTaken (detail : Detail) (left now : Option (List ℕ)) (limit room : ℕ) (old new : Standing) : Type 0 where
+pub record HasTaken (left now : Option (List ℕ)) (limit room : ℕ) (old new : Standing) : Type 0 where
   pub done : List ℕ
   pub so_far : SoFar left now done
   pub size : length done + room ≡ limit
-  pub carried : Carries detail done old new
+  pub carried : Carries done old new
 
 unbroken_none : (part : List ℕ) → part ≡ [] → IsUnbroken part
 unbroken_none part none = subst IsUnbroken (sym none) (All-nil (λ (b : ℕ). b ≢ 10))
 
-pub taken_none : (detail : Detail) (left : Option (List ℕ)) (limit : ℕ) (s : Standing) → s.part ≡ [] → HasTaken detail left left limit limit s s
-taken_none detail left limit s none = record {
+pub taken_none : (left : Option (List ℕ)) (limit : ℕ) (s : Standing) → s.part ≡ [] → HasTaken left left limit limit s s
+taken_none left limit s none = record {
   done = [];
   so_far = so_far_none left;
   size = omega arith;
-  carried = carries_nothing detail s (unbroken_none s.part none) (let e : length s.part ≡ 0 = ap length none in omega arith);
+  carried = carries_nothing s (unbroken_none s.part none) (let e : length s.part ≡ 0 = ap length none in omega arith);
 }
 
-pub taken_more : (detail detail' : Detail) (left now after : Option (List ℕ)) (limit room room' n : ℕ) (buffer : List ℕ) (s t u : Standing) → detail' ≡ detail → n ≤ length buffer → room' + n ≡ room → IsRead n now after buffer → HasTaken detail left now limit room s t → Carries detail' (take n buffer) t u → HasTaken detail left after limit room' s u
-taken_more detail detail' left now after limit room room' n buffer s t u same fits less read h more = record {
+pub taken_more : (left now after : Option (List ℕ)) (limit room room' n : ℕ) (buffer : List ℕ) (s t u : Standing) → n ≤ length buffer → room' + n ≡ room → IsRead n now after buffer → HasTaken left now limit room s t → Carries (take n buffer) t u → HasTaken left after limit room' s u
+taken_more left now after limit room room' n buffer s t u fits less read h more = record {
   done = h.done ++ take n buffer;
   so_far = so_far_more left now after h.done buffer n h.so_far read;
   size = let e = length-append h.done (take n buffer) in let f = length-take n buffer in let g = h.size in omega arith;
-  carried = carries_on detail h.done (take n buffer) s t u h.carried (subst (λ d. Carries d (take n buffer) t u) same more);
+  carried = carries_on h.done (take n buffer) s t u h.carried more;
 }
 
--- the beginning has no part
-whole_of : (detail : Detail) (done : List ℕ) (s t : Standing) → s.part ≡ [] → (c : Carries detail done s t) → done ≡ text_of c.whole ++ t.part
-whole_of detail done s t none c = ap (λ (p : List ℕ). p ++ done) (sym none) ∙ c.all
+-- the recorder handed on what it kept back
+handed_at : (a b c : Moment) (events : List Event) → HandsOnLines {E = Unit {0}} (Ok tt) b.recorder c.recorder → c.world ≡ b.world → c.disk ≡ b.disk → EventsLead events a b → EventsLead events a c
+handed_at a b c events handed world disk p = record {
+  history = p.history;
+  is_kind = p.is_kind;
+  world = world ∙ p.world;
+  disk = subst (λ d. DiskRuns p.history a.world a.disk d) (sym disk) p.disk;
+  told = gained_handed (lines_of p.history a.world) a.recorder b.recorder c.recorder p.told handed;
+}
+  where
+    gained_handed : (xs : List Line) (r s t : RecorderSeen) → Gained xs r s → t ≡ record s { kept_back = 0 } → Gained xs r t
+    gained_handed xs r s t p same = record {
+      told = ap (λ (x : RecorderSeen). x.told) same ∙ p.told;
+      detail = ap (λ (x : RecorderSeen). x.detail) same ∙ p.detail;
+      faults = ap (λ (x : RecorderSeen). x.faults) same ∙ p.faults;
+      lender = ap (λ (x : RecorderSeen). x.lender) same ∙ p.lender;
+    }
 
--- the source failed
-pub read_failed : (detail : Detail) (left now : Option (List ℕ)) (limit room : ℕ) (s t : Standing) → s.part ≡ [] → HasTaken detail left now limit room s t → Reads HasBegun detail left s.at t.at
-read_failed detail left now limit room s t none h = record {
-  events = h.carried.asked;
-  schedule = tells (λ bytes. HasBegun bytes h.carried.asked) left now h.done h.so_far (λ rest. record {
-    lines = h.carried.whole;
-    rest = t.part ++ rest;
-    all = ap (λ (b : List ℕ). b ++ rest) (whole_of detail h.done s t none h.carried) ∙ append_assoc (text_of h.carried.whole) t.part rest;
+pub taken_handed : (left now : Option (List ℕ)) (limit room : ℕ) (s : Standing) (run : Run) (part : List ℕ) (lines : ℕ) (disk : DiskSeen) (r t : RecorderSeen) → HandsOnLines {E = Unit {0}} (Ok tt) r t → HasTaken left now limit room s (standing run part lines disk r) → HasTaken left now limit room s (standing run part lines disk t)
+taken_handed left now limit room s run part lines disk r t handed h = record {
+  done = h.done;
+  so_far = h.so_far;
+  size = h.size;
+  carried = record {
+    whole = h.carried.whole;
+    asked = h.carried.asked;
+    all = h.carried.all;
     are_lines = h.carried.are_lines;
-  });
+    unbroken = h.carried.unbroken;
+    fits = h.carried.fits;
+    lines = h.carried.lines;
+    events = h.carried.events;
+    leads = handed_at s.at (moment run.world disk r) (moment run.world disk t) h.carried.asked handed refl refl h.carried.leads;
+  };
+}
+
+-- there are few events, since each has its bytes
+few_asked : (part p rest : List ℕ) (whole : List (List ℕ)) (asked : List Event) → part ++ p ≡ text_of whole ++ rest → AreLinesOf whole asked → 5 * length asked + length rest ≤ length part + length p
+few_asked part p rest whole asked all are =
+    let few = events_few whole asked are in
+    let long : length part + length p ≡ length (text_of whole) + length rest = sym (length-append part p) ∙ (ap length all ∙ length-append (text_of whole) rest) in
+    omega arith
+
+-- the reader began with nothing, and the limit is small
+pub record IsFirst (limit : ℕ) (s : Standing) : Type 0 where
+  pub fresh : IsFresh s
+  pub small : limit ≤ 4294967296
+
+few_taken : (left now : Option (List ℕ)) (limit room : ℕ) (s t : Standing) → IsFirst limit s → (h : HasTaken left now limit room s t) → 5 * length h.carried.asked + length t.part ≤ 4294967296
+few_taken left now limit room s t first h =
+    let few = few_asked s.part h.done t.part h.carried.whole h.carried.asked h.carried.all h.carried.are_lines in
+    let none : length s.part ≡ 0 = ap length first.fresh.part in
+    let size = h.size in
+    let small = first.small in
+    omega arith
+
+-- the beginning has no part
+whole_of : (done : List ℕ) (s t : Standing) → s.part ≡ [] → (c : Carries done s t) → done ≡ text_of c.whole ++ t.part
+whole_of done s t none c = ap (λ (p : List ℕ). p ++ done) (sym none) ∙ c.all
+
+-- what was begun to be read
+begun_by : (left now : Option (List ℕ)) (limit room : ℕ) (s t : Standing) → s.part ≡ [] → (h : HasTaken left now limit room s t) → Tells (λ bytes. HasBegun bytes h.carried.asked) left
+begun_by left now limit room s t none h = tells (λ bytes. HasBegun bytes h.carried.asked) left now h.done h.so_far (λ rest. record {
+  lines = h.carried.whole;
+  rest = t.part ++ rest;
+  all = ap (λ (b : List ℕ). b ++ rest) (whole_of h.done s t none h.carried) ∙ append_assoc (text_of h.carried.whole) t.part rest;
+  are_lines = h.carried.are_lines;
+})
+
+-- the recorder failed to hand on what it kept back
+pub read_unsent : (left now : Option (List ℕ)) (limit room : ℕ) (s : Standing) (run : Run) (part : List ℕ) (lines : ℕ) (disk : DiskSeen) (r t : RecorderSeen) → IsFirst limit s → FailsHandingOn r t → HasTaken left now limit room s (standing run part lines disk r) → ReadsUnsent left s.at (moment run.world disk t)
+read_unsent left now limit room s run part lines disk r t first failed h = record {
+  before = r;
+  carried = record { events = h.carried.asked; few = let few = few_taken left now limit room s (standing run part lines disk r) first h in omega arith; schedule = begun_by left now limit room s (standing run part lines disk r) first.fresh.part h; leads = h.carried.leads };
+  failed = failed;
+}
+
+-- the source failed: all whole lines that were read by then were carried out
+read_to : (left now : Option (List ℕ)) (done : List ℕ) (events : List Event) → SoFar left now done → ((rest : List ℕ) → HasReadTo (done ++ rest) rest events) → TellsRest (λ bytes rest. HasReadTo bytes rest events) left now
+read_to None now done events s f = tt
+read_to (Some all) now done events s f =
+    subst (λ (x : Option (List ℕ)). TellsRest (λ bytes rest. HasReadTo bytes rest events) (Some all) x) (sym s.2)
+    (subst (λ (b : List ℕ). HasReadTo b s.0 events) (sym s.1) (f s.0))
+
+pub read_failed : (left now after : Option (List ℕ)) (limit room : ℕ) (s t : Standing) → IsFirst limit s → after ≡ now → HasTaken left now limit room s t → Reads (λ events. TellsRest (λ bytes rest. HasReadTo bytes rest events) left after) s.at t.at
+read_failed left now after limit room s t first same h = record {
+  events = h.carried.asked;
+  few = let few = few_taken left now limit room s t first h in omega arith;
+  schedule = subst (λ (x : Option (List ℕ)). TellsRest (λ bytes rest. HasReadTo bytes rest h.carried.asked) left x) (sym same) (read_to left now h.done h.carried.asked h.so_far (λ rest. record {
+    lines = h.carried.whole;
+    part = t.part;
+    all = ap (λ (b : List ℕ). b ++ rest) (whole_of h.done s t first.fresh.part h.carried);
+    are_lines = h.carried.are_lines;
+    unbroken = h.carried.unbroken;
+  }));
   leads = h.carried.leads;
 }
 
 -- no room is left
-pub read_too_long : (detail : Detail) (left now : Option (List ℕ)) (limit room : ℕ) (s t : Standing) → s.part ≡ [] → room ≡ 0 → HasTaken detail left now limit room s t → Reads (IsTooLong limit) detail left s.at t.at
-read_too_long detail left now limit room s t none full h = record {
+pub read_too_long : (left now : Option (List ℕ)) (limit room : ℕ) (s t : Standing) → IsFirst limit s → room ≡ 0 → HasTaken left now limit room s t → Reads (λ events. Tells (λ bytes. IsTooLong limit bytes events) left) s.at t.at
+read_too_long left now limit room s t first full h = record {
   events = h.carried.asked;
+  few = let few = few_taken left now limit room s t first h in omega arith;
   schedule = tells (λ bytes. IsTooLong limit bytes h.carried.asked) left now h.done h.so_far (λ rest.
       let size : length h.done ≡ limit = let g = h.size in omega arith in
       record {
         lines = h.carried.whole;
         part = t.part;
         reached = omega (arith, length-append h.done rest);
-        all = subst (λ n. take n (h.done ++ rest) ≡ text_of h.carried.whole ++ t.part) size (take_front h.done rest ∙ whole_of detail h.done s t none h.carried);
+        all = subst (λ n. take n (h.done ++ rest) ≡ text_of h.carried.whole ++ t.part) size (take_front h.done rest ∙ whole_of h.done s t first.fresh.part h.carried);
         are_lines = h.carried.are_lines;
         unbroken = h.carried.unbroken;
         fits = h.carried.fits;
@@ -106,52 +195,68 @@ read_too_long detail left now limit room s t none full h = record {
     take_front : (a b : List ℕ) → take (length a) (a ++ b) ≡ a
     take_front a b = take-append-le (length a) a b (omega arith) ∙ take_all (length a) a (omega arith)
 
+few_last : (part : List ℕ) (asked : List Event) → AreLinesOf (last_line part) asked → 5 * length asked ≤ length part + 1
+few_last [] asked are = let few = events_few [] asked are in omega arith
+few_last (b ∷ part) asked are =
+    let few = events_few ((b ∷ part) ∷ []) asked are in
+    let long = text-cons (b ∷ part) [] in
+    omega arith
+
 -- nothing is left to read
-pub read_done : (detail detail' : Detail) (left now after : Option (List ℕ)) (limit room n : ℕ) (buffer : List ℕ) (s t : Standing) (new : Moment) → detail' ≡ detail → s.part ≡ [] → n ≡ 0 → 0 < length buffer → 0 < room → IsRead n now after buffer → HasTaken detail left now limit room s t → CarriesLast detail' t.part t.at new → Reads (IsWholeSchedule limit) detail left s.at new
-read_done detail detail' left now after limit room n buffer s t new same none zero some room_left read h last' =
-    let last : CarriesLast detail t.part t.at new = subst (λ d. CarriesLast d t.part t.at new) same last' in
-    record {
-      events = h.carried.asked ++ last.asked;
-      schedule = tells_all (λ bytes. IsWholeSchedule limit bytes (h.carried.asked ++ last.asked)) left now after h.done buffer n zero some h.so_far read (record {
-        lines = h.carried.whole;
-        last = t.part;
-        all = whole_of detail h.done s t none h.carried;
-        below = let g = h.size in omega arith;
-        are_lines = lines_on h.carried.whole (last_line t.part) h.carried.asked last.asked h.carried.are_lines last.are_lines;
-      });
-      leads = events_lead_on detail h.carried.asked last.asked s.at t.at new h.carried.leads last.leads;
-    }
+pub read_done : (left now after : Option (List ℕ)) (limit room n : ℕ) (buffer : List ℕ) (s t : Standing) (new : Moment) → IsFirst limit s → n ≡ 0 → 0 < length buffer → 0 < room → IsRead n now after buffer → HasTaken left now limit room s t → CarriesLast t.part t.at new → Reads (λ events. Tells (λ bytes. IsWholeSchedule limit bytes events) left) s.at new
+read_done left now after limit room n buffer s t new first zero some room_left read h last = record {
+  events = h.carried.asked ++ last.asked;
+  few =
+      let few = few_taken left now limit room s t first h in
+      let more = few_last t.part last.asked last.are_lines in
+      let both = length-append h.carried.asked last.asked in
+      omega arith;
+  schedule = tells_all (λ bytes. IsWholeSchedule limit bytes (h.carried.asked ++ last.asked)) left now after h.done buffer n zero some h.so_far read (record {
+    lines = h.carried.whole;
+    last = t.part;
+    all = whole_of h.done s t first.fresh.part h.carried;
+    below = let g = h.size in omega arith;
+    are_lines = lines_on h.carried.whole (last_line t.part) h.carried.asked last.asked h.carried.are_lines last.are_lines;
+  });
+  leads = events_lead_on h.carried.asked last.asked s.at t.at new h.carried.leads last.leads;
+}
 
 -- the last line is bad
-last_bad : (detail : Detail) (left now after : Option (List ℕ)) (limit room n number : ℕ) (buffer : List ℕ) (s t : Standing) (new : Moment) → s.part ≡ [] → s.lines ≡ 0 → n ≡ 0 → 0 < length buffer → 0 < room → 0 < length t.part → IsRead n now after buffer → HasTaken detail left now limit room s t → number ≡ t.lines + 1 → IsBadLine t.part → new ≡ t.at → Reads (λ bytes events. HasBadLine limit bytes events number) detail left s.at new
-last_bad detail left now after limit room n number buffer s t new none none_before zero some room_left some_part read h is_number bad same = record {
+last_bad : (left now after : Option (List ℕ)) (limit room n number : ℕ) (buffer : List ℕ) (s t : Standing) (new : Moment) → IsFirst limit s → n ≡ 0 → 0 < length buffer → 0 < room → 1 ≤ length t.part → IsRead n now after buffer → HasTaken left now limit room s t → number ≡ t.lines + 1 → IsBadLine t.part → new ≡ t.at → Reads (λ events. Tells (λ bytes. HasBadLine limit bytes events number) left) s.at new
+last_bad left now after limit room n number buffer s t new first zero some room_left some_part read h is_number bad same = record {
   events = h.carried.asked;
+  few = let few = few_taken left now limit room s t first h in omega arith;
   schedule = tells_all (λ bytes. HasBadLine limit bytes h.carried.asked number) left now after h.done buffer n zero some h.so_far read (record {
     lines = h.carried.whole;
     rest = t.part;
-    all = whole_of detail h.done s t none h.carried;
+    all = whole_of h.done s t first.fresh.part h.carried;
     some = λ e. let f : length t.part ≡ 0 = ap length e in omega arith;
     are_lines = h.carried.are_lines;
     bad = subst IsBadLine (sym (first_line_all t.part h.carried.unbroken)) bad;
-    is_number = let e = h.carried.lines in omega arith;
+    is_number = let e = h.carried.lines in let f = first.fresh.lines in omega arith;
     before = inl (let g = h.size in omega arith);
   });
-  leads = subst (EventsLead detail h.carried.asked s.at) (sym same) h.carried.leads;
+  leads = subst (EventsLead h.carried.asked s.at) (sym same) h.carried.leads;
 }
 
 -- the recorder stopped in a line
-stopped_in : (detail : Detail) (left : Option (List ℕ)) (p : List ℕ) (s : Standing) (new : Moment) (now : Option (List ℕ)) → s.part ≡ [] → SoFar left now p → MeetsStop detail p s new → ReadsToStop detail left s.at new
-stopped_in detail left p s new now none so_far h =
+stopped_in : (left : Option (List ℕ)) (limit : ℕ) (p : List ℕ) (s : Standing) (why : RecordStop) (new : Moment) (now : Option (List ℕ)) → IsFirst limit s → length p ≤ limit → SoFar left now p → MeetsStop p why s new → ReadsToStop left why s.at new
+stopped_in left limit p s why new now first fits so_far h =
     let event = h.stops.event in
     record {
       events = h.asked;
+      few =
+          let few = few_asked s.part p (h.line ++ h.rest) h.whole h.asked h.all h.are_lines in
+          let none : length s.part ≡ 0 = ap length first.fresh.part in
+          let small = first.small in
+          omega arith;
       event = event;
       schedule = tells (λ bytes. HasComeTo bytes h.asked event) left now p so_far (λ rest. record {
         lines = h.whole;
         line = h.line;
         rest = h.rest ++ rest;
         all =
-            ap (λ (b : List ℕ). (b ++ p) ++ rest) (sym none)
+            ap (λ (b : List ℕ). (b ++ p) ++ rest) (sym first.fresh.part)
             ∙ (ap (λ (b : List ℕ). b ++ rest) h.all
             ∙ (append_assoc (text_of h.whole) (h.line ++ h.rest) rest
             ∙ ap (λ (b : List ℕ). text_of h.whole ++ b) (append_assoc h.line h.rest rest)));
@@ -163,9 +268,9 @@ stopped_in detail left p s new now none so_far h =
       stopped = h.stops.stopped;
     }
 
-last_stopped : (detail : Detail) (left now : Option (List ℕ)) (limit room : ℕ) (s t : Standing) (new : Moment) → s.part ≡ [] → HasTaken detail left now limit room s t → StopsInLine detail t.part t.at new → ReadsToStop detail left s.at new
-last_stopped detail left now limit room s t new none h stops =
-    stopped_in detail left h.done s new now none h.so_far (record {
+last_stopped : (left now : Option (List ℕ)) (limit room : ℕ) (s t : Standing) (why : RecordStop) (new : Moment) → IsFirst limit s → HasTaken left now limit room s t → StopsInLine t.part why t.at new → ReadsToStop left why s.at new
+last_stopped left now limit room s t why new first h stops =
+    stopped_in left limit h.done s why new now first (let size = h.size in omega arith) h.so_far (record {
       whole = h.carried.whole;
       asked = h.carried.asked;
       line = t.part;
@@ -178,22 +283,27 @@ last_stopped detail left now limit room s t new none h stops =
     })
 
 -- the last line stopped the run
-pub read_stopped_last : (detail : Detail) (left now after : Option (List ℕ)) (limit room n : ℕ) (buffer : List ℕ) (s t : Standing) (source source' a b c : ℕ) (why : RunStop) (new : Moment) → s.part ≡ [] → s.lines ≡ 0 → n ≡ 0 → 0 < length buffer → 0 < room → 0 < length t.part → a ≤ b → IsRead n now after buffer → HasTaken detail left now limit room s t → StopsAtLine detail t.part (t.lines + 1) b c why t.at new → ReadStops detail limit left source source' a c why s.at new
-read_stopped_last detail left now after limit room n buffer s t source source' a b c (stop.BadLine number) new none none_before zero some room_left some_part le read h stops =
-    last_bad detail left now after limit room n number buffer s t new none none_before zero some room_left some_part read h stops.0 stops.1 stops.2
-read_stopped_last detail left now after limit room n buffer s t source source' a b c stop.Source new none none_before zero some room_left some_part le read h stops = absurd stops
-read_stopped_last detail left now after limit room n buffer s t source source' a b c stop.TooLong new none none_before zero some room_left some_part le read h stops = absurd stops
-read_stopped_last detail left now after limit room n buffer s t source source' a b c stop.Sink new none none_before zero some room_left some_part le read h stops =
-    (rose_on a b c le stops.0, inl (last_stopped detail left now limit room s t new none h stops.1))
-read_stopped_last detail left now after limit room n buffer s t source source' a b c stop.OutOfMemory new none none_before zero some room_left some_part le read h stops =
-    last_stopped detail left now limit room s t new none h stops
+read_stopped_last : (left now : Option (List ℕ)) (limit room n : ℕ) (buffer : List ℕ) (s t : Standing) (a b : SourceSeen) (why : RunStop) (new : Moment) → a.left ≡ left → IsFirst limit s → n ≡ 0 → 0 < length buffer → 0 < room → 1 ≤ length t.part → b.faults ≡ a.faults → IsRead n now b.left buffer → HasTaken left now limit room s t → StopsAtLine t.part (t.lines + 1) why t.at new → ReadStops limit a b why s.at new
+read_stopped_last left now limit room n buffer s t a b (stop.BadLine number) new same first zero some room_left some_part unfailed read h stops =
+    (unfailed, subst (λ (l : Option (List ℕ)). Reads (λ events. Tells (λ bytes. HasBadLine limit bytes events number) l) s.at new) (sym same) (last_bad left now b.left limit room n number buffer s t new first zero some room_left some_part read h stops.0 stops.1 stops.2))
+read_stopped_last left now limit room n buffer s t a b stop.Source new same first zero some room_left some_part unfailed read h stops = absurd stops
+read_stopped_last left now limit room n buffer s t a b stop.TooLong new same first zero some room_left some_part unfailed read h stops = absurd stops
+read_stopped_last left now limit room n buffer s t a b stop.Sink new same first zero some room_left some_part unfailed read h stops =
+    (unfailed, inl (subst (λ (l : Option (List ℕ)). ReadsToStop l record_stop.Failed s.at new) (sym same) (last_stopped left now limit room s t record_stop.Failed new first h stops)))
+read_stopped_last left now limit room n buffer s t a b stop.OutOfMemory new same first zero some room_left some_part unfailed read h stops =
+    (unfailed, subst (λ (l : Option (List ℕ)). ReadsToStop l record_stop.OutOfMemory s.at new) (sym same) (last_stopped left now limit room s t record_stop.OutOfMemory new first h stops))
 
 -- a line in a piece is bad
-piece_bad : (detail : Detail) (left now : Option (List ℕ)) (limit number : ℕ) (p : List ℕ) (s : Standing) (new : Moment) → s.part ≡ [] → s.lines ≡ 0 → length p ≤ limit → SoFar left now p → MeetsBad detail p s number new → Reads (λ bytes events. HasBadLine limit bytes events number) detail left s.at new
-piece_bad detail left now limit number p s new none none_before fits so_far h = record {
+piece_bad : (left now : Option (List ℕ)) (limit number : ℕ) (p : List ℕ) (s : Standing) (new : Moment) → IsFirst limit s → length p ≤ limit → SoFar left now p → MeetsBad p s number new → Reads (λ events. Tells (λ bytes. HasBadLine limit bytes events number) left) s.at new
+piece_bad left now limit number p s new first fits so_far h = record {
   events = h.asked;
+  few =
+      let few = few_asked s.part p h.rest h.whole h.asked h.all h.are_lines in
+      let none : length s.part ≡ 0 = ap length first.fresh.part in
+      let small = first.small in
+      omega arith;
   schedule = tells (λ bytes. HasBadLine limit bytes h.asked number) left now p so_far (λ further.
-      let parts : p ≡ text_of h.whole ++ h.rest = ap (λ (b : List ℕ). b ++ p) (sym none) ∙ h.all in
+      let parts : p ≡ text_of h.whole ++ h.rest = ap (λ (b : List ℕ). b ++ p) (sym first.fresh.part) ∙ h.all in
       let size : length p ≡ length (text_of h.whole) + length h.rest = ap length parts ∙ length-append (text_of h.whole) h.rest in
       let seen = h.bad.seen further in
       record {
@@ -203,83 +313,58 @@ piece_bad detail left now limit number p s new none none_before fits so_far h = 
         some = λ e. let f : length (h.rest ++ further) ≡ 0 = ap length e in omega (arith, length-append h.rest further);
         are_lines = h.are_lines;
         bad = h.bad.bad further;
-        is_number = let e = h.is_number in omega arith;
+        is_number = let e = h.is_number in let f = first.fresh.lines in omega arith;
         before = inr (omega arith);
       });
   leads = h.leads;
 }
 
 -- a line in a piece stopped the run
-pub read_stopped : (detail detail' : Detail) (left now after : Option (List ℕ)) (limit room n : ℕ) (buffer : List ℕ) (s t : Standing) (source source' a b c : ℕ) (why : RunStop) (new : Moment) → detail' ≡ detail → s.part ≡ [] → s.lines ≡ 0 → n ≤ room → a ≤ b → IsRead n now after buffer → HasTaken detail left now limit room s t → Halts detail' (take n buffer) t b c why new → ReadStops detail limit left source source' a c why s.at new
-read_stopped detail detail' left now after limit room n buffer s t source source' a b c why new same none none_before fits le read h halts' =
-    let halts : Halts detail (take n buffer) t b c why new = subst (λ d. Halts d (take n buffer) t b c why new) same halts' in
-    let whole : Halts detail (h.done ++ take n buffer) s a c why new = halts_on detail h.done (take n buffer) s t a b c why new le h.carried halts in
-    let so_far = so_far_more left now after h.done buffer n h.so_far read in
-    let size : length (h.done ++ take n buffer) ≤ limit = let e = length-append h.done (take n buffer) in let f = length-take n buffer in let g = h.size in omega arith in
-    by why whole so_far size
+read_stopped : (left now : Option (List ℕ)) (limit room n : ℕ) (buffer : List ℕ) (s t : Standing) (a b : SourceSeen) (why : RunStop) (new : Moment) → a.left ≡ left → IsFirst limit s → n ≤ room → b.faults ≡ a.faults → IsRead n now b.left buffer → HasTaken left now limit room s t → Halts (take n buffer) t why new → ReadStops limit a b why s.at new
+read_stopped left now limit room n buffer s t a b why new same first fits unfailed read h halts =
+    by why (halts_on h.done (take n buffer) s t why new h.carried halts)
   where
-    by : (why : RunStop) → Halts detail (h.done ++ take n buffer) s a c why new → SoFar left after (h.done ++ take n buffer) → length (h.done ++ take n buffer) ≤ limit → ReadStops detail limit left source source' a c why s.at new
-    by (stop.BadLine number) whole so_far size = piece_bad detail left after limit number (h.done ++ take n buffer) s new none none_before size so_far whole
-    by stop.Source whole so_far size = absurd whole
-    by stop.TooLong whole so_far size = absurd whole
-    by stop.Sink whole so_far size = (whole.0, inl (stopped_in detail left (h.done ++ take n buffer) s new after none so_far whole.1))
-    by stop.OutOfMemory whole so_far size = stopped_in detail left (h.done ++ take n buffer) s new after none so_far whole
+    so_far : SoFar left b.left (h.done ++ take n buffer)
+    so_far = so_far_more left now b.left h.done buffer n h.so_far read
+
+    size : length (h.done ++ take n buffer) ≤ limit
+    size = let e = length-append h.done (take n buffer) in let f = length-take n buffer in let g = h.size in omega arith
+
+    by : (why : RunStop) → Halts (h.done ++ take n buffer) s why new → ReadStops limit a b why s.at new
+    by (stop.BadLine number) whole =
+        (unfailed, subst (λ (l : Option (List ℕ)). Reads (λ events. Tells (λ bytes. HasBadLine limit bytes events number) l) s.at new) (sym same) (piece_bad left b.left limit number (h.done ++ take n buffer) s new first size so_far whole))
+    by stop.Source whole = absurd whole
+    by stop.TooLong whole = absurd whole
+    by stop.Sink whole = (unfailed, inl (subst (λ (l : Option (List ℕ)). ReadsToStop l record_stop.Failed s.at new) (sym same) (stopped_in left limit (h.done ++ take n buffer) s record_stop.Failed new b.left first size so_far whole)))
+    by stop.OutOfMemory whole = (unfailed, subst (λ (l : Option (List ℕ)). ReadsToStop l record_stop.OutOfMemory s.at new) (sym same) (stopped_in left limit (h.done ++ take n buffer) s record_stop.OutOfMemory new b.left first size so_far whole))
 
 -- the bytes that were read stand at the beginning of the buffer
-pub taken_front : (detail detail' : Detail) (left now after : Option (List ℕ)) (limit room room' n : ℕ) (buffer tail : List ℕ) (s t u : Standing) → detail' ≡ detail → n ≤ length buffer → room' + n ≡ room → IsRead n now after buffer → HasTaken detail left now limit room s t → Carries detail' (take n (buffer ++ tail)) t u → HasTaken detail left after limit room' s u
-taken_front detail detail' left now after limit room room' n buffer tail s t u same fits less read h more =
-    taken_more detail detail' left now after limit room room' n buffer s t u same fits less read h
-    (subst (λ (p : List ℕ). Carries detail' p t u) (take-append-le n buffer tail fits) more)
+pub taken_front : (left now after : Option (List ℕ)) (limit room room' n : ℕ) (buffer tail : List ℕ) (s t u : Standing) → n ≤ length buffer → room' + n ≡ room → IsRead n now after buffer → HasTaken left now limit room s t → Carries (take n (buffer ++ tail)) t u → HasTaken left after limit room' s u
+taken_front left now after limit room room' n buffer tail s t u fits less read h more =
+    taken_more left now after limit room room' n buffer s t u fits less read h
+    (subst (λ (p : List ℕ). Carries p t u) (take-append-le n buffer tail fits) more)
 
-pub stopped_front : (detail detail' : Detail) (left now after : Option (List ℕ)) (limit room n : ℕ) (buffer tail : List ℕ) (s t : Standing) (source source' a b c : ℕ) (why : RunStop) (new : Moment) → detail' ≡ detail → s.part ≡ [] → s.lines ≡ 0 → n ≤ length buffer → n ≤ room → a ≤ b → IsRead n now after buffer → HasTaken detail left now limit room s t → Halts detail' (take n (buffer ++ tail)) t b c why new → ReadStops detail limit left source source' a c why s.at new
-stopped_front detail detail' left now after limit room n buffer tail s t source source' a b c why new same none none_before in_buffer fits le read h halts =
-    read_stopped detail detail' left now after limit room n buffer s t source source' a b c why new same none none_before fits le read h
-    (subst (λ (p : List ℕ). Halts detail' p t b c why new) (take-append-le n buffer tail in_buffer) halts)
-
--- there are few events and lines, since each has its bytes
-few : (detail : Detail) (left now : Option (List ℕ)) (limit room : ℕ) (s t : Standing) → s.part ≡ [] → s.events ≡ 0 → HasTaken detail left now limit room s t → 5 * t.events + length t.part + room ≤ limit
-few detail left now limit room s t none none_before h =
-    let e = carries_few detail h.done s t h.carried in
-    let f : length s.part ≡ 0 = ap length none in
-    let g = h.size in
-    omega arith
-
-few_lines : (detail : Detail) (left now : Option (List ℕ)) (limit room : ℕ) (s t : Standing) → s.part ≡ [] → s.lines ≡ 0 → HasTaken detail left now limit room s t → t.lines + length t.part + room ≤ limit
-few_lines detail left now limit room s t none none_before h =
-    let e = carries_few_lines detail h.done s t h.carried in
-    let f : length s.part ≡ 0 = ap length none in
-    let g = h.size in
-    omega arith
-
-pub few_taken : (detail : Detail) (left now : Option (List ℕ)) (limit room : ℕ) (s t : Standing) → s.part ≡ [] → s.events ≡ 0 → limit ≤ 4294967296 → HasTaken detail left now limit room s t → t.events < 10 ^ 9
-few_taken detail left now limit room s t none none_before small h =
-    let e = few detail left now limit room s t none none_before h in
-    omega arith
-
-pub few_lines_taken : (detail : Detail) (left now : Option (List ℕ)) (limit room : ℕ) (s t : Standing) → s.part ≡ [] → s.lines ≡ 0 → limit ≤ 4294967296 → HasTaken detail left now limit room s t → t.lines ≤ 4294967296
-few_lines_taken detail left now limit room s t none none_before small h =
-    let e = few_lines detail left now limit room s t none none_before h in
-    omega arith
-
-pub few_piece : (detail : Detail) (left now : Option (List ℕ)) (limit room n : ℕ) (piece : List ℕ) (s t : Standing) → s.part ≡ [] → s.events ≡ 0 → limit ≤ 4294967296 → n ≤ room → HasTaken detail left now limit room s t → 5 * t.events + length t.part + length (take n piece) ≤ 4294967296
-few_piece detail left now limit room n piece s t none none_before small fits h =
-    let e = few detail left now limit room s t none none_before h in
-    let f = length-take n piece in
-    omega arith
-
-pub few_lines_piece : (detail : Detail) (left now : Option (List ℕ)) (limit room n : ℕ) (piece : List ℕ) (s t : Standing) → s.part ≡ [] → s.lines ≡ 0 → limit ≤ 4294967296 → n ≤ room → HasTaken detail left now limit room s t → t.lines + length t.part + length (take n piece) ≤ 4294967296
-few_lines_piece detail left now limit room n piece s t none none_before small fits h =
-    let e = few_lines detail left now limit room s t none none_before h in
-    let f = length-take n piece in
-    omega arith
+pub stopped_front : (now : Option (List ℕ)) (limit room n : ℕ) (buffer tail : List ℕ) (s t : Standing) (a b : SourceSeen) (why : RunStop) (new : Moment) → IsFirst limit s → n ≤ length buffer → n ≤ room → b.faults ≡ a.faults → IsRead n now b.left buffer → HasTaken a.left now limit room s t → Halts (take n (buffer ++ tail)) t why new → ReadStops limit a b why s.at new
+stopped_front now limit room n buffer tail s t a b why new first in_buffer fits unfailed read h halts =
+    read_stopped a.left now limit room n buffer s t a b why new refl first fits unfailed read h
+    (subst (λ (p : List ℕ). Halts p t why new) (take-append-le n buffer tail in_buffer) halts)
 
 -- by what the call answered at the end
-pub done_at_end : {E : Type 0} → (detail detail' : Detail) (left now after : Option (List ℕ)) (limit room n : ℕ) (buffer : List ℕ) (s t : Standing) (new : Moment) (result : Result (Unit {0}) E) → detail' ≡ detail → s.part ≡ [] → n ≡ 0 → 0 < length buffer → 0 < room → IsRead n now after buffer → HasTaken detail left now limit room s t → OnOk result (CarriesLast detail' t.part t.at new) → OnOk result (Reads (IsWholeSchedule limit) detail left s.at new)
-done_at_end detail detail' left now after limit room n buffer s t new (Ok done) same none zero some room_left read h last = read_done detail detail' left now after limit room n buffer s t new same none zero some room_left read h last
-done_at_end detail detail' left now after limit room n buffer s t new (Err why) same none zero some room_left read h last = tt
+pub at_end : (now : Option (List ℕ)) (limit room n : ℕ) (buffer : List ℕ) (s t u : Standing) (a b : SourceSeen) (result : Result (Unit {0}) RunStop) → IsFirst limit s → n ≡ 0 → 0 < length buffer → 0 < room → b.faults ≡ a.faults → IsRead n now b.left buffer → HasTaken a.left now limit room s t → Finishes result t u → ReadsAll limit result a b s.at u.at
+at_end now limit room n buffer s t u a b (Ok done) first zero some room_left unfailed read h last =
+    (unfailed, read_done a.left now b.left limit room n buffer s t u.at first zero some room_left read h last)
+at_end now limit room n buffer s t u a b (Err why) first zero some room_left unfailed read h last =
+    read_stopped_last a.left now limit room n buffer s t a b why u.at refl first zero some room_left last.0 unfailed read h last.1
 
-pub stopped_at_end : (detail detail' : Detail) (left now after : Option (List ℕ)) (limit room n : ℕ) (buffer : List ℕ) (s t : Standing) (source source' a b c : ℕ) (new : Moment) (result : Result (Unit {0}) RunStop) → detail' ≡ detail → s.part ≡ [] → s.lines ≡ 0 → n ≡ 0 → 0 < length buffer → 0 < room → a ≤ b → IsRead n now after buffer → HasTaken detail left now limit room s t → OnErr result (0 < length t.part) → IfErr result (λ why. StopsAtLine detail' t.part (t.lines + 1) b c why t.at new) → IfErr result (λ why. ReadStops detail limit left source source' a c why s.at new)
-stopped_at_end detail detail' left now after limit room n buffer s t source source' a b c new (Ok done) same none none_before zero some room_left le read h some_part stops = tt
-stopped_at_end detail detail' left now after limit room n buffer s t source source' a b c new (Err why) same none none_before zero some room_left le read h some_part stops =
-    read_stopped_last detail left now after limit room n buffer s t source source' a b c why new none none_before zero some room_left some_part le read h
-    (subst (λ d. StopsAtLine d t.part (t.lines + 1) b c why t.at new) same stops)
+-- the reader is ready for what is left of the limit
+pub ready_taken : (left now : Option (List ℕ)) (limit room n : ℕ) (s t : Standing) → IsFirst limit s → n ≤ room → attached_of s.at.disk ≡ Some s.at.world.front.sectors → HasTaken left now limit room s t → IsReadyToTake n t
+ready_taken left now limit room n s t first le attached h =
+    let size = h.size in
+    let small = first.small in
+    ready_after h.done n 4294967296 s t (omega arith) (record {
+      unbroken = unbroken_none s.part first.fresh.part;
+      fits = let e : length s.part ≡ 0 = ap length first.fresh.part in omega arith;
+      few = let e : length s.part ≡ 0 = ap length first.fresh.part in let f = first.fresh.events in omega arith;
+      lines = let e : length s.part ≡ 0 = ap length first.fresh.part in let f = first.fresh.lines in omega arith;
+      attached = attached;
+    }) h.carried

@@ -1,12 +1,14 @@
--- What every report of a run tells, whatever its schedule: `report_rules`, `plain_disk` and `disk_laws` have the rules.
-use Rattle.std.specs.Prelude.{◌≡◌, ℕ, ◌+◌, ◌^◌, ◌<◌, ◌⊎◌, List, ◌++◌, length, Option}
+-- What every report of a run tells, whatever its schedule: `report_rules`, `plain_disk`, `disk_laws` and `report_laws` have the rules.
+use Rattle.std.specs.Prelude.{◌≡◌, ℕ, ◌+◌, ◌^◌, ◌<◌, ◌⊎◌, List, [], ◌∷◌, ◌++◌, filter, Option, Result, Ok, Err}
 use Rattle.blk_base.specs.Options.{Options}
 use Rattle.blk_base.specs.declared.config.Job.{Job}
+use Rattle.blk_io.specs.Outside.{SourceSeen}
 use Rattle.blk_io.specs.Disk.{HasLength}
 use Rattle.schedule_text.specs.declared.event.Event.{Event}
 use Rattle.schedule_text.specs.declared.line.Detail.{Detail}
 use Rattle.schedule_text.specs.declared.line.Detail.TheVariants.{Moves}
 use Rattle.schedule_text.specs.declared.line.Line.{Line}
+use Rattle.schedule_text.specs.declared.recorder.RecordStop.{RecordStop}
 use Rattle.schedule_text.specs.Recorder.{Told, gained, recorded, StopsWithin}
 use Rattle.report_rules.specs.Obeys.{Obeys}
 use Rattle.report_rules.specs.Coherent.{IsCoherent}
@@ -17,22 +19,25 @@ use Rattle.report_rules.specs.Stretch.{AreStretches}
 use Rattle.report_rules.specs.Steps.{AreSteps}
 use Rattle.report_rules.specs.Data.{AreData}
 use Rattle.report_rules.specs.Effect.{AreEffects}
-use Rattle.report_rules.specs.Unmap.{AreUnmaps}
-use Rattle.report_rules.specs.Own.{AreOwn}
+use Rattle.ring_laws.specs.Unmaps.{AreUnmaps}
+use Rattle.ring_laws.specs.Own.{AreOwn}
 use Rattle.report_rules.specs.Reply.{AreReplies}
 use Rattle.move_laws.specs.Grantable.{AreGrantable}
-use Rattle.disk_laws.specs.Plain.{IsPlain}
-use Rattle.disk_laws.specs.Allowed.{AreAllowed}
+use Rattle.plain_disk.specs.Echo.{is_echo, AnswersAll, Echoes}
 use Rattle.disk_laws.specs.Run.{IsRun, IsRunSoFar}
-use Rattle.disk_laws.specs.Submissions.{jobs_of, submitted_of, IsAnswerAt, AreAnswered}
-use Rattle.disk_laws.specs.Answered.{AreAnsweredOnce, IsQuietAnswered}
-use Rattle.disk_laws.specs.Unbroken.{IsUnbroken}
-use Rattle.split_model.specs.World.{World, start_of}
-use Rattle.split_model.specs.Happening.{Happening, after, DiskRuns}
-use Rattle.split_model.specs.Leads.{kept_of}
-use Rattle.split_model.specs.Report.{report_of}
-use Rattle.schedule_run.specs.Reading.{IsWholeSchedule, IsReadSoFar, Tells}
-use Rattle.schedule_run.specs.Outcome.{Outside}
+use Rattle.disk_laws.specs.Submissions.{jobs_of}
+use Rattle.pipeline_laws.specs.Submissions.{IsAnswerAt, AreAnswered}
+use Rattle.pipeline_laws.specs.Answered.{AreAnsweredOnce, IsQuietAnswered}
+use Rattle.pipeline_laws.specs.Unbroken.{IsUnbroken}
+use Rattle.report_laws.specs.Begun.{IsBegun, IsBegunSoFar}
+use Rattle.report_laws.specs.Grammar.{IsInGrammar}
+use Rattle.report_laws.specs.Ready.{IsReadyFirst}
+use Rattle.report_laws.specs.QuietRing.{IsQuietRing}
+use Rattle.split_model.specs.Leads.{Moment, moment}
+use Rattle.schedule_run.specs.Reading.{IsWholeSchedule, HasBadLine, IsTooLong, HasReadTo, IsReadSoFar, Tells, TellsRest}
+use Rattle.schedule_run.specs.Outcome.{Outside, HasCarried}
+use Rattle.schedule_run.specs.declared.schedule.RunStop.{RunStop}
+use Rattle.schedule_run.specs.declared.schedule.RunStop.TheVariants as stop
 
 -- the moves that a report shows: each read shows what the lines before it left there; each map is answered as its entry stands by them; each touch of the back or a job is of a word of frames 2 to 1023 through a mapping that stands, and writes only through one for writing; a producer that overran halts the back, which serves nothing more; each entry is fetched in one stretch, each word once, only where a request is unconsumed
 pub record ObeysMoves (report : List Line) : Type 0 where
@@ -52,50 +57,81 @@ pub record ShowsWork (report : List Line) : Type 0 where
   pub own : AreOwn report
   pub replies : AreReplies report
 
--- a report is a run of the plain disk, from what the disk held to what it holds; it answers these submissions, one line each, as the lines before say; each request has at most one answer, and at each `quiet` line all have theirs; no line of it is a breach of the protocol; and where it shows the moves, they obey the rules. Jobs have numbers of 64 bits, so what it shows of their work is so of fewer than 2 ^ 64 lines
+-- a report begins with the options, is lines of the grammar that its text gives back, and is a run of the plain disk, from what the disk held to what it holds; it answers these submissions, one line each, as the lines before say; each request has at most one answer; at each `quiet` line all have theirs, and the front was connected; no line of it is a breach of the protocol; and where it shows the moves, they obey the rules, and at each `quiet` line the ring is served and read
 pub record IsLawful (config : Options) (detail : Detail) (jobs : List Job) (before now : Option (List (List ℕ))) (report : List Line) : Type 0 where
+  pub begun : IsBegun config detail report
+  pub grammar : IsInGrammar report
   pub disk : IsRun config.sectors before now report
   pub submissions : AreAnswered jobs report
   pub once : AreAnsweredOnce report
   pub quiet : IsQuietAnswered report
+  pub ready : IsReadyFirst report
   pub unbroken : IsUnbroken report
+  pub ring : detail ≡ Moves → IsQuietRing report
   pub moves : detail ≡ Moves → ObeysMoves report
-  pub work : detail ≡ Moves → length report < 2 ^ 64 → ShowsWork report
+  pub work : detail ≡ Moves → ShowsWork report
 
--- so is the beginning of one, as far as it was written: at most 4 lines of what happened may be missing
-pub record IsLawfulSoFar (detail : Detail) (jobs : List Job) (before : Option (List (List ℕ))) (report : List Line) : Type 0 where
+-- so is the beginning of one, as far as it was written
+pub record IsLawfulSoFar (config : Options) (detail : Detail) (jobs : List Job) (before : Option (List (List ℕ))) (report : List Line) : Type 0 where
+  pub begun : IsBegunSoFar config detail report
+  pub grammar : IsInGrammar report
   pub disk : IsRunSoFar before report
   pub submissions : Obeys (IsAnswerAt jobs) report
   pub once : AreAnsweredOnce report
   pub quiet : IsQuietAnswered report
+  pub ready : IsReadyFirst report
   pub unbroken : IsUnbroken report
+  pub ring : detail ≡ Moves → IsQuietRing report
   pub moves : detail ≡ Moves → ObeysMoves report
-  pub work : detail ≡ Moves → length report + 4 < 2 ^ 64 → ShowsWork report
+  pub work : detail ≡ Moves → ShowsWork report
 
--- what happens after any history that leads to this machine leaves its report lawful
-abbrev pub AreLawful : World → List Happening → Type 0
-AreLawful w history =
-    (config : Options) (detail : Detail) (earlier : List Happening) (before now : Option (List (List ℕ)))
-    → IsPlain config → AreAllowed earlier (start_of config) → w ≡ after earlier (start_of config)
-    → HasLength before config.sectors → DiskRuns (earlier ++ history) (start_of config) before now
-    → IsLawful config detail (submitted_of (earlier ++ history)) before now (kept_of detail (report_of config detail (earlier ++ history)))
-
--- a whole schedule was read, and its report is lawful
-pub record IsLawfulRun (detail : Detail) (config : Options) (limit : ℕ) (left : Option (List ℕ)) (old new : Outside) : Type 0 where
-  pub events : List Event
-  pub schedule : Tells (λ bytes. IsWholeSchedule limit bytes events) left
+-- a lawful report was told, which echoes these events
+pub record HasLawfulReport (config : Options) (events : List Event) (old new : Outside) : Type 0 where
   pub report : List Line
-  pub told : new.told ≡ gained old.told report
-  pub lawful : IsLawful config detail (jobs_of events) old.content new.content report
+  pub told : new.recorder.told ≡ gained old.recorder.told report
+  pub echo : AnswersAll config.order events (filter is_echo report)
+  pub lawful : IsLawful config old.recorder.detail (jobs_of events) old.disk.content new.disk.content report
 
 -- these lines were told, and at most a beginning of one more
 abbrev pub IsToldSoFar : Detail → List Line → Told → Told → Type 0
 IsToldSoFar detail report old new = (new ≡ gained old report) ⊎ ((cut : Line) × StopsWithin (gained old report) (recorded detail cut) new)
 
--- a run stopped, and the lines that were told whole are lawful: they answer the submissions that were read by then
-pub record IsLawfulStop (detail : Detail) (limit : ℕ) (left : Option (List ℕ)) (old new : Outside) : Type 0 where
-  pub events : List Event
-  pub schedule : Tells (λ bytes. IsReadSoFar limit bytes events) left
+-- the lines that were told whole are lawful: they answer the submissions of these events
+pub record HasLawfulBeginning (config : Options) (events : List Event) (old new : Outside) : Type 0 where
   pub report : List Line
-  pub told : IsToldSoFar detail report old.told new.told
-  pub lawful : IsLawfulSoFar detail (jobs_of events) old.content report
+  pub told : IsToldSoFar old.recorder.detail report old.recorder.told new.recorder.told
+  pub lawful : IsLawfulSoFar config old.recorder.detail (jobs_of events) old.disk.content report
+
+-- an event, after others that led here from the outside where the run began, left the report lawful, and can be followed by more
+pub record LeavesLawful (config : Options) (events : List Event) (old : Outside) (new : Moment) : Type 0 where
+  pub carried : HasCarried config events old new
+  pub told : HasLawfulReport config events old (record { disk = new.disk; recorder = new.recorder })
+
+abbrev pub EventLeaves : Options → List Event → Outside → Result (Unit {0}) RecordStop → Moment → Type 0
+EventLeaves config events old (Ok done) new = LeavesLawful config events old new
+EventLeaves config events old (Err why) new = HasLawfulBeginning config events old (record { disk = new.disk; recorder = new.recorder })
+
+-- a whole schedule was read, and its report is lawful and echoes it, from `begin` to `end`
+pub record IsLawfulRun (config : Options) (limit : ℕ) (left : Option (List ℕ)) (old new : Outside) : Type 0 where
+  pub events : List Event
+  pub schedule : Tells (λ bytes. IsWholeSchedule limit bytes events) left
+  pub report : List Line
+  pub told : new.recorder.told ≡ gained old.recorder.told report
+  pub echo : Echoes config old.recorder.detail events report
+  pub lawful : IsLawful config old.recorder.detail (jobs_of events) old.disk.content new.disk.content report
+
+-- events of which this is so were carried out, and a lawful report of them was told
+abbrev pub ToldOf : Options → (List Event → Type 0) → Outside → Outside → Type 0
+ToldOf config claim old new = (events : List Event) × claim events × HasLawfulReport config events old new
+
+-- what was told before a stop is lawful: the report of all whole lines that were read where the schedule or its source stops the run, with the image that they leave; else the lines that were told whole, as answers to the submissions that were read by then
+abbrev pub IsLawfulStop : Options → ℕ → SourceSeen → SourceSeen → RunStop → Outside → Outside → Type 0
+IsLawfulStop config limit a b (stop.BadLine n) old new = ToldOf config (λ events. Tells (λ bytes. HasBadLine limit bytes events n) a.left) old new
+IsLawfulStop config limit a b stop.Source old new = ToldOf config (λ events. TellsRest (λ bytes rest. HasReadTo bytes rest events) a.left b.left) old new
+IsLawfulStop config limit a b stop.TooLong old new = ToldOf config (λ events. Tells (λ bytes. IsTooLong limit bytes events) a.left) old new
+IsLawfulStop config limit a b why old new =
+    (events : List Event) × Tells (λ bytes. IsReadSoFar limit bytes events) a.left × HasLawfulBeginning config events old new
+
+abbrev pub RunsLawfully : Options → ℕ → Result (Unit {0}) RunStop → SourceSeen → SourceSeen → Outside → Outside → Type 0
+RunsLawfully config limit (Ok done) a b old new = IsLawfulRun config limit a.left old new
+RunsLawfully config limit (Err why) a b old new = IsLawfulStop config limit a b why old new

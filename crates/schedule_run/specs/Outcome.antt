@@ -1,100 +1,159 @@
 -- How a run may end, and what then stands.
-use Rattle.std.specs.Prelude.{◌≡◌, ◌≢◌, ℕ, ◌⊎◌, List, [], ◌∷◌, Option, Result, OnOk, IfErr}
+use Rattle.std.specs.Prelude.{◌≡◌, ◌≤◌, ◌^◌, ◌⊎◌, true, List, [], ◌∷◌, length, ℕ, Option, Result, Ok, Err}
 use Rattle.blk_base.specs.Options.{Options}
-use Rattle.blk_io.specs.Outside.{Rose}
+use Rattle.blk_io.specs.Outside.{Rose, SourceSeen}
+use Rattle.blk_io.specs.Disk.{DiskSeen}
 use Rattle.schedule_text.specs.declared.event.Event.{Event}
 use Rattle.schedule_text.specs.declared.line.Detail.{Detail}
 use Rattle.schedule_text.specs.declared.line.Line.TheVariants.{Begin, End}
-use Rattle.schedule_text.specs.Recorder.{Told, gained}
-use Rattle.split_model.specs.World.{World, start_of}
-use Rattle.split_model.specs.Kind.{AreOfAll, AreOfSoFar}
-use Rattle.split_model.specs.Leads.{kept_of, Leads, LeadsToStop, StopsAmong}
 use Rattle.schedule_text.specs.declared.recorder.RecordStop.{RecordStop}
 use Rattle.schedule_text.specs.declared.recorder.RecordStop.TheVariants as record_stop
-use Rattle.schedule_run.specs.Machine.{moment}
-use Rattle.schedule_run.specs.Reading.{IsWholeSchedule, HasBadLine, IsTooLong, HasBegun, HasComeTo, Tells}
+use Rattle.schedule_text.specs.Recorder.{RecorderSeen, Gained, StopsAmong, FailsHandingOn, gained, kept_of}
+use Rattle.schedule_text.specs.Range.{AreOptions}
+use Rattle.split_model.specs.World.{World, start_of}
+use Rattle.split_model.specs.Kind.{AreOfAll, AreOfSoFar, are_carried}
+use Rattle.split_model.specs.Leads.{Leads, LeadsToStop, Moment, moment}
+use Rattle.schedule_run.specs.Reading.{IsWholeSchedule, HasBadLine, IsTooLong, HasBegun, HasComeTo, HasReadTo, Tells, TellsRest}
 use Rattle.schedule_run.specs.declared.schedule.RunStop.{RunStop}
 use Rattle.schedule_run.specs.declared.schedule.RunStop.TheVariants as stop
 
--- where a run begins and where it stands: what the disk holds and what the recorder tells, where they tell
+-- where a run begins and where it stands: what the disk and the recorder expose
 pub record Outside : Type 0 where
-  pub content : Option (List (List ℕ))
-  pub told : Told
+  pub disk : DiskSeen
+  pub recorder : RecorderSeen
 
--- the first line of a report, which says the recorder's own word
-abbrev pub begun : Detail → Options → Told → Told
-begun detail config told = gained told (kept_of detail (Begin config detail ∷ []))
+abbrev pub content_of : Outside → Option (List (List ℕ))
+content_of o = o.disk.content
 
--- after the first line, the happenings of these events lead to this machine, disk and recorder
-abbrev pub Carried : Detail → Options → List Event → Outside → World → Outside → Type 0
-Carried detail config events old w new =
-    Leads detail (AreOfAll events (start_of config)) (moment (start_of config) old.content (begun detail config old.told)) (moment w new.content new.told)
+abbrev pub outside : DiskSeen → RecorderSeen → Outside
+outside disk recorder = record { disk = disk; recorder = recorder }
+
+-- options that the machine serves, with the widths that every `Config` has
+pub record IsServed (config : Options) : Type 0 where
+  pub carried : are_carried config ≡ true
+  pub options : AreOptions config
+
+-- the recorder took the first line, and then the happenings of these events lead to this moment
+pub record HasCarried (config : Options) (events : List Event) (old : Outside) (now : Moment) : Type 0 where
+  pub served : IsServed config
+  pub few : length events ≤ 10 ^ 9
+  pub began : RecorderSeen
+  pub first : Gained (Begin config old.recorder.detail ∷ []) old.recorder began
+  pub leads : Leads (AreOfAll events (start_of config)) (moment (start_of config) old.disk began) now
 
 -- these events, whole, and nothing else were carried out
-abbrev pub HasCarried : Detail → Options → List Event → Outside → Outside → Type 0
-HasCarried detail config events old new = (w : World) × Carried detail config events old w new
+abbrev pub HasCarriedOut : Options → List Event → Outside → Outside → Type 0
+HasCarriedOut config events old new = (w : World) × HasCarried config events old (moment w new.disk new.recorder)
+
+-- the last line was taken, and nothing is kept back
+pub record HasEnded (before after : RecorderSeen) : Type 0 where
+  pub told : after.told ≡ gained before.told (kept_of before.detail (End ∷ []))
+  pub detail : after.detail ≡ before.detail
+  pub faults : after.faults ≡ before.faults
+  pub lender : after.lender ≡ before.lender
+  pub kept_back : after.kept_back ≡ 0
 
 -- the whole schedule was carried out, and the report ends
-pub record IsDone (detail : Detail) (config : Options) (limit : ℕ) (left : Option (List ℕ)) (old new : Outside) : Type 0 where
+pub record IsDone (config : Options) (limit : ℕ) (source source' : SourceSeen) (old new : Outside) : Type 0 where
   pub events : List Event
-  pub schedule : Tells (λ bytes. IsWholeSchedule limit bytes events) left
-  pub before : Told
-  pub carried : HasCarried detail config events old (record { content = new.content; told = before })
-  pub ended : new.told ≡ gained before (kept_of detail (End ∷ []))
+  pub schedule : Tells (λ bytes. IsWholeSchedule limit bytes events) source.left
+  pub unfailed : source'.faults ≡ source.faults
+  pub before : RecorderSeen
+  pub carried : HasCarriedOut config events old (outside new.disk before)
+  pub ended : HasEnded before new.recorder
 
 -- the recorder stopped at the first line; or at a line of the last happening of an event; or at the last line
-pub record StopsAtBegin (detail : Detail) (config : Options) (old new : Outside) : Type 0 where
-  pub told : StopsAmong detail (Begin config detail ∷ []) old.told new.told
-  pub content : new.content ≡ old.content
+pub record StopsAtBegin (config : Options) (why : RecordStop) (old new : Outside) : Type 0 where
+  pub word : Detail
+  pub told : StopsAmong [] (Begin config word ∷ []) why old.recorder new.recorder
+  pub disk : new.disk ≡ old.disk
 
-pub record StopsInEvent (detail : Detail) (config : Options) (left : Option (List ℕ)) (old new : Outside) : Type 0 where
+pub record StopsInEvent (config : Options) (left : Option (List ℕ)) (why : RecordStop) (old new : Outside) : Type 0 where
   pub events : List Event
   pub event : Event
   pub schedule : Tells (λ bytes. HasComeTo bytes events event) left
-  pub world : World
-  pub before : Outside
-  pub carried : Carried detail config events old world before
+  pub middle : Moment
+  pub carried : HasCarried config events old middle
   pub last : World
-  pub stopped : LeadsToStop detail (AreOfSoFar event world) (moment world before.content before.told) (moment last new.content new.told)
+  pub stopped : LeadsToStop (AreOfSoFar event middle.world) why middle (moment last new.disk new.recorder)
 
-pub record StopsAtEnd (detail : Detail) (config : Options) (limit : ℕ) (left : Option (List ℕ)) (old new : Outside) : Type 0 where
+pub record StopsAtEnd (config : Options) (limit : ℕ) (left : Option (List ℕ)) (why : RecordStop) (old new : Outside) : Type 0 where
   pub events : List Event
   pub schedule : Tells (λ bytes. IsWholeSchedule limit bytes events) left
-  pub before : Told
-  pub carried : HasCarried detail config events old (record { content = new.content; told = before })
-  pub told : StopsAmong detail (End ∷ []) before new.told
+  pub before : RecorderSeen
+  pub carried : HasCarriedOut config events old (outside new.disk before)
+  pub told : StopsAmong [] (End ∷ []) why before new.recorder
 
-abbrev pub IsCut : Detail → Options → ℕ → Option (List ℕ) → Outside → Outside → Type 0
-IsCut detail config limit left old new =
-    StopsAtBegin detail config old new ⊎ StopsInEvent detail config left old new ⊎ StopsAtEnd detail config limit left old new
+abbrev pub IsCut : Options → ℕ → Option (List ℕ) → RecordStop → Outside → Outside → Type 0
+IsCut config limit left why old new =
+    StopsAtBegin config why old new ⊎ StopsInEvent config left why old new ⊎ StopsAtEnd config limit left why old new
 
--- the recorder failed to hand on what it kept back: after whole events, or after the last line
-abbrev pub IsKeptBack : Detail → Options → ℕ → Option (List ℕ) → Outside → Outside → Type 0
-IsKeptBack detail config limit left old new =
-    ((events : List Event) × Tells (λ bytes. HasBegun bytes events) left × HasCarried detail config events old new) ⊎ IsDone detail config limit left old new
+-- whole events were carried out, and then the recorder failed to hand on what it kept back
+pub record IsUnsent (config : Options) (left : Option (List ℕ)) (old new : Outside) : Type 0 where
+  pub events : List Event
+  pub schedule : Tells (λ bytes. HasBegun bytes events) left
+  pub before : RecorderSeen
+  pub carried : HasCarriedOut config events old (outside new.disk before)
+  pub failed : FailsHandingOn before new.recorder
 
--- how the run stopped, and what stands then: whole events were carried out, and the report says what they made
-abbrev pub IsStopped : Detail → Options → ℕ → Option (List ℕ) → (source source' recorder recorder' : ℕ) → RunStop → Outside → Outside → Type 0
-IsStopped detail config limit left source source' recorder recorder' (stop.BadLine number) old new =
-    (events : List Event) × Tells (λ bytes. HasBadLine limit bytes events number) left × HasCarried detail config events old new
-IsStopped detail config limit left source source' recorder recorder' stop.Source old new =
-    Rose source source' × ((events : List Event) × Tells (λ bytes. HasBegun bytes events) left × HasCarried detail config events old new)
-IsStopped detail config limit left source source' recorder recorder' stop.TooLong old new =
-    (events : List Event) × Tells (λ bytes. IsTooLong limit bytes events) left × HasCarried detail config events old new
-IsStopped detail config limit left source source' recorder recorder' stop.Sink old new =
-    Rose recorder recorder' × (IsCut detail config limit left old new ⊎ IsKeptBack detail config limit left old new)
-IsStopped detail config limit left source source' recorder recorder' stop.OutOfMemory old new =
-    (new ≡ old) ⊎ IsCut detail config limit left old new
+-- whole events, of which this is so, were carried out
+abbrev pub HasRead : Options → (List Event → Type 0) → Outside → Outside → Type 0
+HasRead config claim old new = (events : List Event) × claim events × HasCarriedOut config events old new
+
+-- what stands at a stop, before the recorder hands on what it kept back; the source failed exactly where that is the reason
+abbrev pub Stands : Options → ℕ → SourceSeen → SourceSeen → RunStop → Outside → Outside → Type 0
+Stands config limit a b (stop.BadLine n) old new = (b.faults ≡ a.faults) × HasRead config (λ events. Tells (λ bytes. HasBadLine limit bytes events n) a.left) old new
+Stands config limit a b stop.Source old new = Rose a.faults b.faults × HasRead config (λ events. TellsRest (λ bytes rest. HasReadTo bytes rest events) a.left b.left) old new
+Stands config limit a b stop.TooLong old new = (b.faults ≡ a.faults) × HasRead config (λ events. Tells (λ bytes. IsTooLong limit bytes events) a.left) old new
+Stands config limit a b stop.Sink old new = (b.faults ≡ a.faults) × (IsCut config limit a.left record_stop.Failed old new ⊎ IsUnsent config a.left old new)
+Stands config limit a b stop.OutOfMemory old new = (b.faults ≡ a.faults) × ((new ≡ old) ⊎ IsCut config limit a.left record_stop.OutOfMemory old new)
+
+-- a recorder handed on what it kept back, or failed to; it tells the same
+pub record TriesToHandOn (a b : RecorderSeen) : Type 0 where
+  pub told : b.told ≡ a.told
+  pub detail : b.detail ≡ a.detail
+  pub lender : b.lender ≡ a.lender
+  pub outcome : ((b.kept_back ≡ 0) × (b.faults ≡ a.faults)) ⊎ Rose a.faults b.faults
+
+-- a run stopped, and then the recorder handed on what it kept back, or failed to, which changes no reason
+pub record HasStopped (config : Options) (limit : ℕ) (a b : SourceSeen) (why : RunStop) (old new : Outside) : Type 0 where
+  pub before : RecorderSeen
+  pub stands : Stands config limit a b why old (outside new.disk before)
+  pub handed_on : TriesToHandOn before new.recorder
+
+-- the whole schedule was carried out and the last line taken, and then the recorder failed to hand on what it kept back
+pub record IsDoneUnsent (config : Options) (limit : ℕ) (a b : SourceSeen) (old new : Outside) : Type 0 where
+  pub before : RecorderSeen
+  pub done : IsDone config limit a b old (outside new.disk before)
+  pub told : new.recorder.told ≡ before.told
+  pub detail : new.recorder.detail ≡ before.detail
+  pub lender : new.recorder.lender ≡ before.lender
+  pub rose : Rose before.faults new.recorder.faults
+
+abbrev pub IsStopped : Options → ℕ → SourceSeen → SourceSeen → RunStop → Outside → Outside → Type 0
+IsStopped config limit a b stop.Sink old new = HasStopped config limit a b stop.Sink old new ⊎ IsDoneUnsent config limit a b old new
+IsStopped config limit a b why old new = HasStopped config limit a b why old new
+
+-- the whole schedule was carried out and the last line taken
+pub record IsAllTold (config : Options) (limit : ℕ) (a b : SourceSeen) (old new : Outside) : Type 0 where
+  pub events : List Event
+  pub schedule : Tells (λ bytes. IsWholeSchedule limit bytes events) a.left
+  pub unfailed : b.faults ≡ a.faults
+  pub before : RecorderSeen
+  pub carried : HasCarriedOut config events old (outside new.disk before)
+  pub ended : Gained (End ∷ []) before new.recorder
+
+-- a run, before the recorder hands on what it kept back
+abbrev pub RunsTo : Options → ℕ → Result (Unit {0}) RunStop → SourceSeen → SourceSeen → Outside → Outside → Type 0
+RunsTo config limit (Ok done) a b old new = IsAllTold config limit a b old new
+RunsTo config limit (Err why) a b old new = Stands config limit a b why old new
+
+-- a run with these options and this limit of bytes
+abbrev pub Runs : Options → ℕ → Result (Unit {0}) RunStop → SourceSeen → SourceSeen → Outside → Outside → Type 0
+Runs config limit (Ok done) a b old new = IsDone config limit a b old new
+Runs config limit (Err why) a b old new = IsStopped config limit a b why old new
 
 -- why the run stops where the recorder does
 abbrev pub stop_of : RecordStop → RunStop
 stop_of record_stop.Failed = stop.Sink
 stop_of record_stop.OutOfMemory = stop.OutOfMemory
-
--- unless the run is said to have stopped at the recorder, that failed no more often than before
-abbrev pub UnfailedRecorder : Result (Unit {0}) RunStop → (before after : ℕ) → Type 0
-UnfailedRecorder ended before after = OnOk ended (after ≡ before) × IfErr ended (λ why. why ≢ stop.Sink → after ≡ before)
-
--- nor did the source, unless the run is said to have stopped there, or at a recorder that failed in the end
-abbrev pub UnfailedSource : Result (Unit {0}) RunStop → (before after : ℕ) → Type 0
-UnfailedSource ended before after = OnOk ended (after ≡ before) × IfErr ended (λ why. why ≢ stop.Source → why ≢ stop.Sink → after ≡ before)

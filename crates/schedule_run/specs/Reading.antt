@@ -92,7 +92,21 @@ IsReadSoFar limit bytes events =
     ⊎ ((whole : List Event) × (event : Event) × (events ≡ whole ++ event ∷ []) × HasComeTo bytes whole event)
     ⊎ IsWholeSchedule limit bytes events
 
--- what is so of the bytes, where the source tells them
+-- these bytes are left of the source, and whole lines of all that was read before them, to the last whole one, ask for these events
+pub record HasReadTo (bytes rest : List ℕ) (events : List Event) : Type 0 where
+  pub lines : List (List ℕ)
+  pub part : List ℕ
+  pub all : bytes ≡ (text_of lines ++ part) ++ rest
+  pub are_lines : AreLinesOf lines events
+  pub unbroken : IsUnbroken part
+
+-- what is so of the bytes and of those that are left, where the source exposes them
+abbrev pub TellsRest : (List ℕ → List ℕ → Type 0) → Option (List ℕ) → Option (List ℕ) → Type 0
+TellsRest claim None rest = Unit {0}
+TellsRest claim (Some bytes) None = ⊥
+TellsRest claim (Some bytes) (Some rest) = claim bytes rest
+
+-- what is so of the bytes, where the source exposes them
 abbrev pub Tells : (List ℕ → Type 0) → Option (List ℕ) → Type 0
 Tells claim None = Unit {0}
 Tells claim (Some bytes) = claim bytes

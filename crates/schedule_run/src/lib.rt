@@ -3,6 +3,7 @@
 //! program stands on it.
 #![tactic(auto)]
 
+mod laws;
 mod machine;
 mod schedule;
 mod showing;
@@ -10,5 +11,6 @@ mod split;
 #[cfg(test)]
 mod tests;
 
-pub use machine::{Machine, can_carry_out};
+pub use laws::a_run_begins;
+pub use machine::{Machine, can_carry_out, can_serve};
 pub use schedule::{RunStop, run};

@@ -1,16 +1,17 @@
 // The machine, an event at a time.
-ghost use Rattle.std.specs.Prelude.{◌≡◌, ◌+◌, ◌*◌, ◌<◌, ◌≤◌, ◌^◌, true, Some, Err, IfOk};
-ghost use Rattle.blk_io.specs.Outside.{Rose};
-ghost use Rattle.schedule_text.specs.Recorder.{Unfailed};
-ghost use Rattle.split_model.specs.World.{start_of};
-ghost use Rattle.split_model.specs.Kind.{AreOf, AreOfSoFar, is_carried, is_carried_job};
-ghost use Rattle.split_model.specs.Leads.{Goes};
+ghost use Rattle.std.specs.Prelude.{◌≡◌, ◌+◌, ◌++◌, ◌∷◌, [], ◌<◌, ◌^◌, true, List, length, Some, IfOk, OnOk};
+ghost use Rattle.blk_base.specs.Options.{Options};
+ghost use Rattle.blk_io.specs.Disk.{HasLength, attached_of};
 ghost use Rattle.schedule_text.specs.Event.{is_number};
-ghost use Rattle.schedule_run.specs.Machine.{moment};
-ghost use Rattle.schedule_run.specs.Lawful.{AreLawful};
+ghost use Rattle.schedule_text.specs.declared.event.Event.{Event};
+ghost use Rattle.split_model.specs.World.{start_of};
+ghost use Rattle.split_model.specs.Kind.{AreOf, AreOfSoFar, Makes, MakesSoFar, is_carried, is_carried_job, are_carried};
+ghost use Rattle.split_model.specs.Leads.{Goes, moment};
+ghost use Rattle.schedule_run.specs.Outcome.{Outside, HasCarried, IsServed, content_of};
+ghost use Rattle.schedule_run.specs.Lawful.{EventLeaves};
 
 use crate::split::Split;
-use blk_base::{Config, Job, OutOfMemory};
+use blk_base::{Abi, Config, Job, OutOfMemory};
 use blk_io::SectorDisk;
 use schedule_text::{Event, RecordStop, Recorder};
 use std::alloc::Global;
@@ -35,10 +36,15 @@ impl Model for Machine {
 }
 
 impl Machine {
-    /// A machine whose ends aren't connected yet. It fails only where there is not enough memory.
+    /// A machine whose ends aren't connected yet, with options for which `can_serve` holds. It fails
+    /// only where there is not enough memory.
     pub fn new(alloc: Global, config: &Config) -> Result<Machine, OutOfMemory>
-        ensures { IfOk result (λ machine. machine ≡ record { world = start_of config.now; events = 0 }) }
+        requires { are_carried config.now ≡ true }
+        ensures machine { IfOk result (λ machine. machine ≡ record { world = start_of config.now; events = 0 }) }
+        ensures served { OnOk result (IsServed config.now) }
     {
+        // Its numbers have their widths.
+        let _widths = *config;
         Ok(Machine {
             split: Split::new(alloc, config)?,
             events: 0,
@@ -54,9 +60,13 @@ impl Machine {
 
     /// Carries out an event, and gives the recorder the lines of all that happens. The event is one
     /// for which `can_carry_out` holds. After a stop, what was done before it stands, and the lines
-    /// before the one at which the recorder stopped. Whatever led here, the report stays one that obeys
-    /// the rules (`AreLawful`), where disk and recorder tell what they hold. It speaks of real domains
-    /// as far as their shared words are sequentially consistent and a hypercall is one step.
+    /// before the one at which the recorder stopped. Each call of the disk is the one that a job asks
+    /// for, and what it answered is what the job is told.
+    ///
+    /// Whoever makes a machine, adds a `begin` line with its options (`a_run_begins`) and then carries
+    /// out events has a lawful report after each of them, where disk and recorder expose what they
+    /// hold: a run of the plain disk, and more. It speaks of real domains as far as their shared words
+    /// are sequentially consistent and a hypercall is one step.
     pub fn event<D: SectorDisk, R: Recorder>(
         &mut self,
         event: Event,
@@ -65,18 +75,15 @@ impl Machine {
     ) -> Result<(), RecordStop>
         requires carried { is_carried event ≡ true }
         requires few { self.old.events < 10 ^ 9 }
-        requires attached { D.attached disk.old ≡ Some self.old.world.front.sectors }
-        ensures goes { Goes (R.detail recorder.old) (AreOf event self.old.world) (AreOfSoFar event self.old.world) result (moment self.old.world (D.content disk.old) (R.told recorder.old)) (moment self.new.world (D.content disk.new) (R.told recorder.new)) }
-        ensures lawful { Goes (R.detail recorder.old) (AreLawful self.old.world) (AreLawful self.old.world) result (moment self.old.world (D.content disk.old) (R.told recorder.old)) (moment self.new.world (D.content disk.new) (R.told recorder.new)) }
+        requires attached { attached_of (D.seen disk.old) ≡ Some self.old.world.front.sectors }
+        ensures goes { Goes (AreOf event self.old.world) (AreOfSoFar event self.old.world) (10 ^ 10) result
+            (moment self.old.world (D.seen disk.old) (R.seen recorder.old))
+            (moment self.new.world (D.seen disk.new) (R.seen recorder.new)) }
         ensures counted { self.new.events ≡ self.old.events + 1 }
-        ensures sectors { self.new.world.front.sectors ≡ self.old.world.front.sectors }
-        ensures attached { D.attached disk.new ≡ D.attached disk.old }
-        ensures disk_later { D.faults disk.old ≤ D.faults disk.new }
-        ensures same_detail { R.detail recorder.new ≡ R.detail recorder.old }
-        ensures same_lender { R.lender recorder.new ≡ R.lender recorder.old }
-        ensures later { R.faults recorder.old ≤ R.faults recorder.new }
-        ensures unfailed { Unfailed result (R.faults recorder.old) (R.faults recorder.new) }
-        ensures failed { result ≡ Err RecordStop.Failed → Rose (R.faults recorder.old) (R.faults recorder.new) }
+        ensures lawful { (config : Options) (events : List Event) (begin : Outside) → length events < 10 ^ 9
+            → HasLength (content_of begin) config.sectors
+            → HasCarried config events begin (moment self.old.world (D.seen disk.old) (R.seen recorder.old))
+            → EventLeaves config (events ++ event ∷ []) begin result (moment self.new.world (D.seen disk.new) (R.seen recorder.new)) }
     {
         self.carry_out(event, disk, recorder)
     }
@@ -90,17 +97,11 @@ impl Machine {
     ) -> Result<(), RecordStop>
         requires carried { is_carried event ≡ true }
         requires few { self.old.events < 10 ^ 9 }
-        requires attached { D.attached disk.old ≡ Some self.old.world.front.sectors }
-        ensures goes { Goes (R.detail recorder.old) (AreOf event self.old.world) (AreOfSoFar event self.old.world) result (moment self.old.world (D.content disk.old) (R.told recorder.old)) (moment self.new.world (D.content disk.new) (R.told recorder.new)) }
+        requires attached { attached_of (D.seen disk.old) ≡ Some self.old.world.front.sectors }
+        ensures goes { Goes (Makes event self.old.world) (MakesSoFar event self.old.world) (10 ^ 10) result
+            (moment self.old.world (D.seen disk.old) (R.seen recorder.old))
+            (moment self.new.world (D.seen disk.new) (R.seen recorder.new)) }
         ensures counted { self.new.events ≡ self.old.events + 1 }
-        ensures sectors { self.new.world.front.sectors ≡ self.old.world.front.sectors }
-        ensures attached { D.attached disk.new ≡ D.attached disk.old }
-        ensures disk_later { D.faults disk.old ≤ D.faults disk.new }
-        ensures same_detail { R.detail recorder.new ≡ R.detail recorder.old }
-        ensures same_lender { R.lender recorder.new ≡ R.lender recorder.old }
-        ensures later { R.faults recorder.old ≤ R.faults recorder.new }
-        ensures unfailed { Unfailed result (R.faults recorder.old) (R.faults recorder.new) }
-        ensures failed { result ≡ Err RecordStop.Failed → Rose (R.faults recorder.old) (R.faults recorder.new) }
     {
         self.events += 1;
         match event {
@@ -119,6 +120,23 @@ impl Machine {
             Event::Dump => Ok(()),
         }
     }
+}
+
+/// Whether options are ones that the machine serves yet: the x86_64 layout, a ring of one page from
+/// any start, and a disk of any size that may be written, without persistent grants or indirect
+/// pages.
+pub fn can_serve(config: &Config) -> bool
+    ensures { result ≡ are_carried config.now }
+{
+    let is_x64 = match config.abi {
+        Abi::X64 => true,
+        Abi::X32 => false,
+    };
+    is_x64
+        && config.order == 0
+        && config.persistent == 0
+        && config.indirect == 0
+        && !config.read_only
 }
 
 /// Whether an event is one that the machine carries out yet, with the numbers of the grammar: a

@@ -1,19 +1,18 @@
 // A whole schedule.
-ghost use Rattle.std.specs.Prelude.{◌≡◌, ◌≢◌, ◌≤◌, Some, OnOk, IfErr};
-ghost use Rattle.blk_io.specs.Disk.{HasLength};
-ghost use Rattle.disk_laws.specs.Plain.{IsPlain};
-ghost use Rattle.schedule_run.specs.Outcome.{IsDone, IsStopped, UnfailedRecorder, UnfailedSource, stop_of};
-ghost use Rattle.schedule_run.specs.Lawful.{IsLawfulRun, IsLawfulStop};
+ghost use Rattle.std.specs.Prelude.{◌≡◌, ◌≤◌, Some, true};
+ghost use Rattle.blk_io.specs.Disk.{HasLength, attached_of};
+ghost use Rattle.split_model.specs.Kind.{are_carried};
+ghost use Rattle.schedule_run.specs.Outcome.{Runs, RunsTo, outside, content_of, stop_of};
+ghost use Rattle.schedule_run.specs.Lawful.{RunsLawfully};
 
 mod reading;
 
 use crate::machine::Machine;
-use crate::showing::say;
 use arrayvec::ArrayVec;
 use blk_base::{Config, OutOfMemory};
 use blk_io::{Failed, SectorDisk, Source};
 use reading::Reader;
-use schedule_text::{Line, RecordStop, Recorder};
+use schedule_text::{Detail, Line, RecordStop, Recorder};
 use std::alloc::Global;
 
 /// Why a run stopped before the end of its schedule. What was carried out before it stands.
@@ -43,10 +42,13 @@ impl From<OutOfMemory> for RunStop {
 
 /// Carries out a schedule line by line as its bytes come, and gives the recorder the report: a
 /// `begin` line with the options, what each event makes happen, and an `end` line. Each whole line is
-/// carried out before the source is read again. The disk is attached with the options' number of
-/// sectors, and `bytes_limit` is at most 4294967296.
+/// carried out before the source is read again. The options are ones for which `can_serve` holds, the
+/// disk is attached with their number of sectors, and `bytes_limit` is at most 4294967296.
 ///
-/// That the report is lawful rests on this: source, disk and recorder tell what they hold, and nobody
+/// The first reason ends the run: where the recorder fails after it to hand on what it kept back,
+/// that reason stays, and the recorder's count of faults rose.
+///
+/// That the report is lawful rests on this: source, disk and recorder expose what they hold, and nobody
 /// else writes the disk meanwhile; shared words are sequentially consistent, and a hypercall is one
 /// step.
 pub fn run<S: Source, D: SectorDisk, R: Recorder>(
@@ -57,25 +59,15 @@ pub fn run<S: Source, D: SectorDisk, R: Recorder>(
     disk: &mut D,
     recorder: &mut R,
 ) -> Result<(), RunStop>
+    requires carried { are_carried config ≡ true }
     requires limit { bytes_limit ≤ 4294967296 }
-    requires attached { D.attached disk.old ≡ Some config.sectors }
-    ensures done { OnOk result (IsDone (R.detail recorder.old) config bytes_limit (S.left source.old) (record { content = D.content disk.old; told = R.told recorder.old }) (record { content = D.content disk.new; told = R.told recorder.new })) }
-    ensures stopped { IfErr result (λ stop. IsStopped (R.detail recorder.old) config bytes_limit (S.left source.old) (S.faults source.old) (S.faults source.new) (R.faults recorder.old) (R.faults recorder.new) stop (record { content = D.content disk.old; told = R.told recorder.old }) (record { content = D.content disk.new; told = R.told recorder.new })) }
-    // What was told is a lawful report: a run of the plain disk, and more.
-    ensures lawful { IsPlain config → HasLength (D.content disk.old) config.sectors → OnOk result (IsLawfulRun (R.detail recorder.old) config bytes_limit (S.left source.old) (record { content = D.content disk.old; told = R.told recorder.old }) (record { content = D.content disk.new; told = R.told recorder.new })) }
-    // So are the lines that were told whole before a stop.
-    ensures lawful_so_far { IsPlain config → IfErr result (λ stop. IsLawfulStop (R.detail recorder.old) bytes_limit (S.left source.old) (record { content = D.content disk.old; told = R.told recorder.old }) (record { content = D.content disk.new; told = R.told recorder.new })) }
-    // However the run ended, but where the recorder failed, it keeps back nothing of what it was told.
-    ensures handed_on { OnOk result (R.kept_back recorder.new ≡ 0) }
-    ensures handed_on_so_far { IfErr result (λ stop. stop ≢ RunStop.Sink → R.kept_back recorder.new ≡ 0) }
-    ensures attached { D.attached disk.new ≡ D.attached disk.old }
-    ensures source_later { S.faults source.old ≤ S.faults source.new }
-    ensures disk_later { D.faults disk.old ≤ D.faults disk.new }
-    ensures same_detail { R.detail recorder.new ≡ R.detail recorder.old }
-    ensures same_lender { R.lender recorder.new ≡ R.lender recorder.old }
-    ensures unfailed { UnfailedRecorder result (R.faults recorder.old) (R.faults recorder.new) }
-    ensures source_unfailed { UnfailedSource result (S.faults source.old) (S.faults source.new) }
-    ensures later { R.faults recorder.old ≤ R.faults recorder.new }
+    requires attached { attached_of (D.seen disk.old) ≡ Some config.sectors }
+    ensures runs { Runs config bytes_limit result (S.seen source.old) (S.seen source.new)
+        (outside (D.seen disk.old) (R.seen recorder.old)) (outside (D.seen disk.new) (R.seen recorder.new)) }
+    // What was told is a lawful report: a run of the plain disk, and more; so it is before a stop.
+    ensures lawful { HasLength (content_of (outside (D.seen disk.old) (R.seen recorder.old))) config.sectors
+        → RunsLawfully config bytes_limit result (S.seen source.old) (S.seen source.new)
+        (outside (D.seen disk.old) (R.seen recorder.old)) (outside (D.seen disk.new) (R.seen recorder.new)) }
 {
     carry_out(alloc, config, bytes_limit, source, disk, recorder)
 }
@@ -89,25 +81,17 @@ fn carry_out<S: Source, D: SectorDisk, R: Recorder>(
     disk: &mut D,
     recorder: &mut R,
 ) -> Result<(), RunStop>
+    requires carried { are_carried config ≡ true }
     requires limit { bytes_limit ≤ 4294967296 }
-    requires attached { D.attached disk.old ≡ Some config.sectors }
-    ensures done { OnOk result (IsDone (R.detail recorder.old) config bytes_limit (S.left source.old) (record { content = D.content disk.old; told = R.told recorder.old }) (record { content = D.content disk.new; told = R.told recorder.new })) }
-    ensures stopped { IfErr result (λ stop. IsStopped (R.detail recorder.old) config bytes_limit (S.left source.old) (S.faults source.old) (S.faults source.new) (R.faults recorder.old) (R.faults recorder.new) stop (record { content = D.content disk.old; told = R.told recorder.old }) (record { content = D.content disk.new; told = R.told recorder.new })) }
-    ensures handed_on { OnOk result (R.kept_back recorder.new ≡ 0) }
-    ensures handed_on_so_far { IfErr result (λ stop. stop ≢ RunStop.Sink → R.kept_back recorder.new ≡ 0) }
-    ensures attached { D.attached disk.new ≡ D.attached disk.old }
-    ensures source_later { S.faults source.old ≤ S.faults source.new }
-    ensures disk_later { D.faults disk.old ≤ D.faults disk.new }
-    ensures same_detail { R.detail recorder.new ≡ R.detail recorder.old }
-    ensures same_lender { R.lender recorder.new ≡ R.lender recorder.old }
-    ensures unfailed { UnfailedRecorder result (R.faults recorder.old) (R.faults recorder.new) }
-    ensures source_unfailed { UnfailedSource result (S.faults source.old) (S.faults source.new) }
-    ensures later { R.faults recorder.old ≤ R.faults recorder.new }
+    requires attached { attached_of (D.seen disk.old) ≡ Some config.sectors }
+    ensures { Runs config bytes_limit result (S.seen source.old) (S.seen source.new)
+        (outside (D.seen disk.old) (R.seen recorder.old)) (outside (D.seen disk.new) (R.seen recorder.new)) }
 {
     let ended = tell(alloc, config, bytes_limit, source, disk, recorder);
-    match recorder.flush() {
-        Ok(()) => ended,
-        Err(Failed) => Err(RunStop::Sink),
+    // The first reason stands, whatever comes after it.
+    match (recorder.flush(), ended) {
+        (Err(Failed), Ok(())) => Err(RunStop::Sink),
+        (_, ended) => ended,
     }
 }
 
@@ -120,22 +104,16 @@ fn tell<S: Source, D: SectorDisk, R: Recorder>(
     disk: &mut D,
     recorder: &mut R,
 ) -> Result<(), RunStop>
+    requires carried { are_carried config ≡ true }
     requires limit { bytes_limit ≤ 4294967296 }
-    requires attached { D.attached disk.old ≡ Some config.sectors }
-    ensures done { OnOk result (IsDone (R.detail recorder.old) config bytes_limit (S.left source.old) (record { content = D.content disk.old; told = R.told recorder.old }) (record { content = D.content disk.new; told = R.told recorder.new })) }
-    ensures stopped { IfErr result (λ stop. IsStopped (R.detail recorder.old) config bytes_limit (S.left source.old) (S.faults source.old) (S.faults source.new) (R.faults recorder.old) (R.faults recorder.new) stop (record { content = D.content disk.old; told = R.told recorder.old }) (record { content = D.content disk.new; told = R.told recorder.new })) }
-    ensures attached { D.attached disk.new ≡ D.attached disk.old }
-    ensures source_later { S.faults source.old ≤ S.faults source.new }
-    ensures disk_later { D.faults disk.old ≤ D.faults disk.new }
-    ensures same_detail { R.detail recorder.new ≡ R.detail recorder.old }
-    ensures same_lender { R.lender recorder.new ≡ R.lender recorder.old }
-    ensures unfailed { UnfailedRecorder result (R.faults recorder.old) (R.faults recorder.new) }
-    ensures source_unfailed { UnfailedSource result (S.faults source.old) (S.faults source.new) }
-    ensures later { R.faults recorder.old ≤ R.faults recorder.new }
+    requires attached { attached_of (D.seen disk.old) ≡ Some config.sectors }
+    ensures { RunsTo config bytes_limit result (S.seen source.old) (S.seen source.new)
+        (outside (D.seen disk.old) (R.seen recorder.old)) (outside (D.seen disk.new) (R.seen recorder.new)) }
 {
     let machine = Machine::new(alloc, &config)?;
-    let detail = recorder.detail();
-    if let Err(stop) = say(recorder, &Line::Begin { config, detail }) {
+    // The recorder says its own word there.
+    let detail = Detail::Moves;
+    if let Err(stop) = recorder.add(&Line::Begin { config, detail }) {
         return Err(stop_of(stop));
     }
     let mut reader = Reader {
@@ -144,7 +122,7 @@ fn tell<S: Source, D: SectorDisk, R: Recorder>(
         lines: 0,
     };
     reader.read_all(bytes_limit, source, disk, recorder)?;
-    if let Err(stop) = say(recorder, &Line::End) {
+    if let Err(stop) = recorder.add(&Line::End) {
         return Err(stop_of(stop));
     }
     Ok(())

@@ -1,19 +1,58 @@
 // The lines that a move shows.
-ghost use Rattle.std.specs.Prelude.{◌≡◌, ◌≤◌, ◌∷◌, ◌++◌, [], Err, Some, None};
-ghost use Rattle.blk_io.specs.Outside.{Rose};
-ghost use Rattle.schedule_text.specs.Recorder.{Unfailed};
-ghost use Rattle.split_model.specs.Leads.{Shows};
+ghost use Rattle.std.specs.Prelude.{◌≡◌, ◌∷◌, ◌++◌, [], Some, None};
+ghost use Rattle.schedule_text.specs.Recorder.{Adds};
 ghost use Rattle.split_model.specs.Happening.{submit_line};
 ghost use Rattle.hypervisor.specs.Act.{front_shown, back_shown};
 ghost use Rattle.hypervisor.specs.May.{MayShow};
-ghost use Rattle.schedule_run.specs.Following.{Follows, FailsSince, UnfailedSince};
+ghost use Rattle.schedule_run.specs.Following.{Follows};
 ghost use Rattle.split_model.specs.Shown.{front_lines, back_lines, halt_lines, halt_line, effect_line, refusal_word};
 
 use blk_back::{BackTold, Halt};
 use blk_base::{BackAnswer, BackAsk, BackMover, FrontAnswer, FrontAsk, Job, Move};
 use blk_front::{Refusal, Told};
 use hypervisor::{Hypervisor, front_shown};
-use schedule_text::{Detail, Halt as HaltLine, Line, RecordStop, Recorder, Refusal as RefusalWord};
+use schedule_text::{Halt as HaltLine, Line, RecordStop, Recorder, Refusal as RefusalWord, Shown};
+
+/// What the line of a move of the front is made of.
+#[derive(Drop)]
+pub struct FrontMove<'a, 'b, 'c, 'd> {
+    pub ask: &'a FrontAsk<'b>,
+    pub answer: &'c FrontAnswer<'d>,
+}
+
+impl<'a, 'b, 'c, 'd> Shown for FrontMove<'a, 'b, 'c, 'd> {
+    ghost use Rattle.hypervisor.specs.Act.{front_shown};
+
+    ghost shown = { λ m. front_shown m.ask.now m.answer.now };
+
+    #[inline(always)]
+    fn shown(&self) -> Move {
+        front_shown(self.ask, self.answer)
+    }
+}
+
+/// What the line of a move of the back or of a job is made of.
+#[derive(Drop)]
+pub struct BackMove<'a, 'b, 'c, 'd, 'e> {
+    pub under: &'a Hypervisor,
+    pub who: BackMover,
+    pub ask: &'b BackAsk<'c>,
+    pub answer: &'d BackAnswer<'e>,
+}
+
+impl<'a, 'b, 'c, 'd, 'e> Shown for BackMove<'a, 'b, 'c, 'd, 'e> {
+    ghost use Rattle.hypervisor.specs.Act.{back_shown};
+    ghost use Rattle.hypervisor.specs.May.{MayShow};
+
+    ghost shown = { λ m. back_shown m.under.now m.who m.ask.now m.answer.now };
+
+    ghost may = { λ m. MayShow m.under.now m.ask.now m.answer.now };
+
+    #[inline(always)]
+    fn shown(&self) -> Move {
+        self.under.back_shown(self.who, self.ask, self.answer)
+    }
+}
 
 /// Shows a move of the front, where moves are shown.
 #[inline(always)]
@@ -22,17 +61,9 @@ pub fn show_front<R: Recorder>(
     ask: &FrontAsk,
     answer: &FrontAnswer,
 ) -> Result<(), RecordStop>
-    ensures shown { Shows (R.detail recorder.old) (Line.Move (front_shown ask.now answer.now) ∷ []) result (R.told recorder.old) (R.told recorder.new) }
-    ensures same_detail { R.detail recorder.new ≡ R.detail recorder.old }
-    ensures same_lender { R.lender recorder.new ≡ R.lender recorder.old }
-    ensures later { R.faults recorder.old ≤ R.faults recorder.new }
-    ensures unfailed { Unfailed result (R.faults recorder.old) (R.faults recorder.new) }
-    ensures failed { result ≡ Err RecordStop.Failed → Rose (R.faults recorder.old) (R.faults recorder.new) }
+    ensures { Adds (Line.Move (front_shown ask.now answer.now) ∷ []) result (R.seen recorder.old) (R.seen recorder.new) }
 {
-    match recorder.detail() {
-        Detail::Lines => Ok(()),
-        Detail::Moves => say_move(recorder, front_shown(ask, answer)),
-    }
+    recorder.add_move(&FrontMove { ask, answer })
 }
 
 /// Shows a move of the back or of a job, where moves are shown.
@@ -45,17 +76,14 @@ pub fn show_back<R: Recorder>(
     answer: &BackAnswer,
 ) -> Result<(), RecordStop>
     requires { MayShow under.now ask.now answer.now }
-    ensures shown { Shows (R.detail recorder.old) (Line.Move (back_shown under.now who ask.now answer.now) ∷ []) result (R.told recorder.old) (R.told recorder.new) }
-    ensures same_detail { R.detail recorder.new ≡ R.detail recorder.old }
-    ensures same_lender { R.lender recorder.new ≡ R.lender recorder.old }
-    ensures later { R.faults recorder.old ≤ R.faults recorder.new }
-    ensures unfailed { Unfailed result (R.faults recorder.old) (R.faults recorder.new) }
-    ensures failed { result ≡ Err RecordStop.Failed → Rose (R.faults recorder.old) (R.faults recorder.new) }
+    ensures { Adds (Line.Move (back_shown under.now who ask.now answer.now) ∷ []) result (R.seen recorder.old) (R.seen recorder.new) }
 {
-    match recorder.detail() {
-        Detail::Lines => Ok(()),
-        Detail::Moves => say_move(recorder, under.back_shown(who, ask, answer)),
-    }
+    recorder.add_move(&BackMove {
+        under,
+        who,
+        ask,
+        answer,
+    })
 }
 
 /// Shows what a move of the front made happen there, after the move.
@@ -65,12 +93,7 @@ pub fn follow_front<R: Recorder>(
     shown: Result<(), RecordStop>,
     told: Option<Told>,
 ) -> Result<(), RecordStop>
-    ensures shown { Follows (R.detail recorder.old) (front_lines told) shown result (R.told recorder.old) (R.told recorder.new) }
-    ensures same_detail { R.detail recorder.new ≡ R.detail recorder.old }
-    ensures same_lender { R.lender recorder.new ≡ R.lender recorder.old }
-    ensures later { R.faults recorder.old ≤ R.faults recorder.new }
-    ensures unfailed { UnfailedSince shown result (R.faults recorder.old) (R.faults recorder.new) }
-    ensures failed { FailsSince shown result (R.faults recorder.old) (R.faults recorder.new) }
+    ensures { Follows (front_lines told) shown result (R.seen recorder.old) (R.seen recorder.new) }
 {
     shown?;
     match told {
@@ -89,12 +112,7 @@ pub fn follow_back<R: Recorder>(
     before: Option<Halt>,
     after: Option<Halt>,
 ) -> Result<(), RecordStop>
-    ensures shown { Follows (R.detail recorder.old) (back_lines told answer.now ++ halt_lines before after) shown result (R.told recorder.old) (R.told recorder.new) }
-    ensures same_detail { R.detail recorder.new ≡ R.detail recorder.old }
-    ensures same_lender { R.lender recorder.new ≡ R.lender recorder.old }
-    ensures later { R.faults recorder.old ≤ R.faults recorder.new }
-    ensures unfailed { UnfailedSince shown result (R.faults recorder.old) (R.faults recorder.new) }
-    ensures failed { FailsSince shown result (R.faults recorder.old) (R.faults recorder.new) }
+    ensures { Follows (back_lines told answer.now ++ halt_lines before after) shown result (R.seen recorder.old) (R.seen recorder.new) }
 {
     follow_job(recorder, shown, told, answer)?;
     match (before, after) {
@@ -111,12 +129,7 @@ pub fn follow_job<R: Recorder>(
     told: Option<BackTold>,
     answer: &BackAnswer,
 ) -> Result<(), RecordStop>
-    ensures shown { Follows (R.detail recorder.old) (back_lines told answer.now) shown result (R.told recorder.old) (R.told recorder.new) }
-    ensures same_detail { R.detail recorder.new ≡ R.detail recorder.old }
-    ensures same_lender { R.lender recorder.new ≡ R.lender recorder.old }
-    ensures later { R.faults recorder.old ≤ R.faults recorder.new }
-    ensures unfailed { UnfailedSince shown result (R.faults recorder.old) (R.faults recorder.new) }
-    ensures failed { FailsSince shown result (R.faults recorder.old) (R.faults recorder.new) }
+    ensures { Follows (back_lines told answer.now) shown result (R.seen recorder.old) (R.seen recorder.new) }
 {
     shown?;
     match told {
@@ -128,27 +141,10 @@ pub fn follow_job<R: Recorder>(
 // Lines have much room and few moves have one else, so whatever makes a line stands in a function of
 // its own.
 #[inline(never)]
-fn say_move<R: Recorder>(recorder: &mut R, shown: Move) -> Result<(), RecordStop>
-    ensures shown { Shows (R.detail recorder.old) (Line.Move shown ∷ []) result (R.told recorder.old) (R.told recorder.new) }
-    ensures same_detail { R.detail recorder.new ≡ R.detail recorder.old }
-    ensures same_lender { R.lender recorder.new ≡ R.lender recorder.old }
-    ensures later { R.faults recorder.old ≤ R.faults recorder.new }
-    ensures unfailed { Unfailed result (R.faults recorder.old) (R.faults recorder.new) }
-    ensures failed { result ≡ Err RecordStop.Failed → Rose (R.faults recorder.old) (R.faults recorder.new) }
-{
-    say(recorder, &Line::Move(shown))
-}
-
-#[inline(never)]
 fn say_front<R: Recorder>(recorder: &mut R, told: Told) -> Result<(), RecordStop>
-    ensures shown { Shows (R.detail recorder.old) (front_lines (Some told)) result (R.told recorder.old) (R.told recorder.new) }
-    ensures same_detail { R.detail recorder.new ≡ R.detail recorder.old }
-    ensures same_lender { R.lender recorder.new ≡ R.lender recorder.old }
-    ensures later { R.faults recorder.old ≤ R.faults recorder.new }
-    ensures unfailed { Unfailed result (R.faults recorder.old) (R.faults recorder.new) }
-    ensures failed { result ≡ Err RecordStop.Failed → Rose (R.faults recorder.old) (R.faults recorder.new) }
+    ensures { Adds (front_lines (Some told)) result (R.seen recorder.old) (R.seen recorder.new) }
 {
-    say(recorder, &front_line(told))
+    recorder.add(&front_line(told))
 }
 
 #[inline(never)]
@@ -157,38 +153,16 @@ fn say_back<R: Recorder>(
     told: BackTold,
     answer: &BackAnswer,
 ) -> Result<(), RecordStop>
-    ensures shown { Shows (R.detail recorder.old) (back_lines (Some told) answer.now) result (R.told recorder.old) (R.told recorder.new) }
-    ensures same_detail { R.detail recorder.new ≡ R.detail recorder.old }
-    ensures same_lender { R.lender recorder.new ≡ R.lender recorder.old }
-    ensures later { R.faults recorder.old ≤ R.faults recorder.new }
-    ensures unfailed { Unfailed result (R.faults recorder.old) (R.faults recorder.new) }
-    ensures failed { result ≡ Err RecordStop.Failed → Rose (R.faults recorder.old) (R.faults recorder.new) }
+    ensures { Adds (back_lines (Some told) answer.now) result (R.seen recorder.old) (R.seen recorder.new) }
 {
-    say(recorder, &back_line(told, answer))
+    recorder.add(&back_line(told, answer))
 }
 
 #[inline(never)]
 fn say_halt<R: Recorder>(recorder: &mut R, halt: Halt) -> Result<(), RecordStop>
-    ensures shown { Shows (R.detail recorder.old) (halt_lines None (Some halt)) result (R.told recorder.old) (R.told recorder.new) }
-    ensures same_detail { R.detail recorder.new ≡ R.detail recorder.old }
-    ensures same_lender { R.lender recorder.new ≡ R.lender recorder.old }
-    ensures later { R.faults recorder.old ≤ R.faults recorder.new }
-    ensures unfailed { Unfailed result (R.faults recorder.old) (R.faults recorder.new) }
-    ensures failed { result ≡ Err RecordStop.Failed → Rose (R.faults recorder.old) (R.faults recorder.new) }
+    ensures { Adds (halt_lines None (Some halt)) result (R.seen recorder.old) (R.seen recorder.new) }
 {
-    say(recorder, &Line::Halt(halt_word(halt)))
-}
-
-/// Shows one line.
-pub fn say<R: Recorder>(recorder: &mut R, line: &Line) -> Result<(), RecordStop>
-    ensures shown { Shows (R.detail recorder.old) (line.now ∷ []) result (R.told recorder.old) (R.told recorder.new) }
-    ensures same_detail { R.detail recorder.new ≡ R.detail recorder.old }
-    ensures same_lender { R.lender recorder.new ≡ R.lender recorder.old }
-    ensures later { R.faults recorder.old ≤ R.faults recorder.new }
-    ensures unfailed { Unfailed result (R.faults recorder.old) (R.faults recorder.new) }
-    ensures failed { result ≡ Err RecordStop.Failed → Rose (R.faults recorder.old) (R.faults recorder.new) }
-{
-    recorder.add(line)
+    recorder.add(&Line::Halt(halt_word(halt)))
 }
 
 // What happened at the front.

@@ -1,7 +1,6 @@
 // Both ends in their machine, and the moves of each.
-ghost use Rattle.std.specs.Prelude.{◌≡◌, ◌+◌, ◌<◌, ◌≤◌, ◌^◌, ◌∷◌, [], List, ℕ, Option, Some, None, Err, IfOk};
-ghost use Rattle.blk_io.specs.Outside.{Rose};
-ghost use Rattle.schedule_text.specs.Recorder.{Unfailed};
+ghost use Rattle.std.specs.Prelude.{◌≡◌, ◌<◌, ◌∷◌, [], true, IfOk};
+ghost use Rattle.blk_io.specs.Disk.{DiskSeen};
 ghost use Rattle.schedule_text.specs.Range.{JobHasWidths};
 ghost use Rattle.grant_table.specs.Table.{IsLive};
 ghost use Rattle.hypervisor.specs.May.{IsPlace};
@@ -9,13 +8,10 @@ ghost use Rattle.blk_front.specs.Ask.{ask_of as front_asks};
 ghost use Rattle.blk_back.specs.Step.{job_ask_of};
 ghost use Rattle.split_model.specs.World.{start_of, is_quiet};
 ghost use Rattle.split_model.specs.Happening.{FrontMoves, BackMoves, Submits, Notifies, happens};
-ghost use Rattle.split_model.specs.Kind.{IsJobMove};
-ghost use Rattle.split_model.specs.Leads.{Goes, Is};
-ghost use Rattle.schedule_run.specs.Machine.{moment};
+ghost use Rattle.split_model.specs.Kind.{IsJobMove, are_carried};
+ghost use Rattle.split_model.specs.Leads.{Goes, Is, IsReadyFor, moment};
 
-use crate::showing::{
-    follow_back, follow_front, follow_job, say, show_back, show_front, submit_line,
-};
+use crate::showing::{follow_back, follow_front, follow_job, show_back, show_front, submit_line};
 use blk_back::Back;
 use blk_base::{
     BackAnswer, BackAsk, BackMover, Config, End, Endpoint, FrontAnswer, FrontAsk, Job, Mapping,
@@ -67,14 +63,9 @@ impl Split {
     /// A move of the front, if it has one.
     #[inline(always)]
     pub fn front_move<R: Recorder>(&mut self, recorder: &mut R) -> Result<(), RecordStop>
-        ensures goes { (content : Option (List (List ℕ))) → Goes (R.detail recorder.old) (Is (FrontMoves ∷ [])) (Is (FrontMoves ∷ [])) result (moment self.old content (R.told recorder.old)) (moment self.new content (R.told recorder.new)) }
-        ensures made { self.new.under.grants ≡ self.old.under.grants }
-        ensures sectors { self.new.front.sectors ≡ self.old.front.sectors }
-        ensures same_detail { R.detail recorder.new ≡ R.detail recorder.old }
-        ensures same_lender { R.lender recorder.new ≡ R.lender recorder.old }
-        ensures later { R.faults recorder.old ≤ R.faults recorder.new }
-        ensures unfailed { Unfailed result (R.faults recorder.old) (R.faults recorder.new) }
-        ensures failed { result ≡ Err RecordStop.Failed → Rose (R.faults recorder.old) (R.faults recorder.new) }
+        ensures { (disk : DiskSeen) → Goes (Is (FrontMoves ∷ [])) (Is (FrontMoves ∷ [])) 0 result
+            (moment self.old disk (R.seen recorder.old))
+            (moment self.new disk (R.seen recorder.new)) }
     {
         if let FrontAsk::Write { frame, word, value } = self.front.ask() {
             return self.front_writes(frame, word, value, recorder);
@@ -93,14 +84,9 @@ impl Split {
     ) -> Result<(), RecordStop>
         requires asked { FrontAsk.Write frame word value ≡ front_asks self.old.front }
         requires place { IsPlace frame word }
-        ensures goes { (content : Option (List (List ℕ))) → Goes (R.detail recorder.old) (Is (FrontMoves ∷ [])) (Is (FrontMoves ∷ [])) result (moment self.old content (R.told recorder.old)) (moment self.new content (R.told recorder.new)) }
-        ensures made { self.new.under.grants ≡ self.old.under.grants }
-        ensures sectors { self.new.front.sectors ≡ self.old.front.sectors }
-        ensures same_detail { R.detail recorder.new ≡ R.detail recorder.old }
-        ensures same_lender { R.lender recorder.new ≡ R.lender recorder.old }
-        ensures later { R.faults recorder.old ≤ R.faults recorder.new }
-        ensures unfailed { Unfailed result (R.faults recorder.old) (R.faults recorder.new) }
-        ensures failed { result ≡ Err RecordStop.Failed → Rose (R.faults recorder.old) (R.faults recorder.new) }
+        ensures { (disk : DiskSeen) → Goes (Is (FrontMoves ∷ [])) (Is (FrontMoves ∷ [])) 0 result
+            (moment self.old disk (R.seen recorder.old))
+            (moment self.new disk (R.seen recorder.new)) }
     {
         let answer = FrontAnswer::Done;
         // A front takes no memory once it is made.
@@ -114,14 +100,9 @@ impl Split {
     // The front's move, whatever it asks.
     #[inline(never)]
     fn front_acts<R: Recorder>(&mut self, recorder: &mut R) -> Result<(), RecordStop>
-        ensures goes { (content : Option (List (List ℕ))) → Goes (R.detail recorder.old) (Is (FrontMoves ∷ [])) (Is (FrontMoves ∷ [])) result (moment self.old content (R.told recorder.old)) (moment self.new content (R.told recorder.new)) }
-        ensures made { self.new.under.grants ≡ self.old.under.grants }
-        ensures sectors { self.new.front.sectors ≡ self.old.front.sectors }
-        ensures same_detail { R.detail recorder.new ≡ R.detail recorder.old }
-        ensures same_lender { R.lender recorder.new ≡ R.lender recorder.old }
-        ensures later { R.faults recorder.old ≤ R.faults recorder.new }
-        ensures unfailed { Unfailed result (R.faults recorder.old) (R.faults recorder.new) }
-        ensures failed { result ≡ Err RecordStop.Failed → Rose (R.faults recorder.old) (R.faults recorder.new) }
+        ensures { (disk : DiskSeen) → Goes (Is (FrontMoves ∷ [])) (Is (FrontMoves ∷ [])) 0 result
+            (moment self.old disk (R.seen recorder.old))
+            (moment self.new disk (R.seen recorder.new)) }
     {
         let ask = self.front.ask();
         let Some(answer) = self.under.front(&ask) else {
@@ -141,18 +122,10 @@ impl Split {
         disk: &mut D,
         recorder: &mut R,
     ) -> Result<(), RecordStop>
-        requires attached { D.attached disk.old ≡ Some self.old.front.sectors }
-        requires left { self.old.under.grants.made + 1 < 2 ^ 64 }
-        ensures goes { Goes (R.detail recorder.old) (Is (BackMoves ∷ [])) (Is (BackMoves ∷ [])) result (moment self.old (D.content disk.old) (R.told recorder.old)) (moment self.new (D.content disk.new) (R.told recorder.new)) }
-        ensures made { self.new.under.grants.made ≤ self.old.under.grants.made + 1 }
-        ensures sectors { self.new.front.sectors ≡ self.old.front.sectors }
-        ensures attached { D.attached disk.new ≡ D.attached disk.old }
-        ensures disk_later { D.faults disk.old ≤ D.faults disk.new }
-        ensures same_detail { R.detail recorder.new ≡ R.detail recorder.old }
-        ensures same_lender { R.lender recorder.new ≡ R.lender recorder.old }
-        ensures later { R.faults recorder.old ≤ R.faults recorder.new }
-        ensures unfailed { Unfailed result (R.faults recorder.old) (R.faults recorder.new) }
-        ensures failed { result ≡ Err RecordStop.Failed → Rose (R.faults recorder.old) (R.faults recorder.new) }
+        requires { IsReadyFor 1 self.old (D.seen disk.old) }
+        ensures { Goes (Is (BackMoves ∷ [])) (Is (BackMoves ∷ [])) 1 result
+            (moment self.old (D.seen disk.old) (R.seen recorder.old))
+            (moment self.new (D.seen disk.new) (R.seen recorder.new)) }
     {
         if self.back.waits() && !self.under.pending(End::Back) {
             return Ok(());
@@ -167,18 +140,10 @@ impl Split {
         disk: &mut D,
         recorder: &mut R,
     ) -> Result<(), RecordStop>
-        requires attached { D.attached disk.old ≡ Some self.old.front.sectors }
-        requires left { self.old.under.grants.made + 1 < 2 ^ 64 }
-        ensures goes { Goes (R.detail recorder.old) (Is (BackMoves ∷ [])) (Is (BackMoves ∷ [])) result (moment self.old (D.content disk.old) (R.told recorder.old)) (moment self.new (D.content disk.new) (R.told recorder.new)) }
-        ensures made { self.new.under.grants.made ≤ self.old.under.grants.made + 1 }
-        ensures sectors { self.new.front.sectors ≡ self.old.front.sectors }
-        ensures attached { D.attached disk.new ≡ D.attached disk.old }
-        ensures disk_later { D.faults disk.old ≤ D.faults disk.new }
-        ensures same_detail { R.detail recorder.new ≡ R.detail recorder.old }
-        ensures same_lender { R.lender recorder.new ≡ R.lender recorder.old }
-        ensures later { R.faults recorder.old ≤ R.faults recorder.new }
-        ensures unfailed { Unfailed result (R.faults recorder.old) (R.faults recorder.new) }
-        ensures failed { result ≡ Err RecordStop.Failed → Rose (R.faults recorder.old) (R.faults recorder.new) }
+        requires { IsReadyFor 1 self.old (D.seen disk.old) }
+        ensures { Goes (Is (BackMoves ∷ [])) (Is (BackMoves ∷ [])) 1 result
+            (moment self.old (D.seen disk.old) (R.seen recorder.old))
+            (moment self.new (D.seen disk.new) (R.seen recorder.new)) }
     {
         let ask = self.back.ask();
         let before = self.back.halted();
@@ -199,18 +164,10 @@ impl Split {
         disk: &mut D,
         recorder: &mut R,
     ) -> Result<(), RecordStop>
-        requires attached { D.attached disk.old ≡ Some self.old.front.sectors }
-        requires left { self.old.under.grants.made + 1 < 2 ^ 64 }
-        ensures goes { Goes (R.detail recorder.old) (IsJobMove number) (IsJobMove number) result (moment self.old (D.content disk.old) (R.told recorder.old)) (moment self.new (D.content disk.new) (R.told recorder.new)) }
-        ensures made { self.new.under.grants.made ≤ self.old.under.grants.made + 1 }
-        ensures sectors { self.new.front.sectors ≡ self.old.front.sectors }
-        ensures attached { D.attached disk.new ≡ D.attached disk.old }
-        ensures disk_later { D.faults disk.old ≤ D.faults disk.new }
-        ensures same_detail { R.detail recorder.new ≡ R.detail recorder.old }
-        ensures same_lender { R.lender recorder.new ≡ R.lender recorder.old }
-        ensures later { R.faults recorder.old ≤ R.faults recorder.new }
-        ensures unfailed { Unfailed result (R.faults recorder.old) (R.faults recorder.new) }
-        ensures failed { result ≡ Err RecordStop.Failed → Rose (R.faults recorder.old) (R.faults recorder.new) }
+        requires { IsReadyFor 1 self.old (D.seen disk.old) }
+        ensures { Goes (IsJobMove number) (IsJobMove number) 1 result
+            (moment self.old (D.seen disk.old) (R.seen recorder.old))
+            (moment self.new (D.seen disk.new) (R.seen recorder.new)) }
     {
         if let BackAsk::Read { mapping, word } = self.back.job_ask(number) {
             return self.job_reads(number, mapping, word, recorder);
@@ -230,14 +187,9 @@ impl Split {
         requires asked { BackAsk.Read mapping word ≡ job_ask_of self.old.back number }
         requires live { IsLive self.old.under.grants mapping }
         requires word_in { word < 1024 }
-        ensures goes { (content : Option (List (List ℕ))) → Goes (R.detail recorder.old) (IsJobMove number) (IsJobMove number) result (moment self.old content (R.told recorder.old)) (moment self.new content (R.told recorder.new)) }
-        ensures made { self.new.under ≡ self.old.under }
-        ensures sectors { self.new.front.sectors ≡ self.old.front.sectors }
-        ensures same_detail { R.detail recorder.new ≡ R.detail recorder.old }
-        ensures same_lender { R.lender recorder.new ≡ R.lender recorder.old }
-        ensures later { R.faults recorder.old ≤ R.faults recorder.new }
-        ensures unfailed { Unfailed result (R.faults recorder.old) (R.faults recorder.new) }
-        ensures failed { result ≡ Err RecordStop.Failed → Rose (R.faults recorder.old) (R.faults recorder.new) }
+        ensures { (disk : DiskSeen) → Goes (IsJobMove number) (IsJobMove number) 0 result
+            (moment self.old disk (R.seen recorder.old))
+            (moment self.new disk (R.seen recorder.new)) }
     {
         let who = BackMover::Job(number);
         let answer = BackAnswer::Word(self.under.read(mapping, word));
@@ -256,18 +208,10 @@ impl Split {
         disk: &mut D,
         recorder: &mut R,
     ) -> Result<(), RecordStop>
-        requires attached { D.attached disk.old ≡ Some self.old.front.sectors }
-        requires left { self.old.under.grants.made + 1 < 2 ^ 64 }
-        ensures goes { Goes (R.detail recorder.old) (IsJobMove number) (IsJobMove number) result (moment self.old (D.content disk.old) (R.told recorder.old)) (moment self.new (D.content disk.new) (R.told recorder.new)) }
-        ensures made { self.new.under.grants.made ≤ self.old.under.grants.made + 1 }
-        ensures sectors { self.new.front.sectors ≡ self.old.front.sectors }
-        ensures attached { D.attached disk.new ≡ D.attached disk.old }
-        ensures disk_later { D.faults disk.old ≤ D.faults disk.new }
-        ensures same_detail { R.detail recorder.new ≡ R.detail recorder.old }
-        ensures same_lender { R.lender recorder.new ≡ R.lender recorder.old }
-        ensures later { R.faults recorder.old ≤ R.faults recorder.new }
-        ensures unfailed { Unfailed result (R.faults recorder.old) (R.faults recorder.new) }
-        ensures failed { result ≡ Err RecordStop.Failed → Rose (R.faults recorder.old) (R.faults recorder.new) }
+        requires { IsReadyFor 1 self.old (D.seen disk.old) }
+        ensures { Goes (IsJobMove number) (IsJobMove number) 1 result
+            (moment self.old (D.seen disk.old) (R.seen recorder.old))
+            (moment self.new (D.seen disk.new) (R.seen recorder.new)) }
     {
         let who = BackMover::Job(number);
         let ask = self.back.job_ask(number);
@@ -283,26 +227,19 @@ impl Split {
     /// A request is handed to the front.
     pub fn submit<R: Recorder>(&mut self, job: Job, recorder: &mut R) -> Result<(), RecordStop>
         ensures widths { JobHasWidths job }
-        ensures goes { (content : Option (List (List ℕ))) → Goes (R.detail recorder.old) (Is (Submits job ∷ [])) (Is (Submits job ∷ [])) result (moment self.old content (R.told recorder.old)) (moment self.new content (R.told recorder.new)) }
-        ensures made { self.new.under ≡ self.old.under }
-        ensures sectors { self.new.front.sectors ≡ self.old.front.sectors }
-        ensures same_detail { R.detail recorder.new ≡ R.detail recorder.old }
-        ensures same_lender { R.lender recorder.new ≡ R.lender recorder.old }
-        ensures later { R.faults recorder.old ≤ R.faults recorder.new }
-        ensures unfailed { Unfailed result (R.faults recorder.old) (R.faults recorder.new) }
-        ensures failed { result ≡ Err RecordStop.Failed → Rose (R.faults recorder.old) (R.faults recorder.new) }
+        ensures goes { (disk : DiskSeen) → Goes (Is (Submits job ∷ [])) (Is (Submits job ∷ [])) 0 result
+            (moment self.old disk (R.seen recorder.old))
+            (moment self.new disk (R.seen recorder.new)) }
     {
         // The job is handed over, and then shown: a reference lets it be read twice.
         let handed = &job;
         let answer = self.front.submit(*handed);
-        say(recorder, &submit_line(*handed, answer))
+        recorder.add(&submit_line(*handed, answer))
     }
 
     /// A spurious event comes at an end's port, where it is bound.
     pub fn notify(&mut self, at: End)
-        ensures goes { self.new ≡ happens self.old (Notifies at) }
-        ensures made { self.new.under.grants ≡ self.old.under.grants }
-        ensures sectors { self.new.front.sectors ≡ self.old.front.sectors }
+        ensures { self.new ≡ happens self.old (Notifies at) }
     {
         match at {
             End::Front => self.under.send(End::Back),

@@ -1,17 +1,95 @@
 // The runner over an outside in memory, as the program holds it.
-ghost use Rattle.std.specs.Prelude.{◌≡◌};
+ghost use Rattle.std.specs.Prelude.{◌≡◌, [], ◌∷◌, length, true, Some, OnOk, IfOk};
+ghost use Rattle.blk_io.specs.Disk.{HasLength, attached_of};
+ghost use Rattle.image_disk.specs.Image.{image_seen};
+ghost use Rattle.schedule_text.specs.declared.line.Detail.TheVariants.{Lines};
+ghost use Rattle.schedule_text.specs.declared.event.Event.TheVariants.{Settle, Submit, Look};
+ghost use Rattle.split_model.specs.Kind.{are_carried, is_carried_job};
+ghost use Rattle.schedule_run.specs.Outcome.{outside, content_of};
+ghost use Rattle.schedule_run.specs.Lawful.{HasLawfulReport, IsLawful};
 
-use crate::{Machine, RunStop, can_carry_out, run};
-use blk_base::{Abi, Config, End, Job};
+use crate::{Machine, RunStop, a_run_begins, can_carry_out, run};
+use blk_base::{Abi, Config, End, Job, SectorCount};
 use blk_io::{FailsAt, MemorySink, MemorySource, SectorDisk};
 use image_disk::{FailsAtCalls, ListedCalls, MemoryDisk};
-use schedule_text::{Detail, Event, Line, LineList, LineSink};
+use schedule_text::{Detail, Event, Line, LineList, LineSink, RecordStop, Recorder};
 use std::alloc::Global;
 use std::test::Fail;
 
+// What a stranger does with a machine: it tells the first line, and carries out events one by one.
+// What was told is a lawful report, by what the calls promise.
+fn writes_a_sector<D: SectorDisk, R: Recorder>(
+    alloc: Global,
+    config: Config,
+    write: Job,
+    disk: &mut D,
+    recorder: &mut R,
+) -> Result<(), RecordStop>
+    requires carried { are_carried config ≡ true }
+    requires one_sector { is_carried_job write ≡ true }
+    requires attached { attached_of (D.seen disk.old) ≡ Some config.sectors }
+    requires sectors { HasLength (content_of (outside (D.seen disk.old) (R.seen recorder.old))) config.sectors }
+    ensures { OnOk result (HasLawfulReport config (Settle ∷ Submit write ∷ Settle ∷ Look ∷ [])
+        (outside (D.seen disk.old) (R.seen recorder.old)) (outside (D.seen disk.new) (R.seen recorder.new))) }
+{
+    let Ok(mut machine) = Machine::new(alloc, &config) else {
+        return Err(RecordStop::OutOfMemory);
+    };
+    let detail = Detail::Moves;
+    recorder.add(&Line::Begin { config, detail })?;
+    a_run_begins();
+    machine.event(Event::Settle, disk, recorder)?;
+    machine.event(Event::Submit(write), disk, recorder)?;
+    machine.event(Event::Settle, disk, recorder)?;
+    machine.event(Event::Look, disk, recorder)
+}
+
+// So it is over a disk in memory, with a list of lines: the list is that report.
+fn lists_a_write(
+    alloc: Global,
+    config: Config,
+    write: Job,
+    disk: &mut MemoryDisk,
+) -> Result<LineList, RecordStop>
+    requires carried { are_carried config ≡ true }
+    requires one_sector { is_carried_job write ≡ true }
+    requires attached { attached_of (image_seen disk.old) ≡ Some config.sectors }
+    requires sectors { length disk.old.content ≡ config.sectors }
+    ensures { IfOk result (λ list. IsLawful config Lines (write ∷ []) (Some disk.old.content) (Some disk.new.content) list.lines.items) }
+{
+    let mut list = LineList::new(alloc, Detail::Lines);
+    writes_a_sector(alloc, config, write, disk, &mut list)?;
+    Ok(list)
+}
+
+#[test]
+fn a_list_holds_a_lawful_report(rt: HostRuntime) -> Result<(), Fail> {
+    let alloc = rt.alloc();
+    let mut disk = zeros(alloc)?;
+    let Ok(sectors) = disk.attach("image", true) else {
+        return Err(Fail::from("attach"));
+    };
+    let Some(count) = SectorCount::new(1) else {
+        return Err(Fail::from("count"));
+    };
+    let write = Job::Write {
+        sector: 3,
+        count,
+        tag: 7,
+    };
+    let list = lists_a_write(alloc, config(sectors), write, &mut disk).map_err(
+        |_| "out of memory",
+    )?;
+    assert_eq!(rt; list.lines.len(), 9);
+    assert_eq!(rt; list.lines.last(), Some(&Line::Quiet));
+    assert_eq!(rt; disk.content().get(3), Some(&[7; 128]));
+    Ok(())
+}
+
 // The options of a run with none of its own.
 fn config(sectors: u64) -> Config
-    ensures { result.sectors ≡ sectors }
+    ensures carried { are_carried result ≡ true }
+    ensures sectors { result.sectors ≡ sectors }
 {
     Config {
         abi: Abi::X64,

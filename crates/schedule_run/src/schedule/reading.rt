@@ -1,9 +1,9 @@
 // The schedule's bytes as they come.
-ghost use Rattle.std.specs.Prelude.{◌≡◌, ◌+◌, ◌*◌, ◌<◌, ◌≤◌, ◌^◌, ◌∷◌, [], Some, OnOk, OnErr, IfOk, IfErr, length};
-ghost use Rattle.schedule_run.specs.Machine.{moment};
-ghost use Rattle.schedule_run.specs.Outcome.{UnfailedRecorder, UnfailedSource};
-ghost use Rattle.schedule_run.specs.Reading.{IsUnbroken, IsWholeSchedule, IsLineOf, IsBadLine};
-ghost use Rattle.schedule_run.specs.Carrying.{standing, CarriesLine, CarriesLast, StopsAtLine, Carries, Halts, Reads, ReadStops};
+ghost use Rattle.std.specs.Prelude.{◌≡◌, ◌≤◌, ◌∷◌, [], OnErr, IfOk, Some, length};
+ghost use Rattle.blk_io.specs.Disk.{attached_of};
+ghost use Rattle.split_model.specs.Leads.{moment};
+ghost use Rattle.schedule_run.specs.Reading.{IsLineOf, IsBadLine};
+ghost use Rattle.schedule_run.specs.Carrying.{standing, IsFresh, IsReadyToTake, Feeds, Finishes, Takes, ReadsAll};
 
 use super::{RunStop, stop_of};
 use crate::machine::{Machine, can_carry_out};
@@ -32,20 +32,11 @@ impl Reader {
         recorder: &mut R,
     ) -> Result<(), RunStop>
         requires limit { bytes_limit ≤ 4294967296 }
-        requires part { self.old.part.items ≡ [] }
-        requires lines { self.old.lines ≡ 0 }
-        requires events { self.old.machine.events ≡ 0 }
-        requires attached { D.attached disk.old ≡ Some self.old.machine.world.front.sectors }
-        ensures done { OnOk result (Reads (IsWholeSchedule bytes_limit) (R.detail recorder.old) (S.left source.old) (moment self.old.machine.world (D.content disk.old) (R.told recorder.old)) (moment self.new.machine.world (D.content disk.new) (R.told recorder.new))) }
-        ensures stopped { IfErr result (λ stop. ReadStops (R.detail recorder.old) bytes_limit (S.left source.old) (S.faults source.old) (S.faults source.new) (R.faults recorder.old) (R.faults recorder.new) stop (moment self.old.machine.world (D.content disk.old) (R.told recorder.old)) (moment self.new.machine.world (D.content disk.new) (R.told recorder.new))) }
-        ensures attached { D.attached disk.new ≡ D.attached disk.old }
-        ensures source_unfailed { UnfailedSource result (S.faults source.old) (S.faults source.new) }
-        ensures source_later { S.faults source.old ≤ S.faults source.new }
-        ensures disk_later { D.faults disk.old ≤ D.faults disk.new }
-        ensures same_detail { R.detail recorder.new ≡ R.detail recorder.old }
-        ensures same_lender { R.lender recorder.new ≡ R.lender recorder.old }
-        ensures unfailed { UnfailedRecorder result (R.faults recorder.old) (R.faults recorder.new) }
-        ensures later { R.faults recorder.old ≤ R.faults recorder.new }
+        requires fresh { IsFresh (standing self.old.machine self.old.part.items self.old.lines (D.seen disk.old) (R.seen recorder.old)) }
+        requires attached { attached_of (D.seen disk.old) ≡ Some self.old.machine.world.front.sectors }
+        ensures { ReadsAll bytes_limit result (S.seen source.old) (S.seen source.new)
+            (moment self.old.machine.world (D.seen disk.old) (R.seen recorder.old))
+            (moment self.new.machine.world (D.seen disk.new) (R.seen recorder.new)) }
     {
         let mut piece = [0; PIECE];
         let mut room = bytes_limit;
@@ -74,19 +65,10 @@ impl Reader {
         disk: &mut D,
         recorder: &mut R,
     ) -> Result<(), RunStop>
-        requires unbroken { IsUnbroken self.old.part.items }
-        requires few { self.old.machine.events < 10 ^ 9 }
-        requires lines { self.old.lines ≤ 4294967296 }
-        requires attached { D.attached disk.old ≡ Some self.old.machine.world.front.sectors }
-        ensures carried { OnOk result (CarriesLast (R.detail recorder.old) self.old.part.items (moment self.old.machine.world (D.content disk.old) (R.told recorder.old)) (moment self.new.machine.world (D.content disk.new) (R.told recorder.new))) }
-        ensures stopped { IfErr result (λ stop. StopsAtLine (R.detail recorder.old) self.old.part.items (self.old.lines + 1) (R.faults recorder.old) (R.faults recorder.new) stop (moment self.old.machine.world (D.content disk.old) (R.told recorder.old)) (moment self.new.machine.world (D.content disk.new) (R.told recorder.new))) }
-        ensures some { OnErr result (0 < length self.old.part.items) }
-        ensures attached { D.attached disk.new ≡ D.attached disk.old }
-        ensures disk_later { D.faults disk.old ≤ D.faults disk.new }
-        ensures same_detail { R.detail recorder.new ≡ R.detail recorder.old }
-        ensures same_lender { R.lender recorder.new ≡ R.lender recorder.old }
-        ensures unfailed { UnfailedRecorder result (R.faults recorder.old) (R.faults recorder.new) }
-        ensures later { R.faults recorder.old ≤ R.faults recorder.new }
+        requires { IsReadyToTake 0 (standing self.old.machine self.old.part.items self.old.lines (D.seen disk.old) (R.seen recorder.old)) }
+        ensures { Finishes result
+            (standing self.old.machine self.old.part.items self.old.lines (D.seen disk.old) (R.seen recorder.old))
+            (standing self.new.machine self.new.part.items self.new.lines (D.seen disk.new) (R.seen recorder.new)) }
     {
         if self.part.is_empty() {
             return Ok(());
@@ -101,20 +83,10 @@ impl Reader {
         disk: &mut D,
         recorder: &mut R,
     ) -> Result<(), RunStop>
-        requires unbroken { IsUnbroken self.old.part.items }
-        requires fits { length self.old.part.items ≤ 128 }
-        requires few { 5 * self.old.machine.events + length self.old.part.items + length piece.now ≤ 4294967296 }
-        requires lines { self.old.lines + length self.old.part.items + length piece.now ≤ 4294967296 }
-        requires attached { D.attached disk.old ≡ Some self.old.machine.world.front.sectors }
-        ensures carried { OnOk result (Carries (R.detail recorder.old) piece.now (standing self.old.machine self.old.part.items self.old.lines (D.content disk.old) (R.told recorder.old)) (standing self.new.machine self.new.part.items self.new.lines (D.content disk.new) (R.told recorder.new))) }
-        ensures stopped { IfErr result (λ stop. Halts (R.detail recorder.old) piece.now (standing self.old.machine self.old.part.items self.old.lines (D.content disk.old) (R.told recorder.old)) (R.faults recorder.old) (R.faults recorder.new) stop (moment self.new.machine.world (D.content disk.new) (R.told recorder.new))) }
-        ensures sectors { self.new.machine.world.front.sectors ≡ self.old.machine.world.front.sectors }
-        ensures attached { D.attached disk.new ≡ D.attached disk.old }
-        ensures disk_later { D.faults disk.old ≤ D.faults disk.new }
-        ensures same_detail { R.detail recorder.new ≡ R.detail recorder.old }
-        ensures same_lender { R.lender recorder.new ≡ R.lender recorder.old }
-        ensures unfailed { UnfailedRecorder result (R.faults recorder.old) (R.faults recorder.new) }
-        ensures later { R.faults recorder.old ≤ R.faults recorder.new }
+        requires { IsReadyToTake (length piece.now) (standing self.old.machine self.old.part.items self.old.lines (D.seen disk.old) (R.seen recorder.old)) }
+        ensures { Takes piece.now result
+            (standing self.old.machine self.old.part.items self.old.lines (D.seen disk.old) (R.seen recorder.old))
+            (standing self.new.machine self.new.part.items self.new.lines (D.seen disk.new) (R.seen recorder.new)) }
     {
         for byte in piece {
             self.take_byte(*byte, disk, recorder)?;
@@ -129,19 +101,10 @@ impl Reader {
         disk: &mut D,
         recorder: &mut R,
     ) -> Result<(), RunStop>
-        requires unbroken { IsUnbroken self.old.part.items }
-        requires few { self.old.machine.events < 10 ^ 9 }
-        requires lines { self.old.lines ≤ 4294967296 }
-        requires attached { D.attached disk.old ≡ Some self.old.machine.world.front.sectors }
-        ensures carried { OnOk result (Carries (R.detail recorder.old) (byte ∷ []) (standing self.old.machine self.old.part.items self.old.lines (D.content disk.old) (R.told recorder.old)) (standing self.new.machine self.new.part.items self.new.lines (D.content disk.new) (R.told recorder.new))) }
-        ensures stopped { IfErr result (λ stop. Halts (R.detail recorder.old) (byte ∷ []) (standing self.old.machine self.old.part.items self.old.lines (D.content disk.old) (R.told recorder.old)) (R.faults recorder.old) (R.faults recorder.new) stop (moment self.new.machine.world (D.content disk.new) (R.told recorder.new))) }
-        ensures sectors { self.new.machine.world.front.sectors ≡ self.old.machine.world.front.sectors }
-        ensures attached { D.attached disk.new ≡ D.attached disk.old }
-        ensures disk_later { D.faults disk.old ≤ D.faults disk.new }
-        ensures same_detail { R.detail recorder.new ≡ R.detail recorder.old }
-        ensures same_lender { R.lender recorder.new ≡ R.lender recorder.old }
-        ensures unfailed { UnfailedRecorder result (R.faults recorder.old) (R.faults recorder.new) }
-        ensures later { R.faults recorder.old ≤ R.faults recorder.new }
+        requires { IsReadyToTake 1 (standing self.old.machine self.old.part.items self.old.lines (D.seen disk.old) (R.seen recorder.old)) }
+        ensures { Takes (byte ∷ []) result
+            (standing self.old.machine self.old.part.items self.old.lines (D.seen disk.old) (R.seen recorder.old))
+            (standing self.new.machine self.new.part.items self.new.lines (D.seen disk.new) (R.seen recorder.new)) }
     {
         if byte == b'\n' {
             return self.carry_out(disk, recorder);
@@ -159,20 +122,10 @@ impl Reader {
         disk: &mut D,
         recorder: &mut R,
     ) -> Result<(), RunStop>
-        requires few { self.old.machine.events < 10 ^ 9 }
-        requires lines { self.old.lines ≤ 4294967296 }
-        requires attached { D.attached disk.old ≡ Some self.old.machine.world.front.sectors }
-        ensures carried { OnOk result (CarriesLine (R.detail recorder.old) self.old.part.items self.old.machine.events self.new.machine.events (moment self.old.machine.world (D.content disk.old) (R.told recorder.old)) (moment self.new.machine.world (D.content disk.new) (R.told recorder.new))) }
-        ensures part { OnOk result (self.new.part.items ≡ []) }
-        ensures lines { OnOk result (self.new.lines ≡ self.old.lines + 1) }
-        ensures stopped { IfErr result (λ stop. StopsAtLine (R.detail recorder.old) self.old.part.items (self.old.lines + 1) (R.faults recorder.old) (R.faults recorder.new) stop (moment self.old.machine.world (D.content disk.old) (R.told recorder.old)) (moment self.new.machine.world (D.content disk.new) (R.told recorder.new))) }
-        ensures sectors { self.new.machine.world.front.sectors ≡ self.old.machine.world.front.sectors }
-        ensures attached { D.attached disk.new ≡ D.attached disk.old }
-        ensures disk_later { D.faults disk.old ≤ D.faults disk.new }
-        ensures same_detail { R.detail recorder.new ≡ R.detail recorder.old }
-        ensures same_lender { R.lender recorder.new ≡ R.lender recorder.old }
-        ensures unfailed { UnfailedRecorder result (R.faults recorder.old) (R.faults recorder.new) }
-        ensures later { R.faults recorder.old ≤ R.faults recorder.new }
+        requires { IsReadyToTake 0 (standing self.old.machine self.old.part.items self.old.lines (D.seen disk.old) (R.seen recorder.old)) }
+        ensures { Feeds result
+            (standing self.old.machine self.old.part.items self.old.lines (D.seen disk.old) (R.seen recorder.old))
+            (standing self.new.machine self.new.part.items self.new.lines (D.seen disk.new) (R.seen recorder.new)) }
     {
         let number = self.lines + 1;
         let event = match line_event(self.part.as_slice()) {

@@ -1,29 +1,22 @@
 // Many moves: of one end, of a job, and in rounds.
-ghost use Rattle.std.specs.Prelude.{◌≡◌, ◌+◌, ◌*◌, ◌<◌, ◌≤◌, ◌^◌, ◌∷◌, [], List, ℕ, Option, Some, None, Err, replicate};
-ghost use Rattle.blk_io.specs.Outside.{Rose};
-ghost use Rattle.schedule_text.specs.Recorder.{Unfailed};
+ghost use Rattle.std.specs.Prelude.{◌*◌, ◌∷◌, [], replicate};
+ghost use Rattle.blk_io.specs.Disk.{DiskSeen};
 ghost use Rattle.split_model.specs.World.{is_quiet};
 ghost use Rattle.split_model.specs.Happening.{FrontMoves, BackMoves, Looks};
-ghost use Rattle.split_model.specs.Kind.{connecting, front_move, front_moves, back_moves, IsBeginning, AreSomeJobMoves, AreFewJobMoves, AreAllJobs, HasEachJobs, IsRound, IsRoundSoFar, AreRounds, never, AreRoundsSoFar, AreRoundsUntilQuiet, IsSettling, IsSettlingSoFar};
-ghost use Rattle.split_model.specs.Leads.{Goes, Is};
-ghost use Rattle.schedule_run.specs.Machine.{moment};
+ghost use Rattle.split_model.specs.Kind.{connecting, front_move, front_moves, back_moves, IsBeginning, AreSomeJobMoves, AreFewJobMoves, AreAllJobs, HasEachJobs};
+ghost use Rattle.split_model.specs.Kind.{IsRound, IsRoundSoFar, AreRounds, never, AreRoundsSoFar, AreRoundsUntilQuiet, IsSettling, IsSettlingSoFar};
+ghost use Rattle.split_model.specs.Leads.{Goes, Is, IsReadyFor, moment};
 
 use super::Split;
-use crate::showing::say;
 use blk_io::SectorDisk;
 use schedule_text::{Line, RecordStop, Recorder};
 
 impl Split {
     // That many moves of the front, where it has them.
     fn repeat_front<R: Recorder>(&mut self, count: u32, recorder: &mut R) -> Result<(), RecordStop>
-        ensures goes { (content : Option (List (List ℕ))) → Goes (R.detail recorder.old) (Is (replicate count FrontMoves)) (λ hs. IsBeginning hs (replicate count FrontMoves)) result (moment self.old content (R.told recorder.old)) (moment self.new content (R.told recorder.new)) }
-        ensures made { self.new.under.grants ≡ self.old.under.grants }
-        ensures sectors { self.new.front.sectors ≡ self.old.front.sectors }
-        ensures same_detail { R.detail recorder.new ≡ R.detail recorder.old }
-        ensures same_lender { R.lender recorder.new ≡ R.lender recorder.old }
-        ensures later { R.faults recorder.old ≤ R.faults recorder.new }
-        ensures unfailed { Unfailed result (R.faults recorder.old) (R.faults recorder.new) }
-        ensures failed { result ≡ Err RecordStop.Failed → Rose (R.faults recorder.old) (R.faults recorder.new) }
+        ensures { (disk : DiskSeen) → Goes (Is (replicate count FrontMoves)) (λ hs. IsBeginning hs (replicate count FrontMoves)) 0 result
+            (moment self.old disk (R.seen recorder.old))
+            (moment self.new disk (R.seen recorder.new)) }
     {
         for _ in 0..count {
             self.front_move(recorder)?;
@@ -38,18 +31,10 @@ impl Split {
         disk: &mut D,
         recorder: &mut R,
     ) -> Result<(), RecordStop>
-        requires attached { D.attached disk.old ≡ Some self.old.front.sectors }
-        requires left { self.old.under.grants.made + count < 2 ^ 64 }
-        ensures goes { Goes (R.detail recorder.old) (Is (replicate count BackMoves)) (λ hs. IsBeginning hs (replicate count BackMoves)) result (moment self.old (D.content disk.old) (R.told recorder.old)) (moment self.new (D.content disk.new) (R.told recorder.new)) }
-        ensures made { self.new.under.grants.made ≤ self.old.under.grants.made + count }
-        ensures sectors { self.new.front.sectors ≡ self.old.front.sectors }
-        ensures attached { D.attached disk.new ≡ D.attached disk.old }
-        ensures disk_later { D.faults disk.old ≤ D.faults disk.new }
-        ensures same_detail { R.detail recorder.new ≡ R.detail recorder.old }
-        ensures same_lender { R.lender recorder.new ≡ R.lender recorder.old }
-        ensures later { R.faults recorder.old ≤ R.faults recorder.new }
-        ensures unfailed { Unfailed result (R.faults recorder.old) (R.faults recorder.new) }
-        ensures failed { result ≡ Err RecordStop.Failed → Rose (R.faults recorder.old) (R.faults recorder.new) }
+        requires { IsReadyFor count self.old (D.seen disk.old) }
+        ensures { Goes (Is (replicate count BackMoves)) (λ hs. IsBeginning hs (replicate count BackMoves)) count result
+            (moment self.old (D.seen disk.old) (R.seen recorder.old))
+            (moment self.new (D.seen disk.new) (R.seen recorder.new)) }
     {
         for _ in 0..count {
             self.back_move(disk, recorder)?;
@@ -63,18 +48,10 @@ impl Split {
         disk: &mut D,
         recorder: &mut R,
     ) -> Result<(), RecordStop>
-        requires attached { D.attached disk.old ≡ Some self.old.front.sectors }
-        requires left { self.old.under.grants.made + 2 < 2 ^ 64 }
-        ensures goes { Goes (R.detail recorder.old) (Is connecting) (λ hs. IsBeginning hs connecting) result (moment self.old (D.content disk.old) (R.told recorder.old)) (moment self.new (D.content disk.new) (R.told recorder.new)) }
-        ensures made { self.new.under.grants.made ≤ self.old.under.grants.made + 2 }
-        ensures sectors { self.new.front.sectors ≡ self.old.front.sectors }
-        ensures attached { D.attached disk.new ≡ D.attached disk.old }
-        ensures disk_later { D.faults disk.old ≤ D.faults disk.new }
-        ensures same_detail { R.detail recorder.new ≡ R.detail recorder.old }
-        ensures same_lender { R.lender recorder.new ≡ R.lender recorder.old }
-        ensures later { R.faults recorder.old ≤ R.faults recorder.new }
-        ensures unfailed { Unfailed result (R.faults recorder.old) (R.faults recorder.new) }
-        ensures failed { result ≡ Err RecordStop.Failed → Rose (R.faults recorder.old) (R.faults recorder.new) }
+        requires { IsReadyFor 2 self.old (D.seen disk.old) }
+        ensures { Goes (Is connecting) (λ hs. IsBeginning hs connecting) 2 result
+            (moment self.old (D.seen disk.old) (R.seen recorder.old))
+            (moment self.new (D.seen disk.new) (R.seen recorder.new)) }
     {
         self.repeat_front(20, recorder)?;
         self.repeat_back(2, disk, recorder)
@@ -87,18 +64,10 @@ impl Split {
         disk: &mut D,
         recorder: &mut R,
     ) -> Result<(), RecordStop>
-        requires attached { D.attached disk.old ≡ Some self.old.front.sectors }
-        requires left { self.old.under.grants.made + 2 < 2 ^ 64 }
-        ensures goes { Goes (R.detail recorder.old) (Is (front_move self.old)) (λ hs. IsBeginning hs (front_move self.old)) result (moment self.old (D.content disk.old) (R.told recorder.old)) (moment self.new (D.content disk.new) (R.told recorder.new)) }
-        ensures made { self.new.under.grants.made ≤ self.old.under.grants.made + 2 }
-        ensures sectors { self.new.front.sectors ≡ self.old.front.sectors }
-        ensures attached { D.attached disk.new ≡ D.attached disk.old }
-        ensures disk_later { D.faults disk.old ≤ D.faults disk.new }
-        ensures same_detail { R.detail recorder.new ≡ R.detail recorder.old }
-        ensures same_lender { R.lender recorder.new ≡ R.lender recorder.old }
-        ensures later { R.faults recorder.old ≤ R.faults recorder.new }
-        ensures unfailed { Unfailed result (R.faults recorder.old) (R.faults recorder.new) }
-        ensures failed { result ≡ Err RecordStop.Failed → Rose (R.faults recorder.old) (R.faults recorder.new) }
+        requires { IsReadyFor 2 self.old (D.seen disk.old) }
+        ensures { Goes (Is (front_move self.old)) (λ hs. IsBeginning hs (front_move self.old)) 2 result
+            (moment self.old (D.seen disk.old) (R.seen recorder.old))
+            (moment self.new (D.seen disk.new) (R.seen recorder.new)) }
     {
         if self.front.is_connected() {
             self.front_move(recorder)
@@ -114,18 +83,10 @@ impl Split {
         disk: &mut D,
         recorder: &mut R,
     ) -> Result<(), RecordStop>
-        requires attached { D.attached disk.old ≡ Some self.old.front.sectors }
-        requires left { self.old.under.grants.made + 2 < 2 ^ 64 }
-        ensures goes { Goes (R.detail recorder.old) (Is (front_moves self.old count)) (λ hs. IsBeginning hs (front_moves self.old count)) result (moment self.old (D.content disk.old) (R.told recorder.old)) (moment self.new (D.content disk.new) (R.told recorder.new)) }
-        ensures made { self.new.under.grants.made ≤ self.old.under.grants.made + 2 }
-        ensures sectors { self.new.front.sectors ≡ self.old.front.sectors }
-        ensures attached { D.attached disk.new ≡ D.attached disk.old }
-        ensures disk_later { D.faults disk.old ≤ D.faults disk.new }
-        ensures same_detail { R.detail recorder.new ≡ R.detail recorder.old }
-        ensures same_lender { R.lender recorder.new ≡ R.lender recorder.old }
-        ensures later { R.faults recorder.old ≤ R.faults recorder.new }
-        ensures unfailed { Unfailed result (R.faults recorder.old) (R.faults recorder.new) }
-        ensures failed { result ≡ Err RecordStop.Failed → Rose (R.faults recorder.old) (R.faults recorder.new) }
+        requires { IsReadyFor 2 self.old (D.seen disk.old) }
+        ensures { Goes (Is (front_moves self.old count)) (λ hs. IsBeginning hs (front_moves self.old count)) 2 result
+            (moment self.old (D.seen disk.old) (R.seen recorder.old))
+            (moment self.new (D.seen disk.new) (R.seen recorder.new)) }
     {
         if count == 0 {
             return Ok(());
@@ -141,18 +102,10 @@ impl Split {
         disk: &mut D,
         recorder: &mut R,
     ) -> Result<(), RecordStop>
-        requires attached { D.attached disk.old ≡ Some self.old.front.sectors }
-        requires left { self.old.under.grants.made + count < 2 ^ 64 }
-        ensures goes { Goes (R.detail recorder.old) (Is (back_moves self.old count)) (λ hs. IsBeginning hs (back_moves self.old count)) result (moment self.old (D.content disk.old) (R.told recorder.old)) (moment self.new (D.content disk.new) (R.told recorder.new)) }
-        ensures made { self.new.under.grants.made ≤ self.old.under.grants.made + count }
-        ensures sectors { self.new.front.sectors ≡ self.old.front.sectors }
-        ensures attached { D.attached disk.new ≡ D.attached disk.old }
-        ensures disk_later { D.faults disk.old ≤ D.faults disk.new }
-        ensures same_detail { R.detail recorder.new ≡ R.detail recorder.old }
-        ensures same_lender { R.lender recorder.new ≡ R.lender recorder.old }
-        ensures later { R.faults recorder.old ≤ R.faults recorder.new }
-        ensures unfailed { Unfailed result (R.faults recorder.old) (R.faults recorder.new) }
-        ensures failed { result ≡ Err RecordStop.Failed → Rose (R.faults recorder.old) (R.faults recorder.new) }
+        requires { IsReadyFor count self.old (D.seen disk.old) }
+        ensures { Goes (Is (back_moves self.old count)) (λ hs. IsBeginning hs (back_moves self.old count)) count result
+            (moment self.old (D.seen disk.old) (R.seen recorder.old))
+            (moment self.new (D.seen disk.new) (R.seen recorder.new)) }
     {
         if !self.front.is_connected() {
             return Ok(());
@@ -168,18 +121,10 @@ impl Split {
         disk: &mut D,
         recorder: &mut R,
     ) -> Result<(), RecordStop>
-        requires attached { D.attached disk.old ≡ Some self.old.front.sectors }
-        requires left { self.old.under.grants.made + count < 2 ^ 64 }
-        ensures goes { Goes (R.detail recorder.old) (AreSomeJobMoves number count) (AreFewJobMoves number count) result (moment self.old (D.content disk.old) (R.told recorder.old)) (moment self.new (D.content disk.new) (R.told recorder.new)) }
-        ensures made { self.new.under.grants.made ≤ self.old.under.grants.made + count }
-        ensures sectors { self.new.front.sectors ≡ self.old.front.sectors }
-        ensures attached { D.attached disk.new ≡ D.attached disk.old }
-        ensures disk_later { D.faults disk.old ≤ D.faults disk.new }
-        ensures same_detail { R.detail recorder.new ≡ R.detail recorder.old }
-        ensures same_lender { R.lender recorder.new ≡ R.lender recorder.old }
-        ensures later { R.faults recorder.old ≤ R.faults recorder.new }
-        ensures unfailed { Unfailed result (R.faults recorder.old) (R.faults recorder.new) }
-        ensures failed { result ≡ Err RecordStop.Failed → Rose (R.faults recorder.old) (R.faults recorder.new) }
+        requires { IsReadyFor count self.old (D.seen disk.old) }
+        ensures { Goes (AreSomeJobMoves number count) (AreFewJobMoves number count) count result
+            (moment self.old (D.seen disk.old) (R.seen recorder.old))
+            (moment self.new (D.seen disk.new) (R.seen recorder.new)) }
     {
         for _ in 0..count {
             self.job_move(u64::from(number), disk, recorder)?;
@@ -194,18 +139,10 @@ impl Split {
         disk: &mut D,
         recorder: &mut R,
     ) -> Result<(), RecordStop>
-        requires attached { D.attached disk.old ≡ Some self.old.front.sectors }
-        requires left { self.old.under.grants.made + 32 < 2 ^ 64 }
-        ensures goes { Goes (R.detail recorder.old) (AreAllJobs self.old) (λ hs. HasEachJobs self.old hs) result (moment self.old (D.content disk.old) (R.told recorder.old)) (moment self.new (D.content disk.new) (R.told recorder.new)) }
-        ensures made { self.new.under.grants.made ≤ self.old.under.grants.made + 32 }
-        ensures sectors { self.new.front.sectors ≡ self.old.front.sectors }
-        ensures attached { D.attached disk.new ≡ D.attached disk.old }
-        ensures disk_later { D.faults disk.old ≤ D.faults disk.new }
-        ensures same_detail { R.detail recorder.new ≡ R.detail recorder.old }
-        ensures same_lender { R.lender recorder.new ≡ R.lender recorder.old }
-        ensures later { R.faults recorder.old ≤ R.faults recorder.new }
-        ensures unfailed { Unfailed result (R.faults recorder.old) (R.faults recorder.new) }
-        ensures failed { result ≡ Err RecordStop.Failed → Rose (R.faults recorder.old) (R.faults recorder.new) }
+        requires { IsReadyFor 32 self.old (D.seen disk.old) }
+        ensures { Goes (AreAllJobs self.old) (λ hs. HasEachJobs self.old hs) 32 result
+            (moment self.old (D.seen disk.old) (R.seen recorder.old))
+            (moment self.new (D.seen disk.new) (R.seen recorder.new)) }
     {
         let mut last = 0;
         while let Some(number) = self.back.next_job(last) {
@@ -222,18 +159,10 @@ impl Split {
         disk: &mut D,
         recorder: &mut R,
     ) -> Result<(), RecordStop>
-        requires attached { D.attached disk.old ≡ Some self.old.front.sectors }
-        requires left { self.old.under.grants.made + 35 < 2 ^ 64 }
-        ensures goes { Goes (R.detail recorder.old) (IsRound self.old) (IsRoundSoFar self.old) result (moment self.old (D.content disk.old) (R.told recorder.old)) (moment self.new (D.content disk.new) (R.told recorder.new)) }
-        ensures made { self.new.under.grants.made ≤ self.old.under.grants.made + 35 }
-        ensures sectors { self.new.front.sectors ≡ self.old.front.sectors }
-        ensures attached { D.attached disk.new ≡ D.attached disk.old }
-        ensures disk_later { D.faults disk.old ≤ D.faults disk.new }
-        ensures same_detail { R.detail recorder.new ≡ R.detail recorder.old }
-        ensures same_lender { R.lender recorder.new ≡ R.lender recorder.old }
-        ensures later { R.faults recorder.old ≤ R.faults recorder.new }
-        ensures unfailed { Unfailed result (R.faults recorder.old) (R.faults recorder.new) }
-        ensures failed { result ≡ Err RecordStop.Failed → Rose (R.faults recorder.old) (R.faults recorder.new) }
+        requires { IsReadyFor 35 self.old (D.seen disk.old) }
+        ensures { Goes (IsRound self.old) (IsRoundSoFar self.old) 35 result
+            (moment self.old (D.seen disk.old) (R.seen recorder.old))
+            (moment self.new (D.seen disk.new) (R.seen recorder.new)) }
     {
         self.front_turn(disk, recorder)?;
         self.back_move(disk, recorder)?;
@@ -247,18 +176,10 @@ impl Split {
         disk: &mut D,
         recorder: &mut R,
     ) -> Result<(), RecordStop>
-        requires attached { D.attached disk.old ≡ Some self.old.front.sectors }
-        requires left { self.old.under.grants.made + (35 * count) < 2 ^ 64 }
-        ensures goes { Goes (R.detail recorder.old) (AreRounds never count self.old) (AreRoundsSoFar never count self.old) result (moment self.old (D.content disk.old) (R.told recorder.old)) (moment self.new (D.content disk.new) (R.told recorder.new)) }
-        ensures made { self.new.under.grants.made ≤ self.old.under.grants.made + (35 * count) }
-        ensures sectors { self.new.front.sectors ≡ self.old.front.sectors }
-        ensures attached { D.attached disk.new ≡ D.attached disk.old }
-        ensures disk_later { D.faults disk.old ≤ D.faults disk.new }
-        ensures same_detail { R.detail recorder.new ≡ R.detail recorder.old }
-        ensures same_lender { R.lender recorder.new ≡ R.lender recorder.old }
-        ensures later { R.faults recorder.old ≤ R.faults recorder.new }
-        ensures unfailed { Unfailed result (R.faults recorder.old) (R.faults recorder.new) }
-        ensures failed { result ≡ Err RecordStop.Failed → Rose (R.faults recorder.old) (R.faults recorder.new) }
+        requires { IsReadyFor (35 * count) self.old (D.seen disk.old) }
+        ensures { Goes (AreRounds never count self.old) (AreRoundsSoFar never count self.old) (35 * count) result
+            (moment self.old (D.seen disk.old) (R.seen recorder.old))
+            (moment self.new (D.seen disk.new) (R.seen recorder.new)) }
     {
         for _ in 0..count {
             self.round(disk, recorder)?;
@@ -273,18 +194,10 @@ impl Split {
         disk: &mut D,
         recorder: &mut R,
     ) -> Result<(), RecordStop>
-        requires attached { D.attached disk.old ≡ Some self.old.front.sectors }
-        requires left { self.old.under.grants.made + (35 * bound) < 2 ^ 64 }
-        ensures goes { Goes (R.detail recorder.old) (AreRoundsUntilQuiet bound self.old) (AreRoundsSoFar is_quiet bound self.old) result (moment self.old (D.content disk.old) (R.told recorder.old)) (moment self.new (D.content disk.new) (R.told recorder.new)) }
-        ensures made { self.new.under.grants.made ≤ self.old.under.grants.made + (35 * bound) }
-        ensures sectors { self.new.front.sectors ≡ self.old.front.sectors }
-        ensures attached { D.attached disk.new ≡ D.attached disk.old }
-        ensures disk_later { D.faults disk.old ≤ D.faults disk.new }
-        ensures same_detail { R.detail recorder.new ≡ R.detail recorder.old }
-        ensures same_lender { R.lender recorder.new ≡ R.lender recorder.old }
-        ensures later { R.faults recorder.old ≤ R.faults recorder.new }
-        ensures unfailed { Unfailed result (R.faults recorder.old) (R.faults recorder.new) }
-        ensures failed { result ≡ Err RecordStop.Failed → Rose (R.faults recorder.old) (R.faults recorder.new) }
+        requires { IsReadyFor (35 * bound) self.old (D.seen disk.old) }
+        ensures { Goes (AreRoundsUntilQuiet bound self.old) (AreRoundsSoFar is_quiet bound self.old) (35 * bound) result
+            (moment self.old (D.seen disk.old) (R.seen recorder.old))
+            (moment self.new (D.seen disk.new) (R.seen recorder.new)) }
     {
         for _ in 0..bound {
             if self.is_quiet() {
@@ -301,18 +214,10 @@ impl Split {
         disk: &mut D,
         recorder: &mut R,
     ) -> Result<(), RecordStop>
-        requires attached { D.attached disk.old ≡ Some self.old.front.sectors }
-        requires left { self.old.under.grants.made + 5180000 < 2 ^ 64 }
-        ensures goes { Goes (R.detail recorder.old) (IsSettling self.old) (IsSettlingSoFar self.old) result (moment self.old (D.content disk.old) (R.told recorder.old)) (moment self.new (D.content disk.new) (R.told recorder.new)) }
-        ensures made { self.new.under.grants.made ≤ self.old.under.grants.made + 5180000 }
-        ensures sectors { self.new.front.sectors ≡ self.old.front.sectors }
-        ensures attached { D.attached disk.new ≡ D.attached disk.old }
-        ensures disk_later { D.faults disk.old ≤ D.faults disk.new }
-        ensures same_detail { R.detail recorder.new ≡ R.detail recorder.old }
-        ensures same_lender { R.lender recorder.new ≡ R.lender recorder.old }
-        ensures later { R.faults recorder.old ≤ R.faults recorder.new }
-        ensures unfailed { Unfailed result (R.faults recorder.old) (R.faults recorder.new) }
-        ensures failed { result ≡ Err RecordStop.Failed → Rose (R.faults recorder.old) (R.faults recorder.new) }
+        requires { IsReadyFor 5180000 self.old (D.seen disk.old) }
+        ensures { Goes (IsSettling self.old) (IsSettlingSoFar self.old) 5180000 result
+            (moment self.old (D.seen disk.old) (R.seen recorder.old))
+            (moment self.new (D.seen disk.new) (R.seen recorder.new)) }
     {
         let (requests, _) = self.front.owed();
         let bound = 20_000 + 4_000 * u64::from(requests);
@@ -322,24 +227,20 @@ impl Split {
         } else {
             Line::Unsettled
         };
-        say(recorder, &line)
+        recorder.add(&line)
     }
 
     /// Whether all is quiet, said in a line.
     pub fn look<R: Recorder>(&mut self, recorder: &mut R) -> Result<(), RecordStop>
-        ensures goes { (content : Option (List (List ℕ))) → Goes (R.detail recorder.old) (Is (Looks ∷ [])) (Is (Looks ∷ [])) result (moment self.old content (R.told recorder.old)) (moment self.new content (R.told recorder.new)) }
-        ensures same { self.new ≡ self.old }
-        ensures same_detail { R.detail recorder.new ≡ R.detail recorder.old }
-        ensures same_lender { R.lender recorder.new ≡ R.lender recorder.old }
-        ensures later { R.faults recorder.old ≤ R.faults recorder.new }
-        ensures unfailed { Unfailed result (R.faults recorder.old) (R.faults recorder.new) }
-        ensures failed { result ≡ Err RecordStop.Failed → Rose (R.faults recorder.old) (R.faults recorder.new) }
+        ensures { (disk : DiskSeen) → Goes (Is (Looks ∷ [])) (Is (Looks ∷ [])) 0 result
+            (moment self.old disk (R.seen recorder.old))
+            (moment self.new disk (R.seen recorder.new)) }
     {
         let line = if self.is_quiet() {
             Line::Quiet
         } else {
             Line::Busy
         };
-        say(recorder, &line)
+        recorder.add(&line)
     }
 }

@@ -1,15 +1,14 @@
-use Rattle.std.proofs.Common.{refl}
-use Rattle.schedule_run.proofs.Unsent.{stopped_sent, ended_unsent, sent}
+use Rattle.std.proofs.Common.{Ok, subst}
+use Rattle.schedule_run.specs.Outcome.{outside, RunsTo}
+use Rattle.schedule_run.proofs.Ending.{done_unsent, handed_done}
 use Rattle.schedule_run.proofs.schedule.carry_out.Goals as goal
 
-pub returns-in-Ok-clause-stopped : goal.returns-in-Ok-clause-stopped
-returns-in-Ok-clause-stopped g c = stopped_sent _ _ _ _ _ _ _ _ _ _ _ _ _ _ c.tell-ended.ensures.later c.in-Ok.ensures.later c.in-Ok.ensures.told c.tell-ended.ensures.stopped
+pub returns-in-Err-Ok : goal.returns-in-Err-Ok
+returns-in-Err-Ok g c =
+    let old = outside (g.D.SectorDisk.seen c.args.disk.now) (g.R.Recorder.seen c.args.recorder.now) in
+    let told = outside (g.D.SectorDisk.seen c.tell-ended.new.disk) (g.R.Recorder.seen c.tell-ended.new.recorder) in
+    done_unsent _ _ _ _ old _ (g.R.Recorder.seen c.tell-ended.new.recorder) _
+    (subst (λ r. RunsTo c.args.config c.args.bytes_limit r (g.S.Source.seen c.args.source.now) (g.S.Source.seen c.tell-ended.new.source) old told) c.in-Err-Ok.is-1 c.tell-ended.ensures) c.in-Err-Ok.ensures
 
-pub returns-in-Ok-clause-handed_on_so_far : goal.returns-in-Ok-clause-handed_on_so_far
-returns-in-Ok-clause-handed_on_so_far g c = sent _ c.in-Ok.ensures.handed_on
-
-pub returns-in-Err-clause-stopped : goal.returns-in-Err-clause-stopped
-returns-in-Err-clause-stopped g c = ended_unsent _ _ _ _ _ _ _ _ _ _ _ _ _ _ c.tell-ended.ensures.later c.in-Err.ensures.failed c.in-Err.ensures.told c.tell-ended.ensures.done c.tell-ended.ensures.stopped
-
-pub returns-in-Err-clause-handed_on_so_far : goal.returns-in-Err-clause-handed_on_so_far
-returns-in-Err-clause-handed_on_so_far g c other = absurd (other refl)
+pub returns-in_default-2 : goal.returns-in_default-2
+returns-in_default-2 g c = handed_done _ _ _ _ _ _ _ _ _ c.tell-ended.ensures c.in_default.ensures

@@ -1,21 +1,33 @@
-use Rattle.std.proofs.Common.{◌≡◌, true, refl, ap, sym, ◌∙◌}
-use Rattle.split_model.specs.Kind.{is_carried, is_carried_job}
-use Rattle.split_model.proofs.Joining.{goes_as}
+use Rattle.std.proofs.Common.{◌<◌, ◌^◌, refl, sym, subst, arith}
 use Rattle.split_model.specs.Happening.{Notifies}
-use Rattle.split_model.proofs.Running.{leads_one}
-use Rattle.split_model.proofs.Showing.{shows_none}
+use Rattle.split_model.proofs.Running.{goes_as, goes_one}
+use Rattle.schedule_text.proofs.Adding.{gained_none}
+use Rattle.schedule_run.specs.Machine.{Run}
+use Rattle.schedule_run.proofs.Within.{within_on}
 use Rattle.schedule_run.proofs.machine.Machine.carry_out.Goals as goal
+
+pub invariant_of-self : goal.invariant_of-self
+invariant_of-self g c =
+    let few : c.self.inside.events < 10 ^ 9 = subst (λ (m : Run). m.events < 10 ^ 9) (sym c.self.view_is) c.requires.few in
+    let went = c.submit.ensures.goes (g.D.SectorDisk.seen c.args.disk.now) in
+    within_on c.self.inside.split c.submit.new.self c.self.inside.events 0 (omega arith) few went.keeps.made c.self.invariant
+
+pub invariant_of-self-in-Look : goal.invariant_of-self-in-Look
+invariant_of-self-in-Look g c =
+    let few : c.self.inside.events < 10 ^ 9 = subst (λ (m : Run). m.events < 10 ^ 9) (sym c.self.view_is) c.requires.few in
+    let went = c.look.ensures (g.D.SectorDisk.seen c.args.disk.now) in
+    within_on c.self.inside.split c.look.new.self c.self.inside.events 0 (omega arith) few went.keeps.made c.self.invariant
 
 pub returns-in-Submit-clause-goes : goal.returns-in-Submit-clause-goes
 returns-in-Submit-clause-goes g c =
-    let carried : is_carried_job c.in-Submit.job ≡ true = ap is_carried (sym c.in-Submit.is) ∙ c.requires.carried in
-    rw (c.in-Submit.is, ← c.self.view_is) (goes_as _ _ _ _ _ _ _ _ (λ hs k. (k, c.submit.ensures.widths, carried)) (λ hs k. (k, c.submit.ensures.widths, carried)) (c.submit.ensures.goes (g.D.SectorDisk.content c.args.disk.now)))
+    rw (c.in-Submit.is, ← c.self.view_is) (goes_as _ _ _ _ 0 (10 ^ 10) _ _ _ (omega arith) (λ hs k. (k, c.submit.ensures.widths)) (λ hs k. (k, c.submit.ensures.widths)) (c.submit.ensures.goes (g.D.SectorDisk.seen c.args.disk.now)))
 
 pub returns-in-Settle-clause-goes : goal.returns-in-Settle-clause-goes
-returns-in-Settle-clause-goes g c = rw (c.in-Settle.is, ← c.self.view_is) c.settle.ensures.goes
+returns-in-Settle-clause-goes g c = rw (c.in-Settle.is, ← c.self.view_is) (goes_as _ _ _ _ 5180000 (10 ^ 10) _ _ _ (omega arith) (λ hs k. k) (λ hs k. k) c.settle.ensures)
 
 pub returns-in-Look-clause-goes : goal.returns-in-Look-clause-goes
-returns-in-Look-clause-goes g c = rw (c.in-Look.is, ← c.self.view_is) (c.look.ensures.goes (g.D.SectorDisk.content c.args.disk.now))
+returns-in-Look-clause-goes g c = rw (c.in-Look.is, ← c.self.view_is) (goes_as _ _ _ _ 0 (10 ^ 10) _ _ _ (omega arith) (λ hs k. k) (λ hs k. k) (c.look.ensures (g.D.SectorDisk.seen c.args.disk.now)))
 
 pub returns-in-Notify-clause-goes : goal.returns-in-Notify-clause-goes
-returns-in-Notify-clause-goes g c = rw (c.in-Notify.is, ← c.self.view_is) (leads_one _ (Notifies c.in-Notify.at) _ _ c.notify.ensures.goes refl (shows_none (g.R.Recorder.detail c.args.recorder.now) _))
+returns-in-Notify-clause-goes g c =
+    rw (c.in-Notify.is, ← c.self.view_is) (goes_one _ _ (10 ^ 10) (Notifies c.in-Notify.at) _ _ _ refl refl c.notify.ensures (rw c.notify.ensures (omega arith)) (rw c.notify.ensures refl) refl (gained_none _))

@@ -1,4 +1,4 @@
-use Rattle.std.proofs.Common.{refl}
+use Rattle.std.proofs.Common.{◌∷◌, [], refl}
 use Rattle.split_model.specs.Shown.{back_lines, halt_lines}
 use Rattle.blk_base.specs.declared.moves.BackMover.TheVariants.{Back}
 use Rattle.schedule_text.specs.declared.line.Line.TheVariants.{Move}
@@ -6,7 +6,7 @@ use Rattle.hypervisor.specs.Act.{back_shown, outcome_told, Took}
 use Rattle.blk_back.specs.Ask.{ask_of}
 use Rattle.blk_back.specs.Step.{step_of}
 use Rattle.split_model.specs.World.{World}
-use Rattle.split_model.proofs.Moving.{back_asked_may, back_asked, back_unasked, back_left, back_rests, back_did_disk, back_stepped, back_said, back_halts, back_told, back_safe, back_goes, back_made}
+use Rattle.split_model.proofs.Moving.{back_asked_may, back_asked, back_unasked, back_left, back_rests, back_did_disk, back_stepped, back_said, back_halts, back_told, back_safe, back_goes}
 use Rattle.schedule_run.proofs.split.Split.back_acts.Goals as goal
 
 pub back-requires : goal.back-requires
@@ -14,10 +14,10 @@ back-requires g c =
     let w : World = record { front = c.self.inside.front; back = c.self.inside.back; under = c.self.inside.under } in
     record { may = back_asked_may w c.args.self.now c.ask-ask.result _ c.self.view_is c.self.invariant c.ask-ask.ensures.value c.ask-ask.ensures.names c.ask-ask.ensures.few c.requires.left }
 
-pub returns-in_default-clause-goes : goal.returns-in_default-clause-goes
-returns-in_default-clause-goes g c =
+pub returns-in_default : goal.returns-in_default
+returns-in_default g c =
     let w : World = record { front = c.self.inside.front; back = c.self.inside.back; under = c.self.inside.under } in
-    rw (← c.self.view_is) (back_rests _ w c.back.new.self _ _ _
+    rw (← c.self.view_is) (back_rests w c.back.new.self _ _ _
     (back_unasked w.under Back c.ask-ask.result (ask_of w.back) c.ask-ask.ensures.value c.in_default.ensures.acted)
     (back_left w.under Back c.ask-ask.result (ask_of w.back) Took c.back.new.self c.ask-ask.ensures.value c.in_default.ensures.under)
     (back_did_disk c.ask-ask.result (ask_of w.back) Took _ _ c.ask-ask.ensures.value c.in_default.ensures.disk))
@@ -36,20 +36,14 @@ invariant_of-self-2 g c =
     (back_did_disk c.ask-ask.result (ask_of w.back) (outcome_told c.in-Some.answer) _ _ c.ask-ask.ensures.value c.in-Some.ensures.disk)
     (back_stepped c.tell.new.self c.take_told-told.new.self (step_of w.back c.in-Some.answer) c.tell.ensures.told c.take_told-told.ensures.taken)
 
-pub returns-clause-goes : goal.returns-clause-goes
-returns-clause-goes g c =
+pub returns : goal.returns
+returns g c =
     let w : World = record { front = c.self.inside.front; back = c.self.inside.back; under = c.self.inside.under } in
-    rw (← c.self.view_is) (back_goes _ w (c.in-Some.answer, back_shown c.back.new.self Back c.ask-ask.result c.in-Some.answer) c.take_told-told.new.self c.back.new.self (back_lines c.take_told-told.result c.in-Some.answer) (halt_lines c.halted-before.result c.halted.result) _ _ _ _ c.follow_back.result
+    rw (← c.self.view_is) (back_goes w (c.in-Some.answer, back_shown c.back.new.self Back c.ask-ask.result c.in-Some.answer) c.take_told-told.new.self c.back.new.self (back_lines c.take_told-told.result c.in-Some.answer) (halt_lines c.halted-before.result c.halted.result) _ _ _ _ c.follow_back.result
     (back_asked w.under Back c.ask-ask.result (ask_of w.back) (c.in-Some.answer, back_shown c.back.new.self Back c.ask-ask.result c.in-Some.answer) c.ask-ask.ensures.value c.in-Some.ensures.acted)
     (back_left w.under Back c.ask-ask.result (ask_of w.back) (outcome_told c.in-Some.answer) c.back.new.self c.ask-ask.ensures.value c.in-Some.ensures.under)
     (back_did_disk c.ask-ask.result (ask_of w.back) (outcome_told c.in-Some.answer) _ _ c.ask-ask.ensures.value c.in-Some.ensures.disk)
     (back_stepped c.tell.new.self c.take_told-told.new.self (step_of w.back c.in-Some.answer) c.tell.ensures.told c.take_told-told.ensures.taken)
     (back_said c.tell.new.self (step_of w.back c.in-Some.answer) c.in-Some.answer c.take_told-told.result (back_lines c.take_told-told.result c.in-Some.answer) c.tell.ensures.told c.take_told-told.ensures.told refl)
     (back_halts w.back c.tell.new.self c.take_told-told.new.self (step_of w.back c.in-Some.answer) _ _ (halt_lines c.halted-before.result c.halted.result) c.tell.ensures.told c.take_told-told.ensures.taken c.halted-before.ensures c.halted.ensures refl)
-    (c.follow_back.ensures.shown _ (Move (back_shown c.back.new.self Back c.ask-ask.result c.in-Some.answer)) _ c.show_back-shown.ensures.same_detail c.show_back-shown.ensures.shown))
-
-pub returns-clause-made : goal.returns-clause-made
-returns-clause-made g c = rw (← c.self.view_is) (back_made (record { front = c.self.inside.front; back = c.self.inside.back; under = c.self.inside.under }) Back c.ask-ask.result _ c.back.new.self c.in-Some.ensures.under)
-
-pub returns-clause-failed : goal.returns-clause-failed
-returns-clause-failed g c = c.follow_back.ensures.failed _ c.show_back-shown.ensures.later c.show_back-shown.ensures.failed
+    (c.follow_back.ensures (Move (back_shown c.back.new.self Back c.ask-ask.result c.in-Some.answer) ∷ []) _ c.show_back-shown.ensures))

@@ -1,10 +1,10 @@
-use Rattle.std.proofs.Common.{refl}
+use Rattle.std.proofs.Common.{◌∷◌, [], refl}
 use Rattle.std.proofs.lemmas.List.{append-nil}
 use Rattle.schedule_text.specs.declared.line.Line.TheVariants.{Move}
 use Rattle.hypervisor.specs.Act.{front_shown}
 use Rattle.split_model.specs.Shown.{front_lines}
 use Rattle.split_model.specs.World.{World}
-use Rattle.split_model.proofs.Moving.{front_asked_may, front_asked, front_unasked, front_told, front_left, front_rests, front_stepped, front_said, front_safe, front_goes, front_grants, front_sectors}
+use Rattle.split_model.proofs.Moving.{front_asked_may, front_asked, front_unasked, front_told, front_left, front_rests, front_stepped, front_said, front_safe, front_goes}
 use Rattle.schedule_run.proofs.split.Split.front_acts.Goals as goal
 
 pub front-requires : goal.front-requires
@@ -12,10 +12,10 @@ front-requires g c =
     let w : World = record { front = c.self.inside.front; back = c.self.inside.back; under = c.self.inside.under } in
     record { may = front_asked_may w c.ask-ask.result c.self.invariant c.ask-ask.ensures.value c.ask-ask.ensures.within }
 
-pub returns-in_default-clause-goes : goal.returns-in_default-clause-goes
-returns-in_default-clause-goes g c =
+pub returns-in_default : goal.returns-in_default
+returns-in_default g c =
     let w : World = record { front = c.self.inside.front; back = c.self.inside.back; under = c.self.inside.under } in
-    rw (← c.self.view_is) (λ content. front_rests _ w c.front.new.self content _
+    rw (← c.self.view_is) (λ disk. front_rests w c.front.new.self disk _
     (front_unasked w _ c.ask-ask.ensures.value c.in_default.ensures.acted)
     (front_left w _ _ c.ask-ask.ensures.value c.in_default.ensures.under))
 
@@ -32,23 +32,12 @@ invariant_of-self-2 g c =
     (front_left w _ _ c.ask-ask.ensures.value c.in-Some.ensures.under)
     (front_stepped c.self.inside.front _ _ c.in-Some.answer c.tell.ensures.told c.take_told-told.ensures.taken)
 
-pub returns-clause-goes : goal.returns-clause-goes
-returns-clause-goes g c =
+pub returns : goal.returns
+returns g c =
     let w : World = record { front = c.self.inside.front; back = c.self.inside.back; under = c.self.inside.under } in
-    rw (← c.self.view_is) (λ content. front_goes _ w (c.in-Some.answer, front_shown c.ask-ask.result c.in-Some.answer) c.take_told-told.new.self c.front.new.self (front_lines c.take_told-told.result) content _ _ c.follow_front.result
+    rw (← c.self.view_is) (λ disk. front_goes w (c.in-Some.answer, front_shown c.ask-ask.result c.in-Some.answer) c.take_told-told.new.self c.front.new.self (front_lines c.take_told-told.result) disk _ _ c.follow_front.result
     (front_asked w _ _ c.ask-ask.ensures.value c.in-Some.ensures.acted)
     (front_left w _ _ c.ask-ask.ensures.value c.in-Some.ensures.under)
     (front_stepped c.self.inside.front _ _ c.in-Some.answer c.tell.ensures.told c.take_told-told.ensures.taken)
     (front_said c.self.inside.front _ c.in-Some.answer _ _ c.tell.ensures.told c.take_told-told.ensures.told refl)
-    (rw (append-nil (front_lines c.take_told-told.result)) (c.follow_front.ensures.shown _ (Move (front_shown c.ask-ask.result c.in-Some.answer)) _ c.show_front-shown.ensures.same_detail c.show_front-shown.ensures.shown)))
-
-pub returns-clause-made : goal.returns-clause-made
-returns-clause-made g c =
-    let w : World = record { front = c.self.inside.front; back = c.self.inside.back; under = c.self.inside.under } in
-    rw (← c.self.view_is) (front_grants w c.front.new.self (front_left w _ _ c.ask-ask.ensures.value c.in-Some.ensures.under))
-
-pub returns-clause-sectors : goal.returns-clause-sectors
-returns-clause-sectors g c = rw (← c.self.view_is) (front_sectors c.self.inside.front c.take_told-told.new.self c.in-Some.answer (front_stepped c.self.inside.front _ _ c.in-Some.answer c.tell.ensures.told c.take_told-told.ensures.taken))
-
-pub returns-clause-failed : goal.returns-clause-failed
-returns-clause-failed g c = c.follow_front.ensures.failed _ c.show_front-shown.ensures.later c.show_front-shown.ensures.failed
+    (rw (append-nil (front_lines c.take_told-told.result)) (c.follow_front.ensures (Move (front_shown c.ask-ask.result c.in-Some.answer) ∷ []) _ c.show_front-shown.ensures)))

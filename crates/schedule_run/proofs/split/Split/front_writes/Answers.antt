@@ -1,4 +1,4 @@
-use Rattle.std.proofs.Common.{◌≡◌, refl, sym, subst}
+use Rattle.std.proofs.Common.{◌≡◌, ◌∷◌, [], refl, sym, subst}
 use Rattle.std.proofs.lemmas.List.{append-nil}
 use Rattle.blk_base.specs.declared.ask.FrontAsk.TheVariants.{Write}
 use Rattle.blk_base.specs.declared.ask.FrontAnswer.TheVariants.{Done}
@@ -10,15 +10,15 @@ use Rattle.split_model.specs.World.{World}
 use Rattle.split_model.proofs.Moving.{front_asked, front_left, front_stepped, front_said, front_goes}
 use Rattle.schedule_run.proofs.split.Split.front_writes.Goals as goal
 
-pub returns-clause-goes : goal.returns-clause-goes
-returns-clause-goes g c =
+pub returns : goal.returns
+returns g c =
     let w : World = record { front = c.self.inside.front; back = c.self.inside.back; under = c.self.inside.under } in
     let ask = Write c.args.frame c.args.word c.args.value in
     let shown = FrontWrite c.args.frame c.args.word c.args.value in
     let asked = subst (λ (x : World). ask ≡ ask_of x.front) (sym c.self.view_is) c.requires.asked in
-    rw (← c.self.view_is) (λ content. front_goes _ w (Done, shown) c.take_told-told.new.self c.write_front.new.self (front_lines c.take_told-told.result) content _ _ c.follow_front.result
+    rw (← c.self.view_is) (λ disk. front_goes w (Done, shown) c.take_told-told.new.self c.write_front.new.self (front_lines c.take_told-told.result) disk _ _ c.follow_front.result
     (front_asked w ask (Done, shown) asked refl)
     (front_left w ask c.write_front.new.self asked c.write_front.ensures)
     (front_stepped c.self.inside.front _ _ Done c.tell.ensures.told c.take_told-told.ensures.taken)
     (front_said c.self.inside.front _ Done _ _ c.tell.ensures.told c.take_told-told.ensures.told refl)
-    (rw (append-nil (front_lines c.take_told-told.result)) (c.follow_front.ensures.shown _ (Move shown) _ c.show_front-shown.ensures.same_detail c.show_front-shown.ensures.shown)))
+    (rw (append-nil (front_lines c.take_told-told.result)) (c.follow_front.ensures (Move shown ∷ []) _ c.show_front-shown.ensures)))

@@ -1,4 +1,4 @@
-use Rattle.std.proofs.Common.{refl}
+use Rattle.std.proofs.Common.{◌∷◌, [], refl}
 use Rattle.std.proofs.lemmas.List.{append-nil}
 use Rattle.split_model.specs.Shown.{back_lines}
 use Rattle.blk_base.specs.declared.moves.BackMover.TheVariants.{Job}
@@ -6,7 +6,7 @@ use Rattle.schedule_text.specs.declared.line.Line.TheVariants.{Move}
 use Rattle.hypervisor.specs.Act.{back_shown, outcome_told, Took}
 use Rattle.blk_back.specs.Step.{job_ask_of, job_step}
 use Rattle.split_model.specs.World.{World}
-use Rattle.split_model.proofs.Moving.{back_asked, back_unasked, back_left, back_did_disk, back_stepped, back_said, job_told, job_safe, job_goes, job_rests, back_made, job_asked_may}
+use Rattle.split_model.proofs.Moving.{back_asked, back_unasked, back_left, back_did_disk, back_stepped, back_said, job_told, job_safe, job_goes, job_rests, job_asked_may}
 use Rattle.schedule_run.proofs.split.Split.job_acts.Goals as goal
 
 pub back-requires : goal.back-requires
@@ -14,10 +14,10 @@ back-requires g c =
     let w : World = record { front = c.self.inside.front; back = c.self.inside.back; under = c.self.inside.under } in
     record { may = job_asked_may w c.args.self.now c.args.number c.job_ask-ask.result _ c.self.view_is c.self.invariant c.job_ask-ask.ensures.value c.job_ask-ask.ensures.names c.job_ask-ask.ensures.within c.job_ask-ask.ensures.few c.requires.attached c.requires.left }
 
-pub returns-in_default-clause-goes : goal.returns-in_default-clause-goes
-returns-in_default-clause-goes g c =
+pub returns-in_default : goal.returns-in_default
+returns-in_default g c =
     let w : World = record { front = c.self.inside.front; back = c.self.inside.back; under = c.self.inside.under } in
-    rw (← c.self.view_is) (job_rests _ w c.args.number c.back.new.self _ _ _
+    rw (← c.self.view_is) (job_rests w c.args.number c.back.new.self _ _ _
     (back_unasked w.under (Job c.args.number) c.job_ask-ask.result (job_ask_of w.back c.args.number) c.job_ask-ask.ensures.value c.in_default.ensures.acted)
     (back_left w.under (Job c.args.number) c.job_ask-ask.result (job_ask_of w.back c.args.number) Took c.back.new.self c.job_ask-ask.ensures.value c.in_default.ensures.under)
     (back_did_disk c.job_ask-ask.result (job_ask_of w.back c.args.number) Took _ _ c.job_ask-ask.ensures.value c.in_default.ensures.disk))
@@ -36,19 +36,13 @@ invariant_of-self-2 g c =
     (back_left w.under (Job c.args.number) c.job_ask-ask.result (job_ask_of w.back c.args.number) (outcome_told c.in-Some.answer) c.back.new.self c.job_ask-ask.ensures.value c.in-Some.ensures.under)
     (back_stepped c.job_tell.new.self c.take_told-told.new.self (job_step w.back c.args.number c.in-Some.answer) c.job_tell.ensures.stepped c.take_told-told.ensures.taken)
 
-pub returns-clause-goes : goal.returns-clause-goes
-returns-clause-goes g c =
+pub returns : goal.returns
+returns g c =
     let w : World = record { front = c.self.inside.front; back = c.self.inside.back; under = c.self.inside.under } in
-    rw (← c.self.view_is) (job_goes _ w c.args.number (c.in-Some.answer, back_shown c.back.new.self (Job c.args.number) c.job_ask-ask.result c.in-Some.answer) c.take_told-told.new.self c.back.new.self (back_lines c.take_told-told.result c.in-Some.answer) _ _ _ _ c.follow_job.result
+    rw (← c.self.view_is) (job_goes w c.args.number (c.in-Some.answer, back_shown c.back.new.self (Job c.args.number) c.job_ask-ask.result c.in-Some.answer) c.take_told-told.new.self c.back.new.self (back_lines c.take_told-told.result c.in-Some.answer) _ _ _ _ c.follow_job.result
     (back_asked w.under (Job c.args.number) c.job_ask-ask.result (job_ask_of w.back c.args.number) (c.in-Some.answer, back_shown c.back.new.self (Job c.args.number) c.job_ask-ask.result c.in-Some.answer) c.job_ask-ask.ensures.value c.in-Some.ensures.acted)
     (back_left w.under (Job c.args.number) c.job_ask-ask.result (job_ask_of w.back c.args.number) (outcome_told c.in-Some.answer) c.back.new.self c.job_ask-ask.ensures.value c.in-Some.ensures.under)
     (back_did_disk c.job_ask-ask.result (job_ask_of w.back c.args.number) (outcome_told c.in-Some.answer) _ _ c.job_ask-ask.ensures.value c.in-Some.ensures.disk)
     (back_stepped c.job_tell.new.self c.take_told-told.new.self (job_step w.back c.args.number c.in-Some.answer) c.job_tell.ensures.stepped c.take_told-told.ensures.taken)
     (back_said c.job_tell.new.self (job_step w.back c.args.number c.in-Some.answer) c.in-Some.answer c.take_told-told.result (back_lines c.take_told-told.result c.in-Some.answer) c.job_tell.ensures.stepped c.take_told-told.ensures.told refl)
-    (rw (append-nil (back_lines c.take_told-told.result c.in-Some.answer)) (c.follow_job.ensures.shown _ (Move (back_shown c.back.new.self (Job c.args.number) c.job_ask-ask.result c.in-Some.answer)) _ c.show_back-shown.ensures.same_detail c.show_back-shown.ensures.shown)))
-
-pub returns-clause-made : goal.returns-clause-made
-returns-clause-made g c = rw (← c.self.view_is) (back_made (record { front = c.self.inside.front; back = c.self.inside.back; under = c.self.inside.under }) (Job c.args.number) c.job_ask-ask.result _ c.back.new.self c.in-Some.ensures.under)
-
-pub returns-clause-failed : goal.returns-clause-failed
-returns-clause-failed g c = c.follow_job.ensures.failed _ c.show_back-shown.ensures.later c.show_back-shown.ensures.failed
+    (rw (append-nil (back_lines c.take_told-told.result c.in-Some.answer)) (c.follow_job.ensures (Move (back_shown c.back.new.self (Job c.args.number) c.job_ask-ask.result c.in-Some.answer) ∷ []) _ c.show_back-shown.ensures)))

@@ -1,28 +1,26 @@
-use Rattle.std.proofs.Common.{◌≡◌, ◌+◌, ◌≤◌, ◌++◌, subst, ◌∙◌, arith}
+use Rattle.std.proofs.Common.{◌≡◌, ◌<◌, ◌≤◌, ◌+◌, ◌++◌, subst, arith}
+use Rattle.std.proofs.lemmas.Result.{err_from_is_err_and}
+use Rattle.std.proofs.Math.Nat.{one-mul}
 use Rattle.split_model.specs.Kind.{AreSomeJobMoves}
-use Rattle.split_model.proofs.Running.{leads_as}
-use Rattle.split_model.proofs.Joining.{then_leads, then_stops, job_moves_more, few_job_moves}
+use Rattle.split_model.proofs.Running.{ready_again, not_gone, gone_on, gone_to_stop, gone}
+use Rattle.split_model.proofs.Joining.{job_moves_more, few_job_moves}
 use Rattle.schedule_run.proofs.split.Split.job_moves.Goals as goal
 
-pub returns-in_err-job_move-clause-goes : goal.returns-in_err-job_move-clause-goes
-returns-in_err-job_move-clause-goes g c =
+pub job_move-requires : goal.job_move-requires
+job_move-requires g c = ready_again _ 1 _ _ _ _ c.loop-test.true (rw (one-mul c.args.count) c.requires) c.loop.invariant
+
+pub returns-in_err-job_move : goal.returns-in_err-job_move
+returns-in_err-job_move g c =
+    let less : c.loop.counter < c.args.count = c.loop-test.true in
     let le : c.loop.counter + 1 ≤ c.args.count = omega arith in
-    then_stops _ _ _ _ _ _ _ _ _ _ c.from_residual.ensures.0 c.loop.invariant.4 (λ xs ys p here q. few_job_moves c.args.number (c.loop.counter + 1) c.args.count (xs ++ ys) le (job_moves_more c.args.number c.from.result c.loop.counter xs ys c.from.ensures p q)) c.loop.invariant.0 c.in_err-job_move.ensures.goes
+    let stopped = err_from_is_err_and c.from_residual.result c.from_residual.ensures.1 in
+    rw (stopped.1, stopped.2) (gone_to_stop _ _ _ _ _ 1 _ _ c.args.count _ _ _ _ less (omega arith) (λ xs ys p here q. few_job_moves c.args.number (c.loop.counter + 1) c.args.count (xs ++ ys) le (job_moves_more c.args.number c.from.result c.loop.counter xs ys c.from.ensures p q)) c.loop.invariant c.in_err-job_move.ensures)
 
 pub loop-preserved : goal.loop-preserved
-loop-preserved g c = (
-  then_leads _ _ _ _ _ _ _ _ c.loop.invariant.4 (λ xs ys p here q. job_moves_more c.args.number c.from.result c.loop.counter xs ys c.from.ensures p q) c.loop.invariant.0 c.in_ok-job_move.ensures.goes,
-  omega arith,
-  omega (arith, c.loop.invariant.2, c.in_ok-job_move.ensures.made),
-  c.in_ok-job_move.ensures.sectors ∙ c.loop.invariant.3,
-  c.in_ok-job_move.ensures.same_detail ∙ c.loop.invariant.4,
-  c.in_ok-job_move.ensures.same_lender ∙ c.loop.invariant.5,
-  c.in_ok-job_move.ensures.unfailed.0 ∙ c.loop.invariant.6,
-  c.in_ok-job_move.ensures.attached ∙ c.loop.invariant.7,
-  omega (arith, c.loop.invariant.8, c.in_ok-job_move.ensures.disk_later),
-)
+loop-preserved g c =
+    gone_on _ _ _ _ 1 _ _ _ _ _ c.loop-test.true (λ xs ys p here q. job_moves_more c.args.number c.from.result c.loop.counter xs ys c.from.ensures p q) c.loop.invariant c.in_ok-job_move.ensures
 
-pub returns-clause-goes : goal.returns-clause-goes
-returns-clause-goes g c =
+pub returns : goal.returns
+returns g c =
     let all : c.loop.counter ≡ c.args.count = omega arith in
-    leads_as _ _ _ _ _ (λ xs p. subst (λ n. AreSomeJobMoves c.args.number n xs) all p) c.loop.invariant.0
+    gone _ _ _ 1 _ _ c.args.count _ _ (omega arith) (λ xs p here. subst (λ n. AreSomeJobMoves c.args.number n xs) all p) c.loop.invariant

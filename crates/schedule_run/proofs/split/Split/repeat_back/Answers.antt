@@ -1,28 +1,25 @@
-use Rattle.std.proofs.Common.{◌≡◌, ◌<◌, replicate, ap, ◌∙◌, arith}
+use Rattle.std.proofs.Common.{◌≡◌, ◌<◌, ◌≤◌, replicate, ap, ◌∙◌, arith}
+use Rattle.std.proofs.lemmas.Result.{err_from_is_err_and}
+use Rattle.std.proofs.Math.Nat.{one-mul}
 use Rattle.split_model.specs.Happening.{BackMoves}
-use Rattle.split_model.proofs.Running.{leads_as}
-use Rattle.split_model.proofs.Joining.{then_leads, then_stops, once_more, once_more_begins}
+use Rattle.split_model.proofs.Running.{ready_again, not_gone, gone_on, gone_to_stop, gone}
+use Rattle.split_model.proofs.Joining.{once_more, once_more_begins}
 use Rattle.schedule_run.proofs.split.Split.repeat_back.Goals as goal
 
-pub returns-in_err-back_move-clause-goes : goal.returns-in_err-back_move-clause-goes
-returns-in_err-back_move-clause-goes g c =
-    let less : c.loop.counter < c.args.count = omega arith in
-    then_stops _ _ _ _ _ _ _ _ _ _ c.from_residual.ensures.0 c.loop.invariant.4 (λ xs ys p here q. once_more_begins c.loop.counter c.args.count BackMoves xs ys less p q) c.loop.invariant.0 c.in_err-back_move.ensures.goes
+pub back_move-requires : goal.back_move-requires
+back_move-requires g c = ready_again _ 1 _ _ _ _ c.loop-test.true (rw (one-mul c.args.count) c.requires) c.loop.invariant
+
+pub returns-in_err-back_move : goal.returns-in_err-back_move
+returns-in_err-back_move g c =
+    let less : c.loop.counter < c.args.count = c.loop-test.true in
+    let stopped = err_from_is_err_and c.from_residual.result c.from_residual.ensures.1 in
+    rw (stopped.1, stopped.2) (gone_to_stop _ _ _ _ _ 1 _ _ c.args.count _ _ _ _ less (omega arith) (λ xs ys p here q. once_more_begins c.loop.counter c.args.count BackMoves xs ys less p q) c.loop.invariant c.in_err-back_move.ensures)
 
 pub loop-preserved : goal.loop-preserved
-loop-preserved g c = (
-  then_leads _ _ _ _ _ _ _ _ c.loop.invariant.4 (λ xs ys p here q. once_more c.loop.counter BackMoves xs ys p q) c.loop.invariant.0 c.in_ok-back_move.ensures.goes,
-  omega arith,
-  omega (arith, c.loop.invariant.2, c.in_ok-back_move.ensures.made),
-  c.in_ok-back_move.ensures.sectors ∙ c.loop.invariant.3,
-  c.in_ok-back_move.ensures.same_detail ∙ c.loop.invariant.4,
-  c.in_ok-back_move.ensures.same_lender ∙ c.loop.invariant.5,
-  c.in_ok-back_move.ensures.unfailed.0 ∙ c.loop.invariant.6,
-  c.in_ok-back_move.ensures.attached ∙ c.loop.invariant.7,
-  omega (arith, c.loop.invariant.8, c.in_ok-back_move.ensures.disk_later),
-)
+loop-preserved g c =
+    gone_on _ _ _ _ 1 _ _ _ _ _ c.loop-test.true (λ xs ys p here q. once_more c.loop.counter BackMoves xs ys p q) c.loop.invariant c.in_ok-back_move.ensures
 
-pub returns-clause-goes : goal.returns-clause-goes
-returns-clause-goes g c =
+pub returns : goal.returns
+returns g c =
     let all : c.loop.counter ≡ c.args.count = omega arith in
-    leads_as _ _ _ _ _ (λ xs p. p ∙ ap (λ n. replicate n BackMoves) all) c.loop.invariant.0
+    gone _ _ _ 1 _ _ c.args.count _ _ (omega arith) (λ xs p here. p ∙ ap (λ n. replicate n BackMoves) all) c.loop.invariant

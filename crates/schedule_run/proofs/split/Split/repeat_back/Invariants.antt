@@ -1,18 +1,9 @@
-use Rattle.std.proofs.Common.{◌≡◌, ◌+◌, ◌≤◌, replicate}
+use Rattle.std.proofs.Common.{◌≡◌, replicate}
 use Rattle.split_model.specs.Happening.{BackMoves}
-use Rattle.split_model.specs.Leads.{Leads, Is}
-use Rattle.schedule_run.specs.Machine.{moment}
+use Rattle.split_model.specs.Leads.{moment}
+use Rattle.split_model.proofs.Running.{HasGone}
 use Rattle.schedule_run.proofs.split.Split.repeat_back.Given as goal
 
 -- so many moves of the back led here
 abbrev pub invariant-loop : goal.invariant-loop
-invariant-loop g l =
-    (Leads (g.R.Recorder.detail l.fn.recorder) (Is (replicate l.counter BackMoves)) (moment l.fn.self (g.D.SectorDisk.content l.fn.disk) (g.R.Recorder.told l.fn.recorder)) (moment l.self (g.D.SectorDisk.content l.disk) (g.R.Recorder.told l.recorder)))
-    × (l.counter ≤ l.count)
-    × (l.self.under.grants.made ≤ l.fn.self.under.grants.made + l.counter)
-    × (l.self.front.sectors ≡ l.fn.self.front.sectors)
-    × (g.R.Recorder.detail l.recorder ≡ g.R.Recorder.detail l.fn.recorder)
-    × (g.R.Recorder.lender l.recorder ≡ g.R.Recorder.lender l.fn.recorder)
-    × (g.R.Recorder.faults l.recorder ≡ g.R.Recorder.faults l.fn.recorder)
-    × (g.D.SectorDisk.attached l.disk ≡ g.D.SectorDisk.attached l.fn.disk)
-    × (g.D.SectorDisk.faults l.fn.disk ≤ g.D.SectorDisk.faults l.disk)
+invariant-loop g l = HasGone (λ hs. hs ≡ replicate l.counter BackMoves) 1 l.counter l.count (moment l.fn.self (g.D.SectorDisk.seen l.fn.disk) (g.R.Recorder.seen l.fn.recorder)) (moment l.self (g.D.SectorDisk.seen l.disk) (g.R.Recorder.seen l.recorder))

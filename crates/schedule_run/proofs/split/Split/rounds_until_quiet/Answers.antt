@@ -1,35 +1,32 @@
-use Rattle.std.proofs.Common.{◌≡◌, ◌<◌, ◌≤◌, true, false, sym, ◌∙◌, arith}
+use Rattle.std.proofs.Common.{◌≡◌, ◌<◌, ◌≤◌, ◌*◌, true, false, sym, ◌∙◌, arith}
+use Rattle.std.proofs.lemmas.Result.{err_from_is_err_and}
 use Rattle.split_model.specs.World.{is_quiet}
-use Rattle.split_model.proofs.Joining.{then_leads, then_stops, leads_into, rounds_more, rounds_begun, rounds_quiet, rounds_spent}
+use Rattle.split_model.proofs.Running.{ready_again, not_gone, gone_on, gone_to_stop, gone}
+use Rattle.split_model.proofs.Joining.{rounds_more, rounds_begun, rounds_quiet, rounds_spent}
 use Rattle.schedule_run.proofs.split.Split.rounds_until_quiet.Goals as goal
 
-pub returns-then-is_quiet-clause-goes : goal.returns-then-is_quiet-clause-goes
-returns-then-is_quiet-clause-goes g c =
-    let quiet : is_quiet c.loop.self ≡ true = sym c.is_quiet.ensures ∙ c.if-is_quiet.true in
-    let le : c.loop.counter ≤ c.args.bound = omega arith in
-    leads_into _ _ _ _ _ (λ xs p here. rounds_quiet c.loop.counter c.args.bound c.args.self.now c.loop.self xs le quiet p here) c.loop.invariant.0
+pub round-requires : goal.round-requires
+round-requires g c = ready_again _ 35 _ _ _ _ c.loop-test.true (c.requires) c.loop.invariant
 
-pub returns-in_err-round-clause-goes : goal.returns-in_err-round-clause-goes
-returns-in_err-round-clause-goes g c =
-    let less : c.loop.counter < c.args.bound = omega arith in
+pub returns-in_err-round : goal.returns-in_err-round
+returns-in_err-round g c =
+    let less : c.loop.counter < c.args.bound = c.loop-test.true in
+    let stopped = err_from_is_err_and c.from_residual.result c.from_residual.ensures.1 in
     let busy : is_quiet c.loop.self ≡ false = sym c.is_quiet.ensures ∙ c.if-is_quiet.false in
-    then_stops _ _ _ _ _ _ _ _ _ _ c.from_residual.ensures.0 c.loop.invariant.4 (λ xs ys p here q. rounds_begun is_quiet c.loop.counter c.args.bound c.args.self.now c.loop.self xs ys less busy p here q) c.loop.invariant.0 c.in_err-round.ensures.goes
+    rw (stopped.1, stopped.2) (gone_to_stop _ _ _ _ _ 35 _ _ (35 * c.args.bound) _ _ _ _ less (omega arith) (λ xs ys p here q. rounds_begun is_quiet c.loop.counter c.args.bound c.args.self.now c.loop.self xs ys less busy p here q) c.loop.invariant c.in_err-round.ensures)
 
 pub loop-preserved : goal.loop-preserved
 loop-preserved g c =
-    let busy : is_quiet c.loop.self ≡ false = sym c.is_quiet.ensures ∙ c.if-is_quiet.false in (
-      then_leads _ _ _ _ _ _ _ _ c.loop.invariant.4 (λ xs ys p here q. rounds_more is_quiet c.loop.counter c.args.self.now c.loop.self xs ys busy p here q) c.loop.invariant.0 c.in_ok-round.ensures.goes,
-      omega arith,
-      omega (arith, c.loop.invariant.2, c.in_ok-round.ensures.made),
-      c.in_ok-round.ensures.sectors ∙ c.loop.invariant.3,
-      c.in_ok-round.ensures.same_detail ∙ c.loop.invariant.4,
-      c.in_ok-round.ensures.same_lender ∙ c.loop.invariant.5,
-      c.in_ok-round.ensures.unfailed.0 ∙ c.loop.invariant.6,
-      c.in_ok-round.ensures.attached ∙ c.loop.invariant.7,
-      omega (arith, c.loop.invariant.8, c.in_ok-round.ensures.disk_later),
-    )
+    let busy : is_quiet c.loop.self ≡ false = sym c.is_quiet.ensures ∙ c.if-is_quiet.false in
+    gone_on _ _ _ _ 35 _ _ _ _ _ c.loop-test.true (λ xs ys p here q. rounds_more is_quiet c.loop.counter c.args.self.now c.loop.self xs ys busy p here q) c.loop.invariant c.in_ok-round.ensures
 
-pub returns-clause-goes : goal.returns-clause-goes
-returns-clause-goes g c =
+pub returns : goal.returns
+returns g c =
     let all : c.loop.counter ≡ c.args.bound = omega arith in
-    leads_into _ _ _ _ _ (λ xs p here. rounds_spent c.loop.counter c.args.bound c.args.self.now c.loop.self xs all p here) c.loop.invariant.0
+    gone _ _ _ 35 _ _ (35 * c.args.bound) _ _ (omega arith) (λ xs p here. rounds_spent c.loop.counter c.args.bound c.args.self.now c.loop.self xs all p here) c.loop.invariant
+
+pub returns-then-is_quiet : goal.returns-then-is_quiet
+returns-then-is_quiet g c =
+    let quiet : is_quiet c.loop.self ≡ true = sym c.is_quiet.ensures ∙ c.if-is_quiet.true in
+    let le : c.loop.counter ≤ c.args.bound = c.loop.invariant.within in
+    gone _ _ _ 35 _ _ (35 * c.args.bound) _ _ (omega arith) (λ xs p here. rounds_quiet c.loop.counter c.args.bound c.args.self.now c.loop.self xs le quiet p here) c.loop.invariant

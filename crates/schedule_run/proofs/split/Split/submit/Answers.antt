@@ -1,5 +1,5 @@
 use Rattle.split_model.specs.World.{World}
-use Rattle.split_model.proofs.Moving.{submit_safe, submit_goes, submit_sectors}
+use Rattle.split_model.proofs.Moving.{submit_safe, submit_goes}
 use Rattle.schedule_run.proofs.split.Split.submit.Goals as goal
 
 pub invariant_of-self : goal.invariant_of-self
@@ -10,7 +10,4 @@ invariant_of-self g c =
 pub returns-clause-goes : goal.returns-clause-goes
 returns-clause-goes g c =
     let w : World = record { front = c.self.inside.front; back = c.self.inside.back; under = c.self.inside.under } in
-    rw (← c.self.view_is) (λ content. submit_goes _ w c.args.job c.submit-answer.new.self c.submit-answer.result c.submit_line.result content _ _ c.say.result c.submit-answer.ensures.front c.submit-answer.ensures.answer c.submit_line.ensures c.say.ensures.shown)
-
-pub returns-clause-sectors : goal.returns-clause-sectors
-returns-clause-sectors g c = rw (← c.self.view_is) (submit_sectors c.self.inside.front c.submit-answer.new.self c.args.job c.submit-answer.ensures.front)
+    rw (← c.self.view_is) (λ disk. submit_goes w c.args.job c.submit-answer.new.self c.submit-answer.result c.submit_line.result disk _ _ c.add.result c.submit-answer.ensures.front c.submit-answer.ensures.answer c.submit_line.ensures c.add.ensures)

@@ -1,25 +1,25 @@
 use Rattle.std.proofs.Common.{refl, ◌≡◌, ◌<◌, length, arith}
 use Rattle.std.proofs.lemmas.Bool.Decides.{nat_tests}
-use Rattle.schedule_run.proofs.Carrying.{fed_ok, fed_err, byte_refused, byte_taken}
+use Rattle.schedule_run.proofs.Carrying.{fed, byte_refused, byte_taken, ready_less}
 use Rattle.schedule_run.proofs.schedule.reading.Reader.take_byte.Goals as goal
 
-pub returns-then-byte-eq10-clause-carried : goal.returns-then-byte-eq10-clause-carried
-returns-then-byte-eq10-clause-carried g c = fed_ok _ _ _ _ _ c.if-byte-eq10.true c.requires.unbroken c.carry_out.ensures.carried c.carry_out.ensures.part c.carry_out.ensures.lines
+pub carry_out-requires : goal.carry_out-requires
+carry_out-requires g c = ready_less 0 1 _ (omega arith) c.requires
 
-pub returns-then-byte-eq10-clause-stopped : goal.returns-then-byte-eq10-clause-stopped
-returns-then-byte-eq10-clause-stopped g c = fed_err _ _ _ _ _ _ _ c.if-byte-eq10.true c.requires.unbroken c.carry_out.ensures.stopped
+pub returns-then-byte-eq10 : goal.returns-then-byte-eq10
+returns-then-byte-eq10 g c = fed _ _ _ _ c.if-byte-eq10.true c.requires.unbroken c.carry_out.ensures
 
-pub returns-then-is_full-clause-stopped : goal.returns-then-is_full-clause-stopped
-returns-then-is_full-clause-stopped g c =
+pub returns-then-is_full : goal.returns-then-is_full
+returns-then-is_full g c =
     let t = c.if-is_full.true in
     let v = c.is_full.ensures.value in
     let full : length c.args.self.now.part.items ≡ 128 = grind (arith, nat_tests) in
-    byte_refused _ _ _ _ c.if-byte-eq10.false c.requires.unbroken full refl
+    byte_refused _ _ _ c.if-byte-eq10.false c.requires.unbroken full refl
 
-pub returns-clause-carried : goal.returns-clause-carried
-returns-clause-carried g c =
+pub returns : goal.returns
+returns g c =
     let t = c.if-is_full.false in
     let v = c.is_full.ensures.value in
     let f = c.is_full.ensures.fits in
     let room : length c.args.self.now.part.items < 128 = grind (arith, nat_tests) in
-    byte_taken _ _ _ _ c.if-byte-eq10.false c.requires.unbroken room c.push.ensures.items refl refl refl
+    byte_taken _ _ _ c.if-byte-eq10.false c.requires.unbroken room c.push.ensures.items refl refl refl

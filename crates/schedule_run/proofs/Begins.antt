@@ -1,0 +1,32 @@
+-- A machine just made, with its first line told, carried out no events.
+use Rattle.std.proofs.Common.{◌≡◌, ◌<◌, ◌^◌, Bool, true, false, not, ◌==◌, ◌&&◌, List, [], ◌∷◌, refl, arith, true≢false}
+use Rattle.std.proofs.lemmas.Bool.Decides.{nat_tests}
+use Rattle.blk_base.specs.Options.{Options}
+use Rattle.blk_io.specs.Disk.{DiskSeen}
+use Rattle.schedule_text.specs.declared.line.Detail.{Detail}
+use Rattle.schedule_text.specs.declared.line.Line.TheVariants.{Begin}
+use Rattle.schedule_text.specs.Recorder.{RecorderSeen, Gained}
+use Rattle.split_model.specs.World.{start_of}
+use Rattle.split_model.specs.Kind.{is_x64, AreOfAll}
+use Rattle.split_model.specs.Leads.{moment}
+use Rattle.split_model.proofs.Running.{leads_nowhere}
+use Rattle.disk_laws.specs.Plain.{IsPlain}
+use Rattle.schedule_run.specs.Outcome.{IsServed, HasCarried, outside}
+
+-- options that are served: a ring of one page, and a disk that may be written
+pub plain_of : (config : Options) → IsServed config → IsPlain config
+plain_of config served =
+    let carried = served.carried in
+    let options = served.options in
+    let start : config.start < 2 ^ 32 = options.3 in
+    let sectors : config.sectors < 2 ^ 64 = options.4 in
+    record { order = grind (arith, nat_tests); read_only = grind (arith, nat_tests); start = start; sectors = omega arith }
+
+pub run_begins : (config : Options) (disk : DiskSeen) (r s : RecorderSeen) → IsServed config → (word : Detail) → Gained (Begin config word ∷ []) r s → HasCarried config [] (outside disk r) (moment (start_of config) disk s)
+run_begins config disk r s served word took = record {
+  served = served;
+  few = omega arith;
+  began = s;
+  first = record { told = took.told; detail = took.detail; faults = took.faults; lender = took.lender };
+  leads = leads_nowhere (AreOfAll [] (start_of config)) (moment (start_of config) disk s) refl;
+}

@@ -1,0 +1,176 @@
+-- What was told of events that were carried out is lawful; so is what was told until the recorder stopped.
+use Rattle.std.proofs.Common.{◌≡◌, ℕ, ◌+◌, ◌^◌, ◌<◌, ◌≤◌, List, [], ◌∷◌, ◌++◌, length, Option, Result, Ok, Err, inl, inr, refl, ap, sym, ◌∙◌, subst, append_assoc, append-nil, length-append, arith}
+use Rattle.blk_base.specs.Options.{Options}
+use Rattle.blk_base.specs.declared.config.Job.{Job}
+use Rattle.blk_io.specs.Disk.{DiskSeen, HasLength}
+use Rattle.schedule_text.specs.declared.event.Event.{Event}
+use Rattle.schedule_text.specs.declared.line.Detail.{Detail}
+use Rattle.schedule_text.specs.declared.line.Line.{Line}
+use Rattle.schedule_text.specs.declared.line.Line.TheVariants.{Begin, End}
+use Rattle.schedule_text.specs.declared.recorder.RecordStop.{RecordStop}
+use Rattle.schedule_text.specs.Recorder.{kept_of, recorded, gained, RecorderSeen, Gained, StopsWithin, StopsAmong}
+use Rattle.schedule_text.proofs.Adding.{gained_twice, stopped_later}
+use Rattle.plain_disk.specs.Echo.{AnswersAll}
+use Rattle.split_model.specs.World.{World, start_of}
+use Rattle.split_model.specs.Happening.{Happening, after, lines_at, lines_of}
+use Rattle.split_model.specs.Kind.{AreOf, AreOfAll, AreOfSoFar}
+use Rattle.split_model.specs.Leads.{Moment, moment, Leads, LeadsToStop, Goes}
+use Rattle.split_model.specs.Report.{report_of, ended_report_of}
+use Rattle.split_model.proofs.Running.{lines_of-append, leads_as, stops_on}
+use Rattle.split_model.proofs.Echo.{echo_of, schedule_echo, kept_echo}
+use Rattle.disk_laws.specs.Allowed.{AreAllowed}
+use Rattle.disk_laws.specs.Submissions.{submitted_of}
+use Rattle.disk_laws.proofs.KindsFront.{start_connects, connects_after}
+use Rattle.disk_laws.proofs.KindsEvents.{allowed_append, event_so_far_allowed, events_allowed}
+use Rattle.disk_laws.proofs.SubmissionsOf.{events_submit, events_so_far_submit}
+use Rattle.schedule_run.specs.Outcome.{Outside, outside, IsServed, HasCarried}
+use Rattle.schedule_run.specs.Lawful.{IsLawful, IsLawfulSoFar, HasLawfulReport, HasLawfulBeginning, LeavesLawful, EventLeaves}
+use Rattle.schedule_run.proofs.Lengths.{report_short, report_so_far_short}
+use Rattle.schedule_run.proofs.Lawful.{IsTold, report_lawful, begun_lawful, nothing_lawful}
+use Rattle.schedule_run.proofs.Begins.{plain_of}
+use Rattle.schedule_run.proofs.Carrying.{events_lead_on}
+
+-- the report of what was carried out was told
+pub told_of : (config : Options) (events : List Event) (old : Outside) (now : Moment) (h : HasCarried config events old now) → (let leads = h.leads in Gained (report_of config old.recorder.detail leads.history) old.recorder now.recorder)
+told_of config events old now h =
+    let leads = h.leads in
+    gained_twice (Begin config old.recorder.detail ∷ []) (lines_of leads.history (start_of config)) old.recorder h.began now.recorder h.first leads.told
+
+pub is_told : (config : Options) (events : List Event) (old : Outside) (now : Moment) (h : HasCarried config events old now) → (let leads = h.leads in IsTold config old.recorder.detail leads.history)
+is_told config events old now h =
+    let leads = h.leads in
+    let served = h.served in
+    record {
+      plain = plain_of config served;
+      options = served.options;
+      allowed = events_allowed events (start_of config) leads.history (start_connects config) leads.is_kind;
+      short = report_short config old.recorder.detail events leads.history (plain_of config served) leads.is_kind h.few;
+    }
+
+-- a whole report
+pub carried_lawful : (config : Options) (events : List Event) (old : Outside) (now : Moment) → HasLength old.disk.content config.sectors → HasCarried config events old now → HasLawfulReport config events old (outside now.disk now.recorder)
+carried_lawful config events old now long h =
+    let leads = h.leads in
+    let detail = old.recorder.detail in
+    let report = report_of config detail leads.history in
+    let told = told_of config events old now h in
+    record {
+      report = kept_of detail report;
+      told = told.told;
+      echo = subst (AnswersAll config.order events) (sym (kept_echo detail report)) (schedule_echo config.order events (start_of config) leads.history leads.is_kind);
+      lawful = subst (λ (jobs : List Job). IsLawful config detail jobs old.disk.content now.disk.content (kept_of detail report)) (events_submit events (start_of config) leads.history leads.is_kind)
+          (report_lawful config detail leads.history old.disk now.disk (is_told config events old now h) long leads.disk);
+    }
+
+-- as the beginning of one
+pub carried_so_far : (config : Options) (events : List Event) (old : Outside) (now : Moment) → HasCarried config events old now → HasLawfulBeginning config events old (outside now.disk now.recorder)
+carried_so_far config events old now h =
+    let leads = h.leads in
+    let detail = old.recorder.detail in
+    let report = report_of config detail leads.history in
+    let told = told_of config events old now h in
+    record {
+      report = kept_of detail report;
+      told = inl told.told;
+      lawful = subst (λ (jobs : List Job). IsLawfulSoFar config detail jobs old.disk.content (kept_of detail report)) (events_submit events (start_of config) leads.history leads.is_kind)
+          (begun_lawful config detail leads.history old.disk.content report (End ∷ []) (is_told config events old now h) refl);
+    }
+
+-- nothing was told whole: the recorder stopped at the first line
+nothing_before : {X : Type 0} (x : X) (said : List X) (cut : X) (rest : List X) → x ∷ [] ≡ said ++ cut ∷ rest → said ≡ []
+nothing_before x [] cut rest e = refl
+nothing_before x (y ∷ []) cut rest e = absurd (cc)
+nothing_before x (y ∷ z ∷ said) cut rest e = absurd (cc)
+
+pub stopped_at_first : (config : Options) (word : Detail) (why : RecordStop) (old new : Outside) → StopsAmong [] (Begin config word ∷ []) why old.recorder new.recorder → HasLawfulBeginning config [] old new
+stopped_at_first config word why old new s =
+    let none : s.said ≡ [] = nothing_before (Begin config word) s.said s.cut s.rest s.all in
+    let detail = old.recorder.detail in
+    record {
+      report = [];
+      told = inr (s.cut, subst (λ (l : List Line). StopsWithin (gained old.recorder.told (kept_of detail l)) (recorded detail s.cut) new.recorder.told) none s.stops);
+      lawful = nothing_lawful config detail [] old.disk.content;
+    }
+
+-- the lines of all that happened, cut among the last one's
+cut_report : (config : Options) (detail : Detail) (history : List Happening) (last : Happening) (said rest : List Line) (cut : Line) → lines_at (after history (start_of config)) last ≡ said ++ cut ∷ rest → (report_of config detail history ++ said) ++ ((cut ∷ rest) ++ End ∷ []) ≡ ended_report_of config detail (history ++ last ∷ [])
+cut_report config detail history last said rest cut all =
+    let start = start_of config in
+    let one = report_of config detail history in
+    let more : lines_of (history ++ last ∷ []) start ≡ lines_of history start ++ (said ++ cut ∷ rest) =
+    lines_of-append history (last ∷ []) start ∙ ap (λ (x : List Line). lines_of history start ++ x) (append-nil (lines_at (after history start) last) ∙ all) in
+    sym (append_assoc (one ++ said) (cut ∷ rest) (End ∷ []))
+    ∙ (ap (λ (x : List Line). x ++ End ∷ []) (append_assoc one said (cut ∷ rest))
+    ∙ ap (λ (x : List Line). (Begin config detail ∷ x) ++ End ∷ []) (sym more))
+
+-- the happenings of events, and of one more as far as it came
+abbrev AreOfBoth : List Event → Event → World → List Happening → Type 0
+AreOfBoth events event w hs = (xs : List Happening) × (ys : List Happening) × (hs ≡ xs ++ ys) × AreOfAll events w xs × AreOfSoFar event (after xs w) ys
+
+both_told : (config : Options) (detail : Detail) (events : List Event) (event : Event) (hs : List Happening) → IsServed config → length events ≤ 10 ^ 9 → AreOfBoth events event (start_of config) hs → IsTold config detail hs
+both_told config detail events event hs served few k =
+    let start = start_of config in
+    let plain = plain_of config served in
+    let first = events_allowed events start k.0 (start_connects config) k.3 in
+    let next = event_so_far_allowed event (after k.0 start) k.1 (connects_after k.0 start (start_connects config)) k.4 in
+    subst (IsTold config detail) (sym k.2) (record {
+      plain = plain;
+      options = served.options;
+      allowed = allowed_append k.0 k.1 start first next;
+      short = report_so_far_short config detail events event k.0 k.1 plain k.3 k.4 few;
+    })
+
+-- the recorder stopped in an event
+pub stopped_in_event : (config : Options) (events : List Event) (event : Event) (why : RecordStop) (old : Outside) (middle new : Moment) → HasCarried config events old middle → LeadsToStop (AreOfSoFar event middle.world) why middle new → HasLawfulBeginning config (events ++ event ∷ []) old (outside new.disk new.recorder)
+stopped_in_event config events event why old middle new h stopped =
+    let start = start_of config in
+    let detail = old.recorder.detail in
+    let whole = stops_on (AreOfAll events start) (AreOfSoFar event middle.world) (AreOfBoth events event start) why (moment start old.disk h.began) middle new (λ xs ys k here f. (xs, ys, refl, k, subst (λ (w : World). AreOfSoFar event w ys) here f)) h.leads stopped in
+    let told = stopped_later (Begin config detail ∷ []) (lines_of whole.history start) (lines_at (after whole.history start) whole.last) why old.recorder h.began new.recorder h.first whole.told in
+    let k = whole.is_kind in
+    let all = whole.history ++ whole.last ∷ [] in
+    let said = report_of config detail whole.history ++ told.said in
+    record {
+      report = kept_of detail said;
+      told = inr (told.cut, told.stops);
+      lawful = subst (λ (jobs : List Job). IsLawfulSoFar config detail jobs old.disk.content (kept_of detail said)) (ap submitted_of k.2 ∙ events_so_far_submit events event start k.0 k.1 k.3 k.4)
+          (begun_lawful config detail all old.disk.content said ((told.cut ∷ told.rest) ++ End ∷ []) (both_told config detail events event all h.served h.few k)
+          (cut_report config detail whole.history whole.last told.said told.rest told.cut told.all));
+    }
+
+-- or at the last line
+pub stopped_at_end : (config : Options) (events : List Event) (why : RecordStop) (old : Outside) (before : Moment) (new : Outside) → HasCarried config events old before → StopsAmong [] (End ∷ []) why before.recorder new.recorder → HasLawfulBeginning config events old new
+stopped_at_end config events why old before new h s =
+    let leads = h.leads in
+    let detail = old.recorder.detail in
+    let report = report_of config detail leads.history in
+    let told = stopped_later report [] (End ∷ []) why old.recorder before.recorder new.recorder (told_of config events old before h) s in
+    let said = (report ++ []) ++ told.said in
+    let all : said ++ told.cut ∷ told.rest ≡ report ++ End ∷ [] =
+    append_assoc (report ++ []) told.said (told.cut ∷ told.rest)
+    ∙ (ap (λ (x : List Line). (report ++ []) ++ x) (sym told.all)
+    ∙ ap (λ (x : List Line). x ++ End ∷ []) (append-nil report)) in
+    record {
+      report = kept_of detail said;
+      told = inr (told.cut, told.stops);
+      lawful = subst (λ (jobs : List Job). IsLawfulSoFar config detail jobs old.disk.content (kept_of detail said)) (events_submit events (start_of config) leads.history leads.is_kind)
+          (begun_lawful config detail leads.history old.disk.content said (told.cut ∷ told.rest) (is_told config events old before h) all);
+    }
+
+-- one event more
+carried_on : (config : Options) (events : List Event) (event : Event) (old : Outside) (a b : Moment) → length events < 10 ^ 9 → HasCarried config events old a → Leads (AreOf event a.world) a b → HasCarried config (events ++ event ∷ []) old b
+carried_on config events event old a b few h leads = record {
+  served = h.served;
+  few = let more = length-append events (event ∷ []) in omega arith;
+  began = h.began;
+  first = h.first;
+  leads = events_lead_on events (event ∷ []) (moment (start_of config) old.disk h.began) a b h.leads
+      (leads_as (AreOf event a.world) (AreOfAll (event ∷ []) a.world) a b (λ xs k. (xs, [], sym (append-nil xs), k, refl)) leads);
+}
+
+-- an event leaves the report lawful
+pub event_lawful : (config : Options) (events : List Event) (event : Event) (old : Outside) (n : ℕ) (result : Result (Unit {0}) RecordStop) (a b : Moment) → length events < 10 ^ 9 → HasLength old.disk.content config.sectors → HasCarried config events old a → Goes (AreOf event a.world) (AreOfSoFar event a.world) n result a b → EventLeaves config (events ++ event ∷ []) old result b
+event_lawful config events event old n (Ok done) a b few long h goes =
+    let carried = carried_on config events event old a b few h goes.ends in
+    record { carried = carried; told = carried_lawful config (events ++ event ∷ []) old b long carried }
+event_lawful config events event old n (Err why) a b few long h goes = stopped_in_event config events event why old a b h goes.ends
