@@ -26,7 +26,7 @@ fn main(rt: HostRuntime) -> ExitCode {
         rt.alloc(),
         words.as_slice(),
         &mut ReaderSource::new(rt.stdin()),
-        &mut FileDisk::new(files),
+        &mut FileDisk::new(rt.alloc(), files),
         &mut BufferedSink::new(WriterSink::new(rt.stdout())),
         &mut err,
     );

@@ -1,4 +1,4 @@
 pub mod WordLemmas
-pub mod Echoed
-pub mod Stopping
-pub mod SoFar
+pub mod Runs
+pub mod Reporting
+pub mod Settling

@@ -35,6 +35,11 @@ abbrev pub detail_words : Detail → List (List ℕ)
 detail_words Lines = []
 detail_words Moves = codes "--moves" ∷ []
 
+-- the word after the command's, which names an image
+abbrev pub image_of : List (List ℕ) → List ℕ
+image_of (first ∷ image ∷ options) = image
+image_of words = []
+
 -- the words give this command
 abbrev pub Gives : List (List ℕ) → Command → Type 0
 Gives words (Inspect abi order) = (options : List (List ℕ)) × (words ≡ codes "inspect" ∷ options) × AreOptions options abi order × (order ≤ 4)

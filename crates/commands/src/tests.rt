@@ -185,7 +185,7 @@ fn a_failing_outside_gives_its_status_and_a_failing_error_output_none(
     let mut src = FailsAt::new(zeros, [1].to_vec(alloc)?);
     let mut out = MemorySink::with_room(alloc, 4096)?;
     let shelf = MemorySink::with_room(alloc, 4096)?;
-    let mut err = FailsAt::new(shelf, [2].to_vec(alloc)?);
+    let mut err = FailsAt::new(shelf, [3].to_vec(alloc)?);
     let status = blkring(
         alloc,
         words.as_slice(),
@@ -214,5 +214,34 @@ fn a_failing_outside_gives_its_status_and_a_failing_error_output_none(
         err.inside.bytes(),
         b"blkring: the input failed\n".as_slice()
     );
+    Ok(())
+}
+
+#[test]
+fn the_first_reason_stands_though_the_output_fails_after_it(rt: HostRuntime) -> Result<(), Fail> {
+    let alloc = rt.alloc();
+    let words = words(alloc, "run disk")?;
+    let mut disk = MemoryDisk::new(alloc, vec![in alloc; [0; 128]; 8]?)?;
+    let mut err = MemorySink::with_room(alloc, 4096)?;
+    // The output takes the first line, and hands it on before the source is read; the source fails,
+    // and after it the last handing on.
+    let mut src = FailsAt::new(MemorySource::new(Vec::new(alloc)), [1].to_vec(alloc)?);
+    let shelf = MemorySink::with_room(alloc, 4096)?;
+    let mut out = FailsAt::new(shelf, [3].to_vec(alloc)?);
+    let status = blkring(
+        alloc,
+        words.as_slice(),
+        &mut src,
+        &mut disk,
+        &mut out,
+        &mut err,
+    );
+    assert_eq!(rt; status, 4);
+    assert_eq!(rt; out.faults, 1);
+    assert_eq!(rt;
+        out.inside.bytes(),
+        b"begin 64 0 0 0 0 rw 8 lines\n".as_slice()
+    );
+    assert_eq!(rt; err.bytes(), b"blkring: the input failed\n".as_slice());
     Ok(())
 }

@@ -1,10 +1,13 @@
 // The program over its outside.
-ghost use Rattle.std.specs.Prelude.{◌≡◌, ◌≢◌, ◌≤◌, ◌↔◌, map, OnOk, IfErr};
+ghost use Rattle.std.specs.Prelude.{◌≡◌, ◌≢◌, ◌≤◌, ◌↔◌, ℕ, Err, map, IfErr};
 ghost use Rattle.std.specs.String.{string_bytes};
-ghost use Rattle.blk_io.specs.Outside.{Rose};
-ghost use Rattle.commands.specs.Words.{Gives, GivesNone};
+ghost use Rattle.blk_io.specs.Outside.{HandsOn};
+ghost use Rattle.commands.specs.Words.{Gives, GivesNone, image_of};
 ghost use Rattle.commands.specs.Status.{status_of, line_of};
-ghost use Rattle.commands.specs.Ending.{IsDone, IsReported, IsReportedSoFar, IsSaid, IsStopped, Stops, Makes, HasEnded, UnfailedOutput, UnfailedSource, run_stop};
+ghost use Rattle.commands.specs.Scene.{scene};
+ghost use Rattle.commands.specs.Ending.{RunEnds, RingEnds, CarriesOut, IsDone, HasStopped, IsSaid, run_stop};
+ghost use Rattle.commands.specs.Reported.{RunReports, ReportsAt};
+ghost use Rattle.commands.specs.Settled.{Settles};
 
 use crate::status::Stop;
 use crate::words::{Command, read_command};
@@ -18,25 +21,28 @@ use std::alloc::Global;
 /// Carries out the command that the words after the program's name give, and answers the exit
 /// status; whatever isn't 0 is also said in a line on `err`, whose failing changes no status.
 ///
-/// - 0: it is done, and nothing was said. For `run` the output is the text of a report that echoes
-///   the whole schedule and is a run of the plain disk, from what the image held to what it holds;
-///   with `--moves` each move in it obeys the rules of the ring, of grants and of the work
-///   (`io/ring.h`, `io/blkif.h`, `grant_table.h`). At each other status so are the lines that were
-///   written whole.
+/// - 0: it is done, and nothing was said. For `run` the output gained the text of a report that
+///   echoes the whole schedule and is a run of the plain disk, from what the image held to what it
+///   holds; with `--moves` each move in it obeys the rules of the ring, of grants and of the work
+///   (`io/ring.h`, `io/blkif.h`, `grant_table.h`).
 /// - 1: `inspect` found another number of bytes than the ring's. Nothing was written.
 /// - 2: the words give no command. Nothing was read or written.
 /// - 3: a line of the schedule isn't carried out. Those before it were, and are reported.
-/// - 4: the source failed. What was carried out before is reported.
-/// - 5: the output failed. A beginning of the text may have been written.
-/// - 6: there was no memory. What was carried out before is reported.
+/// - 4: the source failed. The whole lines that were read were carried out, and are reported.
+/// - 5: the output failed. A beginning of the text may have been written, lawful as far as its whole
+///   lines go.
+/// - 6: there was no memory; likewise.
 /// - 7: the image failed where it was attached. Nothing was read or written.
 /// - 8: 4294967296 bytes of the schedule were taken, and the source didn't end before. Their whole
 ///   lines were carried out, and are reported.
 ///
-/// What a report promises rests on this: the schedule was read and the report written whole (at each
-/// other status it is promised of the lines that were written whole); source, output and disk tell
-/// what they hold, and nobody else writes the image meanwhile; shared words are sequentially
-/// consistent, and a hypercall is one step.
+/// The first reason ends the run: an output that fails after it to hand on what it kept back changes
+/// no status. The image of a run is the one that the words name, attached for writing; `inspect`
+/// attaches none.
+///
+/// What a report promises rests on this: source, output and disk expose what they hold, and nobody
+/// else writes the image meanwhile; shared words are sequentially consistent, and a hypercall is one
+/// step.
 pub fn blkring<S: Source, D: SectorDisk, O: Sink, E: Sink>(
     alloc: Global,
     words: &[String],
@@ -45,27 +51,29 @@ pub fn blkring<S: Source, D: SectorDisk, O: Sink, E: Sink>(
     out: &mut O,
     err: &mut E,
 ) -> u8
-    // Done: the command of the words made of the outside what it is.
-    ensures done { result ≡ 0 → IsDone (map string_bytes words.now) (S.left src.old) (record { content = D.content disk.old; attached = D.attached disk.old; out = O.held out.old; source_faults = S.faults src.old; disk_faults = D.faults disk.old; out_faults = O.faults out.old }) (record { content = D.content disk.new; attached = D.attached disk.new; out = O.held out.new; source_faults = S.faults src.new; disk_faults = D.faults disk.new; out_faults = O.faults out.new }) × (E.held err.new ≡ E.held err.old) }
-    // A run that is done wrote the text of a report that echoes the whole schedule and is lawful.
-    ensures reported { (detail : Detail) → Gives (map string_bytes words.now) (Command.Run detail) → result ≡ 0 → IsReported detail (S.left src.old) (record { content = D.content disk.old; attached = D.attached disk.old; out = O.held out.old; source_faults = S.faults src.old; disk_faults = D.faults disk.old; out_faults = O.faults out.old }) (record { content = D.content disk.new; attached = D.attached disk.new; out = O.held out.new; source_faults = S.faults src.new; disk_faults = D.faults disk.new; out_faults = O.faults out.new }) }
-    // The lines that a run that stopped wrote whole are lawful.
-    ensures reported_so_far { (detail : Detail) → Gives (map string_bytes words.now) (Command.Run detail) → result ≢ 0 → IsReportedSoFar detail (S.left src.old) (record { content = D.content disk.old; attached = D.attached disk.old; out = O.held out.old; source_faults = S.faults src.old; disk_faults = D.faults disk.old; out_faults = O.faults out.old }) (record { content = D.content disk.new; attached = D.attached disk.new; out = O.held out.new; source_faults = S.faults src.new; disk_faults = D.faults disk.new; out_faults = O.faults out.new }) }
+    // Done: the command of the words made of the outside what it is, and nothing was said.
+    ensures done { result ≡ 0 → IsDone (map string_bytes words.now)
+        (scene (S.seen src.old) (D.seen disk.old) (O.seen out.old))
+        (scene (S.seen src.new) (D.seen disk.new) (O.seen out.new)) (E.seen err.old) (E.seen err.new) }
     // Any other status is that of a reason, which says what came before, and was said.
-    ensures stopped { result ≢ 0 → HasEnded (map string_bytes words.now) (S.left src.old) (record { content = D.content disk.old; attached = D.attached disk.old; out = O.held out.old; source_faults = S.faults src.old; disk_faults = D.faults disk.old; out_faults = O.faults out.old }) (record { content = D.content disk.new; attached = D.attached disk.new; out = O.held out.new; source_faults = S.faults src.new; disk_faults = D.faults disk.new; out_faults = O.faults out.new }) result (E.held err.old) (E.held err.new) (E.faults err.old) (E.faults err.new) }
-    // What was written was handed on.
-    ensures handed_on { result ≡ 0 → O.kept_back out.new ≡ 0 }
-    // So was what was written before a stop, unless the output failed.
-    ensures handed_on_so_far { result ≢ 5 → O.kept_back out.new ≤ O.kept_back out.old }
+    ensures stopped { result ≢ 0 → HasStopped (map string_bytes words.now) result
+        (scene (S.seen src.old) (D.seen disk.old) (O.seen out.old))
+        (scene (S.seen src.new) (D.seen disk.new) (O.seen out.new)) (E.seen err.old) (E.seen err.new) }
+    // A run's image is the one named, and its report is lawful: whole, or as far as it was written.
+    ensures reported { (detail : Detail) → Gives (map string_bytes words.now) (Command.Run detail)
+        → ReportsAt result (image_of (map string_bytes words.now)) detail
+        (scene (S.seen src.old) (D.seen disk.old) (O.seen out.old))
+        (scene (S.seen src.new) (D.seen disk.new) (O.seen out.new)) }
+    // A ring's showing leaves the disk as it was.
+    ensures untouched { (abi : Abi) → (order : ℕ) → Gives (map string_bytes words.now) (Command.Inspect abi order)
+        → D.seen disk.new ≡ D.seen disk.old }
+    // The first reason stands, and each count of faults rose only where it says so; what was written
+    // was handed on, or the output failed.
+    ensures settled { Settles result
+        (scene (S.seen src.old) (D.seen disk.old) (O.seen out.old))
+        (scene (S.seen src.new) (D.seen disk.new) (O.seen out.new)) }
     ensures bad_words { (result ≡ 2) ↔ GivesNone (map string_bytes words.now) }
     ensures nothing_done { result ≡ 2 → (src.new ≡ src.old) × (out.new ≡ out.old) × (disk.new ≡ disk.old) }
-    // Unless the status says that the source or the output failed, that failed no more often than before.
-    ensures source_unfailed { result ≢ 4 → result ≢ 5 → S.faults src.new ≡ S.faults src.old }
-    ensures output_unfailed { result ≢ 5 → O.faults out.new ≡ O.faults out.old }
-    ensures source_later { S.faults src.old ≤ S.faults src.new }
-    ensures disk_later { D.faults disk.old ≤ D.faults disk.new }
-    ensures output_later { O.faults out.old ≤ O.faults out.new }
-    ensures error_later { E.faults err.old ≤ E.faults err.new }
 {
     match carry_out(alloc, words, src, disk, out) {
         Ok(()) => 0,
@@ -73,14 +81,14 @@ pub fn blkring<S: Source, D: SectorDisk, O: Sink, E: Sink>(
     }
 }
 
-/// Says why the program stops, and answers its exit status. Where saying it fails there is nobody
-/// left to tell.
+/// Says why the program stops, and answers its exit status. The line isn't left in a buffer; where
+/// saying it fails there is nobody left to tell.
 pub fn give_up<E: Sink>(err: &mut E, stop: Stop) -> u8
     ensures status { result ≡ status_of stop }
-    ensures said { IsSaid (line_of stop) (E.held err.old) (E.held err.new) (E.faults err.old) (E.faults err.new) }
-    ensures later { E.faults err.old ≤ E.faults err.new }
+    ensures said { IsSaid (line_of stop) (E.seen err.old) (E.seen err.new) }
 {
     let _ = err.write(stop.line().as_str().as_bytes());
+    let _ = err.flush();
     stop.status()
 }
 
@@ -92,19 +100,17 @@ fn carry_out<S: Source, D: SectorDisk, O: Sink>(
     disk: &mut D,
     out: &mut O,
 ) -> Result<(), Stop>
-    ensures done { OnOk result (IsDone (map string_bytes words.now) (S.left src.old) (record { content = D.content disk.old; attached = D.attached disk.old; out = O.held out.old; source_faults = S.faults src.old; disk_faults = D.faults disk.old; out_faults = O.faults out.old }) (record { content = D.content disk.new; attached = D.attached disk.new; out = O.held out.new; source_faults = S.faults src.new; disk_faults = D.faults disk.new; out_faults = O.faults out.new })) }
-    ensures stopped { IfErr result (IsStopped (map string_bytes words.now) (S.left src.old) (record { content = D.content disk.old; attached = D.attached disk.old; out = O.held out.old; source_faults = S.faults src.old; disk_faults = D.faults disk.old; out_faults = O.faults out.old }) (record { content = D.content disk.new; attached = D.attached disk.new; out = O.held out.new; source_faults = S.faults src.new; disk_faults = D.faults disk.new; out_faults = O.faults out.new })) }
-    ensures handed_on { OnOk result (O.kept_back out.new ≡ 0) }
-    ensures handed_on_so_far { IfErr result (λ stop. stop ≢ Stop.Sink → O.kept_back out.new ≤ O.kept_back out.old) }
-    ensures unread { IfErr result (λ stop. stop ≡ Stop.Words → (src.new ≡ src.old) × (out.new ≡ out.old) × (disk.new ≡ disk.old)) }
-    ensures source_unfailed { UnfailedSource result (S.faults src.old) (S.faults src.new) }
-    ensures output_unfailed { UnfailedOutput result (O.faults out.old) (O.faults out.new) }
-    ensures source_later { S.faults src.old ≤ S.faults src.new }
-    ensures disk_later { D.faults disk.old ≤ D.faults disk.new }
-    ensures output_later { O.faults out.old ≤ O.faults out.new }
+    ensures carried_out { CarriesOut (map string_bytes words.now) result
+        (scene (S.seen src.old) (D.seen disk.old) (O.seen out.old))
+        (scene (S.seen src.new) (D.seen disk.new) (O.seen out.new)) }
+    ensures reported { (detail : Detail) → Gives (map string_bytes words.now) (Command.Run detail)
+        → RunReports (image_of (map string_bytes words.now)) detail result
+        (scene (S.seen src.old) (D.seen disk.old) (O.seen out.old))
+        (scene (S.seen src.new) (D.seen disk.new) (O.seen out.new)) }
+    ensures unread { result ≡ Err Stop.Words → (src.new ≡ src.old) × (out.new ≡ out.old) × (disk.new ≡ disk.old) }
 {
     match read_command(words) {
-        Some(Command::Inspect { abi, order }) => show_ring(alloc, src, abi, order, disk, out),
+        Some(Command::Inspect { abi, order }) => show_ring(alloc, src, abi, order, out),
         Some(Command::Run { detail }) => {
             run_schedule(alloc, image_name(words), detail, src, disk, out)
         }
@@ -112,33 +118,26 @@ fn carry_out<S: Source, D: SectorDisk, O: Sink>(
     }
 }
 
-// The word behind the command's.
-fn image_name(words: &[String]) -> &str {
+// The word after the command's, which names an image.
+fn image_name(words: &[String]) -> &str
+    ensures { result.now ≡ image_of (map string_bytes words.now) }
+{
     match words {
         [_, image, ..] => image.as_str(),
         _ => "",
     }
 }
 
-// Shows a ring of that layout and order. The disk isn't touched.
-fn show_ring<S: Source, D: SectorDisk, O: Sink>(
+// Shows a ring of that layout and order.
+fn show_ring<S: Source, O: Sink>(
     alloc: Global,
     src: &mut S,
     abi: Abi,
     order: u32,
-    disk: &mut D,
     out: &mut O,
 ) -> Result<(), Stop>
     requires { order ≤ 4 }
-    ensures done { OnOk result (Makes (Command.Inspect abi order) (S.left src.old) (record { content = D.content disk.old; attached = D.attached disk.old; out = O.held out.old; source_faults = S.faults src.old; disk_faults = D.faults disk.old; out_faults = O.faults out.old }) (record { content = D.content disk.new; attached = D.attached disk.new; out = O.held out.new; source_faults = S.faults src.new; disk_faults = D.faults disk.new; out_faults = O.faults out.new })) }
-    ensures stopped { IfErr result (Stops (Command.Inspect abi order) (S.left src.old) (record { content = D.content disk.old; attached = D.attached disk.old; out = O.held out.old; source_faults = S.faults src.old; disk_faults = D.faults disk.old; out_faults = O.faults out.old }) (record { content = D.content disk.new; attached = D.attached disk.new; out = O.held out.new; source_faults = S.faults src.new; disk_faults = D.faults disk.new; out_faults = O.faults out.new })) }
-    ensures handed_on { OnOk result (O.kept_back out.new ≡ 0) }
-    ensures handed_on_so_far { IfErr result (λ stop. stop ≢ Stop.Sink → O.kept_back out.new ≤ O.kept_back out.old) }
-    ensures disk { disk.new ≡ disk.old }
-    ensures source_unfailed { UnfailedSource result (S.faults src.old) (S.faults src.new) }
-    ensures output_unfailed { UnfailedOutput result (O.faults out.old) (O.faults out.new) }
-    ensures source_later { S.faults src.old ≤ S.faults src.new }
-    ensures output_later { O.faults out.old ≤ O.faults out.new }
+    ensures { RingEnds (record { abi = abi; order = order }) result (S.seen src.old) (S.seen src.new) (O.seen out.old) (O.seen out.new) }
 {
     match inspect(alloc, src, abi, order, out) {
         Ok(()) => hand_on(out),
@@ -154,11 +153,8 @@ fn show_ring<S: Source, D: SectorDisk, O: Sink>(
 
 // Hands on what the output keeps back.
 fn hand_on<O: Sink>(out: &mut O) -> Result<(), Stop>
-    ensures held { O.held out.new ≡ O.held out.old }
-    ensures handed_on { OnOk result (O.kept_back out.new ≡ 0) }
-    ensures unfailed { OnOk result (O.faults out.new ≡ O.faults out.old) }
-    ensures later { O.faults out.old ≤ O.faults out.new }
-    ensures failed { IfErr result (λ stop. (stop ≡ Stop.Sink) × Rose (O.faults out.old) (O.faults out.new)) }
+    ensures handed_on { HandsOn result (O.seen out.old) (O.seen out.new) }
+    ensures reason { IfErr result (λ stop. stop ≡ Stop.Sink) }
 {
     match out.flush() {
         Ok(()) => Ok(()),
@@ -175,15 +171,12 @@ fn run_schedule<S: Source, D: SectorDisk, O: Sink>(
     disk: &mut D,
     out: &mut O,
 ) -> Result<(), Stop>
-    ensures done { OnOk result (Makes (Command.Run detail) (S.left src.old) (record { content = D.content disk.old; attached = D.attached disk.old; out = O.held out.old; source_faults = S.faults src.old; disk_faults = D.faults disk.old; out_faults = O.faults out.old }) (record { content = D.content disk.new; attached = D.attached disk.new; out = O.held out.new; source_faults = S.faults src.new; disk_faults = D.faults disk.new; out_faults = O.faults out.new })) }
-    ensures stopped { IfErr result (Stops (Command.Run detail) (S.left src.old) (record { content = D.content disk.old; attached = D.attached disk.old; out = O.held out.old; source_faults = S.faults src.old; disk_faults = D.faults disk.old; out_faults = O.faults out.old }) (record { content = D.content disk.new; attached = D.attached disk.new; out = O.held out.new; source_faults = S.faults src.new; disk_faults = D.faults disk.new; out_faults = O.faults out.new })) }
-    ensures handed_on { OnOk result (O.kept_back out.new ≡ 0) }
-    ensures handed_on_so_far { IfErr result (λ stop. stop ≢ Stop.Sink → O.kept_back out.new ≤ O.kept_back out.old) }
-    ensures source_unfailed { UnfailedSource result (S.faults src.old) (S.faults src.new) }
-    ensures output_unfailed { UnfailedOutput result (O.faults out.old) (O.faults out.new) }
-    ensures source_later { S.faults src.old ≤ S.faults src.new }
-    ensures disk_later { D.faults disk.old ≤ D.faults disk.new }
-    ensures output_later { O.faults out.old ≤ O.faults out.new }
+    ensures ends { RunEnds image.now detail result
+        (scene (S.seen src.old) (D.seen disk.old) (O.seen out.old))
+        (scene (S.seen src.new) (D.seen disk.new) (O.seen out.new)) }
+    ensures reported { RunReports image.now detail result
+        (scene (S.seen src.old) (D.seen disk.old) (O.seen out.old))
+        (scene (S.seen src.new) (D.seen disk.new) (O.seen out.new)) }
 {
     let sectors = match disk.attach(image, true) {
         Ok(sectors) => sectors,

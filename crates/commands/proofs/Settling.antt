@@ -1,0 +1,146 @@
+-- At each status, which count of faults rose, and what the report of a run is worth.
+use Rattle.std.proofs.Common.{◌≡◌, ◌≢◌, ◌⊎◌, ℕ, List, Result, Ok, Err, inl, inr, refl, ap, ◌∙◌, subst, arith}
+use Rattle.blk_io.specs.Outside.{Rose, SinkSeen}
+use Rattle.ring_words.specs.Shape.{Shape}
+use Rattle.schedule_text.specs.declared.line.Detail.{Detail}
+use Rattle.schedule_run.specs.declared.schedule.RunStop.{RunStop}
+use Rattle.schedule_run.specs.declared.schedule.RunStop.TheVariants as run
+use Rattle.commands.specs.declared.words.Command.{Command}
+use Rattle.commands.specs.declared.words.Command.TheVariants.{Inspect, Run}
+use Rattle.commands.specs.declared.status.Stop.{Stop}
+use Rattle.commands.specs.declared.status.Stop.TheVariants.{Length, Words, BadLine, Source, Sink, OutOfMemory, Image, TooLong}
+use Rattle.commands.specs.Status.{status_of}
+use Rattle.commands.specs.Scene.{Scene, options_of, bytes_limit, with_image, reporting}
+use Rattle.commands.specs.Ending.{RunsOn, RunEnds, RingEnds, CommandEnds, CarriesOut}
+use Rattle.commands.specs.Reported.{RunReports, ReportsAt}
+use Rattle.commands.specs.Settled.{HandedOn, Settles}
+use Rattle.commands.proofs.Runs.{Left, run_left}
+
+-- the status of a result
+abbrev pub status_at : Result (Unit {0}) Stop → ℕ
+status_at (Ok done) = 0
+status_at (Err stop) = status_of stop
+
+settles_done : (old new : Scene) → new.source.faults ≡ old.source.faults → new.output.kept_back ≡ 0 → new.output.faults ≡ old.output.faults → Settles 0 old new
+settles_done old new source none output = record {
+  input_failed = λ e. absurd (omega (arith, e));
+  input_unfailed = λ e. source;
+  output_failed = λ e. absurd (omega (arith, e));
+  handed_on = inl (omega arith, output);
+  output_done = λ e. (none, output);
+  image_failed = λ e. absurd (omega (arith, e));
+}
+
+settles_input : (old new : Scene) → Rose old.source.faults new.source.faults → HandedOn old.output new.output → Settles 4 old new
+settles_input old new rose handed = record {
+  input_failed = λ e. rose;
+  input_unfailed = λ other. absurd (other refl);
+  output_failed = λ e. absurd (omega (arith, e));
+  handed_on = handed;
+  output_done = λ e. absurd (omega (arith, e));
+  image_failed = λ e. absurd (omega (arith, e));
+}
+
+settles_output : (old new : Scene) → new.source.faults ≡ old.source.faults → Rose old.output.faults new.output.faults → Settles 5 old new
+settles_output old new source rose = record {
+  input_failed = λ e. absurd (omega (arith, e));
+  input_unfailed = λ e. source;
+  output_failed = λ e. rose;
+  handed_on = inr rose;
+  output_done = λ e. absurd (omega (arith, e));
+  image_failed = λ e. absurd (omega (arith, e));
+}
+
+settles_image : (old new : Scene) → new.source.faults ≡ old.source.faults → HandedOn old.output new.output → Rose old.disk.faults new.disk.faults → Settles 7 old new
+settles_image old new source handed rose = record {
+  input_failed = λ e. absurd (omega (arith, e));
+  input_unfailed = λ e. source;
+  output_failed = λ e. absurd (omega (arith, e));
+  handed_on = handed;
+  output_done = λ e. absurd (omega (arith, e));
+  image_failed = λ e. rose;
+}
+
+-- any other status
+settles_other : (n : ℕ) (old new : Scene) → n ≢ 0 → n ≢ 4 → n ≢ 5 → n ≢ 7 → new.source.faults ≡ old.source.faults → HandedOn old.output new.output → Settles n old new
+settles_other n old new n0 n4 n5 n7 source handed = record {
+  input_failed = λ e. absurd (n4 e);
+  input_unfailed = λ e. source;
+  output_failed = λ e. absurd (n5 e);
+  handed_on = handed;
+  output_done = λ e. absurd (n0 e);
+  image_failed = λ e. absurd (n7 e);
+}
+
+-- an output of which nothing was asked
+same_output : (a b : SinkSeen) → b ≡ a → HandedOn a b
+same_output a b same = rw same (inl (omega arith, refl))
+
+-- an output that was to hand on what it kept back
+handed : (a b : SinkSeen) → (((b.kept_back ≡ 0) × (b.faults ≡ a.faults)) ⊎ Rose a.faults b.faults) → HandedOn a b
+handed a b (inl h) = let none = h.0 in inl (omega arith, h.1)
+handed a b (inr h) = inr h
+
+ring_settles : (shape : Shape) (result : Result (Unit {0}) Stop) (old new : Scene) → RingEnds shape result old.source new.source old.output new.output → Settles (status_at result) old new
+ring_settles shape (Ok done) old new h =
+    settles_done old new h.shown.read.faults (ap (λ s. s.kept_back) h.handed_on) (ap (λ s. s.faults) h.handed_on ∙ h.shown.text.faults)
+ring_settles shape (Err (Length count expected)) old new h =
+    settles_other 1 old new (omega arith) (omega arith) (omega arith) (omega arith) h.1.no_ring.faults (same_output old.output new.output h.1.untouched)
+ring_settles shape (Err Source) old new h = settles_input old new h.no_ring (same_output old.output new.output h.untouched)
+ring_settles shape (Err OutOfMemory) old new h =
+    settles_other 6 old new (omega arith) (omega arith) (omega arith) (omega arith) h.no_ring (same_output old.output new.output h.untouched)
+ring_settles shape (Err Sink) old new (inl h) = settles_output old new h.read.faults h.text.rose
+ring_settles shape (Err Sink) old new (inr h) =
+    settles_output old new h.shown.read.faults (subst (λ f. Rose f new.output.faults) h.shown.text.faults h.failed.rose)
+ring_settles shape (Err Words) old new h = absurd h
+ring_settles shape (Err (BadLine number)) old new h = absurd h
+ring_settles shape (Err Image) old new h = absurd h
+ring_settles shape (Err TooLong) old new h = absurd h
+
+-- what a run did
+left_by : (image : List ℕ) (detail : Detail) (result : Result (Unit {0}) RunStop) (old new : Scene) (h : RunsOn image detail result old new) → Left result old.source new.source (reporting detail h.lender (with_image image h.sectors old.disk) old.output) (reporting detail h.lender new.disk new.output)
+left_by image detail result old new h = run_left (options_of h.sectors) bytes_limit result old.source new.source _ _ h.runs
+
+run_settles : (image : List ℕ) (detail : Detail) (result : Result (Unit {0}) Stop) (old new : Scene) → RunEnds image detail result old new → Settles (status_at result) old new
+run_settles image detail (Ok done) old new h = let left = left_by image detail (Ok tt) old new h in settles_done old new left.source left.sink.0 left.sink.1
+run_settles image detail (Err (BadLine number)) old new h =
+    let left = left_by image detail (Err (run.BadLine number)) old new h in
+    settles_other 3 old new (omega arith) (omega arith) (omega arith) (omega arith) left.source (handed old.output new.output left.sink)
+run_settles image detail (Err Source) old new h =
+    let left = left_by image detail (Err run.Source) old new h in settles_input old new left.source (handed old.output new.output left.sink)
+run_settles image detail (Err TooLong) old new h =
+    let left = left_by image detail (Err run.TooLong) old new h in
+    settles_other 8 old new (omega arith) (omega arith) (omega arith) (omega arith) left.source (handed old.output new.output left.sink)
+run_settles image detail (Err Sink) old new h = let left = left_by image detail (Err run.Sink) old new h in settles_output old new left.source left.sink
+run_settles image detail (Err OutOfMemory) old new (inl h) =
+    settles_other 6 old new (omega arith) (omega arith) (omega arith) (omega arith) (ap (λ s. s.source.faults) h) (same_output old.output new.output (ap (λ s. s.output) h))
+run_settles image detail (Err OutOfMemory) old new (inr h) =
+    let left = left_by image detail (Err run.OutOfMemory) old new h in
+    settles_other 6 old new (omega arith) (omega arith) (omega arith) (omega arith) left.source (handed old.output new.output left.sink)
+run_settles image detail (Err Image) old new h =
+    settles_image old new (ap (λ s. s.faults) h.source) (same_output old.output new.output h.output) h.failed.rose
+run_settles image detail (Err (Length count expected)) old new h = absurd h
+run_settles image detail (Err Words) old new h = absurd h
+
+command_settles : (command : Command) (image : List ℕ) (result : Result (Unit {0}) Stop) (old new : Scene) → CommandEnds command image result old new → Settles (status_at result) old new
+command_settles (Inspect abi order) image result old new h = ring_settles (record { abi = abi; order = order }) result old new h.0
+command_settles (Run detail) image result old new h = run_settles image detail result old new h
+
+pub settles : (words : List (List ℕ)) (result : Result (Unit {0}) Stop) (status : ℕ) (old new : Scene) → status ≡ status_at result → CarriesOut words result old new → Settles status old new
+settles words result status old new same (inl (none, given, untouched)) =
+    rw (same, none) (settles_other 2 old new (omega arith) (omega arith) (omega arith) (omega arith) (ap (λ s. s.source.faults) untouched) (same_output old.output new.output (ap (λ s. s.output) untouched)))
+settles words result status old new same (inr (command, given, ends)) = rw same (command_settles command _ result old new ends)
+
+reports_at : (image : List ℕ) (detail : Detail) (result : Result (Unit {0}) Stop) (old new : Scene) → RunReports image detail result old new → ReportsAt (status_at result) image detail old new
+reports_at image detail (Ok done) old new h = grind arith
+reports_at image detail (Err (BadLine number)) old new h = grind arith
+reports_at image detail (Err Source) old new h = grind arith
+reports_at image detail (Err TooLong) old new h = grind arith
+reports_at image detail (Err Sink) old new h = grind arith
+reports_at image detail (Err OutOfMemory) old new h = grind arith
+reports_at image detail (Err Image) old new h = grind arith
+reports_at image detail (Err (Length count expected)) old new h = absurd h
+reports_at image detail (Err Words) old new h = absurd h
+
+pub reports : (image : List ℕ) (detail : Detail) (result : Result (Unit {0}) Stop) (status : ℕ) (old new : Scene) → status ≡ status_at result → RunReports image detail result old new → ReportsAt status image detail old new
+reports image detail result status old new same h = rw same (reports_at image detail result old new h)

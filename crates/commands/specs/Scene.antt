@@ -1,0 +1,39 @@
+-- What lies outside the program at a moment, and what of it a run is given.
+use Rattle.std.specs.Prelude.{ℕ, List, Some, true, false}
+use Rattle.std.specs.Borrow.{GName}
+use Rattle.blk_base.specs.Options.{Options}
+use Rattle.blk_base.specs.declared.operation.Abi.TheVariants.{X64}
+use Rattle.blk_io.specs.Outside.{SourceSeen, SinkSeen}
+use Rattle.blk_io.specs.Disk.{Attachment, DiskSeen}
+use Rattle.schedule_text.specs.declared.line.Detail.{Detail}
+use Rattle.schedule_text.specs.Recorders.{writing}
+use Rattle.schedule_run.specs.Outcome.{Outside, outside}
+
+-- what input, image and output expose
+pub record Scene : Type 0 where
+  pub source : SourceSeen
+  pub disk : DiskSeen
+  pub output : SinkSeen
+
+abbrev pub scene : SourceSeen → DiskSeen → SinkSeen → Scene
+scene source disk output = record { source = source; disk = disk; output = output }
+
+-- the options of a run on an image of so many sectors
+abbrev pub options_of : ℕ → Options
+options_of sectors = record { abi = X64; order = 0; persistent = 0; indirect = 0; start = 0; read_only = false; sectors = sectors }
+
+-- a schedule has fewer bytes than this
+abbrev pub bytes_limit : ℕ
+bytes_limit = 4294967296
+
+-- the image of that name, which may be written
+abbrev pub image_named : List ℕ → ℕ → Attachment
+image_named name sectors = record { name = name; writable = true; sectors = sectors }
+
+-- the disk with that image attached
+abbrev pub with_image : List ℕ → ℕ → DiskSeen → DiskSeen
+with_image name sectors disk = record disk { attachment = Some (image_named name sectors) }
+
+-- a disk and a report that goes to the output, line by line
+abbrev pub reporting : Detail → GName → DiskSeen → SinkSeen → Outside
+reporting detail lender disk output = outside disk (writing detail lender output)
