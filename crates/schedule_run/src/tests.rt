@@ -193,7 +193,7 @@ fn the_first_push_sends_an_event_and_the_second_none(rt: HostRuntime) -> Result<
 }
 
 #[test]
-fn a_run_stops_where_its_source_or_its_limit_ends(rt: HostRuntime) -> Result<(), Fail> {
+fn a_run_stops_where_its_source_fails(rt: HostRuntime) -> Result<(), Fail> {
     let alloc = rt.alloc();
     let mut disk = zeros(alloc)?;
     let sectors = match disk.attach("image", true) {
@@ -214,6 +214,17 @@ fn a_run_stops_where_its_source_or_its_limit_ends(rt: HostRuntime) -> Result<(),
     assert_eq!(rt; stop, Err(RunStop::Source));
     assert_eq!(rt; lines.lines.len(), 4);
     assert_eq!(rt; lines.lines.last(), Some(&Line::Quiet));
+    Ok(())
+}
+
+#[test]
+fn a_run_stops_at_its_limit(rt: HostRuntime) -> Result<(), Fail> {
+    let alloc = rt.alloc();
+    let mut disk = zeros(alloc)?;
+    let sectors = match disk.attach("image", true) {
+        Ok(sectors) => sectors,
+        Err(_) => return Err(Fail::from("attach")),
+    };
     let mut lines = LineList::new(alloc, Detail::Lines);
     let mut source = MemorySource::new(b"settle\n".to_vec(alloc)?);
     let stop = run(
