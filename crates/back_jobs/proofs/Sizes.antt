@@ -16,7 +16,7 @@ use Rattle.back_jobs.specs.declared.stage.Stage.{Stage}
 use Rattle.back_jobs.specs.declared.stage.Stage.TheVariants as stage
 use Rattle.back_jobs.specs.Task.{Work, ask_of, ask_at, map_ask, mode_of, step_of, step_at, sector_stage, next_sector, next_segment, counted, rest_of, last_of, begun, served, moving, ended}
 use Rattle.back_jobs.specs.Jobs.{mapping_at, work_at, told_at, behind_mapping}
-use Rattle.back_jobs.specs.Sound.{AreSized, IsPlaced, IsWithin}
+use Rattle.back_jobs.specs.Sound.{AreSized, IsPlaced, StaysInPageAndDisk}
 use Rattle.back_jobs.specs.Hands.{hand_of, Names}
 use Rattle.back_jobs.proofs.Hands.{hand_at}
 
@@ -113,7 +113,7 @@ names_map : (size : ℕ) (rest : List Segment) (writes : Bool) → Names [] (map
 names_map size [] writes = tt
 names_map size (s ∷ rest) writes = tt
 
-names_at : (size : ℕ) (s : Stage) (t : Work) → IsPlaced s t → IsWithin size (ask_at s t) → Names (hand_at s) (ask_at s t)
+names_at : (size : ℕ) (s : Stage) (t : Work) → IsPlaced s t → StaysInPageAndDisk size (ask_at s t) → Names (hand_at s) (ask_at s t)
 names_at size stage.Map t placed within = names_map size t.rest t.writes
 names_at size (stage.ReadWord m k) t placed within = (only m, within)
 names_at size (stage.DiskWrite m) t placed within = tt
@@ -124,5 +124,5 @@ names_at size (stage.GiveUp m) t placed within = only m
 names_at size (stage.Done status) t placed within = tt
 
 -- a job names what is in its hand, and writes only to a frame that it mapped for writing
-pub names_hand : (size : ℕ) (t : Work) → IsPlaced t.stage t → IsWithin size (ask_of t) → Names (hand_of t) (ask_of t)
+pub names_hand : (size : ℕ) (t : Work) → IsPlaced t.stage t → StaysInPageAndDisk size (ask_of t) → Names (hand_of t) (ask_of t)
 names_hand size t placed within = names_at size t.stage t placed within

@@ -1,4 +1,5 @@
 pub mod Task
+pub mod Inside
 pub mod Sound
 pub mod Jobs
 pub mod Order

@@ -69,9 +69,9 @@ AreMovable size sector [] = ⊥
 AreMovable size sector (s ∷ rest) = (sector + sectors_of (s ∷ rest) ≤ size) × AllByRecursion IsSound (s ∷ rest)
 
 -- an ask that touches memory names a word below 1024, and one that calls the disk a sector below `size`
-abbrev pub IsWithin : ℕ → BackAsk → Type 0
-IsWithin size (ask.Read m word) = word < 1024
-IsWithin size (ask.Write m word value) = word < 1024
-IsWithin size (ask.DiskRead sector) = sector < size
-IsWithin size (ask.DiskWrite sector words) = sector < size
-IsWithin size a = Unit {0}
+abbrev pub StaysInPageAndDisk : ℕ → BackAsk → Type 0
+StaysInPageAndDisk size (ask.Read m word) = word < 1024
+StaysInPageAndDisk size (ask.Write m word value) = word < 1024
+StaysInPageAndDisk size (ask.DiskRead sector) = sector < size
+StaysInPageAndDisk size (ask.DiskWrite sector words) = sector < size
+StaysInPageAndDisk size a = Unit {0}

@@ -111,9 +111,10 @@ abbrev pub IsUnmap : Stage → Type 0
 IsUnmap (stage.Unmap m) = Unit {0}
 IsUnmap s = ⊥
 
-abbrev pub IsDone : Stage → Type 0
-IsDone (stage.Done status) = Unit {0}
-IsDone s = ⊥
+-- the job is done
+abbrev pub IsDoneStage : Stage → Type 0
+IsDoneStage (stage.Done status) = Unit {0}
+IsDoneStage s = ⊥
 
 -- an answer that an ask allows
 abbrev pub IsAnswer : BackAsk → BackAnswer → Type 0

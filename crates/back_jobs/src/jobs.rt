@@ -2,7 +2,7 @@
 ghost use Rattle.std.specs.Prelude.{◌≡◌, ◌<◌, ◌≤◌, ◌+◌, ◌↔◌, IfOk, IfSome, IsSome, IsTrue, length, vec_capacity, option_and_then};
 ghost use Rattle.std.specs.Option.{option_map};
 ghost use Rattle.back_jobs.specs.Task.{IsAnswer, Work};
-ghost use Rattle.back_jobs.specs.Sound.{IsWithin};
+ghost use Rattle.back_jobs.specs.Sound.{StaysInPageAndDisk};
 ghost use Rattle.back_jobs.specs.Hands.{hands_in, Names};
 ghost use Rattle.back_jobs.specs.Jobs.{none_held, place_of, work_of, ask_job, tell_job, start_job, without_done, first_mapping, behind_mapping, effect_of, done_of, response_of, next_after};
 ghost use Rattle.ring_words.specs.Shape.{entries_of};
@@ -108,7 +108,7 @@ impl Jobs {
     #[inline(always)]
     pub fn ask(&self, number: u64) -> BackAsk<'_>
         ensures value { result ≡ ask_job self.now number }
-        ensures within { IsWithin self.now.info.sectors result }
+        ensures within { StaysInPageAndDisk self.now.info.sectors result }
         ensures names { Names (hands_in self.now.works) result }
     {
         match self.place(number) {

@@ -1,7 +1,7 @@
 // One job.
 ghost use Rattle.std.specs.Prelude.{◌≡◌};
 ghost use Rattle.back_jobs.specs.Task.{ask_of, map_ask, step_of, IsAnswer, begun};
-ghost use Rattle.back_jobs.specs.Sound.{IsWithin};
+ghost use Rattle.back_jobs.specs.Sound.{StaysInPageAndDisk};
 ghost use Rattle.back_jobs.specs.Hands.{hand_of, Names};
 ghost use Rattle.back_jobs.specs.Jobs.{is_done, response_of, mapping_at, effect_at};
 ghost use Rattle.segment_list.specs.Verdict.{verdict_of};
@@ -36,13 +36,14 @@ pub struct Task {
 
 impl Model for Task {
     ghost use Rattle.back_jobs.specs.Task.{Work};
+    ghost use Rattle.back_jobs.specs.Inside.{view_of};
     ghost use Rattle.back_jobs.specs.Sound.{IsPlaced};
 
     ghost Value = { Work };
 
-    ghost view = { λ t. record { number = t.number; id = t.id; op = t.op; writes = t.writes; size = t.size; disk = t.disk; moved = t.moved; rest = t.rest.items; within = t.within; words = t.words; stage = t.stage } };
+    ghost view = { view_of };
 
-    ghost invariant = { λ t. IsPlaced t.stage (record { number = t.number; id = t.id; op = t.op; writes = t.writes; size = t.size; disk = t.disk; moved = t.moved; rest = t.rest.items; within = t.within; words = t.words; stage = t.stage }) };
+    ghost invariant = { λ t. IsPlaced t.stage (view_of t) };
 }
 
 impl Task {
@@ -141,7 +142,7 @@ impl Task {
     #[inline(always)]
     pub fn ask(&self) -> BackAsk<'_>
         ensures value { result ≡ ask_of self.now }
-        ensures within { IsWithin self.now.size result }
+        ensures within { StaysInPageAndDisk self.now.size result }
         ensures names { Names (hand_of self.now) result }
     {
         match self.stage {
@@ -167,7 +168,7 @@ impl Task {
     #[inline(never)]
     fn map(&self) -> BackAsk<'_>
         ensures value { result ≡ map_ask self.now.rest self.now.writes }
-        ensures within { IsWithin self.now.size result }
+        ensures within { StaysInPageAndDisk self.now.size result }
     {
         let mode = if self.writes {
             Mode::ReadOnly

@@ -22,7 +22,7 @@ use Rattle.blk_back.specs.declared.stage.Reply.{Reply}
 use Rattle.blk_back.specs.declared.stage.Stage.{Stage}
 use Rattle.blk_back.specs.declared.stage.Stage.TheVariants as stage
 use Rattle.blk_back.specs.View.{View, slot_word}
-use Rattle.blk_back.specs.Ask.{ask_at, ask_of, loop_ask, next_reply, IsAnswer, IsWithin}
+use Rattle.blk_back.specs.Ask.{ask_at, ask_of, loop_ask, next_reply, IsAnswer, StaysInPage}
 use Rattle.blk_back.specs.Step.{giving_up, give_up, overrun, looked, loop_word, loop_step, fetched, fetch_step, next_number, step_at, step_of, job_ask_of, job_step, next_job_of}
 use Rattle.blk_back.specs.Sound.{IsMapped}
 use Rattle.blk_back.specs.Hands.{given_up, page_at, hands_at, hands_of}
@@ -131,16 +131,16 @@ job_hands_after v number given h = job_hands_after_at (is_some v.halted) v numbe
 page_in : (works : List Mapping) (page : Mapping) → Contains (works ++ page ∷ []) page
 page_in works page = Contains-push works page
 
-loop_names_at : (asleep new : Bool) (page : Mapping) (works : List Mapping) (word : ℕ) → IsWithin (if asleep then ask.Wait else (if new then ask.Read page 0 else ask.Read page word)) → Names (works ++ page ∷ []) (if asleep then ask.Wait else (if new then ask.Read page 0 else ask.Read page word))
+loop_names_at : (asleep new : Bool) (page : Mapping) (works : List Mapping) (word : ℕ) → StaysInPage (if asleep then ask.Wait else (if new then ask.Read page 0 else ask.Read page word)) → Names (works ++ page ∷ []) (if asleep then ask.Wait else (if new then ask.Read page 0 else ask.Read page word))
 loop_names_at true new page works word within = tt
 loop_names_at false true page works word within = (page_in works page, within)
 loop_names_at false false page works word within = (page_in works page, within)
 
-loop_names : (v : View) (r : Option Reply) → IsMapped stage.Loop v.page → IsWithin (loop_ask v r) → Names (connected v) (loop_ask v r)
+loop_names : (v : View) (r : Option Reply) → IsMapped stage.Loop v.page → StaysInPage (loop_ask v r) → Names (connected v) (loop_ask v r)
 loop_names v (Some r) mapped within = (page_in (hands_in v.jobs.works) v.page, mapped, within)
 loop_names v None mapped within = loop_names_at v.asleep (requests_of v.ring v.seen == 0) v.page (hands_in v.jobs.works) (slot_word v.ring.cons 0) within
 
-names_at : (s : Stage) (v : View) → IsMapped s v.page → IsWithin (ask_at s v) → Names (hands_at s v) (ask_at s v)
+names_at : (s : Stage) (v : View) → IsMapped s v.page → StaysInPage (ask_at s v) → Names (hands_at s v) (ask_at s v)
 names_at stage.Loop v mapped within = loop_names v (next_reply v) mapped within
 names_at (stage.Fetch k) v mapped within = (page_in (hands_in v.jobs.works) v.page, within)
 names_at (stage.ReplyHigh r) v mapped within = (page_in (hands_in v.jobs.works) v.page, mapped, within)
@@ -155,7 +155,7 @@ names_at stage.UnmapUnbound v mapped within = page_in (hands_in v.jobs.works) v.
 names_at s v mapped within = tt
 
 -- the back names only what is held
-pub names_of : (v : View) → IsMapped v.stage v.page → IsWithin (ask_of v) → Names (hands_of v) (ask_of v)
+pub names_of : (v : View) → IsMapped v.stage v.page → StaysInPage (ask_of v) → Names (hands_of v) (ask_of v)
 names_of v mapped within = names_at v.stage v mapped within
 
 -- so does a job

@@ -77,10 +77,10 @@ IsAnswer ClosePort answer.Done = Unit {0}
 IsAnswer ask a = ⊥
 
 -- an ask on memory names a word of the page
-abbrev pub IsWithin : BackAsk → Type 0
-IsWithin (Read m word) = word < 1024
-IsWithin (Write m word value) = word < 1024
-IsWithin ask = Unit {0}
+abbrev pub StaysInPage : BackAsk → Type 0
+StaysInPage (Read m word) = word < 1024
+StaysInPage (Write m word value) = word < 1024
+StaysInPage ask = Unit {0}
 
 -- nothing is to be done until an event comes
 abbrev pub is_wait : BackAsk → Bool

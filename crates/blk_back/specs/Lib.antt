@@ -1,4 +1,5 @@
 pub mod View
+pub mod Inside
 pub mod Ask
 pub mod Step
 pub mod Sound

@@ -1,7 +1,7 @@
 // The back end.
 ghost use Rattle.std.specs.Prelude.{◌≡◌, ◌<◌, ◌≤◌, IfOk, IsOk, IsErr, OnErr, None, length};
 ghost use Rattle.blk_back.specs.View.{start_of, slot_word};
-ghost use Rattle.blk_back.specs.Ask.{ask_of, loop_ask, reply_ask, next_reply, response_word, IsAnswer, IsWithin};
+ghost use Rattle.blk_back.specs.Ask.{ask_of, loop_ask, reply_ask, next_reply, response_word, IsAnswer, StaysInPage};
 ghost use Rattle.blk_back.specs.Step.{step_of, step_at, job_step};
 ghost use Rattle.blk_back.specs.Hands.{hands_of};
 ghost use Rattle.blk_base.specs.declared.parts.Mode.TheVariants.{ReadWrite};
@@ -18,7 +18,7 @@ use arrayvec::ArrayVec;
 use back_jobs::Jobs;
 use blk_base::{Abi, BackAnswer, BackAsk, Config, Endpoint, Mapping, Mode, OutOfMemory};
 use blk_layout::{Response, response_words};
-use ring_words::{BackRing, RingShape};
+use ring_words::{BackRing, REQ_EVENT, REQ_PROD, RSP_EVENT, RSP_PROD, RingShape};
 use segment_list::DiskInfo;
 use std::alloc::Global;
 use std::marker::Model;
@@ -41,13 +41,14 @@ pub struct Back {
 
 impl Model for Back {
     ghost use Rattle.blk_back.specs.View.{View};
+    ghost use Rattle.blk_back.specs.Inside.{view_of};
     ghost use Rattle.blk_back.specs.Sound.{IsSound};
 
     ghost Value = { View };
 
-    ghost view = { λ b. record { ring = b.ring; stage = b.stage; asleep = b.asleep; seen = b.seen; page = b.page; entry = b.entry.items; fetched = b.fetched; jobs = b.jobs; told = b.told; halted = b.halted } };
+    ghost view = { view_of };
 
-    ghost invariant = { λ b. IsSound (record { ring = b.ring; stage = b.stage; asleep = b.asleep; seen = b.seen; page = b.page; entry = b.entry.items; fetched = b.fetched; jobs = b.jobs; told = b.told; halted = b.halted }) };
+    ghost invariant = { λ b. IsSound (view_of b) };
 }
 
 impl Back {
@@ -94,7 +95,7 @@ impl Back {
     // What is asked where nothing was begun.
     fn ask_in_loop(&self) -> BackAsk<'_>
         ensures value { result ≡ loop_ask self.now (next_reply self.now) }
-        ensures within { IsWithin result }
+        ensures within { StaysInPage result }
     {
         if let Some(r) = self.next_reply() {
             return self.write_reply(&r, 0);
@@ -102,7 +103,7 @@ impl Back {
         if self.asleep {
             BackAsk::Wait
         } else if self.ring.unconsumed(self.seen) == 0 {
-            self.read(0)
+            self.read(REQ_PROD)
         } else {
             self.read_entry(0)
         }
@@ -112,7 +113,7 @@ impl Back {
     fn read(&self, word: u32) -> BackAsk<'_>
         requires { word < 1024 }
         ensures value { result ≡ BackAsk.Read self.now.page word }
-        ensures within { IsWithin result }
+        ensures within { StaysInPage result }
     {
         BackAsk::Read {
             mapping: self.page,
@@ -124,7 +125,7 @@ impl Back {
     fn write(&self, word: u32, value: u32) -> BackAsk<'_>
         requires { word < 1024 }
         ensures value { result ≡ BackAsk.Write self.now.page word value }
-        ensures within { IsWithin result }
+        ensures within { StaysInPage result }
     {
         BackAsk::Write {
             mapping: self.page,
@@ -137,7 +138,7 @@ impl Back {
     fn read_entry(&self, word: u32) -> BackAsk<'_>
         requires { word < 28 }
         ensures value { result ≡ BackAsk.Read self.now.page (slot_word self.now.ring.cons word) }
-        ensures within { IsWithin result }
+        ensures within { StaysInPage result }
     {
         self.read(place(self.ring.cons(), word))
     }
@@ -146,7 +147,7 @@ impl Back {
     fn write_reply(&self, r: &Reply, word: u32) -> BackAsk<'_>
         requires { word < 3 }
         ensures value { result ≡ reply_ask self.now r.now word }
-        ensures within { IsWithin result }
+        ensures within { StaysInPage result }
     {
         let words = response_words(&Response {
             id: r.id,
@@ -193,7 +194,7 @@ impl<'a> Endpoint<'a> for Back {
     #[inline(always)]
     fn ask(&'a self) -> BackAsk<'a>
         ensures value { result ≡ ask_of self.now }
-        ensures within { IsWithin result }
+        ensures within { StaysInPage result }
         ensures names { Names (hands_of self.now) result }
         ensures few { length (hands_of self.now) ≤ 34 }
     {
@@ -219,7 +220,7 @@ impl Back {
     #[inline(always)]
     fn next_ask(&self) -> BackAsk<'_>
         ensures value { result ≡ ask_of self.now }
-        ensures within { IsWithin result }
+        ensures within { StaysInPage result }
     {
         match self.stage {
             Stage::MapRing => map_ring(),
@@ -228,13 +229,13 @@ impl Back {
             Stage::Fetch(word) => self.read_entry(word),
             Stage::ReplyHigh(r) => self.write_reply(&r, 1),
             Stage::ReplyLast(r) => self.write_reply(&r, 2),
-            Stage::Producer(_) => self.write(2, self.ring.prod().wrapping_add(1)),
+            Stage::Producer(_) => self.write(RSP_PROD, self.ring.prod().wrapping_add(1)),
             Stage::ProducerFence(_) => BackAsk::Fence,
-            Stage::ResponseEvent(_) => self.read(3),
+            Stage::ResponseEvent(_) => self.read(RSP_EVENT),
             Stage::Send => BackAsk::Send,
-            Stage::StoreEvent => self.write(1, self.ring.cons().wrapping_add(1)),
+            Stage::StoreEvent => self.write(REQ_EVENT, self.ring.cons().wrapping_add(1)),
             Stage::EventFence => BackAsk::Fence,
-            Stage::LookAgain => self.read(0),
+            Stage::LookAgain => self.read(REQ_PROD),
             Stage::GiveUp(mapping) => BackAsk::Unmap(mapping),
             Stage::UnmapRing => BackAsk::Unmap(self.page),
             Stage::ClosePort => BackAsk::ClosePort,

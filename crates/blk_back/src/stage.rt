@@ -25,11 +25,14 @@ pub enum Stage {
     ReplyHigh(Reply),
     ReplyLast(Reply),
     Producer(Reply),
-    /// Pushes: a fence, the event word, and an event where it is due. The producer was this before.
+    /// Pushes: a fence, the event word, and an event where it is due. The fence has the producer seen
+    /// before the event word is read (`RING_PUSH_RESPONSES_AND_CHECK_NOTIFY`). The producer was this
+    /// before.
     ProducerFence(u32),
     ResponseEvent(u32),
     Send,
-    /// Looks for requests a last time: the event word, a fence, the producer again.
+    /// Looks for requests a last time: the event word, a fence, the producer again. The fence has the
+    /// event word seen before the producer is read (`RING_FINAL_CHECK_FOR_REQUESTS`).
     StoreEvent,
     EventFence,
     LookAgain,

@@ -91,9 +91,25 @@ impl Model for Config {
 
     ghost Value = { Options };
 
-    ghost view = { λ c. record { abi = c.abi; order = c.order; persistent = c.persistent; indirect = c.indirect; start = c.start; read_only = c.read_only; sectors = c.sectors } };
+    ghost view = { λ c. record {
+      abi = c.abi;
+      order = c.order;
+      persistent = c.persistent;
+      indirect = c.indirect;
+      start = c.start;
+      read_only = c.read_only;
+      sectors = c.sectors;
+    } };
 
     ghost invariant = { λ c. (c.order ≤ 4) × (c.persistent ≤ 1000) × (c.indirect ≤ 960) };
 
-    ghost inverse = { λ o. record { abi = o.abi; order = o.order; persistent = o.persistent; indirect = o.indirect; start = o.start; read_only = o.read_only; sectors = o.sectors } };
+    ghost inverse = { λ o. record {
+      abi = o.abi;
+      order = o.order;
+      persistent = o.persistent;
+      indirect = o.indirect;
+      start = o.start;
+      read_only = o.read_only;
+      sectors = o.sectors;
+    } };
 }

@@ -63,8 +63,8 @@ abbrev pub IsPlace : ℕ → ℕ → Type 0
 IsPlace frame word = (frame < 1018) × (word < 1024)
 
 -- an ask that touches memory touches one such word
-abbrev pub IsWithin : FrontAsk → Type 0
-IsWithin (Read frame word) = IsPlace frame word
-IsWithin (Write frame word value) = IsPlace frame word
-IsWithin (Cas frame word old new) = IsPlace frame word
-IsWithin ask = Unit {0}
+abbrev pub StaysInMemory : FrontAsk → Type 0
+StaysInMemory (Read frame word) = IsPlace frame word
+StaysInMemory (Write frame word value) = IsPlace frame word
+StaysInMemory (Cas frame word old new) = IsPlace frame word
+StaysInMemory ask = Unit {0}

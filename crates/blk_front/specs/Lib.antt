@@ -1,5 +1,6 @@
 pub mod Pool
 pub mod View
+pub mod Inside
 pub mod Ask
 pub mod Step
 pub mod Submit

@@ -2,7 +2,7 @@
 ghost use Rattle.std.specs.Prelude.{◌≡◌, ◌<◌, ◌+◌, None, IfOk, IsOk, OnErr, slice_index};
 ghost use Rattle.blk_base.specs.declared.ask.FrontAsk.TheVariants.{Wait};
 ghost use Rattle.blk_front.specs.View.{start_of, next_request, slot_frame, slot_word, entry_frame, entry_word};
-ghost use Rattle.blk_front.specs.Ask.{ask_of, loop_ask, IsAnswer, IsPlace, IsWithin};
+ghost use Rattle.blk_front.specs.Ask.{ask_of, loop_ask, IsAnswer, IsPlace, StaysInMemory};
 ghost use Rattle.blk_front.specs.Step.{step_of, step_at};
 ghost use Rattle.blk_front.specs.Submit.{submit_of, unfinished};
 
@@ -16,7 +16,8 @@ use crate::stage::Stage;
 use crate::told::{Refusal, Told};
 use arrayvec::ArrayVec;
 use blk_base::{Abi, Config, Endpoint, FrontAnswer, FrontAsk, Job, OutOfMemory};
-use ring_words::{FrontRing, RingShape};
+use grant_table::{GTF_PERMIT_ACCESS, GTF_READONLY};
+use ring_words::{FrontRing, REQ_EVENT, REQ_PROD, RSP_EVENT, RSP_PROD, RingShape};
 use std::alloc::Global;
 use std::marker::Model;
 
@@ -41,13 +42,14 @@ pub struct Front {
 impl Model for Front {
     ghost use Rattle.std.specs.Prelude.{◌≤◌, vec_capacity};
     ghost use Rattle.blk_front.specs.View.{View};
+    ghost use Rattle.blk_front.specs.Inside.{view_of};
     ghost use Rattle.blk_front.specs.Sound.{IsSound};
 
     ghost Value = { View };
 
-    ghost view = { λ f. record { sectors = f.sectors; start = f.start; ring = f.ring; stage = f.stage; asleep = f.asleep; seen = f.seen; last = f.last; waiting = f.waiting; requests = f.requests.items; pool = f.pool; entry = f.entry.items; told = f.told } };
+    ghost view = { view_of };
 
-    ghost invariant = { λ f. IsSound (record { sectors = f.sectors; start = f.start; ring = f.ring; stage = f.stage; asleep = f.asleep; seen = f.seen; last = f.last; waiting = f.waiting; requests = f.requests.items; pool = f.pool; entry = f.entry.items; told = f.told }) × (32 ≤ vec_capacity f.requests) };
+    ghost invariant = { λ f. IsSound (view_of f) × (32 ≤ vec_capacity f.requests) };
 }
 
 impl Front {
@@ -88,7 +90,7 @@ impl Front {
     // What is asked where nothing was begun.
     fn ask_in_loop(&self) -> FrontAsk<'_>
         ensures value { result ≡ loop_ask self.now (next_request self.now) }
-        ensures within { IsWithin result }
+        ensures within { StaysInMemory result }
     {
         if let Some(r) = self.next_request() {
             return FrontAsk::Write {
@@ -100,7 +102,7 @@ impl Front {
         if self.asleep {
             FrontAsk::Wait
         } else if self.ring.unconsumed(self.seen) == 0 {
-            read(place::RING_FRAME, 2)
+            read(place::RING_FRAME, RSP_PROD)
         } else {
             self.read_response(0)
         }
@@ -110,7 +112,7 @@ impl Front {
     fn read_response(&self, word: u32) -> FrontAsk<'_>
         requires { word < 28 }
         ensures value { result ≡ FrontAsk.Read (slot_frame self.now.ring.cons word) (slot_word self.now.ring.cons word) }
-        ensures within { IsWithin result }
+        ensures within { StaysInMemory result }
     {
         let (frame, place) = place::slot(self.ring.cons(), word);
         read(frame, place)
@@ -120,7 +122,7 @@ impl Front {
     fn write_slot(&self, word: u32) -> FrontAsk<'_>
         requires { word < 28 }
         ensures value { result ≡ FrontAsk.Write (slot_frame self.now.ring.prod word) (slot_word self.now.ring.prod word) (slice_index self.now.entry word) }
-        ensures within { IsWithin result }
+        ensures within { StaysInMemory result }
     {
         let (frame, place) = place::slot(self.ring.prod(), word);
         let value = self
@@ -137,7 +139,7 @@ impl Front {
 fn read<'a>(frame: u32, word: u32) -> FrontAsk<'a>
     requires { IsPlace frame word }
     ensures value { result ≡ FrontAsk.Read frame word }
-    ensures within { IsWithin result }
+    ensures within { StaysInMemory result }
 {
     FrontAsk::Read { frame, word }
 }
@@ -146,7 +148,7 @@ fn read<'a>(frame: u32, word: u32) -> FrontAsk<'a>
 fn write<'a>(frame: u32, word: u32, value: u32) -> FrontAsk<'a>
     requires { IsPlace frame word }
     ensures value { result ≡ FrontAsk.Write frame word value }
-    ensures within { IsWithin result }
+    ensures within { StaysInMemory result }
 {
     FrontAsk::Write { frame, word, value }
 }
@@ -154,7 +156,7 @@ fn write<'a>(frame: u32, word: u32, value: u32) -> FrontAsk<'a>
 // The first word of a frame's grant entry is written.
 fn write_flags<'a>(frame: &PoolFrame, flags: u32) -> FrontAsk<'a>
     ensures value { result ≡ FrontAsk.Write (entry_frame frame.now) (entry_word frame.now) flags }
-    ensures within { IsWithin result }
+    ensures within { StaysInMemory result }
 {
     let (entry, word) = place::entry(frame);
     write(entry, word, flags)
@@ -163,7 +165,7 @@ fn write_flags<'a>(frame: &PoolFrame, flags: u32) -> FrontAsk<'a>
 // The second word of a frame's grant entry is written.
 fn write_frame<'a>(frame: &PoolFrame) -> FrontAsk<'a>
     ensures value { result ≡ FrontAsk.Write (entry_frame frame.now) (entry_word frame.now + 1) frame.now }
-    ensures within { IsWithin result }
+    ensures within { StaysInMemory result }
 {
     let (entry, word) = place::entry(frame);
     write(entry, word + 1, frame.number())
@@ -172,7 +174,7 @@ fn write_frame<'a>(frame: &PoolFrame) -> FrontAsk<'a>
 // The first word of a frame's grant entry is read.
 fn read_flags<'a>(frame: &PoolFrame) -> FrontAsk<'a>
     ensures value { result ≡ FrontAsk.Read (entry_frame frame.now) (entry_word frame.now) }
-    ensures within { IsWithin result }
+    ensures within { StaysInMemory result }
 {
     let (entry, word) = place::entry(frame);
     read(entry, word)
@@ -181,7 +183,7 @@ fn read_flags<'a>(frame: &PoolFrame) -> FrontAsk<'a>
 // The first word of a frame's grant entry becomes 0 if it is still this one.
 fn end_grant<'a>(frame: &PoolFrame, old: u32) -> FrontAsk<'a>
     ensures value { result ≡ FrontAsk.Cas (entry_frame frame.now) (entry_word frame.now) old 0 }
-    ensures within { IsWithin result }
+    ensures within { StaysInMemory result }
 {
     let (frame, word) = place::entry(frame);
     FrontAsk::Cas {
@@ -207,31 +209,39 @@ impl<'a> Endpoint<'a> for Front {
     #[inline(always)]
     fn ask(&'a self) -> FrontAsk<'a>
         ensures value { result ≡ ask_of self.now }
-        ensures within { IsWithin result }
+        ensures within { StaysInMemory result }
     {
         match self.stage {
             Stage::RingWord(word) => write(place::RING_FRAME, word, place::fresh(self.start, word)),
             Stage::RingFrame => write(0, 17, place::RING_FRAME),
             Stage::RingFence => FrontAsk::Fence,
-            Stage::RingFlags => write(0, 16, 1),
+            Stage::RingFlags => write(0, 16, GTF_PERMIT_ACCESS),
             Stage::NewPort => FrontAsk::NewPort,
             Stage::Loop => self.ask_in_loop(),
             Stage::Data(r, word) => write(r.frame.number(), word, r.tag),
             Stage::GrantFrame(r) => write_frame(&r.frame),
             Stage::GrantFence(_) => FrontAsk::Fence,
-            Stage::GrantFlags(r) => write_flags(&r.frame, 5),
+            Stage::GrantFlags(r) => write_flags(&r.frame, GTF_PERMIT_ACCESS | GTF_READONLY),
             Stage::Slot(word) => self.write_slot(word),
-            Stage::Producer => write(place::RING_FRAME, 0, self.ring.prod().wrapping_add(1)),
+            Stage::Producer => write(
+                place::RING_FRAME,
+                REQ_PROD,
+                self.ring.prod().wrapping_add(1),
+            ),
             Stage::ProducerFence(_) => FrontAsk::Fence,
-            Stage::RequestEvent(_) => read(place::RING_FRAME, 1),
+            Stage::RequestEvent(_) => read(place::RING_FRAME, REQ_EVENT),
             Stage::Send => FrontAsk::Send,
             Stage::ResponseHigh(_) => self.read_response(1),
             Stage::ResponseLast(_, _) => self.read_response(2),
             Stage::GrantRead(ending) => read_flags(&ending.frame),
             Stage::GrantEnd(ending, seen) => end_grant(&ending.frame, seen),
-            Stage::StoreEvent => write(place::RING_FRAME, 3, self.ring.cons().wrapping_add(1)),
+            Stage::StoreEvent => write(
+                place::RING_FRAME,
+                RSP_EVENT,
+                self.ring.cons().wrapping_add(1),
+            ),
             Stage::EventFence => FrontAsk::Fence,
-            Stage::LookAgain => read(place::RING_FRAME, 2),
+            Stage::LookAgain => read(place::RING_FRAME, RSP_PROD),
             Stage::Broken(_) => FrontAsk::Wait,
         }
     }

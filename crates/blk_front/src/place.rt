@@ -4,7 +4,7 @@ ghost use Rattle.blk_front.specs.View.{entry_frame, entry_word, slot_frame, slot
 
 use crate::pool::PoolFrame;
 use blk_base::Abi;
-use ring_words::RingShape;
+use ring_words::{REQ_EVENT, REQ_PROD, RSP_EVENT, RSP_PROD, RingShape};
 
 /// The frame of the ring.
 pub const RING_FRAME: u32 = 2;
@@ -37,8 +37,8 @@ pub fn fresh(start: u32, word: u32) -> u32
     ensures { result ≡ fresh_word start word }
 {
     match word {
-        0 | 2 => start,
-        1 | 3 => start.wrapping_add(1),
+        REQ_PROD | RSP_PROD => start,
+        REQ_EVENT | RSP_EVENT => start.wrapping_add(1),
         _ => 0,
     }
 }

@@ -16,7 +16,8 @@ pub struct Ending {
 pub enum Stage {
     /// Makes the ring: its word of this number is written next, 0 to 15.
     RingWord(u32),
-    /// Grants the ring's frame: its entry's second word, a fence, its first word.
+    /// Grants the ring's frame: its entry's second word, a fence, its first word. The fence has the
+    /// frame stand in the entry before its flags permit access.
     RingFrame,
     RingFence,
     RingFlags,
@@ -26,14 +27,16 @@ pub enum Stage {
     Loop,
     /// Writes a request's data: the word of this number is written next, 1 to 127.
     Data(Request, u32),
-    /// Grants the request's frame: its entry's second word, a fence, its first word.
+    /// Grants the request's frame: its entry's second word, a fence, its first word. The fence has the
+    /// frame stand in the entry before its flags permit access.
     GrantFrame(Request),
     GrantFence(Request),
     GrantFlags(Request),
     /// Writes the request's entry: its word of this number is written next, 0 to 27.
     Slot(u32),
-    /// Pushes: the producer, a fence, the event word, and an event where it is due. The producer was
-    /// this before.
+    /// Pushes: the producer, a fence, the event word, and an event where it is due. The fence has the
+    /// producer seen before the event word is read (`RING_PUSH_REQUESTS_AND_CHECK_NOTIFY`). The
+    /// producer was this before.
     Producer,
     ProducerFence(u32),
     RequestEvent(u32),
@@ -44,7 +47,8 @@ pub enum Stage {
     /// Ends a grant: reads its entry's first word, and exchanges it for 0 if it is still this one.
     GrantRead(Ending),
     GrantEnd(Ending, u32),
-    /// Looks for responses a last time: the event word, a fence, the producer again.
+    /// Looks for responses a last time: the event word, a fence, the producer again. The fence has the
+    /// event word seen before the producer is read (`RING_FINAL_CHECK_FOR_RESPONSES`).
     StoreEvent,
     EventFence,
     LookAgain,

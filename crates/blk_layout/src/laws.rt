@@ -21,6 +21,7 @@ pub fn reading_gives_back_what_was_written()
 
 /// Reading the words of a written segment, or of a written response, gives it back.
 pub fn reading_gives_back_segments_and_responses()
-    ensures segment { (s : Segment) → s.first < 2 ^ 8 → s.last < 2 ^ 8 → segment_of (slice_index (segment_words_of s) 0) (slice_index (segment_words_of s) 1) ≡ s }
+    ensures segment { (s : Segment) → s.first < 2 ^ 8 → s.last < 2 ^ 8
+        → segment_of (slice_index (segment_words_of s) 0) (slice_index (segment_words_of s) 1) ≡ s }
     ensures response { (r : Response) → r.op < 2 ^ 8 → response_of (response_words_of r) ≡ Ok r }
 {}

@@ -9,7 +9,7 @@ use Rattle.schedule_text.specs.Recorder.{RecorderSeen, Because}
 use Rattle.split_model.specs.World.{start_of}
 use Rattle.split_model.specs.Leads.{Moment}
 use Rattle.split_model.proofs.Running.{runs_attachment}
-use Rattle.schedule_run.specs.Outcome.{Outside, outside, HasCarried, IsDone, IsCut, HasRead, Stands, HasStopped, IsDoneUnsent, Runs}
+use Rattle.schedule_run.specs.Outcome.{Outside, outside, HasCarried, EndsWhole, IsCut, HasRead, StandsAtStop, StopsWith, EndsUnsent, Runs}
 use Rattle.schedule_run.specs.declared.schedule.RunStop.{RunStop}
 use Rattle.schedule_run.specs.declared.schedule.RunStop.TheVariants as run
 
@@ -85,7 +85,7 @@ nothing old new same = record {
   faults = ap (λ o. o.recorder.faults) same;
 }
 
-stood : (config : Options) (limit : ℕ) (a b : SourceSeen) (why : RunStop) (old new : Outside) → Stands config limit a b why old new → Stood why a b old new
+stood : (config : Options) (limit : ℕ) (a b : SourceSeen) (why : RunStop) (old new : Outside) → StandsAtStop config limit a b why old new → Stood why a b old new
 stood config limit a b (run.BadLine n) old new h = let u = was_read config _ old new h.1 in record { source = h.0; stays = u.stays; recorder = u.faults }
 stood config limit a b run.Source old new h = let u = was_read config _ old new h.1 in record { source = h.0; stays = u.stays; recorder = u.faults }
 stood config limit a b run.TooLong old new h = let u = was_read config _ old new h.1 in record { source = h.0; stays = u.stays; recorder = u.faults }
@@ -136,7 +136,7 @@ pub record Left (result : Result (Unit {0}) RunStop) (a b : SourceSeen) (old new
   pub stays : Stays old new
   pub sink : SinkAt result old.recorder new.recorder
 
-done : (config : Options) (limit : ℕ) (a b : SourceSeen) (old new : Outside) → IsDone config limit a b old new → Left (Ok tt) a b old new
+done : (config : Options) (limit : ℕ) (a b : SourceSeen) (old new : Outside) → EndsWhole config limit a b old new → Left (Ok tt) a b old new
 done config limit a b old new h =
     let u = carried config h.events old _ h.carried.1 in
     let e = h.ended in
@@ -146,7 +146,7 @@ done config limit a b old new h =
       sink = (e.kept_back, e.faults ∙ u.faults);
     }
 
-has_stopped : (config : Options) (limit : ℕ) (a b : SourceSeen) (why : RunStop) (old new : Outside) → HasStopped config limit a b why old new → Left (Err why) a b old new
+has_stopped : (config : Options) (limit : ℕ) (a b : SourceSeen) (why : RunStop) (old new : Outside) → StopsWith config limit a b why old new → Left (Err why) a b old new
 has_stopped config limit a b why old new h =
     let u = stood config limit a b why old _ h.stands in
     let t = h.handed_on in
@@ -156,7 +156,7 @@ has_stopped config limit a b why old new h =
       sink = tried why old.recorder h.before new.recorder u.recorder t.outcome;
     }
 
-done_unsent : (config : Options) (limit : ℕ) (a b : SourceSeen) (old new : Outside) → IsDoneUnsent config limit a b old new → Left (Err run.Sink) a b old new
+done_unsent : (config : Options) (limit : ℕ) (a b : SourceSeen) (old new : Outside) → EndsUnsent config limit a b old new → Left (Err run.Sink) a b old new
 done_unsent config limit a b old new h =
     let u = done config limit a b old _ h.done in
     record {

@@ -100,12 +100,12 @@ pub record IsSaid (line : List ℕ) (before after : SinkSeen) : Type 0 where
   pub handed_on : HandsOn sent between after
 
 -- the command of the words was done, and nothing was said
-pub record IsDone (words : List (List ℕ)) (old new : Scene) (error error' : SinkSeen) : Type 0 where
+pub record EndsSilently (words : List (List ℕ)) (old new : Scene) (error error' : SinkSeen) : Type 0 where
   pub carried_out : CarriesOut words (Ok tt) old new
   pub silent : error' ≡ error
 
 -- it stopped, with the status and the line of the reason
-pub record HasStopped (words : List (List ℕ)) (status : ℕ) (old new : Scene) (error error' : SinkSeen) : Type 0 where
+pub record StopsWithReason (words : List (List ℕ)) (status : ℕ) (old new : Scene) (error error' : SinkSeen) : Type 0 where
   pub stop : Stop
   pub is_status : status ≡ status_of stop
   pub carried_out : CarriesOut words (Err stop) old new

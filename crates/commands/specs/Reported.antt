@@ -7,7 +7,7 @@ use Rattle.schedule_text.specs.declared.line.Line.{Line}
 use Rattle.schedule_text.specs.declared.event.Event.{Event}
 use Rattle.schedule_text.specs.Recorder.{report_text}
 use Rattle.plain_disk.specs.Echo.{Echoes}
-use Rattle.disk_laws.specs.Submissions.{jobs_of}
+use Rattle.machine_pipeline.specs.Submissions.{jobs_of}
 use Rattle.schedule_run.specs.Lawful.{IsLawful, RunsLawfully}
 use Rattle.schedule_run.specs.Reading.{IsWholeSchedule, Tells}
 use Rattle.schedule_run.specs.declared.schedule.RunStop.{RunStop}

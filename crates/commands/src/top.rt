@@ -5,7 +5,7 @@ ghost use Rattle.blk_io.specs.Outside.{HandsOn};
 ghost use Rattle.commands.specs.Words.{Gives, GivesNone, image_of};
 ghost use Rattle.commands.specs.Status.{status_of, line_of};
 ghost use Rattle.commands.specs.Scene.{scene};
-ghost use Rattle.commands.specs.Ending.{RunEnds, RingEnds, CarriesOut, IsDone, HasStopped, IsSaid, run_stop};
+ghost use Rattle.commands.specs.Ending.{RunEnds, RingEnds, CarriesOut, EndsSilently, StopsWithReason, IsSaid, run_stop};
 ghost use Rattle.commands.specs.Reported.{RunReports, ReportsAt};
 ghost use Rattle.commands.specs.Settled.{Settles};
 
@@ -52,11 +52,11 @@ pub fn blkring<S: Source, D: SectorDisk, O: Sink, E: Sink>(
     err: &mut E,
 ) -> u8
     // Done: the command of the words made of the outside what it is, and nothing was said.
-    ensures done { result ≡ 0 → IsDone (map string_bytes words.now)
+    ensures done { result ≡ 0 → EndsSilently (map string_bytes words.now)
         (scene (S.seen src.old) (D.seen disk.old) (O.seen out.old))
         (scene (S.seen src.new) (D.seen disk.new) (O.seen out.new)) (E.seen err.old) (E.seen err.new) }
     // Any other status is that of a reason, which says what came before, and was said.
-    ensures stopped { result ≢ 0 → HasStopped (map string_bytes words.now) result
+    ensures stopped { result ≢ 0 → StopsWithReason (map string_bytes words.now) result
         (scene (S.seen src.old) (D.seen disk.old) (O.seen out.old))
         (scene (S.seen src.new) (D.seen disk.new) (O.seen out.new)) (E.seen err.old) (E.seen err.new) }
     // A run's image is the one named, and its report is lawful: whole, or as far as it was written.

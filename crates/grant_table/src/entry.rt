@@ -15,17 +15,19 @@ const FIRST_GRANTABLE_FRAME: u32 = 2;
 
 const LAST_GRANTABLE_FRAME: u32 = 1023;
 
-// `GTF_type_mask` and `GTF_permit_access` of `grant_table.h`.
-const TYPE_MASK: u32 = 3;
+// The bits of an entry's type (`GTF_type_mask` of `grant_table.h`).
+const GTF_TYPE_MASK: u32 = 3;
 
-const PERMIT_ACCESS: u32 = 1;
+/// The type of an entry that lets a domain map its frame (`GTF_permit_access` of `grant_table.h`).
+pub const GTF_PERMIT_ACCESS: u32 = 1;
 
-// `GTF_readonly`, `GTF_reading` and `GTF_writing`.
-const READONLY: u32 = 4;
+/// The frame may only be read (`GTF_readonly`).
+pub const GTF_READONLY: u32 = 4;
 
-const READING: u32 = 8;
+// The frame is mapped, and mapped for writing (`GTF_reading`, `GTF_writing`).
+const GTF_READING: u32 = 8;
 
-const WRITING: u32 = 16;
+const GTF_WRITING: u32 = 16;
 
 // Flag bits 5 to 15, of which this table knows none (`GTF_PWT`, `GTF_sub_page` and others).
 const OTHER_FLAGS: u32 = 0xffe0;
@@ -62,7 +64,7 @@ pub fn verdict(gref: u32, word0: u32, word1: u32, mode: Mode) -> Result<u32, Map
     if gref > LAST_REFERENCE {
         return Err(MapRefusal::BadRef);
     }
-    if type_bits(word0) != PERMIT_ACCESS || other_flags(word0) != 0 || domain(word0) != 0 {
+    if type_bits(word0) != GTF_PERMIT_ACCESS || other_flags(word0) != 0 || domain(word0) != 0 {
         return Err(MapRefusal::General);
     }
     if mode == Mode::ReadWrite && readonly(word0) {
@@ -104,7 +106,7 @@ pub(crate) fn unmapped(word0: u32, mappings: u32, writers: u32) -> u32
 fn type_bits(word0: u32) -> u32
     ensures { result ≡ type_of word0 }
 {
-    word0 & TYPE_MASK
+    word0 & GTF_TYPE_MASK
 }
 
 #[tactic(auto, using(crate::proofs::Bits::and_other_flags))]
@@ -124,33 +126,33 @@ fn domain(word0: u32) -> u32
 fn readonly(word0: u32) -> bool
     ensures { result ≡ is_readonly word0 }
 {
-    word0 & READONLY != 0
+    word0 & GTF_READONLY != 0
 }
 
 #[tactic(auto, using(crate::proofs::Bits::or_reading))]
 fn set_reading(word0: u32) -> u32
     ensures { result ≡ with_reading word0 }
 {
-    word0 | READING
+    word0 | GTF_READING
 }
 
 #[tactic(auto, using(crate::proofs::Bits::or_writing))]
 fn set_writing(word0: u32) -> u32
     ensures { result ≡ with_writing word0 }
 {
-    word0 | WRITING
+    word0 | GTF_WRITING
 }
 
 #[tactic(auto, using(crate::proofs::Bits::and_not_reading))]
 fn clear_reading(word0: u32) -> u32
     ensures { result ≡ without_reading word0 }
 {
-    word0 & !READING
+    word0 & !GTF_READING
 }
 
 #[tactic(auto, using(crate::proofs::Bits::and_not_writing))]
 fn clear_writing(word0: u32) -> u32
     ensures { result ≡ without_writing word0 }
 {
-    word0 & !WRITING
+    word0 & !GTF_WRITING
 }

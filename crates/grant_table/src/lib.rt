@@ -9,5 +9,5 @@ mod held;
 #[cfg(test)]
 mod tests;
 
-pub use entry::{MapRefusal, verdict};
+pub use entry::{GTF_PERMIT_ACCESS, GTF_READONLY, MapRefusal, verdict};
 pub use grants::Grants;

@@ -112,9 +112,9 @@ mover_of back_mover.Back = mover.Back
 mover_of (back_mover.Job k) = mover.Job k
 
 -- the number of a job; the back itself calls no disk
-abbrev pub job_of : BackMover → ℕ
-job_of back_mover.Back = 0
-job_of (back_mover.Job k) = k
+abbrev pub job_number : BackMover → ℕ
+job_number back_mover.Back = 0
+job_number (back_mover.Job k) = k
 
 -- a map, by the verdict on the entry as it stands
 abbrev pub map_act : Hypervisor → BackMover → ℕ → Mode → Result ℕ MapRefusal → BackAct
@@ -171,10 +171,10 @@ back_act h who back_ask.ClosePort outcome = Some (record { answer = back_answer.
 back_act h who (back_ask.GetKey path) outcome = None
 back_act h who (back_ask.SetKey path text) outcome = None
 back_act h who (back_ask.Watch path) outcome = None
-back_act h who (back_ask.DiskRead sector) outcome = read_act h (moves.DiskRead (job_of who) sector) outcome
-back_act h who (back_ask.DiskWrite sector words) outcome = disk_act h (moves.DiskWrite (job_of who) sector) outcome
-back_act h who back_ask.Flush outcome = disk_act h (moves.DiskFlush (job_of who)) outcome
-back_act h who (back_ask.Trim sector count) outcome = disk_act h (moves.DiskTrim (job_of who) sector count) outcome
+back_act h who (back_ask.DiskRead sector) outcome = read_act h (moves.DiskRead (job_number who) sector) outcome
+back_act h who (back_ask.DiskWrite sector words) outcome = disk_act h (moves.DiskWrite (job_number who) sector) outcome
+back_act h who back_ask.Flush outcome = disk_act h (moves.DiskFlush (job_number who)) outcome
+back_act h who (back_ask.Trim sector count) outcome = disk_act h (moves.DiskTrim (job_number who) sector count) outcome
 
 -- the move that a report shows, by what the back or a job asked and was answered, and what lies under the ends after it
 abbrev pub back_shown : Hypervisor → BackMover → BackAsk → BackAnswer → Move
@@ -188,10 +188,10 @@ back_shown h who (back_ask.Bind p) back_answer.BindRefused = moves.BindRefused p
 back_shown h who (back_ask.Bind p) answer = moves.Bind p
 back_shown h who back_ask.Send answer = moves.Send (mover_of who)
 back_shown h who back_ask.ClosePort answer = moves.ClosePort (mover_of who)
-back_shown h who (back_ask.DiskRead sector) answer = moves.DiskRead (job_of who) sector
-back_shown h who (back_ask.DiskWrite sector words) answer = moves.DiskWrite (job_of who) sector
-back_shown h who back_ask.Flush answer = moves.DiskFlush (job_of who)
-back_shown h who (back_ask.Trim sector count) answer = moves.DiskTrim (job_of who) sector count
+back_shown h who (back_ask.DiskRead sector) answer = moves.DiskRead (job_number who) sector
+back_shown h who (back_ask.DiskWrite sector words) answer = moves.DiskWrite (job_number who) sector
+back_shown h who back_ask.Flush answer = moves.DiskFlush (job_number who)
+back_shown h who (back_ask.Trim sector count) answer = moves.DiskTrim (job_number who) sector count
 back_shown h who ask answer = moves.Event (mover_of who)
 
 -- what the back or a job was answered, with the move that a report shows

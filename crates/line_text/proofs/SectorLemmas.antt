@@ -1,5 +1,5 @@
 -- A sector's digits.
-use Rattle.std.proofs.Common.{◌≡◌, ℕ, ◌+◌, ◌*◌, ◌^◌, ◌<◌, ◌≤◌, true, false, List, [], ◌∷◌, ◌++◌, length, get_or, take, drop, sym, ap, ◌∙◌, arith, refl, add-zero, eq-eqb, append_assoc}
+use Rattle.std.proofs.Common.{◌≡◌, ℕ, ◌+◌, ◌*◌, ◌<◌, ◌≤◌, true, false, List, [], ◌∷◌, ◌++◌, length, get_or, take, drop, sym, ap, ◌∙◌, arith, refl, add-zero, eq-eqb, append_assoc}
 use Rattle.std.specs.Prelude.{codes, slice_index}
 use Rattle.std.proofs.lemmas.List.{take_more, append-nil, drop_all}
 use Rattle.std.proofs.lemmas.List.Concat.{flat_map-cons, flat_map-append}
@@ -8,7 +8,7 @@ use Rattle.std.proofs.lemmas.List.{get_or-drop, drop-drop, length-drop, take_all
 use Rattle.std.proofs.lemmas.Grind.{take-set_at}
 use Rattle.line_text.specs.Words.{spaced}
 use Rattle.line_text.specs.Numbers.{hex8}
-use Rattle.line_text.specs.Sector.{byte_digits, word_digits, are_all, sector_words, byte_of, words_of_digits, digits_sector}
+use Rattle.line_text.specs.Sector.{byte_digits, word_digits, are_all, sector_words, digits_word, words_of_digits, digits_sector}
 
 pub byte_digits_none : byte_digits [] ≡ []
 unfolding byte_digits
@@ -31,7 +31,7 @@ unfolding sector_words
 spaced_digits words e = rw e (ap (λ (x : List ℕ). 32 ∷ x) (append-nil (byte_digits words)))
 
 -- the word of the first eight digits, and the rest's
-words_of_digits_step : (ds : List ℕ) → 8 ≤ length ds → words_of_digits ds ≡ (byte_of (get_or ds 0 0) (get_or ds 1 0) + 2 ^ 8 * byte_of (get_or ds 2 0) (get_or ds 3 0) + 2 ^ 16 * byte_of (get_or ds 4 0) (get_or ds 5 0) + 2 ^ 24 * byte_of (get_or ds 6 0) (get_or ds 7 0)) ∷ words_of_digits (drop 8 ds)
+words_of_digits_step : (ds : List ℕ) → 8 ≤ length ds → words_of_digits ds ≡ digits_word ds 0 ∷ words_of_digits (drop 8 ds)
 unfolding words_of_digits
 words_of_digits_step (a ∷ b ∷ c ∷ d ∷ e ∷ f ∷ g ∷ h ∷ ds) le = refl
 words_of_digits_step (a ∷ b ∷ c ∷ d ∷ e ∷ f ∷ g ∷ []) le = absurd (omega arith)
@@ -45,7 +45,7 @@ words_of_digits_step [] le = absurd (omega arith)
 
 -- one word more of a sector
 pub from_digits_more : (ds ws : List ℕ) (i v : ℕ) → i < length ws → i * 8 + 8 ≤ length ds
-    → v ≡ byte_of (get_or ds (i * 8) 0) (get_or ds (i * 8 + 1) 0) + 2 ^ 8 * byte_of (get_or ds (i * 8 + 2) 0) (get_or ds (i * 8 + 3) 0) + 2 ^ 16 * byte_of (get_or ds (i * 8 + 4) 0) (get_or ds (i * 8 + 5) 0) + 2 ^ 24 * byte_of (get_or ds (i * 8 + 6) 0) (get_or ds (i * 8 + 7) 0)
+    → v ≡ digits_word ds (i * 8)
     → take i ws ++ words_of_digits (drop (i * 8) ds) ≡ words_of_digits ds
     → take (i + 1) (set ws i v) ++ words_of_digits (drop ((i + 1) * 8) ds) ≡ words_of_digits ds
 from_digits_more ds ws i v lt room e so_far =

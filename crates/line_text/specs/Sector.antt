@@ -37,6 +37,14 @@ sector_words words =
 abbrev pub byte_of : ℕ → ℕ → ℕ
 byte_of high low = digit_of high % 16 * 16 + digit_of low % 16
 
+-- the word that eight digits say, from this one on: its four bytes, the lowest first
+abbrev pub digits_word : List ℕ → ℕ → ℕ
+digits_word digits at =
+    byte_of (slice_index digits at) (slice_index digits (at + 1))
+    + 2 ^ 8 * byte_of (slice_index digits (at + 2)) (slice_index digits (at + 3))
+    + 2 ^ 16 * byte_of (slice_index digits (at + 4)) (slice_index digits (at + 5))
+    + 2 ^ 24 * byte_of (slice_index digits (at + 6)) (slice_index digits (at + 7))
+
 -- the words that digits say
 unfoldable pub words_of_digits : List ℕ → List ℕ
 words_of_digits (a ∷ b ∷ c ∷ d ∷ e ∷ f ∷ g ∷ h ∷ digits) = (byte_of a b + 2 ^ 8 * byte_of c d + 2 ^ 16 * byte_of e f + 2 ^ 24 * byte_of g h) ∷ words_of_digits digits

@@ -3,7 +3,7 @@ ghost use Rattle.std.specs.Prelude.{◌≡◌, ℕ, ◌+◌, ◌*◌, ◌^◌, �
 ghost use Rattle.std.specs.List.{flat_map};
 ghost use Rattle.arrayvec.specs.ArrayString.{array_string_len};
 ghost use Rattle.line_text.specs.Words.{spaced};
-ghost use Rattle.line_text.specs.Sector.{word_digits, byte_digits, are_all, sector_words, byte_of, IsSector, digits_sector, words_of_digits, sector_of};
+ghost use Rattle.line_text.specs.Sector.{word_digits, byte_digits, are_all, sector_words, byte_of, digits_word, IsSector, digits_sector, words_of_digits, sector_of};
 
 use crate::numbers::hex_value;
 use crate::words::{Words, is};
@@ -91,7 +91,7 @@ fn byte(high: u8, low: u8) -> u32
 /// The word that eight digits say.
 fn word_in(digits: &[u8], at: usize) -> u32
     requires { at + 8 ≤ length digits.now }
-    ensures { result ≡ byte_of (slice_index digits.now at) (slice_index digits.now (at + 1)) + 2 ^ 8 * byte_of (slice_index digits.now (at + 2)) (slice_index digits.now (at + 3)) + 2 ^ 16 * byte_of (slice_index digits.now (at + 4)) (slice_index digits.now (at + 5)) + 2 ^ 24 * byte_of (slice_index digits.now (at + 6)) (slice_index digits.now (at + 7)) }
+    ensures { result ≡ digits_word digits.now at }
 {
     let first = byte(digits[at], digits[at + 1]);
     let second = byte(digits[at + 2], digits[at + 3]);

@@ -23,8 +23,8 @@ abbrev pub IsAscending : Unfinished → Type 0
 IsAscending unfinished = IsStrictlyIncreasing (numbers_of unfinished)
 
 -- the job of a number
-abbrev pub job_of : Unfinished → ℕ → Option Job
-job_of unfinished number = lookup (nat_eq number) unfinished.held
+abbrev pub held_job : Unfinished → ℕ → Option Job
+held_job unfinished number = lookup (nat_eq number) unfinished.held
 
 -- with one more at the end
 abbrev pub with_job : Unfinished → ℕ → Job → Unfinished

@@ -29,7 +29,7 @@ impl Model for Shadow {
 }
 
 impl Shadow {
-    ghost use Rattle.resume_shadow.specs.Unfinished.{none_held, numbers_of, IsAscending, job_of, with_job, without};
+    ghost use Rattle.resume_shadow.specs.Unfinished.{none_held, numbers_of, IsAscending, held_job, with_job, without};
 
     /// Nothing is held yet, and there is room for `n` requests. It fails only where there is not enough memory.
     pub fn reserve(alloc: Global, n: u32) -> Result<Shadow, OutOfMemory>
@@ -53,7 +53,7 @@ impl Shadow {
     ///
     /// It takes a number of steps that is logarithmic in the number of those held.
     pub fn find(&self, id: u64) -> Option<Job>
-        ensures { result ≡ job_of self.now id }
+        ensures { result ≡ held_job self.now id }
     {
         let place = place_of(&self.held, id)?;
         Some(self.held[place].1)
@@ -61,9 +61,9 @@ impl Shadow {
 
     /// Holds the request with this id no longer. Those after it move down by one place in memory.
     pub fn finish(&mut self, id: u64)
-        requires { IsSome (job_of self.old id) }
+        requires { IsSome (held_job self.old id) }
         ensures rest { self.new ≡ without self.old id }
-        ensures gone { job_of self.new id ≡ None }
+        ensures gone { held_job self.new id ≡ None }
         ensures ascending { IsAscending self.new }
     {
         if let Some(place) = place_of(&self.held, id) {

@@ -63,7 +63,8 @@ impl BackRing {
     /// without a request that waits for its response.
     pub fn unconsumed(&self, req_prod: u32) -> u32
         ensures value { result ≡ requests_of self.now req_prod }
-        ensures ahead { (d u : ℕ) → IsDistance self.now.cons req_prod d → IsDistance self.now.prod self.now.cons u → result ≡ min d (self.now.entries - u) }
+        ensures ahead { (d u : ℕ) → IsDistance self.now.cons req_prod d → IsDistance self.now.prod self.now.cons u
+            → result ≡ min d (self.now.entries - u) }
     {
         let ahead = Idx(self.cons).dist(Idx(req_prod));
         ahead.min(self.entries - self.waiting())

@@ -7,11 +7,13 @@ mod back;
 mod front;
 mod push;
 mod shape;
+mod words;
 
 pub use back::BackRing;
 pub use front::FrontRing;
 pub use push::notify;
 pub use shape::RingShape;
+pub use words::{REQ_EVENT, REQ_PROD, RSP_EVENT, RSP_PROD};
 
 #[cfg(test)]
 mod tests;

@@ -4,5 +4,6 @@ pub mod Recorders
 pub mod Plain
 pub mod Reading
 pub mod Range
+pub mod Parts
 pub mod Event
 pub mod EventReading

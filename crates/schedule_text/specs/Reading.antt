@@ -213,6 +213,10 @@ effect_at ws =
     if length (word2 ws) == 0 then lines.Effect (number_of (word0 ws)) (small_of (word1 ws))
     else lines.EffectRead (number_of (word0 ws)) (small_of (word1 ws)) (sector_of (word2 ws) (later (later (later ws))))
 
+-- a sector that a request read
+abbrev pub data_at : List (List ℕ) → Line
+data_at ws = lines.Data (number_of (word0 ws)) (small_of (word1 ws)) (sector_of (word2 ws) (later (later (later ws))))
+
 -- lines of a request
 abbrev pub request_at : List ℕ → List (List ℕ) → Line
 request_at name ws =
@@ -223,7 +227,7 @@ request_at name ws =
     if bytes_eq name (codes "fault") then lines.Fault (number_of (word0 ws)) (small_of (word1 ws)) else
     if bytes_eq name (codes "reply") then lines.Reply (number_of (word0 ws)) (status_at (word1 ws)) else
     if bytes_eq name (codes "answer") then lines.Answer (number_of (word0 ws)) (status_at (word1 ws)) else
-    if bytes_eq name (codes "data") then lines.Data (number_of (word0 ws)) (small_of (word1 ws)) (sector_of (word2 ws) (later (later (later ws)))) else
+    if bytes_eq name (codes "data") then data_at ws else
     other_at name ws
 
 -- lines of one word

@@ -1,9 +1,9 @@
 // A report's line of a move.
-ghost use Rattle.std.specs.Prelude.{◌≡◌, ◌+◌, ◌≤◌, ◌∷◌, [], ◌++◌, decimal, codes, length};
+ghost use Rattle.std.specs.Prelude.{◌+◌, ◌≤◌, ◌∷◌, [], ◌++◌, decimal, codes, length};
 ghost use Rattle.arrayvec.specs.ArrayString.{array_string_len};
 ghost use Rattle.blk_base.specs.Kinds.{IsFrontMove, IsAccess, IsBackCall};
 ghost use Rattle.line_text.specs.Numbers.{hex8};
-ghost use Rattle.line_text.specs.Words.{spaced};
+ghost use Rattle.schedule_text.specs.Parts.{AddsWords};
 ghost use Rattle.schedule_text.specs.Line.{move_words, mover_words, back_words, mode_word};
 
 use blk_base::{BackMover, Mode, Move, Mover, Path, Text};
@@ -12,8 +12,7 @@ use line_text::{LineText, put, put_hex, put_number, put_signed};
 /// Adds a move.
 pub fn put_move(text: &mut LineText, one: &Move)
     requires { array_string_len text.old ≤ 200 }
-    ensures bytes { text.new.bytes ≡ text.old.bytes ++ spaced (move_words one.now) }
-    ensures len { array_string_len text.new ≤ 1000 }
+    ensures { AddsWords (move_words one.now) 1000 text.old text.new }
 {
     match one {
         Move::FrontRead { .. }
@@ -51,8 +50,7 @@ pub fn put_move(text: &mut LineText, one: &Move)
 fn put_front_move(text: &mut LineText, one: &Move)
     requires room { array_string_len text.old ≤ 200 }
     requires front { IsFrontMove one.now }
-    ensures bytes { text.new.bytes ≡ text.old.bytes ++ spaced (move_words one.now) }
-    ensures len { array_string_len text.new ≤ 1000 }
+    ensures { AddsWords (move_words one.now) 1000 text.old text.new }
 {
     match one {
         Move::FrontRead { frame, word, value } => put_front(text, "read", *frame, *word, *value),
@@ -81,8 +79,7 @@ fn put_front_move(text: &mut LineText, one: &Move)
 fn put_back_access(text: &mut LineText, one: &Move)
     requires room { array_string_len text.old ≤ 200 }
     requires access { IsAccess one.now }
-    ensures bytes { text.new.bytes ≡ text.old.bytes ++ spaced (move_words one.now) }
-    ensures len { array_string_len text.new ≤ 1000 }
+    ensures { AddsWords (move_words one.now) 1000 text.old text.new }
 {
     match one {
         Move::Read {
@@ -113,8 +110,7 @@ fn put_back_access(text: &mut LineText, one: &Move)
 fn put_back_call(text: &mut LineText, one: &Move)
     requires room { array_string_len text.old ≤ 200 }
     requires call { IsBackCall one.now }
-    ensures bytes { text.new.bytes ≡ text.old.bytes ++ spaced (move_words one.now) }
-    ensures len { array_string_len text.new ≤ 1000 }
+    ensures { AddsWords (move_words one.now) 1000 text.old text.new }
 {
     match one {
         Move::Map {
@@ -149,8 +145,7 @@ fn put_back_call(text: &mut LineText, one: &Move)
 /// Adds an access of the front's to a word of its memory.
 fn put_front(text: &mut LineText, name: &str, frame: u32, word: u32, value: u32)
     requires { array_string_len text.old + length name.now ≤ 300 }
-    ensures bytes { text.new.bytes ≡ text.old.bytes ++ spaced (codes "front" ∷ name.now ∷ decimal frame ∷ decimal word ∷ hex8 value ∷ []) }
-    ensures len { array_string_len text.new ≤ 400 }
+    ensures { AddsWords (codes "front" ∷ name.now ∷ decimal frame ∷ decimal word ∷ hex8 value ∷ []) 400 text.old text.new }
 {
     put(text, "front");
     put(text, name);
@@ -162,8 +157,7 @@ fn put_front(text: &mut LineText, name: &str, frame: u32, word: u32, value: u32)
 /// Adds an access to a word through a mapping.
 fn put_access(text: &mut LineText, name: &str, mapping: u64, frame: u32, word: u32, value: u32)
     requires { array_string_len text.old + length name.now ≤ 300 }
-    ensures len { array_string_len text.new ≤ 450 }
-    ensures bytes { text.new.bytes ≡ text.old.bytes ++ spaced (name.now ∷ decimal mapping ∷ decimal frame ∷ decimal word ∷ hex8 value ∷ []) }
+    ensures { AddsWords (name.now ∷ decimal mapping ∷ decimal frame ∷ decimal word ∷ hex8 value ∷ []) 450 text.old text.new }
 {
     put(text, name);
     put_number(text, mapping);
@@ -175,8 +169,7 @@ fn put_access(text: &mut LineText, name: &str, mapping: u64, frame: u32, word: u
 /// Adds a mover of the back's side.
 fn put_back(text: &mut LineText, who: BackMover)
     requires { array_string_len text.old ≤ 200 }
-    ensures bytes { text.new.bytes ≡ text.old.bytes ++ spaced (back_words who) }
-    ensures len { array_string_len text.new ≤ 230 }
+    ensures { AddsWords (back_words who) 230 text.old text.new }
 {
     match who {
         BackMover::Back => put(text, "back"),
@@ -190,8 +183,7 @@ fn put_back(text: &mut LineText, who: BackMover)
 /// Adds a mover.
 fn put_mover(text: &mut LineText, who: Mover)
     requires { array_string_len text.old ≤ 200 }
-    ensures bytes { text.new.bytes ≡ text.old.bytes ++ spaced (mover_words who) }
-    ensures len { array_string_len text.new ≤ 230 }
+    ensures { AddsWords (mover_words who) 230 text.old text.new }
 {
     match who {
         Mover::Front => put(text, "front"),
@@ -206,8 +198,7 @@ fn put_mover(text: &mut LineText, who: Mover)
 /// Adds the asking of a map.
 fn put_map(text: &mut LineText, who: BackMover, gref: u32, mode: Mode)
     requires { array_string_len text.old ≤ 200 }
-    ensures bytes { text.new.bytes ≡ text.old.bytes ++ spaced (back_words who ++ codes "map" ∷ decimal gref ∷ mode_word mode ∷ []) }
-    ensures len { array_string_len text.new ≤ 300 }
+    ensures { AddsWords (back_words who ++ codes "map" ∷ decimal gref ∷ mode_word mode ∷ []) 300 text.old text.new }
 {
     put_back(text, who);
     put(text, "map");
@@ -221,8 +212,7 @@ fn put_map(text: &mut LineText, who: BackMover, gref: u32, mode: Mode)
 /// Adds a map that was refused.
 fn put_refused(text: &mut LineText, who: BackMover, gref: u32, mode: Mode, status: i32)
     requires { array_string_len text.old ≤ 200 }
-    ensures len { array_string_len text.new ≤ 450 }
-    ensures bytes { text.new.bytes ≡ text.old.bytes ++ spaced (move_words (Move.MapRefused who gref mode status)) }
+    ensures { AddsWords (move_words (Move.MapRefused who gref mode status)) 450 text.old text.new }
 {
     put_map(text, who, gref, mode);
     put(text, "refused");
@@ -232,8 +222,7 @@ fn put_refused(text: &mut LineText, who: BackMover, gref: u32, mode: Mode, statu
 /// Adds a bind of the back's, and how it ended.
 fn put_bind(text: &mut LineText, port: u32, end: &str)
     requires { array_string_len text.old + length end.now ≤ 300 }
-    ensures len { array_string_len text.new ≤ 450 }
-    ensures bytes { text.new.bytes ≡ text.old.bytes ++ spaced (codes "back" ∷ codes "bind" ∷ decimal port ∷ end.now ∷ []) }
+    ensures { AddsWords (codes "back" ∷ codes "bind" ∷ decimal port ∷ end.now ∷ []) 450 text.old text.new }
 {
     put(text, "back");
     put(text, "bind");
@@ -245,8 +234,7 @@ fn put_bind(text: &mut LineText, port: u32, end: &str)
 fn put_disk(text: &mut LineText, job: u64, name: &str, sector: u64)
     requires room { array_string_len text.old ≤ 200 }
     requires short { length name.now ≤ 20 }
-    ensures bytes { text.new.bytes ≡ text.old.bytes ++ spaced (codes "job" ∷ decimal job ∷ name.now ∷ decimal sector ∷ []) }
-    ensures len { array_string_len text.new ≤ 300 }
+    ensures { AddsWords (codes "job" ∷ decimal job ∷ name.now ∷ decimal sector ∷ []) 300 text.old text.new }
 {
     put(text, "job");
     put_number(text, job);
@@ -258,8 +246,7 @@ fn put_disk(text: &mut LineText, job: u64, name: &str, sector: u64)
 fn put_act(text: &mut LineText, who: Mover, name: &str)
     requires room { array_string_len text.old ≤ 200 }
     requires short { length name.now ≤ 20 }
-    ensures bytes { text.new.bytes ≡ text.old.bytes ++ spaced (mover_words who ++ name.now ∷ []) }
-    ensures len { array_string_len text.new ≤ 260 }
+    ensures { AddsWords (mover_words who ++ name.now ∷ []) 260 text.old text.new }
 {
     put_mover(text, who);
     put(text, name);
@@ -269,8 +256,7 @@ fn put_act(text: &mut LineText, who: Mover, name: &str)
 fn put_path(text: &mut LineText, who: Mover, name: &str, path: &Path)
     requires room { array_string_len text.old ≤ 200 }
     requires short { length name.now ≤ 20 }
-    ensures bytes { text.new.bytes ≡ text.old.bytes ++ spaced (mover_words who ++ name.now ∷ path.now.bytes ∷ []) }
-    ensures len { array_string_len text.new ≤ 350 }
+    ensures { AddsWords (mover_words who ++ name.now ∷ path.now.bytes ∷ []) 350 text.old text.new }
 {
     put_act(text, who, name);
     put(text, path.as_str());
@@ -279,8 +265,7 @@ fn put_path(text: &mut LineText, who: Mover, name: &str, path: &Path)
 /// Adds the reading of a key, and its text where it is there.
 fn put_found(text: &mut LineText, who: Mover, path: &Path, found: &Option<Text>)
     requires { array_string_len text.old ≤ 200 }
-    ensures len { array_string_len text.new ≤ 500 }
-    ensures bytes { text.new.bytes ≡ text.old.bytes ++ spaced (move_words (Move.GetKey who path.now found.now)) }
+    ensures { AddsWords (move_words (Move.GetKey who path.now found.now)) 500 text.old text.new }
 {
     put_path(text, who, "getkey", path);
     if let Some(value) = found {
@@ -291,8 +276,7 @@ fn put_found(text: &mut LineText, who: Mover, path: &Path, found: &Option<Text>)
 /// Adds a key's text behind an equals sign.
 fn put_value(text: &mut LineText, value: &Text)
     requires { array_string_len text.old ≤ 400 }
-    ensures len { array_string_len text.new ≤ 500 }
-    ensures bytes { text.new.bytes ≡ text.old.bytes ++ spaced ((61 ∷ value.now.bytes) ∷ []) }
+    ensures { AddsWords ((61 ∷ value.now.bytes) ∷ []) 500 text.old text.new }
 {
     put(text, "=");
     text.push_str(value.as_str());

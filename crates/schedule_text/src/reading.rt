@@ -1,12 +1,11 @@
 // What the words of a report's line say, if they are those of a line. Any words are read as some
 // line; `read_line` sees by writing it again whether they are that line's.
-ghost use Rattle.std.specs.Prelude.{◌≡◌, max};
+ghost use Rattle.std.specs.Prelude.{◌≡◌};
 ghost use Rattle.line_text.specs.Words.{first_of, later, words_in};
-ghost use Rattle.schedule_text.specs.Plain.{plain, plain_halt};
-ghost use Rattle.schedule_text.specs.Range.{HasWidths, HaltHasWidths, JobHasWidths, AreOptions, IsCount};
-ghost use Rattle.schedule_text.specs.Reading.{line_at, word_line_at, request_at, other_at, effect_at, halt_at, job_at, count_of, options_at, status_at, detail_at, refusal_at, word0, word1, word2, small_of};
-ghost use Rattle.line_text.specs.Numbers.{number_of};
-ghost use Rattle.line_text.specs.Sector.{sector_of};
+ghost use Rattle.schedule_text.specs.Plain.{plain_halt};
+ghost use Rattle.schedule_text.specs.Parts.{IsReadAs};
+ghost use Rattle.schedule_text.specs.Range.{HaltHasWidths, JobHasWidths, AreOptions, IsCount};
+ghost use Rattle.schedule_text.specs.Reading.{line_at, word_line_at, request_at, other_at, effect_at, data_at, halt_at, job_at, count_of, options_at, status_at, detail_at, refusal_at};
 
 use crate::line::{Detail, Halt, Line, Refusal};
 use crate::reading_moves::movement;
@@ -16,8 +15,7 @@ use line_text::{Words, is, sector, short_text};
 /// The line that words say.
 #[tactic(auto, unfolding(crate::specs::Reading::line_at))]
 pub fn line_of(bytes: &[u8]) -> Line
-    ensures says { plain result ≡ line_at (words_in bytes.now) }
-    ensures widths { HasWidths result }
+    ensures { IsReadAs (line_at (words_in bytes.now)) result }
 {
     let mut words = Words::new(bytes);
     let name = words.next();
@@ -30,8 +28,7 @@ pub fn line_of(bytes: &[u8]) -> Line
 
 /// A line of one word, or one of those below.
 fn word_line(name: &[u8], words: &mut Words) -> Line
-    ensures says { plain result ≡ word_line_at name.now words.old }
-    ensures widths { HasWidths result }
+    ensures { IsReadAs (word_line_at name.now words.old) result }
 {
     if is(name, "ready") {
         Line::Ready
@@ -56,8 +53,7 @@ fn word_line(name: &[u8], words: &mut Words) -> Line
 
 /// A line of a request, or one of those below.
 fn request_line(name: &[u8], words: &mut Words) -> Line
-    ensures says { plain result ≡ request_at name.now words.old }
-    ensures widths { HasWidths result }
+    ensures { IsReadAs (request_at name.now words.old) result }
 {
     if is(name, "submit") {
         let id = words.number();
@@ -90,8 +86,7 @@ fn request_line(name: &[u8], words: &mut Words) -> Line
 
 /// An effect, with what was read where that is told.
 fn effect_line(words: &mut Words) -> Line
-    ensures says { plain result ≡ effect_at words.old }
-    ensures widths { HasWidths result }
+    ensures { IsReadAs (effect_at words.old) result }
 {
     let id = words.number();
     let index = words.small();
@@ -106,9 +101,7 @@ fn effect_line(words: &mut Words) -> Line
 
 /// A sector that a request read.
 fn data_line(words: &mut Words) -> Line
-    ensures says { plain result ≡ Line.Data (number_of (word0 words.old)) (small_of (word1 words.old))
-        (sector_of (word2 words.old) (later (later (later words.old)))) }
-    ensures widths { HasWidths result }
+    ensures { IsReadAs (data_at words.old) result }
 {
     let id = words.number();
     let index = words.small();
@@ -119,8 +112,7 @@ fn data_line(words: &mut Words) -> Line
 
 /// Another line with numbers in it.
 fn other_line(name: &[u8], words: &mut Words) -> Line
-    ensures says { plain result ≡ other_at name.now words.old }
-    ensures widths { HasWidths result }
+    ensures { IsReadAs (other_at name.now words.old) result }
 {
     if is(name, "begin") {
         let config = options(words);

@@ -1,8 +1,7 @@
 // What the words of a move's line say, if they are those of a move.
 ghost use Rattle.std.specs.Prelude.{◌≡◌};
-ghost use Rattle.line_text.specs.Words.{later};
-ghost use Rattle.schedule_text.specs.Plain.{plain_move};
-ghost use Rattle.schedule_text.specs.Range.{MoveHasWidths, MoverHasWidths, BackHasWidths};
+ghost use Rattle.schedule_text.specs.Parts.{IsMoveReadAs};
+ghost use Rattle.schedule_text.specs.Range.{MoverHasWidths, BackHasWidths};
 ghost use Rattle.schedule_text.specs.Reading.{move_at, mover_at, after_mover, front_at, own_at, job_move_at, back_at, map_at, act_at, mode_at};
 
 use blk_base::{BackMover, Mode, Move, Mover};
@@ -10,8 +9,7 @@ use line_text::{Words, is, short_text};
 
 /// The move that words say.
 pub fn movement(words: &mut Words) -> Move
-    ensures says { plain_move result ≡ move_at words.old }
-    ensures widths { MoveHasWidths result }
+    ensures { IsMoveReadAs (move_at words.old) result }
 {
     match mover(words) {
         Mover::Front => front_move(words),
@@ -38,8 +36,7 @@ fn mover(words: &mut Words) -> Mover
 
 /// What the front does.
 fn front_move(words: &mut Words) -> Move
-    ensures says { plain_move result ≡ front_at words.old }
-    ensures widths { MoveHasWidths result }
+    ensures { IsMoveReadAs (front_at words.old) result }
 {
     let name = words.next();
     if is(name, "read") {
@@ -76,8 +73,7 @@ fn front_move(words: &mut Words) -> Move
 
 /// What the back does.
 fn own_move(words: &mut Words) -> Move
-    ensures says { plain_move result ≡ own_at words.old }
-    ensures widths { MoveHasWidths result }
+    ensures { IsMoveReadAs (own_at words.old) result }
 {
     let name = words.next();
     if is(name, "bind") {
@@ -94,8 +90,7 @@ fn own_move(words: &mut Words) -> Move
 
 /// What a job does.
 fn job_move(job: u64, words: &mut Words) -> Move
-    ensures says { plain_move result ≡ job_move_at job words.old }
-    ensures widths { MoveHasWidths result }
+    ensures { IsMoveReadAs (job_move_at job words.old) result }
 {
     let name = words.next();
     if is(name, "dread") {
@@ -119,8 +114,7 @@ fn job_move(job: u64, words: &mut Words) -> Move
 fn back_move(who: BackMover, mover: Mover, name: &[u8], words: &mut Words) -> Move
     requires who { BackHasWidths who }
     requires mover { MoverHasWidths mover }
-    ensures says { plain_move result ≡ back_at who mover name.now words.old }
-    ensures widths { MoveHasWidths result }
+    ensures { IsMoveReadAs (back_at who mover name.now words.old) result }
 {
     if is(name, "read") {
         let mapping = words.number();
@@ -161,8 +155,7 @@ fn back_move(who: BackMover, mover: Mover, name: &[u8], words: &mut Words) -> Mo
 /// What a map gave.
 fn map(who: BackMover, words: &mut Words) -> Move
     requires { BackHasWidths who }
-    ensures says { plain_move result ≡ map_at who words.old }
-    ensures widths { MoveHasWidths result }
+    ensures { IsMoveReadAs (map_at who words.old) result }
 {
     let gref = words.small();
     let mode = mode(words.next());
@@ -199,8 +192,7 @@ fn mode(word: &[u8]) -> Mode
 /// What either end does.
 fn act(who: Mover, name: &[u8], words: &mut Words) -> Move
     requires { MoverHasWidths who }
-    ensures says { plain_move result ≡ act_at who name.now words.old }
-    ensures widths { MoveHasWidths result }
+    ensures { IsMoveReadAs (act_at who name.now words.old) result }
 {
     if is(name, "fence") {
         Move::Fence(who)

@@ -3,6 +3,7 @@ ghost use Rattle.std.specs.Prelude.{◌≡◌, ◌+◌, ◌<◌, ◌≤◌, ◌�
 ghost use Rattle.arrayvec.specs.ArrayString.{array_string_len};
 ghost use Rattle.line_text.specs.Sector.{sector_words};
 ghost use Rattle.line_text.specs.Words.{spaced};
+ghost use Rattle.schedule_text.specs.Parts.{AddsWords, IsWritten};
 ghost use Rattle.schedule_text.specs.Line.{text_of, job_words, halt_words, status_word, refusal_word, detail_word};
 
 use crate::line::{Detail, Halt, KeyName, Line, Refusal};
@@ -45,8 +46,7 @@ pub fn write_line(line: &Line, text: &mut LineText)
 }
 
 fn write_begin(text: &mut LineText, config: &Config, detail: Detail)
-    ensures written { text.new.bytes ≡ text_of (Line.Begin config.now detail) }
-    ensures short { array_string_len text.new < 1000 }
+    ensures { IsWritten (Line.Begin config.now detail) text.new }
 {
     begin(text, "begin");
     put(
@@ -104,16 +104,14 @@ fn status_text(status: Status) -> &'static str
 }
 
 fn write_broken(text: &mut LineText, word: u32)
-    ensures written { text.new.bytes ≡ text_of (Line.Broken word) }
-    ensures short { array_string_len text.new < 1000 }
+    ensures { IsWritten (Line.Broken word) text.new }
 {
     begin(text, "broken");
     put_hex(text, word);
 }
 
 fn write_submit(text: &mut LineText, id: u64, job: &Job)
-    ensures written { text.new.bytes ≡ text_of (Line.Submit id job.now) }
-    ensures short { array_string_len text.new < 1000 }
+    ensures { IsWritten (Line.Submit id job.now) text.new }
 {
     begin(text, "submit");
     put_number(text, id);
@@ -121,24 +119,21 @@ fn write_submit(text: &mut LineText, id: u64, job: &Job)
 }
 
 fn write_refuse(text: &mut LineText, refusal: Refusal)
-    ensures written { text.new.bytes ≡ text_of (Line.Refuse refusal) }
-    ensures short { array_string_len text.new < 1000 }
+    ensures { IsWritten (Line.Refuse refusal) text.new }
 {
     begin(text, "refuse");
     put(text, refusal_text(refusal));
 }
 
 fn write_halt(text: &mut LineText, halt: &Halt)
-    ensures written { text.new.bytes ≡ text_of (Line.Halt halt.now) }
-    ensures short { array_string_len text.new < 1000 }
+    ensures { IsWritten (Line.Halt halt.now) text.new }
 {
     begin(text, "halt");
     put_halt(text, halt);
 }
 
 fn write_word(text: &mut LineText, frame: u32, word: u32, value: u32)
-    ensures written { text.new.bytes ≡ text_of (Line.Word frame word value) }
-    ensures short { array_string_len text.new < 1000 }
+    ensures { IsWritten (Line.Word frame word value) text.new }
 {
     begin(text, "word");
     put_number(text, u64::from(frame));
@@ -220,8 +215,7 @@ fn write_status(text: &mut LineText, name: &str, id: u64, status: Status)
 /// Adds what a request asks for.
 pub fn put_job(text: &mut LineText, job: &Job)
     requires { array_string_len text.old ≤ 200 }
-    ensures bytes { text.new.bytes ≡ text.old.bytes ++ spaced (job_words job.now) }
-    ensures len { array_string_len text.new ≤ 500 }
+    ensures { AddsWords (job_words job.now) 500 text.old text.new }
 {
     match job {
         Job::Read { sector, count } => put_sectors(text, "read", *sector, *count),
@@ -241,8 +235,7 @@ pub fn put_job(text: &mut LineText, job: &Job)
 /// Adds an operation, its first sector and how many there are.
 fn put_sectors(text: &mut LineText, name: &str, sector: u64, count: SectorCount)
     requires { array_string_len text.old + length name.now ≤ 300 }
-    ensures bytes { text.new.bytes ≡ text.old.bytes ++ spaced (name.now ∷ decimal sector ∷ decimal count ∷ []) }
-    ensures len { array_string_len text.new ≤ 400 }
+    ensures { AddsWords (name.now ∷ decimal sector ∷ decimal count ∷ []) 400 text.old text.new }
 {
     put(text, name);
     put_number(text, sector);
@@ -252,8 +245,7 @@ fn put_sectors(text: &mut LineText, name: &str, sector: u64, count: SectorCount)
 /// Adds why the back halted.
 fn put_halt(text: &mut LineText, halt: &Halt)
     requires { array_string_len text.old ≤ 200 }
-    ensures bytes { text.new.bytes ≡ text.old.bytes ++ spaced (halt_words halt.now) }
-    ensures len { array_string_len text.new ≤ 500 }
+    ensures { AddsWords (halt_words halt.now) 500 text.old text.new }
 {
     match halt {
         Halt::Overrun { produced, replied } => {
@@ -278,8 +270,7 @@ fn put_halt(text: &mut LineText, halt: &Halt)
 /// Adds a word and a number.
 fn put_small(text: &mut LineText, name: &str, number: u32)
     requires { array_string_len text.old + length name.now ≤ 300 }
-    ensures bytes { text.new.bytes ≡ text.old.bytes ++ spaced (name.now ∷ decimal number ∷ []) }
-    ensures len { array_string_len text.new ≤ 400 }
+    ensures { AddsWords (name.now ∷ decimal number ∷ []) 400 text.old text.new }
 {
     put(text, name);
     put_number(text, u64::from(number));

@@ -6,7 +6,7 @@ use Rattle.std.proofs.lemmas.List.Sums.{sum_by-cons}
 use Rattle.blk_layout.specs.declared.segment.Segment.{Segment}
 use Rattle.segment_list.specs.Segments.{IsSound, length_of, sectors_of}
 use Rattle.segment_list.specs.Places.{spots_from}
-use Rattle.segment_list.specs.Remaining.{first_sector, spots_left, IsWithin}
+use Rattle.segment_list.specs.Remaining.{first_sector, spots_left, IsInFirstSegment}
 
 -- all is left of segments at the first sector of the first
 pub spots_left-first : (k : ℕ) (segments : List Segment) → AllByRecursion IsSound segments → spots_left k (first_sector segments) segments ≡ spots_from k segments
@@ -16,7 +16,7 @@ spots_left-first k (segment ∷ segments) sound =
     let many : segment.last + 1 - segment.first ≡ length_of segment = omega arith in
     ap (λ n. map (λ w. (k, w)) (range_with_len segment.first n) ++ spots_from (k + 1) segments) many
 
-pub is_within-first : (segments : List Segment) → AllByRecursion IsSound segments → IsWithin (first_sector segments) segments
+pub is_within-first : (segments : List Segment) → AllByRecursion IsSound segments → IsInFirstSegment (first_sector segments) segments
 is_within-first [] sound = tt
 is_within-first (segment ∷ segments) sound = sound.0.nonempty
 
@@ -45,11 +45,11 @@ length-spots_from k (segment ∷ segments) =
 pub left-on : (k within : ℕ) (rest : List Segment) (segment : Segment) (later : List Segment) → rest ≡ segment ∷ later → within < segment.last → spots_left k within rest ≡ (k, within) ∷ spots_left k (within + 1) rest
 left-on k within rest segment later split lt = rw split (spots_left-on k within segment later lt)
 
-pub is_within-on : (within : ℕ) (rest : List Segment) (segment : Segment) (later : List Segment) → rest ≡ segment ∷ later → within < segment.last → IsWithin (within + 1) rest
+pub is_within-on : (within : ℕ) (rest : List Segment) (segment : Segment) (later : List Segment) → rest ≡ segment ∷ later → within < segment.last → IsInFirstSegment (within + 1) rest
 is_within-on within rest segment later split lt = rw split (omega arith)
 
 -- over to the next segment
-pub left-over : (k within : ℕ) (rest : List Segment) (segment : Segment) (later : List Segment) → rest ≡ segment ∷ later → AllByRecursion IsSound rest → IsWithin within rest → segment.last ≤ within → spots_left k within rest ≡ (k, within) ∷ spots_left (k + 1) (first_sector later) later
+pub left-over : (k within : ℕ) (rest : List Segment) (segment : Segment) (later : List Segment) → rest ≡ segment ∷ later → AllByRecursion IsSound rest → IsInFirstSegment within rest → segment.last ≤ within → spots_left k within rest ≡ (k, within) ∷ spots_left (k + 1) (first_sector later) later
 left-over k within rest segment later split sound at ge =
     let all = rw split at sound in
     let here = rw split at at in

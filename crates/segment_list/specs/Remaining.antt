@@ -19,15 +19,15 @@ spots_left k within (segment ∷ segments) =
     map (λ w. (k, w)) (range_with_len within (segment.last + 1 - within)) ++ spots_from (k + 1) segments
 
 -- a sector is left of the first segment
-abbrev pub IsWithin : ℕ → List Segment → Type 0
-IsWithin within [] = Unit {0}
-IsWithin within (segment ∷ segments) = within ≤ segment.last
+abbrev pub IsInFirstSegment : ℕ → List Segment → Type 0
+IsInFirstSegment within [] = Unit {0}
+IsInFirstSegment within (segment ∷ segments) = within ≤ segment.last
 
 abbrev pub places_left : Inside → List Place
 places_left e = placed_from e.disk (spots_left e.segment e.within e.rest.now)
 
 pub record IsUnderWay (e : Inside) : Type 0 where
   pub sound : AllByRecursion IsSound e.rest.now
-  pub within : IsWithin e.within e.rest.now
+  pub within : IsInFirstSegment e.within e.rest.now
   pub fits : e.disk + length (spots_left e.segment e.within e.rest.now) < 2 ^ 64
   pub few : e.segment + length e.rest.now < 2 ^ 32

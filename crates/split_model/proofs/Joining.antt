@@ -1,5 +1,5 @@
 -- What is put behind what: moves behind moves, a round behind rounds, and what an event's happenings are then.
-use Rattle.std.proofs.Common.{◌≡◌, ℕ, zero, suc, ◌+◌, ◌-◌, ◌<◌, ◌≤◌, inl, inr, Bool, true, false, if◌then◌else◌, List, [], ◌∷◌, ◌++◌, length, Option, Some, None, Result, Ok, Err, refl, ap, sym, ◌∙◌, subst, append_assoc, length-append, arith}
+use Rattle.std.proofs.Common.{◌≡◌, ℕ, zero, suc, ◌+◌, ◌-◌, ◌<◌, ◌≤◌, inl, inr, Bool, true, false, if◌then◌else◌, List, [], ◌∷◌, ◌++◌, length, Option, Some, None, refl, ap, sym, ◌∙◌, subst, append_assoc, length-append, arith}
 use Rattle.std.specs.Prelude.{replicate}
 use Rattle.std.proofs.lemmas.List.{append-nil, replicate_more, replicate-append-replicate}
 use Rattle.schedule_text.specs.declared.line.Line.{Line}
@@ -9,7 +9,7 @@ use Rattle.blk_front.specs.Submit.{is_connected}
 use Rattle.blk_back.specs.View.{View}
 use Rattle.blk_back.specs.Step.{next_job_of}
 use Rattle.split_model.specs.World.{World, is_quiet}
-use Rattle.split_model.specs.Happening.{Happening, FrontMoves, BackMoves, JobMoves, Settles, happens, after, job_after, job_turn, lines_at, DiskGoes}
+use Rattle.split_model.specs.Happening.{Happening, FrontMoves, BackMoves, JobMoves, Settles, happens, after, job_after, job_turn}
 use Rattle.split_model.specs.Kind.{front_move, front_moves, back_moves, AreJobMoves, AreSomeJobMoves, AreFewJobMoves, AreEachJobs, AreAllJobs, HasEachJobs, round_start, IsRound, IsBeginning, IsRoundSoFar, AreRounds, AreRoundsSoFar, AreRoundsUntilQuiet, settle_bound, IsSettling, IsSettlingSoFar, IsJobMove}
 use Rattle.split_model.specs.Leads.{Moment, Leads}
 use Rattle.split_model.specs.Safe.{above}

@@ -1,19 +1,13 @@
 -- What stays, whatever happens: the sectors of the front and of the disk; and how many mappings one happening makes.
-use Rattle.std.proofs.Common.{◌≡◌, ℕ, ◌+◌, ◌≤◌, List, Option, Some, None, refl, ap, sym, ◌∙◌, subst, arith}
+use Rattle.std.proofs.Common.{◌≡◌, ℕ, List, refl, ap}
 use Rattle.blk_base.specs.declared.ask.BackAsk.{BackAsk}
 use Rattle.blk_base.specs.declared.ask.BackAsk.TheVariants as back_ask
-use Rattle.blk_base.specs.declared.moves.BackMover.TheVariants as back_mover
-use Rattle.blk_io.specs.Disk.{DiskSeen, Attachment}
-use Rattle.blk_front.specs.Ask as front_ends
-use Rattle.blk_front.specs.Step as front_step
-use Rattle.blk_back.specs.Ask as back_ends
+use Rattle.blk_io.specs.Disk.{DiskSeen}
 use Rattle.blk_back.specs.Step as back_step
-use Rattle.hypervisor.specs.Act.{FrontAct, BackAct, Outcome, Gave, Took, Failed, front_act, back_act}
+use Rattle.hypervisor.specs.Act.{Outcome, Gave, Took, Failed}
 use Rattle.hypervisor.specs.Disk.{DiskDoes, DiskReads, DiskWrites, DiskFlushes, DiskTrims, NoCall}
 use Rattle.split_model.specs.World.{World}
-use Rattle.split_model.specs.Happening.{Happening, FrontMoves, BackMoves, JobMoves, Submits, Notifies, Looks, Settles, happens, DiskGoes, front_after, back_after, job_after, front_turn, back_turn, job_turn}
-use Rattle.split_model.proofs.SafeActs.{made_front, made_back}
-use Rattle.split_model.proofs.SafeFront.{sectors_front, submit_kept}
+use Rattle.split_model.specs.Happening.{Happening, FrontMoves, BackMoves, JobMoves, Submits, Notifies, Looks, Settles, DiskGoes}
 
 attachment_of : (a b : DiskSeen) → b ≡ a → b.attachment ≡ a.attachment
 attachment_of a b e = ap (λ (d : DiskSeen). d.attachment) e

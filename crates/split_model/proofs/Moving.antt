@@ -1,5 +1,5 @@
 -- What a move makes happen, by what its calls say.
-use Rattle.std.proofs.Common.{◌≡◌, ℕ, ◌+◌, ◌<◌, ◌≤◌, ◌^◌, length, List, [], ◌∷◌, ◌++◌, Option, Some, None, Result, Ok, Err, refl, ap, sym, ◌∙◌, subst, arith}
+use Rattle.std.proofs.Common.{◌≡◌, ℕ, ◌+◌, ◌<◌, ◌≤◌, ◌^◌, length, List, [], ◌∷◌, ◌++◌, Option, Some, None, Result, Ok, refl, ap, sym, ◌∙◌, subst, arith}
 use Rattle.std.proofs.lemmas.List.{append-nil}
 use Rattle.std.proofs.lemmas.Option.{none-some, same_Some}
 use Rattle.blk_base.specs.declared.config.Job.{Job}
@@ -19,7 +19,7 @@ use Rattle.schedule_text.specs.Recorder.{RecorderSeen, Gained, Adds}
 use Rattle.schedule_text.proofs.Adding.{gained_none}
 use Rattle.grant_table.specs.Table.{GrantTable}
 use Rattle.hypervisor.specs.Hypervisor.{Hypervisor}
-use Rattle.hypervisor.specs.Act.{FrontAct, BackAct, Outcome, Gave, Took, Failed, front_act, front_seen, front_under, back_act, back_seen, back_under, outcome_told}
+use Rattle.hypervisor.specs.Act.{FrontAct, BackAct, Outcome, Took, front_act, front_seen, front_under, back_act, back_seen, back_under, outcome_told}
 use Rattle.hypervisor.specs.Disk.{DiskDoes}
 use Rattle.hypervisor.specs.May.{FrontMay, BackMay}
 use Rattle.blk_front.specs.declared.told.Told.{Told as FrontTold}
@@ -36,7 +36,7 @@ use Rattle.blk_back.specs.Step as back_step
 use Rattle.blk_back.specs.Hands.{hands_of}
 use Rattle.back_jobs.specs.Task as task
 use Rattle.back_jobs.specs.Hands.{Names}
-use Rattle.back_jobs.specs.Sound.{IsWithin}
+use Rattle.back_jobs.specs.Sound.{StaysInPageAndDisk}
 use Rattle.split_model.specs.World.{World}
 use Rattle.split_model.specs.Shown.{front_lines, back_lines, halt_lines}
 use Rattle.split_model.specs.Happening.{Happening, FrontMoves, BackMoves, JobMoves, Submits, submit_line, happens, lines_at, DiskGoes, front_after, front_shows, back_after, back_shows, job_after, job_shows, front_turn, back_turn, job_turn}
@@ -298,8 +298,8 @@ pub back_halts : (v x b y : back.View) (before after : Option Halt) (halts : Lis
 back_halts v x b y before after halts stepped taken was now e = rw (← stepped) (e ∙ (ap (λ (h : Option Halt). halt_lines h after) was ∙ ap (halt_lines v.halted) (now ∙ ap (λ (z : back.View). z.halted) taken)))
 
 -- what was asked may be carried out
-pub front_asked_may : (w : World) (ask : FrontAsk) → IsSafe w → ask ≡ front_ends.ask_of w.front → front_ends.IsWithin ask → FrontMay w.under ask
-front_asked_may w ask safe same within = subst (FrontMay w.under) (sym same) (front_may w safe (subst front_ends.IsWithin same within))
+pub front_asked_may : (w : World) (ask : FrontAsk) → IsSafe w → ask ≡ front_ends.ask_of w.front → front_ends.StaysInMemory ask → FrontMay w.under ask
+front_asked_may w ask safe same within = subst (FrontMay w.under) (sym same) (front_may w safe (subst front_ends.StaysInMemory same within))
 
 one_left : (w v : World) → w ≡ v → v.under.grants.made + 1 < 2 ^ 64 → w.under.grants.made + 1 < 2 ^ 64
 one_left w v is left = subst (λ (x : World). x.under.grants.made + 1 < 2 ^ 64) (sym is) left
@@ -309,11 +309,11 @@ back_asked_may w v ask attached is safe same names few left =
     subst (BackMay w.under attached) (sym same)
     (back_may w.under attached (hands_of w.back) w.back safe.held (subst (Names (hands_of w.back)) same names) (one_left w v is left) few)
 
-pub job_asked_may : (w v : World) (k : ℕ) (ask : BackAsk) (attached : Option ℕ) → w ≡ v → IsSafe w → ask ≡ back_step.job_ask_of w.back k → Names (hands_of w.back) ask → IsWithin w.back.jobs.info.sectors ask → length (hands_of w.back) ≤ 34 → attached ≡ Some v.front.sectors → v.under.grants.made + 1 < 2 ^ 64 → BackMay w.under attached ask
+pub job_asked_may : (w v : World) (k : ℕ) (ask : BackAsk) (attached : Option ℕ) → w ≡ v → IsSafe w → ask ≡ back_step.job_ask_of w.back k → Names (hands_of w.back) ask → StaysInPageAndDisk w.back.jobs.info.sectors ask → length (hands_of w.back) ≤ 34 → attached ≡ Some v.front.sectors → v.under.grants.made + 1 < 2 ^ 64 → BackMay w.under attached ask
 job_asked_may w v k ask attached is safe same names within few disk left =
     let known : attached ≡ Some w.back.jobs.info.sectors = disk ∙ (sym (ap (λ (x : World). Some x.front.sectors) is) ∙ sym (ap (λ (n : ℕ). Some n) safe.sized)) in
     subst (BackMay w.under attached) (sym same)
-    (job_may w.under attached w.back.jobs.info.sectors (hands_of w.back) w.back k safe.held (subst (Names (hands_of w.back)) same names) (subst (IsWithin w.back.jobs.info.sectors) same within) known (one_left w v is left) few)
+    (job_may w.under attached w.back.jobs.info.sectors (hands_of w.back) w.back k safe.held (subst (Names (hands_of w.back)) same names) (subst (StaysInPageAndDisk w.back.jobs.info.sectors) same within) known (one_left w v is left) few)
 
 -- A submission.
 pub submitted : (w : World) (job : Job) (f : front.View) → f ≡ (submit_of w.front job).1 → record { front = f; back = w.back; under = w.under } ≡ happens w (Submits job)

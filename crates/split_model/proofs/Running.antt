@@ -1,5 +1,5 @@
 -- What happens after more has happened.
-use Rattle.std.proofs.Common.{◌≡◌, ℕ, ◌+◌, ◌*◌, ◌<◌, ◌≤◌, List, [], ◌∷◌, ◌++◌, Option, Some, Result, Ok, Err, refl, ap, sym, ◌∙◌, subst, append_assoc, arith}
+use Rattle.std.proofs.Common.{◌≡◌, ℕ, ◌+◌, ◌*◌, ◌<◌, ◌≤◌, List, [], ◌∷◌, ◌++◌, Some, Result, Ok, Err, refl, ap, sym, ◌∙◌, subst, append_assoc, arith}
 use Rattle.std.proofs.lemmas.List.{append-nil}
 use Rattle.std.proofs.lemmas.List.Concat.{flat_map-append}
 use Rattle.std.proofs.Math.Nat.{mul-le-mul_left}
@@ -8,10 +8,10 @@ use Rattle.schedule_text.specs.declared.line.Detail.{Detail}
 use Rattle.schedule_text.specs.declared.line.Line.{Line}
 use Rattle.schedule_text.specs.declared.recorder.RecordStop.{RecordStop}
 use Rattle.schedule_text.specs.Recorder.{recorded, kept_of, RecorderSeen, Gained, StopsAmong, Adds}
-use Rattle.schedule_text.proofs.Adding.{gained_none, gained_twice, stopped_first, stopped_later}
+use Rattle.schedule_text.proofs.Adding.{gained_none, gained_twice, stopped_later}
 use Rattle.split_model.specs.World.{World}
 use Rattle.split_model.specs.Happening.{Happening, happens, lines_at, after, lines_of, DiskRuns, DiskGoes}
-use Rattle.split_model.specs.Leads.{Moment, moment, IsReadyFor, Keeps, Leads, LeadsToStop, Ends, Goes}
+use Rattle.split_model.specs.Leads.{Moment, IsReadyFor, Keeps, Leads, LeadsToStop, Ends, Goes}
 use Rattle.split_model.proofs.Keeping.{disk_attachment}
 
 pub after-append : (first rest : List Happening) (w : World) → after (first ++ rest) w ≡ after rest (after first w)

@@ -28,7 +28,7 @@ use Rattle.blk_front.specs.declared.stage.Stage.{Stage as FrontStage}
 use Rattle.blk_front.specs.declared.stage.Stage.TheVariants as front_stage
 use Rattle.blk_front.specs.Ask as front_ends
 use Rattle.back_jobs.specs.Hands.{Names}
-use Rattle.back_jobs.specs.Sound.{IsWithin}
+use Rattle.back_jobs.specs.Sound.{StaysInPageAndDisk}
 use Rattle.blk_back.specs.View as back
 use Rattle.blk_back.specs.Ask as back_ends
 use Rattle.blk_back.specs.Step.{step_of, job_step, job_ask_of}
@@ -169,7 +169,7 @@ safe_notify w at safe = record {
 }
 
 -- what the front asks may be carried out
-front_may_at : (h : Hypervisor) (ask : FrontAsk) → IsFronts h.channels ask → front_ends.IsWithin ask → FrontMay h ask
+front_may_at : (h : Hypervisor) (ask : FrontAsk) → IsFronts h.channels ask → front_ends.StaysInMemory ask → FrontMay h ask
 front_may_at h front_ask.Wait own within = tt
 front_may_at h front_ask.Fence own within = tt
 front_may_at h (front_ask.Read frame word) own within = within
@@ -182,7 +182,7 @@ front_may_at h (front_ask.GetKey path) own within = tt
 front_may_at h (front_ask.SetKey path text) own within = tt
 front_may_at h (front_ask.Watch path) own within = tt
 
-pub front_may : (w : World) → IsSafe w → front_ends.IsWithin (front_ends.ask_of w.front) → FrontMay w.under (front_ends.ask_of w.front)
+pub front_may : (w : World) → IsSafe w → front_ends.StaysInMemory (front_ends.ask_of w.front) → FrontMay w.under (front_ends.ask_of w.front)
 front_may w safe within = front_may_at w.under (front_ends.ask_of w.front) (fronts_at w.under.channels w.front.stage w.front safe.ported) within
 
 has_left : (table : GrantTable) (hands : List Mapping) → AreHeld table hands → table.made + 1 < 2 ^ 64 → length hands ≤ 34 → HasMappingLeft table
@@ -211,7 +211,7 @@ pub back_may : (h : Hypervisor) (attached : Option ℕ) (hands : List Mapping) (
 back_may h attached hands v held names made few = back_may_at h attached hands (back_ends.ask_of v) (backs_of v) held names made few
 
 -- what a job asks may be carried out, with a disk of as many sectors as it knows
-job_may_at : (h : Hypervisor) (attached : Option ℕ) (sectors : ℕ) (hands : List Mapping) (ask : BackAsk) → IsJobs ask → AreHeld h.grants hands → Names hands ask → IsWithin sectors ask → attached ≡ Some sectors → h.grants.made + 1 < 2 ^ 64 → length hands ≤ 34 → BackMay h attached ask
+job_may_at : (h : Hypervisor) (attached : Option ℕ) (sectors : ℕ) (hands : List Mapping) (ask : BackAsk) → IsJobs ask → AreHeld h.grants hands → Names hands ask → StaysInPageAndDisk sectors ask → attached ≡ Some sectors → h.grants.made + 1 < 2 ^ 64 → length hands ≤ 34 → BackMay h attached ask
 job_may_at h attached sectors hands back_ask.Wait own held names within disk made few = tt
 job_may_at h attached sectors hands back_ask.Fence own held names within disk made few = absurd own
 job_may_at h attached sectors hands (back_ask.Read m word) own held names within disk made few = (All-contains (IsLive h.grants) hands m held.live names.0, names.1)
@@ -229,7 +229,7 @@ job_may_at h attached sectors hands (back_ask.DiskWrite sector words) own held n
 job_may_at h attached sectors hands back_ask.Flush own held names within disk made few = absurd own
 job_may_at h attached sectors hands (back_ask.Trim sector count) own held names within disk made few = absurd own
 
-pub job_may : (h : Hypervisor) (attached : Option ℕ) (sectors : ℕ) (hands : List Mapping) (v : back.View) (k : ℕ) → AreHeld h.grants hands → Names hands (job_ask_of v k) → IsWithin sectors (job_ask_of v k) → attached ≡ Some sectors → h.grants.made + 1 < 2 ^ 64 → length hands ≤ 34 → BackMay h attached (job_ask_of v k)
+pub job_may : (h : Hypervisor) (attached : Option ℕ) (sectors : ℕ) (hands : List Mapping) (v : back.View) (k : ℕ) → AreHeld h.grants hands → Names hands (job_ask_of v k) → StaysInPageAndDisk sectors (job_ask_of v k) → attached ≡ Some sectors → h.grants.made + 1 < 2 ^ 64 → length hands ≤ 34 → BackMay h attached (job_ask_of v k)
 job_may h attached sectors hands v k held names within disk made few = job_may_at h attached sectors hands (job_ask_of v k) (jobs_of v k) held names within disk made few
 
 safe_front_turn : (w : World) (act : Option FrontAct) → IsSafe w → front_turn w ≡ act → IsSafe (front_after w act)

@@ -7,9 +7,9 @@
 ghost use Rattle.std.specs.Prelude.{◌≡◌, ℕ, ◌+◌, ◌^◌, ◌<◌, ◌≤◌, List, ◌++◌, length, Some, filter};
 ghost use Rattle.blk_base.specs.Options.{Options};
 ghost use Rattle.hypervisor.specs.May.{FrontMay, BackMay};
-ghost use Rattle.blk_front.specs.Ask.{ask_of as front_ask, IsWithin as IsFrontWithin};
+ghost use Rattle.blk_front.specs.Ask.{ask_of as front_ask, StaysInMemory};
 ghost use Rattle.back_jobs.specs.Hands.{Names};
-ghost use Rattle.back_jobs.specs.Sound.{IsWithin};
+ghost use Rattle.back_jobs.specs.Sound.{StaysInPageAndDisk};
 ghost use Rattle.blk_back.specs.Ask.{ask_of as back_ask};
 ghost use Rattle.blk_back.specs.Step.{job_ask_of};
 ghost use Rattle.blk_back.specs.Hands.{hands_of};
@@ -35,11 +35,11 @@ pub fn every_ask_may_be_carried_out()
     ensures start { (o : Options) → IsSafe (start_of o) }
     ensures kept { (w : World) (h : Happening) → IsSafe w → IsSafe (happens w h) }
     ensures after { (hs : List Happening) (w : World) → IsSafe w → IsSafe (after hs w) }
-    ensures front { (w : World) → IsSafe w → IsFrontWithin (front_ask w.front) → FrontMay w.under (front_ask w.front) }
+    ensures front { (w : World) → IsSafe w → StaysInMemory (front_ask w.front) → FrontMay w.under (front_ask w.front) }
     ensures back { (w : World) → IsSafe w → Names (hands_of w.back) (back_ask w.back) → w.under.grants.made + 1 < 2 ^ 64
         → length (hands_of w.back) ≤ 34 → BackMay w.under (Some w.front.sectors) (back_ask w.back) }
     ensures job { (w : World) (number : ℕ) → IsSafe w → Names (hands_of w.back) (job_ask_of w.back number)
-        → IsWithin w.back.jobs.info.sectors (job_ask_of w.back number) → w.under.grants.made + 1 < 2 ^ 64 → length (hands_of w.back) ≤ 34
+        → StaysInPageAndDisk w.back.jobs.info.sectors (job_ask_of w.back number) → w.under.grants.made + 1 < 2 ^ 64 → length (hands_of w.back) ≤ 34
         → BackMay w.under (Some w.front.sectors) (job_ask_of w.back number) }
 {}
 

@@ -1,6 +1,6 @@
 // The job of a request that was fetched, before its first move.
 ghost use Rattle.std.specs.Prelude.{◌≡◌, ◌≤◌, length, take};
-ghost use Rattle.back_jobs.specs.Task.{first_of, IsDone, id_of, response_op, served, moving, ended};
+ghost use Rattle.back_jobs.specs.Task.{first_of, IsDoneStage, id_of, response_op, served, moving, ended};
 ghost use Rattle.back_jobs.specs.Sound.{AreMovable};
 ghost use Rattle.segment_list.specs.declared.verdict.Plan.{Plan};
 ghost use Rattle.segment_list.specs.Verdict.{verdict_of, transfer_verdict};
@@ -105,7 +105,7 @@ fn moving(
 
 // A job that is done before it began.
 pub(super) fn ended(number: u64, request: &RawRequest, size: u64, stage: Stage) -> Task
-    requires { IsDone stage }
+    requires { IsDoneStage stage }
     ensures { result ≡ ended number request.now size stage }
 {
     Task {

@@ -4,7 +4,7 @@ ghost use Rattle.blk_back.specs.Ask.{is_waiting, is_idle};
 ghost use Rattle.blk_back.specs.Step.{job_step, told_effect, job_ask_of, next_job_of};
 ghost use Rattle.blk_back.specs.Hands.{hands_of};
 ghost use Rattle.back_jobs.specs.Task.{IsAnswer};
-ghost use Rattle.back_jobs.specs.Sound.{IsWithin};
+ghost use Rattle.back_jobs.specs.Sound.{StaysInPageAndDisk};
 ghost use Rattle.back_jobs.specs.Hands.{Names, HandsAfter};
 
 use super::Back;
@@ -18,7 +18,7 @@ impl Back {
     #[inline(always)]
     pub fn job_ask(&self, number: u64) -> BackAsk<'_>
         ensures value { result ≡ job_ask_of self.now number }
-        ensures within { IsWithin self.now.jobs.info.sectors result }
+        ensures within { StaysInPageAndDisk self.now.jobs.info.sectors result }
         ensures names { Names (hands_of self.now) result }
         ensures few { length (hands_of self.now) ≤ 34 }
     {

@@ -1,6 +1,6 @@
 // The moves that a report shows.
 ghost use Rattle.std.specs.Prelude.{◌≡◌, None};
-ghost use Rattle.hypervisor.specs.Act.{front_shown, back_shown, mover_of, job_of};
+ghost use Rattle.hypervisor.specs.Act.{front_shown, back_shown, mover_of, job_number};
 ghost use Rattle.hypervisor.specs.Hypervisor.{Hypervisor};
 ghost use Rattle.hypervisor.specs.May.{MayShow, mapping_shown};
 
@@ -140,7 +140,7 @@ fn mover(who: BackMover) -> Mover
 
 // The number of a job. The back itself calls no disk.
 fn job(who: BackMover) -> u64
-    ensures { result ≡ job_of who }
+    ensures { result ≡ job_number who }
 {
     match who {
         BackMover::Back => 0,

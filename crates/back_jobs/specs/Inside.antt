@@ -1,0 +1,18 @@
+-- How the fields of a job stand for what contracts see of it.
+use Rattle.back_jobs.specs.declared.task.Task.TheInside.{Inside}
+use Rattle.back_jobs.specs.Task.{Work}
+
+abbrev pub view_of : Inside → Work
+view_of t = record {
+  number = t.number;
+  id = t.id;
+  op = t.op;
+  writes = t.writes;
+  size = t.size;
+  disk = t.disk;
+  moved = t.moved;
+  rest = t.rest.items;
+  within = t.within;
+  words = t.words;
+  stage = t.stage;
+}

@@ -1,0 +1,19 @@
+-- How the fields of a front stand for what contracts see of it.
+use Rattle.blk_front.specs.declared.front.Front.TheInside.{Inside}
+use Rattle.blk_front.specs.View.{View}
+
+abbrev pub view_of : Inside → View
+view_of f = record {
+  sectors = f.sectors;
+  start = f.start;
+  ring = f.ring;
+  stage = f.stage;
+  asleep = f.asleep;
+  seen = f.seen;
+  last = f.last;
+  waiting = f.waiting;
+  requests = f.requests.items;
+  pool = f.pool;
+  entry = f.entry.items;
+  told = f.told;
+}
