@@ -27,13 +27,13 @@ use Rattle.event_channel.specs.declared.channels.PortState.{PortState}
 use Rattle.event_channel.specs.declared.channels.PortState.TheVariants as port
 use Rattle.event_channel.specs.Channels.{state_of, is_pending}
 use Rattle.hypervisor.specs.Hypervisor.{Hypervisor}
-use Rattle.hypervisor.specs.Act.{FrontAct, BackAct, Outcome, Gave, Took, Failed, front_act, back_act, map_act, bind_act, read_act, disk_act, wait_act, exchanged, mover_of, job_of}
+use Rattle.hypervisor.specs.Act.{FrontAct, BackAct, Outcome, Gave, Took, Failed, front_act, back_act, map_act, bind_act, read_act, disk_act, wait_act, exchanged, mover_of, job_number}
 use Rattle.schedule_text.specs.declared.line.Line.{Line}
 use Rattle.schedule_text.specs.declared.line.Line.TheVariants as lines
 use Rattle.report_rules.specs.declared.standing.Standing.{Standing}
 use Rattle.report_rules.specs.Standing.{is_epoch, is_unmap_of, mapping_made, standing_behind, numbered}
 use Rattle.report_rules.specs.Value.{value_after, after_write}
-use Rattle.blk_front.specs.Ask.{IsWithin as IsFrontWithin}
+use Rattle.blk_front.specs.Ask.{StaysInMemory}
 use Rattle.back_jobs.specs.Hands.{Names}
 use Rattle.split_model.specs.Safe.{AreHeld}
 use Rattle.split_model.proofs.SafeActs.{of_front, of_back, front_test, back_test}
@@ -84,7 +84,7 @@ cas_kept before pages table frame word old new framed worded tells = by_test (wo
         subst (λ (p : List ℕ). Tells (before ++ lines.Move (moves.FrontCas frame word old new (word_of pages frame word)) ∷ []) p table) same
         (tells_still before (lines.Move (moves.FrontCas frame word old new (word_of pages frame word))) pages table (still _ refl (λ f w v b. rw t refl) (λ n. refl) refl) tells)
 
-pub front_kept : (before : List Line) (h : Hypervisor) (ask : FrontAsk) (a : FrontAct) → Tells before h.pages h.grants → IsFrontWithin ask → front_act h ask ≡ Some a → FrontKeeps before a
+pub front_kept : (before : List Line) (h : Hypervisor) (ask : FrontAsk) (a : FrontAct) → Tells before h.pages h.grants → StaysInMemory ask → front_act h ask ≡ Some a → FrontKeeps before a
 front_kept before h front_ask.Wait a tells within e = front_test (FrontKeeps before) (is_pending h.channels end.Front) _ a (kept_still before (moves.Event mover.Front) h.pages h.grants (still _ refl (λ f w v b. refl) (λ n. refl) refl) (record { coherent = tt; answered = tt; numbered = tt; touched = tt; grantable = tt }) tells) e
 front_kept before h front_ask.Fence a tells within e = of_front (FrontKeeps before) _ a (kept_still before (moves.Fence mover.Front) h.pages h.grants (still _ refl (λ f w v b. refl) (λ n. refl) refl) (record { coherent = tt; answered = tt; numbered = tt; touched = tt; grantable = tt }) tells) e
 front_kept before h (front_ask.Read frame word) a tells within e = of_front (FrontKeeps before) _ a (kept_still before (moves.FrontRead frame word (word_of h.pages frame word)) h.pages h.grants (still _ refl (λ f w v b. refl) (λ n. refl) refl) (record { coherent = sym (tells.values frame word (omega (arith, within.0)) within.1); answered = tt; numbered = tt; touched = tt; grantable = tt }) tells) e
@@ -213,7 +213,7 @@ back_kept before h who back_ask.ClosePort o a hands tells held names e = of_back
 back_kept before h who (back_ask.GetKey path) o a hands tells held names e = absurd (none-some a e)
 back_kept before h who (back_ask.SetKey path text) o a hands tells held names e = absurd (none-some a e)
 back_kept before h who (back_ask.Watch path) o a hands tells held names e = absurd (none-some a e)
-back_kept before h who (back_ask.DiskRead sector) o a hands tells held names e = read_disk before h (moves.DiskRead (job_of who) sector) o a (still _ refl (λ f w v b. refl) (λ n. refl) refl) (record { coherent = tt; answered = tt; numbered = tt; touched = tt; grantable = tt }) tells e
-back_kept before h who (back_ask.DiskWrite sector words) o a hands tells held names e = call_disk before h (moves.DiskWrite (job_of who) sector) o a (still _ refl (λ f w v b. refl) (λ n. refl) refl) (record { coherent = tt; answered = tt; numbered = tt; touched = tt; grantable = tt }) tells e
-back_kept before h who back_ask.Flush o a hands tells held names e = call_disk before h (moves.DiskFlush (job_of who)) o a (still _ refl (λ f w v b. refl) (λ n. refl) refl) (record { coherent = tt; answered = tt; numbered = tt; touched = tt; grantable = tt }) tells e
-back_kept before h who (back_ask.Trim sector count) o a hands tells held names e = call_disk before h (moves.DiskTrim (job_of who) sector count) o a (still _ refl (λ f w v b. refl) (λ n. refl) refl) (record { coherent = tt; answered = tt; numbered = tt; touched = tt; grantable = tt }) tells e
+back_kept before h who (back_ask.DiskRead sector) o a hands tells held names e = read_disk before h (moves.DiskRead (job_number who) sector) o a (still _ refl (λ f w v b. refl) (λ n. refl) refl) (record { coherent = tt; answered = tt; numbered = tt; touched = tt; grantable = tt }) tells e
+back_kept before h who (back_ask.DiskWrite sector words) o a hands tells held names e = call_disk before h (moves.DiskWrite (job_number who) sector) o a (still _ refl (λ f w v b. refl) (λ n. refl) refl) (record { coherent = tt; answered = tt; numbered = tt; touched = tt; grantable = tt }) tells e
+back_kept before h who back_ask.Flush o a hands tells held names e = call_disk before h (moves.DiskFlush (job_number who)) o a (still _ refl (λ f w v b. refl) (λ n. refl) refl) (record { coherent = tt; answered = tt; numbered = tt; touched = tt; grantable = tt }) tells e
+back_kept before h who (back_ask.Trim sector count) o a hands tells held names e = call_disk before h (moves.DiskTrim (job_number who) sector count) o a (still _ refl (λ f w v b. refl) (λ n. refl) refl) (record { coherent = tt; answered = tt; numbered = tt; touched = tt; grantable = tt }) tells e

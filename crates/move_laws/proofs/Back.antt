@@ -18,7 +18,7 @@ use Rattle.blk_back.specs.declared.stage.Reply.{Reply}
 use Rattle.blk_back.specs.declared.stage.Stage.{Stage}
 use Rattle.blk_back.specs.declared.stage.Stage.TheVariants as stage
 use Rattle.blk_back.specs.View.{View, slot_word, start_of}
-use Rattle.blk_back.specs.Ask.{ask_at, ask_of, loop_ask, next_reply, IsAnswer, IsWithin}
+use Rattle.blk_back.specs.Ask.{ask_at, ask_of, loop_ask, next_reply, IsAnswer, StaysInPage}
 use Rattle.blk_back.specs.Step.{giving_up, give_up, overrun, looked, loop_word, loop_step, fetched, fetch_step, next_number, step_at, step_of, job_ask_of, job_step}
 use Rattle.blk_back.specs.Sound.{IsMapped}
 use Rattle.blk_back.specs.Hands.{hands_of}
@@ -33,7 +33,7 @@ pub record IsBack (v : View) : Type 0 where
 pub back_start : (o : Options) → IsBack (start_of o)
 back_start o = record { mapped = tt; jobs = none_jobs }
 
-loop_within : (asleep new : Bool) (page : Mapping) (word : ℕ) → word < 1024 → IsWithin (if asleep then ask.Wait else (if new then ask.Read page 0 else ask.Read page word))
+loop_within : (asleep new : Bool) (page : Mapping) (word : ℕ) → word < 1024 → StaysInPage (if asleep then ask.Wait else (if new then ask.Read page 0 else ask.Read page word))
 loop_within true new page word p = tt
 loop_within false true page word p = omega arith
 loop_within false false page word p = p
@@ -41,11 +41,11 @@ loop_within false false page word p = p
 slot_within : (index k : ℕ) → slot_word index k < 1024
 slot_within index k = omega arith
 
-loop_ask_within : (v : View) (r : Option Reply) → IsWithin (loop_ask v r)
+loop_ask_within : (v : View) (r : Option Reply) → StaysInPage (loop_ask v r)
 loop_ask_within v (Some r) = slot_within v.ring.prod 0
 loop_ask_within v None = loop_within v.asleep (requests_of v.ring v.seen == 0) v.page (slot_word v.ring.cons 0) (slot_within v.ring.cons 0)
 
-within_at : (s : Stage) (v : View) → IsWithin (ask_at s v)
+within_at : (s : Stage) (v : View) → StaysInPage (ask_at s v)
 within_at stage.Loop v = loop_ask_within v (next_reply v)
 within_at (stage.Fetch k) v = slot_within v.ring.cons k
 within_at (stage.ReplyHigh r) v = slot_within v.ring.prod 1

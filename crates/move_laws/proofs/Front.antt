@@ -23,7 +23,7 @@ use Rattle.blk_front.specs.declared.told.Refusal.{Refusal}
 use Rattle.blk_front.specs.declared.told.Refusal.TheVariants as refusal
 use Rattle.blk_front.specs.Pool.{lowest_of}
 use Rattle.blk_front.specs.View.{View, next_request, shape, start_of, slot_frame, slot_word, ring_frame}
-use Rattle.blk_front.specs.Ask.{ask_at, ask_of, loop_ask, IsWithin}
+use Rattle.blk_front.specs.Ask.{ask_at, ask_of, loop_ask, StaysInMemory}
 use Rattle.blk_front.specs.Step.{at, broken, looked, loop_step, found_at, issued, response_at, is_mapped, ended, step_at, step_of}
 use Rattle.blk_front.specs.Submit.{is_ready, unfinished, one_sector, submit_with, submit_one, submit_of}
 
@@ -51,7 +51,7 @@ pub record IsFront (v : View) : Type 0 where
 in_slot : (index k : ℕ) → k < 28 → (slot_frame index k < 1018) × (slot_word index k < 1024)
 in_slot index k within = (omega arith, omega arith)
 
-loop_within : (asleep new : Bool) (frame word : ℕ) → (frame < 1018) × (word < 1024) → IsWithin (if asleep then ask.Wait else (if new then ask.Read ring_frame 2 else ask.Read frame word))
+loop_within : (asleep new : Bool) (frame word : ℕ) → (frame < 1018) × (word < 1024) → StaysInMemory (if asleep then ask.Wait else (if new then ask.Read ring_frame 2 else ask.Read frame word))
 loop_within true new frame word p = tt
 loop_within false true frame word p = (omega arith, omega arith)
 loop_within false false frame word p = p
@@ -69,11 +69,11 @@ next_by false v r all e = shared_at v.requests (length v.requests - v.waiting) r
 next_shared : (v : View) (r : Request) → All Shared v.requests → next_request v ≡ Some r → r.frame < 1018
 next_shared v r all e = next_by (v.waiting == 0) v r all e
 
-loop_ask_within : (v : View) (r : Option Request) → All Shared v.requests → next_request v ≡ r → IsWithin (loop_ask v r)
+loop_ask_within : (v : View) (r : Option Request) → All Shared v.requests → next_request v ≡ r → StaysInMemory (loop_ask v r)
 loop_ask_within v (Some r) all e = (next_shared v r all e, omega arith)
 loop_ask_within v None all e = loop_within v.asleep (responses_of v.ring v.seen == 0) (slot_frame v.ring.cons 0) (slot_word v.ring.cons 0) (in_slot v.ring.cons 0 (omega arith))
 
-within_at : (s : Stage) (v : View) → IsPlaced s → All Shared v.requests → IsWithin (ask_at s v)
+within_at : (s : Stage) (v : View) → IsPlaced s → All Shared v.requests → StaysInMemory (ask_at s v)
 within_at (stage.RingWord k) v p all = (omega arith, omega arith)
 within_at stage.RingFrame v p all = (omega arith, omega arith)
 within_at stage.RingFlags v p all = (omega arith, omega arith)
@@ -93,7 +93,7 @@ within_at stage.LookAgain v p all = (omega arith, omega arith)
 within_at s v p all = tt
 
 -- each word that the front asks for is one of those frames
-pub front_within : (v : View) → IsFront v → IsWithin (ask_of v)
+pub front_within : (v : View) → IsFront v → StaysInMemory (ask_of v)
 front_within v f = within_at v.stage v f.placed f.shared
 
 pub front_start : (o : Options) → IsFront (start_of o)

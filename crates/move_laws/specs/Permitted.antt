@@ -1,6 +1,6 @@
 -- Histories in which each ask keeps to what its end may touch.
 use Rattle.std.specs.Prelude.{List, [], ◌∷◌}
-use Rattle.blk_front.specs.Ask.{ask_of as front_ask, IsWithin as IsFrontWithin}
+use Rattle.blk_front.specs.Ask.{ask_of as front_ask, StaysInMemory}
 use Rattle.back_jobs.specs.Hands.{Names}
 use Rattle.blk_back.specs.Ask.{ask_of as back_ask}
 use Rattle.blk_back.specs.Step.{job_ask_of}
@@ -10,7 +10,7 @@ use Rattle.split_model.specs.Happening.{Happening, FrontMoves, BackMoves, JobMov
 
 -- a move of the front touches a word of the shared frames; one of the back or of a job a word of a page whose mapping they hold, and writes where that is for writing
 abbrev pub IsPermitted : World → Happening → Type 0
-IsPermitted w FrontMoves = IsFrontWithin (front_ask w.front)
+IsPermitted w FrontMoves = StaysInMemory (front_ask w.front)
 IsPermitted w BackMoves = Names (hands_of w.back) (back_ask w.back)
 IsPermitted w (JobMoves number outcome) = Names (hands_of w.back) (job_ask_of w.back number)
 IsPermitted w h = Unit {0}

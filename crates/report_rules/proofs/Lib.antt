@@ -4,3 +4,6 @@ pub mod Fits
 pub mod Copied
 pub mod Lowest
 pub mod Prefixes
+pub mod StepPlaces
+pub mod MissingMaps
+pub mod Walked

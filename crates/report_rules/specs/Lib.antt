@@ -12,6 +12,8 @@ pub mod Published
 pub mod Job
 pub mod Effect
 pub mod Made
+pub mod Step
+pub mod Walk
 pub mod Steps
 pub mod Data
 pub mod Reply

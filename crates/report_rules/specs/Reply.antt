@@ -20,7 +20,9 @@ use Rattle.report_rules.specs.Stretch.{is_back_move}
 use Rattle.report_rules.specs.Work.{work_verdict, status_by, work_response}
 use Rattle.report_rules.specs.Job.{when, entry_values, fetched_of}
 use Rattle.report_rules.specs.Made.{gave_up}
-use Rattle.report_rules.specs.Steps.{values_read, work_of, spot_of, failed_in}
+use Rattle.report_rules.specs.Step.{values_read, work_of}
+use Rattle.report_rules.specs.Walk.{spot_of}
+use Rattle.report_rules.specs.Steps.{failed_in}
 
 -- how a job's work ended, if it did: the disk failed, a map was refused, or all its tasks are done
 abbrev pub end_of : Bool → ℕ → Status → Option Spot → Option Status

@@ -1,7 +1,8 @@
 // One step of a job.
 ghost use Rattle.std.specs.Prelude.{◌≡◌, ◌+◌, ◌≤◌, ◌<◌, ◌^◌, IfSome, Some};
 ghost use Rattle.report_rules.specs.declared.step.Step.TheVariants as steps;
-ghost use Rattle.report_rules.specs.Steps.{store_step, load_step, step_at, is_mode, is_step, is_step_at};
+ghost use Rattle.report_rules.specs.Step.{is_mode, is_step};
+ghost use Rattle.report_rules.specs.Walk.{store_step, load_step, step_at, is_step_at};
 
 use crate::work::Task;
 use blk_base::{Mode, Move};

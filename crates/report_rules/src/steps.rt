@@ -2,7 +2,8 @@
 ghost use Rattle.std.specs.Prelude.{◌≡◌, None, slice_get, IfSome, IsSomeAnd, IfOk};
 ghost use Rattle.std.specs.Bool.{Decides};
 ghost use Rattle.report_rules.specs.Job.{fetched_of};
-ghost use Rattle.report_rules.specs.Steps.{work_of, touched_by, begins_with_fault, failed_in, IsKeptFor, IsThrough, IsNextStep, IsStepOf, IsStepAt, AreSteps};
+ghost use Rattle.report_rules.specs.Step.{work_of};
+ghost use Rattle.report_rules.specs.Steps.{touched_by, begins_with_fault, failed_in, IsKeptFor, IsThrough, IsNextStep, IsStepOf, IsStepAt, AreSteps};
 
 use crate::job::{Fetched, fetched_of, is_disk_move_of};
 use crate::made::{is_kept_for, kept_numbered};
@@ -121,10 +122,12 @@ fn is_step_of(
     ensures { IfOk result (λ holds. Decides holds (IsStepOf before.now k made.now f.now)) }
 {
     let epoch = this_epoch(before);
+    if failed_in(k, epoch) {
+        return Ok(false);
+    }
     let work = work_of(alloc, before, k, f)?;
     let s = walk_of(f.persistent, work.as_slice(), k, epoch);
-    let next = is_next(before, f.persistent, work.as_slice(), s, made);
-    Ok(next && !failed_in(k, epoch))
+    Ok(is_next(before, f.persistent, work.as_slice(), s, made))
 }
 
 fn is_job_step(alloc: Global, before: &[Line], k: u64, made: &Move) -> Result<bool, OutOfMemory>

@@ -2,13 +2,15 @@
 ghost use Rattle.std.specs.Prelude.{◌≡◌, ◌<◌, ◌^◌, IfOk};
 ghost use Rattle.schedule_text.specs.declared.line.Line.TheVariants as lines;
 ghost use Rattle.report_rules.specs.Job.{is_job};
-ghost use Rattle.report_rules.specs.Steps.{is_on_data, gref_of, is_refusal, mapping_after, spot_behind, is_unmapped_step, advanced, stepper, job_step, walked, walk_of, value_read, values_read};
+ghost use Rattle.report_rules.specs.Step.{is_refusal, stepper, job_step, value_read, values_read};
+ghost use Rattle.report_rules.specs.Walk.{is_on_data, mapping_after, spot_behind, is_unmapped_step, advanced, walked, walk_of};
+ghost use Rattle.report_rules.specs.Steps.{gref_of};
 
 use crate::job::{back_mover_job, mover_job};
 use crate::standing::this_epoch;
 use crate::step::{is_step_at, later_step};
 use crate::work::Task;
-use blk_base::{BackMover, Move, OutOfMemory};
+use blk_base::{BackMover, Mode, Move, OutOfMemory};
 use schedule_text::Line;
 use std::alloc::Global;
 
@@ -26,7 +28,13 @@ pub struct Spot {
 fn is_on_data(task: &Task) -> bool
     ensures { result ≡ is_on_data task.now }
 {
-    matches!(*task, Task::Store { .. } | Task::Load { .. })
+    matches!(
+        *task,
+        Task::Store {
+            mode: Mode::ReadWrite,
+            ..
+        } | Task::Load { .. }
+    )
 }
 
 /// The reference whose frame a task touches.
@@ -68,7 +76,7 @@ fn mapping_after(mapping: Option<u64>, made: &Move) -> Option<u64>
     }
 }
 
-// How far a job came behind the step at a place of a task.
+// How far a job came after the step at a place of a task.
 fn spot_behind(done: usize, task: &Task, place: u64, mapping: Option<u64>, made: &Move) -> Spot
     requires { done < 2 ^ 63 }
     ensures { result ≡ spot_behind done task.now place mapping made.now }
@@ -90,7 +98,7 @@ fn spot_behind(done: usize, task: &Task, place: u64, mapping: Option<u64>, made:
     }
 }
 
-/// Whether a move is the step behind the map of a task, and that map may be missing.
+/// Whether a move is the step after the map of a task, and that map may be missing.
 pub fn is_unmapped_step(persistent: bool, task: &Task, place: u64, made: &Move) -> bool
     ensures { result ≡ is_unmapped_step persistent task.now place made.now }
 {

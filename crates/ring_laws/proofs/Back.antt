@@ -29,7 +29,7 @@ use Rattle.blk_back.specs.View.{View, slot_word}
 use Rattle.blk_back.specs.Step.{looked, loop_word, fetched, step_at}
 use Rattle.split_model.specs.Shown.{halt_line}
 use Rattle.ring_laws.proofs.Shows.{Sight, Shows, shows_other, shows_map}
-use Rattle.ring_laws.proofs.Stands.{Stands, is_overrun, stands_more, shows_none, own_stretch}
+use Rattle.ring_laws.proofs.ObeysRing.{ObeysRing, is_overrun, ring_more, shows_none, own_stretch}
 use Rattle.ring_laws.proofs.Knows.{whole, Waits, Serves, Knows, BackGoes, halting}
 use Rattle.ring_laws.proofs.Serving.{served_line, go_on, between, serve_other, serve_entry}
 use Rattle.ring_laws.proofs.Looking.{looked_goes, seen_producer}
@@ -40,12 +40,12 @@ Goes start values before s v a = BackGoes start values before v (step_at s v a.a
 
 -- the back halts by a line of its own
 halts_by : (before : List Line) (old new : View) (answer : BackAnswer) (shown : Move) (x : Sight) (n : ℕ) (h : Halt) → old.halted ≡ None → new.told ≡ None → new.halted ≡ Some h → is_overrun (lines.Halt (halt_line h)) ≡ false → Knows x new
-    → x.words ≡ 28 * n → Shows (before ++ lines.Move shown ∷ []) x → Stands (before ++ lines.Move shown ∷ []) x.start (is_some old.halted) → BackGoes x.start x.values before old new answer shown
+    → x.words ≡ 28 * n → Shows (before ++ lines.Move shown ∷ []) x → ObeysRing (before ++ lines.Move shown ∷ []) x.start (is_some old.halted) → BackGoes x.start x.values before old new answer shown
 halts_by before old new answer shown x n h running told halted plain knows read shows stands =
     let longer : List Line = before ++ lines.Move shown ∷ [] in
     let line : Line = lines.Halt (halt_line h) in
-    let more : Stands (longer ++ line ∷ []) x.start true =
-    stands_more longer line x.start true (record { overruns = stands.overruns; stretches = stands.stretches; last = stands.last; halted = λ overran. refl }) refl (shows_none longer line refl) (λ over. refl) plain (λ small. own_stretch longer line x n shows read refl tt) in
+    let more : ObeysRing (longer ++ line ∷ []) x.start true =
+    ring_more longer line x.start true (record { overruns = stands.overruns; stretches = stands.stretches; last = stands.last; halted = λ overran. refl }) refl (shows_none longer line refl) (λ over. refl) plain (λ small. own_stretch longer line x n shows read refl tt) in
     halting x.start x.values before old new answer shown h told running halted
     (record {
       sight = x;
@@ -54,11 +54,11 @@ halts_by before old new answer shown x n h running told halted plain knows read 
       grown = sym (append-nil x.values);
       shows = subst (λ (ls : List Line). Shows ls x) (append_assoc before (lines.Move shown ∷ []) (line ∷ [])) (shows_other longer line x refl shows);
       knows = knows;
-      stands = subst (λ (o : Option Halt). Stands (before ++ lines.Move shown ∷ line ∷ []) x.start (is_some o)) (sym halted) (subst (λ (ls : List Line). Stands ls x.start true) (append_assoc before (lines.Move shown ∷ []) (line ∷ [])) more);
+      stands = subst (λ (o : Option Halt). ObeysRing (before ++ lines.Move shown ∷ line ∷ []) x.start (is_some o)) (sym halted) (subst (λ (ls : List Line). ObeysRing ls x.start true) (append_assoc before (lines.Move shown ∷ []) (line ∷ [])) more);
     })
 
 -- the back's first move: it maps the ring's page
-pub map_goes : (before : List Line) (h : Hypervisor) (v : View) (x : Sight) (verdict : Result ℕ MapRefusal) → Waits x v.ring v.seen v.halted v.fetched → Shows before x → Stands before x.start (is_some v.halted) → v.told ≡ None → Goes x.start x.values before stage.MapRing v (map_act h back.Back 8 ReadWrite verdict)
+pub map_goes : (before : List Line) (h : Hypervisor) (v : View) (x : Sight) (verdict : Result ℕ MapRefusal) → Waits x v.ring v.seen v.halted v.fetched → Shows before x → ObeysRing before x.start (is_some v.halted) → v.told ≡ None → Goes x.start x.values before stage.MapRing v (map_act h back.Back 8 ReadWrite verdict)
 map_goes before h v x (Ok frame) w shows stands told =
     let shown : Move = moves.Map back.Back 8 ReadWrite (h.grants.made + 1) frame in
     let made : Standing = record { number = h.grants.made + 1; gref = 8; mode = ReadWrite; frame = frame } in
@@ -88,14 +88,14 @@ map_goes before h v x (Err refusal) w shows stands told =
     (shows_other before (lines.Move shown) x refl shows)
     (served_line before x v.halted shown w.running stands (shows_none before (lines.Move shown) refl) (λ small. own_stretch before (lines.Move shown) x 0 shows w.words refl tt))
 
-bind_refused : (before : List Line) (v : View) (x : Sight) → Serves 0 x v.ring v.page v.seen v.halted v.entry v.fetched → Shows before x → Stands before x.start (is_some v.halted) → v.told ≡ None → BackGoes x.start x.values before v (step_at stage.Bind v answers.BindRefused) answers.BindRefused (moves.BindRefused 1)
+bind_refused : (before : List Line) (v : View) (x : Sight) → Serves 0 x v.ring v.page v.seen v.halted v.entry v.fetched → Shows before x → ObeysRing before x.start (is_some v.halted) → v.told ≡ None → BackGoes x.start x.values before v (step_at stage.Bind v answers.BindRefused) answers.BindRefused (moves.BindRefused 1)
 bind_refused before v x s shows stands told =
     let read : x.words ≡ 28 * s.count = whole x.words s.count s.words in
     halts_by before v _ _ (moves.BindRefused 1) x s.count (halt.BadPort 1) s.running told refl refl (record { over = refl; count = s.count; words = read }) read
     (shows_other before (lines.Move (moves.BindRefused 1)) x refl shows)
     (served_line before x v.halted (moves.BindRefused 1) s.running stands (shows_none before (lines.Move (moves.BindRefused 1)) refl) (λ small. between before (moves.BindRefused 1) x v.ring v.page v.seen v.halted v.entry v.fetched s shows refl tt))
 
-pub bind_goes : (before : List Line) (h : Hypervisor) (v : View) (x : Sight) (state : PortState) → Serves 0 x v.ring v.page v.seen v.halted v.entry v.fetched → Shows before x → Stands before x.start (is_some v.halted) → v.told ≡ None → Goes x.start x.values before stage.Bind v (bind_act h 1 state)
+pub bind_goes : (before : List Line) (h : Hypervisor) (v : View) (x : Sight) (state : PortState) → Serves 0 x v.ring v.page v.seen v.halted v.entry v.fetched → Shows before x → ObeysRing before x.start (is_some v.halted) → v.told ≡ None → Goes x.start x.values before stage.Bind v (bind_act h 1 state)
 bind_goes before h v x port.Unbound s shows stands told = serve_other before v _ _ (moves.Bind 1) x s shows stands refl told refl s
 bind_goes before h v x port.Closed s shows stands told = bind_refused before v x s shows stands told
 bind_goes before h v x port.Bound s shows stands told = bind_refused before v x s shows stands told
@@ -168,7 +168,7 @@ read_all word x ring page seen halted entry number s =
     next_number : (n count : ℕ) → n ≡ count % 2 ^ 64 → (n + 1) % 2 ^ 64 ≡ (count + 1) % 2 ^ 64
     next_number n count e = omega arith
 
-pub fetch_goes : (before : List Line) (v : View) (frame k word : ℕ) (answer : BackAnswer) (x : Sight) (last : Bool) → (k == 27) ≡ last → 1 ≤ k → Serves k x v.ring v.page v.seen v.halted v.entry v.fetched → Shows before x → Stands before x.start (is_some v.halted) → v.told ≡ None
+pub fetch_goes : (before : List Line) (v : View) (frame k word : ℕ) (answer : BackAnswer) (x : Sight) (last : Bool) → (k == 27) ≡ last → 1 ≤ k → Serves k x v.ring v.page v.seen v.halted v.entry v.fetched → Shows before x → ObeysRing before x.start (is_some v.halted) → v.told ≡ None
     → BackGoes x.start x.values before v (if last then fetched v (v.entry ++ word ∷ []) else record v { entry = v.entry ++ word ∷ []; stage = stage.Fetch (k + 1) }) answer (moves.Read back.Back v.page.number frame (slot_word v.ring.cons k) word)
 fetch_goes before v frame k word answer x true e begun s shows stands told =
     let is : k ≡ 27 = grind (arith, nat_tests) in
@@ -183,7 +183,7 @@ fetch_goes before v frame k word answer x false e begun s shows stands told =
     further n lt other = grind (arith, nat_tests)
 
 -- in the loop: a look at the producer, or the first word of the next entry
-pub word_goes : (before : List Line) (v : View) (frame word : ℕ) (answer : BackAnswer) (x : Sight) → (requests_of v.ring v.seen == 0) ≡ false → Serves 0 x v.ring v.page v.seen v.halted v.entry v.fetched → Shows before x → Stands before x.start (is_some v.halted) → v.told ≡ None
+pub word_goes : (before : List Line) (v : View) (frame word : ℕ) (answer : BackAnswer) (x : Sight) → (requests_of v.ring v.seen == 0) ≡ false → Serves 0 x v.ring v.page v.seen v.halted v.entry v.fetched → Shows before x → ObeysRing before x.start (is_some v.halted) → v.told ≡ None
     → BackGoes x.start x.values before v (loop_word v word) answer (moves.Read back.Back v.page.number frame (slot_word v.ring.cons 0) word)
 word_goes before v frame word answer x some s shows stands told =
     let new : View = record v { entry = word ∷ []; stage = stage.Fetch 1 } in
@@ -195,7 +195,7 @@ word_goes before v frame word answer x some s shows stands told =
     above : (n : ℕ) → (n == 0) ≡ false → 0 < n
     above n other = grind (arith, nat_tests)
 
-pub look_goes : (before : List Line) (v : View) (frame word : ℕ) (answer : BackAnswer) (x : Sight) → (requests_of v.ring v.seen == 0) ≡ true → Serves 0 x v.ring v.page v.seen v.halted v.entry v.fetched → Shows before x → Stands before x.start (is_some v.halted) → v.told ≡ None
+pub look_goes : (before : List Line) (v : View) (frame word : ℕ) (answer : BackAnswer) (x : Sight) → (requests_of v.ring v.seen == 0) ≡ true → Serves 0 x v.ring v.page v.seen v.halted v.entry v.fetched → Shows before x → ObeysRing before x.start (is_some v.halted) → v.told ≡ None
     → BackGoes x.start x.values before v (loop_word v word) answer (moves.Read back.Back v.page.number frame 0 word)
 look_goes before v frame word answer x none s shows stands told =
     let is : looked v word (record v { seen = word; stage = stage.StoreEvent }) ≡ loop_word v word = sym (ap (λ (b : Bool). if b then looked v word (record v { seen = word; stage = stage.StoreEvent }) else record v { entry = word ∷ []; stage = stage.Fetch 1 }) none) in

@@ -28,7 +28,7 @@ use Rattle.report_rules.specs.declared.walk.Spot.{Spot}
 use Rattle.report_rules.specs.declared.work.Task.{Task}
 use Rattle.report_rules.specs.Work.{stores_of, loads_of, planned_tasks, served_tasks, settled, work_verdict, indirect_tasks, work_tasks, status_by, response_to, work_response}
 use Rattle.report_rules.specs.Job.{words_of_job, id_of}
-use Rattle.report_rules.specs.Steps.{walk_of}
+use Rattle.report_rules.specs.Walk.{walk_of}
 use Rattle.report_rules.specs.Reply.{end_of}
 use Rattle.back_jobs.specs.declared.stage.Stage.{Stage}
 use Rattle.back_jobs.specs.declared.stage.Stage.TheVariants as stage

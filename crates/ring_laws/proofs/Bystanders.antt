@@ -14,7 +14,8 @@ use Rattle.report_rules.specs.Obeys.{Obeys}
 use Rattle.report_rules.specs.Standing.{is_epoch, this_epoch}
 use Rattle.report_rules.specs.Job.{is_job}
 use Rattle.report_rules.specs.Published.{info_of, no_disk, info_told, serving, serving_after, disk_with, disk_of, kept_by, keeping_after, is_kept, is_persistent}
-use Rattle.report_rules.specs.Steps.{stepper, is_fault, IsStepAt}
+use Rattle.report_rules.specs.Step.{stepper}
+use Rattle.report_rules.specs.Steps.{is_fault, IsStepAt}
 use Rattle.report_rules.specs.Data.{words_in, IsDataAt}
 use Rattle.report_rules.specs.Effect.{disk_move_of, disk_move_shown, outcome_of, IsEffectAt}
 use Rattle.report_rules.proofs.Obeys.{obeys_more}

@@ -16,7 +16,8 @@ use Rattle.ring_words.specs.Ring.{next_of}
 use Rattle.report_rules.specs.Obeys.{Obeys}
 use Rattle.report_rules.specs.Standing.{this_epoch}
 use Rattle.report_rules.specs.Work.{work_tasks, work_verdict, status_by, work_response}
-use Rattle.report_rules.specs.Steps.{walk_of, failed_in}
+use Rattle.report_rules.specs.Walk.{walk_of}
+use Rattle.report_rules.specs.Steps.{failed_in}
 use Rattle.report_rules.specs.Made.{left_to}
 use Rattle.report_rules.specs.Reply.{end_of, response_due, values_written, reply_pushed, lines_before, is_one_of, most_jobs, answered_in, IsReplyAt}
 use Rattle.ring_laws.proofs.Began.{request_at}

@@ -16,7 +16,7 @@ use Rattle.blk_back.specs.declared.told.Halt.{Halt}
 use Rattle.blk_back.specs.View.{slot_word, shape}
 use Rattle.ring_laws.proofs.Shows.{Sight, Shows}
 use Rattle.ring_laws.proofs.Touches.{IsPage, one_order, high_word}
-use Rattle.ring_laws.proofs.Stands.{word_inside}
+use Rattle.ring_laws.proofs.ObeysRing.{word_inside}
 use Rattle.ring_laws.proofs.Knows.{Serves}
 
 pub high_slot : (index k : ℕ) → k < 28 → 16 ≤ slot_word index k

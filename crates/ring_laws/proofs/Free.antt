@@ -37,7 +37,7 @@ use Rattle.split_model.proofs.SafeActs.{of_front, of_back, front_test}
 use Rattle.split_model.proofs.SafeAnswers.{IsJobs}
 use Rattle.ring_laws.proofs.Sight.{is_other, other_epoch, other_touch, untouched_produced, untouched_word}
 use Rattle.ring_laws.proofs.Shows.{shows_other}
-use Rattle.ring_laws.proofs.Stands.{is_overrun, stands_more, shows_none, foreign_stretch}
+use Rattle.ring_laws.proofs.ObeysRing.{is_overrun, ring_more, shows_none, foreign_stretch}
 use Rattle.ring_laws.proofs.Knows.{Follows}
 
 -- a line that no rule of the ring stops, where the back has halted or not
@@ -60,7 +60,7 @@ follow_free start values before line v free f =
       grown = f.grown;
       shows = shows_other before line f.sight free.other f.shows;
       knows = f.knows;
-      stands = stands_more before line f.sight.start (is_some v.halted) f.stands (other_epoch line free.other) (shows_none before line (untouched_produced before line still)) free.idle free.plain (λ small. foreign_stretch before line free.foreign (untouched_word before line still));
+      stands = ring_more before line f.sight.start (is_some v.halted) f.stands (other_epoch line free.other) (shows_none before line (untouched_produced before line still)) free.idle free.plain (λ small. foreign_stretch before line free.foreign (untouched_word before line still));
     }
 
 pub follow_all : (start : ℕ) (values : List ℕ) (more before : List Line) (v : View) → AreFree (is_some v.halted) more → Follows start values before v → Follows start values (before ++ more) v

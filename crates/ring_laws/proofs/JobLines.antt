@@ -9,7 +9,9 @@ use Rattle.schedule_text.specs.declared.line.Line.{Line}
 use Rattle.schedule_text.specs.declared.line.Line.TheVariants as lines
 use Rattle.report_rules.specs.declared.work.Task.{Task}
 use Rattle.report_rules.specs.Job.{disk_mover, is_job}
-use Rattle.report_rules.specs.Steps.{spot, advanced, stepper, move_in, job_step, walked, walk_of, is_fault, begins_with_fault, failed_in}
+use Rattle.report_rules.specs.Step.{stepper, move_in, job_step}
+use Rattle.report_rules.specs.Walk.{spot, advanced, walked, walk_of}
+use Rattle.report_rules.specs.Steps.{is_fault, begins_with_fault, failed_in}
 use Rattle.report_rules.specs.Data.{words_in, words_behind, words_from}
 use Rattle.ring_laws.proofs.Lists.{or_false, either_false, fold_none, count_none}
 

@@ -12,7 +12,8 @@ use Rattle.schedule_text.specs.declared.line.Line.TheVariants as lines
 use Rattle.blk_layout.specs.declared.segment.Segment.{Segment}
 use Rattle.segment_list.specs.Segments.{length_of, sectors_of}
 use Rattle.report_rules.specs.declared.work.Task.{Task}
-use Rattle.report_rules.specs.Steps.{spot, advanced, walk_of, failed_in, begins_with_fault}
+use Rattle.report_rules.specs.Walk.{spot, advanced, walk_of}
+use Rattle.report_rules.specs.Steps.{failed_in, begins_with_fault}
 use Rattle.back_jobs.specs.declared.stage.Stage.{Stage}
 use Rattle.back_jobs.specs.declared.stage.Stage.TheVariants as stage
 use Rattle.back_jobs.specs.Task.{Work, rest_of, counted}

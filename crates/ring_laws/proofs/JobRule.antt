@@ -17,10 +17,13 @@ use Rattle.report_rules.specs.Standing.{is_epoch, this_epoch}
 use Rattle.report_rules.specs.Work.{work_tasks}
 use Rattle.report_rules.specs.Job.{fetched_of, id_of, disk_moves_of}
 use Rattle.report_rules.specs.Published.{info_told, serving, serving_after, kept_by, keeping_after}
-use Rattle.report_rules.specs.Steps.{step_at, is_step_at, gref_of, spot_behind, is_unmapped_step, spot_in, advanced, walk_of, stepper, values_read, work_of, spot_of, touched_by, IsKeptFor, IsThrough, IsNextStep, IsStepOf, IsStepAt}
+use Rattle.report_rules.specs.Step.{stepper, values_read, work_of}
+use Rattle.report_rules.specs.Walk.{step_at, is_step_at, spot_behind, is_unmapped_step, spot_in, advanced, walk_of, spot_of}
+use Rattle.report_rules.specs.Steps.{gref_of, touched_by, IsKeptFor, IsThrough, IsNextStep, IsStepOf, IsStepAt}
 use Rattle.report_rules.specs.Data.{IsDataAt}
 use Rattle.report_rules.specs.Effect.{disk_move_of, disk_move_shown, IsEffectAt}
 use Rattle.blk_back.specs.View.{info_of as back_info}
+use Rattle.report_rules.proofs.Walked.{step_of_next}
 use Rattle.ring_laws.proofs.JobLines.{is_disk_of}
 use Rattle.ring_laws.proofs.Places.{IsStepOn}
 use Rattle.ring_laws.proofs.JobSteps.{IsDataBy, Steps}
@@ -81,7 +84,7 @@ step_rule config before values k shown work asked plan own s =
     let same : work_of before k (fetched_in config values k) ≡ work = plan (values_read before k) in
     let at : spot_of before k (fetched_in config values k) ≡ Some on.here = ap (λ (w : List Task). walk_of false w k (this_epoch before)) same ∙ on.came in
     let next : IsNextStep before false on.here shown takes.task = record { unrefused = takes.unrefused; step = ap (λ (b : Bool). b || is_unmapped_step false takes.task (let h : Spot = on.here in h.place) shown) takes.step; through = through_hand before takes.task on.here shown takes.step on.hand } in
-    let of_request : IsStepOf before k shown (fetched_in config values k) = record { next = some_and _ at (some_and _ (ap (λ (w : List Task). slice_get w (let h : Spot = on.here in h.done)) same ∙ takes.found) next); whole = on.whole } in
+    let of_request : IsStepOf before k shown (fetched_in config values k) = step_of_next before k shown (fetched_in config values k) (some_and _ at (some_and _ (ap (λ (w : List Task). slice_get w (let h : Spot = on.here in h.done)) same ∙ takes.found) next)) on.whole in
     if_some _ own (some_and _ asked of_request)
 
 data_rule : (before : List Line) (k : ℕ) (shown : Move) → stepper (lines.Move shown) ≡ Some k → IsDataBy k (this_epoch before) shown → IsDataAt before (lines.Move shown)
@@ -114,62 +117,18 @@ pub data ToldBy (epoch : List Line) (shown : Move) (k id index : ℕ) (told : Li
   nothing : disk_move_of (lines.Move shown) ≡ None → told ≡ [] → ToldBy epoch shown k id index told
   one : (line : Line) → told ≡ line ∷ [] → IsTold shown k id index line → is_disk_of k (lines.Move shown) ≡ true → count_by (is_disk_of k) epoch ≡ index → ToldBy epoch shown k id index told
 
-pub effect_done : (shown : Move) (k sector id index : ℕ) → shown ≡ moves.DiskWrite k sector → IsTold shown k id index (lines.Effect id index)
-effect_done shown k sector id index is = record {
-  same_epoch = refl;
-  keeps = refl;
-  serves = refl;
-  tells = λ info. refl;
-  still = refl;
-  unstepped = refl;
-  step = λ before. tt;
-  moved = λ before. tt;
-  effect = λ before shows request place.
-      let e : disk_move_shown before ≡ disk_move_of (lines.Move (moves.DiskWrite k sector)) = shows ∙ ap (λ (m : Move). disk_move_of (lines.Move m)) is in
-      record { told = if_some _ e (record { done = refl; request = request; place = place }); only = λ some none. absurd (cc) };
-}
+pub effect_done : (k sector id index : ℕ) → IsTold (moves.DiskWrite k sector) k id index (lines.Effect id index)
+effect_done k sector id index =
+    record { same_epoch = refl; keeps = refl; serves = refl; tells = λ info. refl; still = refl; unstepped = refl; step = λ before. tt; moved = λ before. tt; effect = λ before shows request place. record { told = if_some _ shows (record { done = refl; request = request; place = place }); only = λ some none. absurd (cc) } }
 
-pub effect_given : (shown : Move) (k sector id index : ℕ) (words : List ℕ) → shown ≡ moves.DiskRead k sector → IsTold shown k id index (lines.EffectRead id index words)
-effect_given shown k sector id index words is = record {
-  same_epoch = refl;
-  keeps = refl;
-  serves = refl;
-  tells = λ info. refl;
-  still = refl;
-  unstepped = refl;
-  step = λ before. tt;
-  moved = λ before. tt;
-  effect = λ before shows request place.
-      let e : disk_move_shown before ≡ disk_move_of (lines.Move (moves.DiskRead k sector)) = shows ∙ ap (λ (m : Move). disk_move_of (lines.Move m)) is in
-      record { told = if_some _ e (record { done = refl; request = request; place = place }); only = λ some none. absurd (cc) };
-}
+pub effect_given : (k sector id index : ℕ) (words : List ℕ) → IsTold (moves.DiskRead k sector) k id index (lines.EffectRead id index words)
+effect_given k sector id index words =
+    record { same_epoch = refl; keeps = refl; serves = refl; tells = λ info. refl; still = refl; unstepped = refl; step = λ before. tt; moved = λ before. tt; effect = λ before shows request place. record { told = if_some _ shows (record { done = refl; request = request; place = place }); only = λ some none. absurd (cc) } }
 
-pub write_failed : (shown : Move) (k sector id index : ℕ) → shown ≡ moves.DiskWrite k sector → IsTold shown k id index (lines.Fault id index)
-write_failed shown k sector id index is = record {
-  same_epoch = refl;
-  keeps = refl;
-  serves = refl;
-  tells = λ info. refl;
-  still = refl;
-  unstepped = refl;
-  step = λ before. tt;
-  moved = λ before. tt;
-  effect = λ before shows request place.
-      let e : disk_move_shown before ≡ disk_move_of (lines.Move (moves.DiskWrite k sector)) = shows ∙ ap (λ (m : Move). disk_move_of (lines.Move m)) is in
-      record { told = if_some _ e (record { done = tt; request = request; place = place }); only = λ some none. absurd (cc) };
-}
+pub write_failed : (k sector id index : ℕ) → IsTold (moves.DiskWrite k sector) k id index (lines.Fault id index)
+write_failed k sector id index =
+    record { same_epoch = refl; keeps = refl; serves = refl; tells = λ info. refl; still = refl; unstepped = refl; step = λ before. tt; moved = λ before. tt; effect = λ before shows request place. record { told = if_some _ shows (record { done = tt; request = request; place = place }); only = λ some none. absurd (cc) } }
 
-pub read_failed : (shown : Move) (k sector id index : ℕ) → shown ≡ moves.DiskRead k sector → IsTold shown k id index (lines.Fault id index)
-read_failed shown k sector id index is = record {
-  same_epoch = refl;
-  keeps = refl;
-  serves = refl;
-  tells = λ info. refl;
-  still = refl;
-  unstepped = refl;
-  step = λ before. tt;
-  moved = λ before. tt;
-  effect = λ before shows request place.
-      let e : disk_move_shown before ≡ disk_move_of (lines.Move (moves.DiskRead k sector)) = shows ∙ ap (λ (m : Move). disk_move_of (lines.Move m)) is in
-      record { told = if_some _ e (record { done = tt; request = request; place = place }); only = λ some none. absurd (cc) };
-}
+pub read_failed : (k sector id index : ℕ) → IsTold (moves.DiskRead k sector) k id index (lines.Fault id index)
+read_failed k sector id index =
+    record { same_epoch = refl; keeps = refl; serves = refl; tells = λ info. refl; still = refl; unstepped = refl; step = λ before. tt; moved = λ before. tt; effect = λ before shows request place. record { told = if_some _ shows (record { done = tt; request = request; place = place }); only = λ some none. absurd (cc) } }

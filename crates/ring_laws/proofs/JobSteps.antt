@@ -11,7 +11,9 @@ use Rattle.schedule_text.specs.declared.line.Line.TheVariants as lines
 use Rattle.blk_layout.specs.declared.segment.Segment.{Segment}
 use Rattle.report_rules.specs.declared.work.Task.{Task}
 use Rattle.report_rules.specs.declared.walk.Spot.{Spot}
-use Rattle.report_rules.specs.Steps.{walk_of, advanced, failed_in, touched_by, stepper}
+use Rattle.report_rules.specs.Step.{stepper}
+use Rattle.report_rules.specs.Walk.{walk_of, advanced}
+use Rattle.report_rules.specs.Steps.{failed_in, touched_by}
 use Rattle.report_rules.specs.Data.{words_from}
 use Rattle.back_jobs.specs.declared.stage.Stage.{Stage}
 use Rattle.back_jobs.specs.declared.stage.Stage.TheVariants as stage

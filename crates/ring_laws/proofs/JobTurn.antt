@@ -30,7 +30,7 @@ use Rattle.report_rules.specs.Effect.{disk_move_shown}
 use Rattle.blk_back.specs.View.{info_of as back_info}
 use Rattle.back_jobs.specs.declared.stage.Stage.{Stage}
 use Rattle.back_jobs.specs.declared.stage.Stage.TheVariants as stage
-use Rattle.back_jobs.specs.Task.{Work, IsDone, ask_at, step_at, map_ask, mode_of, last_of, rest_of, next_sector, next_segment, counted, sector_stage}
+use Rattle.back_jobs.specs.Task.{Work, IsDoneStage, ask_at, step_at, map_ask, mode_of, last_of, rest_of, next_sector, next_segment, counted, sector_stage}
 use Rattle.back_jobs.specs.Jobs.{asked, told_at as told_works}
 use Rattle.split_model.proofs.SafeActs.{of_back}
 use Rattle.ring_laws.proofs.Shows.{Sight, epoch_longer}
@@ -64,17 +64,17 @@ job_tells work epoch h k stage.Map t o a at e = map_asked epoch h k t o a t.rest
 job_tells work epoch h k (stage.ReadWord m j) t o a at e = of_back (IsSpoken epoch k (stage.ReadWord m j) t) _ a (record { plain = refl; told = nothing refl refl }) e
 job_tells work epoch h k (stage.DiskWrite m) t Took a at e =
     let w : Within work k epoch t.rest t.within t.disk t.moved t.writes 128 1 m = at.0 in
-    of_back (IsSpoken epoch k (stage.DiskWrite m) t) _ a (record { plain = refl; told = one _ refl (effect_done _ k t.disk t.id t.moved refl) (itself k) w.counted }) e
+    of_back (IsSpoken epoch k (stage.DiskWrite m) t) _ a (record { plain = refl; told = one _ refl (effect_done k t.disk t.id t.moved) (itself k) w.counted }) e
 job_tells work epoch h k (stage.DiskWrite m) t Failed a at e =
     let w : Within work k epoch t.rest t.within t.disk t.moved t.writes 128 1 m = at.0 in
-    of_back (IsSpoken epoch k (stage.DiskWrite m) t) _ a (record { plain = refl; told = one _ refl (write_failed _ k t.disk t.id t.moved refl) (itself k) w.counted }) e
+    of_back (IsSpoken epoch k (stage.DiskWrite m) t) _ a (record { plain = refl; told = one _ refl (write_failed k t.disk t.id t.moved) (itself k) w.counted }) e
 job_tells work epoch h k (stage.DiskWrite m) t (Gave words) a at e = absurd (none-some a e)
 job_tells work epoch h k (stage.DiskRead m) t (Gave words) a at e =
     let w : Within work k epoch t.rest t.within t.disk t.moved t.writes 0 1 m = at.0 in
-    of_back (IsSpoken epoch k (stage.DiskRead m) t) _ a (record { plain = refl; told = one _ refl (effect_given _ k t.disk t.id t.moved words refl) (itself k) w.counted }) e
+    of_back (IsSpoken epoch k (stage.DiskRead m) t) _ a (record { plain = refl; told = one _ refl (effect_given k t.disk t.id t.moved words) (itself k) w.counted }) e
 job_tells work epoch h k (stage.DiskRead m) t Failed a at e =
     let w : Within work k epoch t.rest t.within t.disk t.moved t.writes 0 1 m = at.0 in
-    of_back (IsSpoken epoch k (stage.DiskRead m) t) _ a (record { plain = refl; told = one _ refl (read_failed _ k t.disk t.id t.moved refl) (itself k) w.counted }) e
+    of_back (IsSpoken epoch k (stage.DiskRead m) t) _ a (record { plain = refl; told = one _ refl (read_failed k t.disk t.id t.moved) (itself k) w.counted }) e
 job_tells work epoch h k (stage.DiskRead m) t Took a at e = absurd (none-some a e)
 job_tells work epoch h k (stage.WriteWord m j) t o a at e = of_back (IsSpoken epoch k (stage.WriteWord m j) t) _ a (record { plain = refl; told = nothing refl refl }) e
 job_tells work epoch h k (stage.Unmap m) t o a at e = of_back (IsSpoken epoch k (stage.Unmap m) t) _ a (record { plain = refl; told = nothing refl refl }) e
@@ -125,7 +125,7 @@ own_line : (config : Options) (before : List Line) (values : List ℕ) (k : ℕ)
 own_line config before values k shown work quiet asked tasks plain (takes own steps) = own_rule config before values k shown work quiet asked tasks plain own steps
 own_line config before values k shown work quiet asked tasks plain (rests none) = bystander_rule before (lines.Move shown) quiet (record { plain = plain; unstepped = none })
 
-done_waits : (h : Hypervisor) (k : ℕ) (s : Stage) (t : Work) (o : Outcome) (a : BackAct) → back_act h (back.Job k) (ask_at s t) o ≡ Some a → IsDone s → ⊥
+done_waits : (h : Hypervisor) (k : ℕ) (s : Stage) (t : Work) (o : Outcome) (a : BackAct) → back_act h (back.Job k) (ask_at s t) o ≡ Some a → IsDoneStage s → ⊥
 done_waits h k (stage.Done status) t o a e done = none-some a e
 done_waits h k s t o a e done = done
 
@@ -134,9 +134,9 @@ pub record IsRunning (served : Status) (work : List Task) (k : ℕ) (epoch : Lis
   pub okay : served ≡ Okay
   pub at : IsAt work k epoch s t
 
-running : (served : Status) (work : List Task) (k : ℕ) (epoch : List Line) (s : Stage) (t : Work) → (IsDone s → ⊥) → HasCome served work k epoch s t → IsRunning served work k epoch s t
+running : (served : Status) (work : List Task) (k : ℕ) (epoch : List Line) (s : Stage) (t : Work) → (IsDoneStage s → ⊥) → HasCome served work k epoch s t → IsRunning served work k epoch s t
 running served work k epoch s t busy (serves okay at) = record { okay = okay; at = at }
-running served work k epoch s t busy (over done ends) = absurd (busy (subst IsDone (sym done) tt))
+running served work k epoch s t busy (over done ends) = absurd (busy (subst IsDoneStage (sym done) tt))
 
 -- a job keeps its number, its id and its operation
 pub record IsSame (old new : Work) : Type 0 where

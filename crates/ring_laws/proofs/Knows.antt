@@ -15,7 +15,7 @@ use Rattle.blk_back.specs.View.{View}
 use Rattle.split_model.specs.Shown.{back_lines, halt_lines, halt_line}
 use Rattle.ring_laws.proofs.Shows.{Sight, Shows}
 use Rattle.ring_laws.proofs.Touches.{IsPage}
-use Rattle.ring_laws.proofs.Stands.{Stands}
+use Rattle.ring_laws.proofs.ObeysRing.{ObeysRing}
 
 -- the ring's page isn't mapped yet
 pub record Waits (x : Sight) (ring : Ring) (seen : ℕ) (halted : Option Halt) (fetched : ℕ) : Type 0 where
@@ -77,7 +77,7 @@ pub record Follows (start : ℕ) (values : List ℕ) (before : List Line) (v : V
   pub grown : sight.values ≡ values ++ more
   pub shows : Shows before sight
   pub knows : Knows sight v
-  pub stands : Stands before sight.start (is_some v.halted)
+  pub stands : ObeysRing before sight.start (is_some v.halted)
 
 -- a move of the back, with the lines behind it
 abbrev pub BackGoes : ℕ → List ℕ → List Line → View → View → BackAnswer → Move → Type 0

@@ -2,7 +2,7 @@ pub mod Lists
 pub mod Sight
 pub mod Shows
 pub mod Touches
-pub mod Stands
+pub mod ObeysRing
 pub mod Knows
 pub mod Entry
 pub mod Serving

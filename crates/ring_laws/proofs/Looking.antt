@@ -22,7 +22,7 @@ use Rattle.blk_back.specs.View.{View}
 use Rattle.blk_back.specs.Step.{giving_up, overrun, looked}
 use Rattle.ring_laws.proofs.Shows.{Sight, Shows, shows_other}
 use Rattle.ring_laws.proofs.Touches.{shows_producer, low_word, produced_at, one_order}
-use Rattle.ring_laws.proofs.Stands.{Stands, stands_overrun, own_stretch, word_inside}
+use Rattle.ring_laws.proofs.ObeysRing.{ObeysRing, ring_overrun, own_stretch, word_inside}
 use Rattle.ring_laws.proofs.Knows.{whole, Serves, IsOver, KnowsAt, Knows, BackGoes, halting}
 use Rattle.ring_laws.proofs.Serving.{served_line, go_on, between}
 
@@ -45,7 +45,7 @@ same_overrun before frame word x ring page seen halted entry fetched over s show
     ∙ ap (λ (b : Bool). if b then Some (record { produced = word; replied = ring.prod }) else None) test))
 
 -- the lines of a back that serves, and the read of a producer that did not overrun
-looked_on : (before : List Line) (old new : View) (answer : BackAnswer) (frame word : ℕ) (x : Sight) → Serves 0 x old.ring old.page old.seen old.halted old.entry old.fetched → Shows before x → Stands before x.start (is_some old.halted) → overruns old.ring word ≡ false → new.told ≡ None → new.halted ≡ old.halted → Knows (record x { produced = word }) new → BackGoes x.start x.values before old new answer (moves.Read back.Back old.page.number frame 0 word)
+looked_on : (before : List Line) (old new : View) (answer : BackAnswer) (frame word : ℕ) (x : Sight) → Serves 0 x old.ring old.page old.seen old.halted old.entry old.fetched → Shows before x → ObeysRing before x.start (is_some old.halted) → overruns old.ring word ≡ false → new.told ≡ None → new.halted ≡ old.halted → Knows (record x { produced = word }) new → BackGoes x.start x.values before old new answer (moves.Read back.Back old.page.number frame 0 word)
 looked_on before old new answer frame word x s shows stands fine told halted knows =
     let shown : Move = moves.Read back.Back old.page.number frame 0 word in
     go_on before old new answer shown x (record x { produced = word }) [] told halted refl (sym (append-nil x.values)) (shows_producer before x old.page.number frame word s.mapped shows) knows
@@ -53,7 +53,7 @@ looked_on before old new answer frame word x s shows stands fine told halted kno
     (λ small. between before shown x old.ring old.page old.seen old.halted old.entry old.fetched s shows (low_word before x old.page.number frame 0 word (omega arith) shows s.mapped) (word_inside before old.page.number 0 (omega arith))))
 
 -- the same of one that did
-looked_over : (before : List Line) (old : View) (answer : BackAnswer) (frame word : ℕ) (x : Sight) → Serves 0 x old.ring old.page old.seen old.halted old.entry old.fetched → Shows before x → Stands before x.start (is_some old.halted) → overruns old.ring word ≡ true → old.told ≡ None → BackGoes x.start x.values before old (overrun old word) answer (moves.Read back.Back old.page.number frame 0 word)
+looked_over : (before : List Line) (old : View) (answer : BackAnswer) (frame word : ℕ) (x : Sight) → Serves 0 x old.ring old.page old.seen old.halted old.entry old.fetched → Shows before x → ObeysRing before x.start (is_some old.halted) → overruns old.ring word ≡ true → old.told ≡ None → BackGoes x.start x.values before old (overrun old word) answer (moves.Read back.Back old.page.number frame 0 word)
 looked_over before old answer frame word x s shows stands over told =
     let shown : Move = moves.Read back.Back old.page.number frame 0 word in
     let line : Line = lines.Move (moves.Read back.Back old.page.number frame 0 word) in
@@ -61,7 +61,7 @@ looked_over before old answer frame word x s shows stands over told =
     let one : Shows (before ++ line ∷ []) (record x { produced = word }) = shows_producer before x old.page.number frame word s.mapped shows in
     let two : Shows ((before ++ line ∷ []) ++ halt_line ∷ []) (record x { produced = word }) = shows_other (before ++ line ∷ []) halt_line (record x { produced = word }) refl one in
     let read : x.words ≡ 28 * s.count = whole x.words s.count s.words in
-    let running : Stands before x.start false = subst (λ (h : Option Halt). Stands before x.start (is_some h)) s.running stands in
+    let running : ObeysRing before x.start false = subst (λ (h : Option Halt). ObeysRing before x.start (is_some h)) s.running stands in
     halting x.start x.values before old (overrun old word) answer shown (halt.Overrun word old.ring.prod) told s.running refl
     (record {
       sight = record x { produced = word };
@@ -70,7 +70,7 @@ looked_over before old answer frame word x s shows stands over told =
       grown = sym (append-nil x.values);
       shows = subst (λ (ls : List Line). Shows ls (record x { produced = word })) (append_assoc before (line ∷ []) (halt_line ∷ [])) two;
       knows = giving_knows (first_mapping old.jobs.works) (record x { produced = word }) old.ring old.page old.seen (Some (halt.Overrun word old.ring.prod)) old.entry old.fetched (record { over = refl; count = s.count; words = read });
-      stands = stands_overrun before line x.start word old.ring.prod running refl (same_overrun before frame word x old.ring old.page old.seen old.halted old.entry old.fetched true s shows over) refl
+      stands = ring_overrun before line x.start word old.ring.prod running refl (same_overrun before frame word x old.ring old.page old.seen old.halted old.entry old.fetched true s shows over) refl
           (λ small. between before shown x old.ring old.page old.seen old.halted old.entry old.fetched s shows (low_word before x old.page.number frame 0 word (omega arith) shows s.mapped) (word_inside before old.page.number 0 (omega arith)))
           (λ small. own_stretch (before ++ line ∷ []) halt_line (record x { produced = word }) s.count one read refl tt);
     })
@@ -79,7 +79,7 @@ looked_over before old answer frame word x s shows stands over told =
 pub seen_producer : (word : ℕ) (x : Sight) (ring : Ring) (page : Mapping) (seen : ℕ) (halted : Option Halt) (entry : List ℕ) (fetched : ℕ) → Serves 0 x ring page seen halted entry fetched → Serves 0 (record x { produced = word }) ring page word halted entry fetched
 seen_producer word x ring page seen halted entry fetched s = record { entries = s.entries; running = s.running; mapped = s.mapped; replied = s.replied; produced = refl; count = s.count; words = s.words; within = s.within; consumed = s.consumed; long = s.long; numbered = s.numbered; copied = s.copied; copied_last = s.copied_last }
 
-looked_at : (before : List Line) (old otherwise : View) (answer : BackAnswer) (frame word : ℕ) (x : Sight) (over same : Bool) → Serves 0 x old.ring old.page old.seen old.halted old.entry old.fetched → Shows before x → Stands before x.start (is_some old.halted) → overruns old.ring word ≡ over → old.told ≡ None
+looked_at : (before : List Line) (old otherwise : View) (answer : BackAnswer) (frame word : ℕ) (x : Sight) (over same : Bool) → Serves 0 x old.ring old.page old.seen old.halted old.entry old.fetched → Shows before x → ObeysRing before x.start (is_some old.halted) → overruns old.ring word ≡ over → old.told ≡ None
     → otherwise.told ≡ None → otherwise.halted ≡ old.halted → Knows (record x { produced = word }) otherwise
     → BackGoes x.start x.values before old (if over then overrun old word else (if same then otherwise else record old { seen = word; stage = stage.Loop })) answer (moves.Read back.Back old.page.number frame 0 word)
 looked_at before old otherwise answer frame word x true same s shows stands e told other_told other_halted knows = looked_over before old answer frame word x s shows stands e told
@@ -88,7 +88,7 @@ looked_at before old otherwise answer frame word x false false s shows stands e 
     looked_on before old (record old { seen = word; stage = stage.Loop }) answer frame word x s shows stands e told refl
     (seen_producer word x old.ring old.page old.seen old.halted old.entry old.fetched s)
 
-pub looked_goes : (before : List Line) (old otherwise : View) (answer : BackAnswer) (frame word : ℕ) (x : Sight) → Serves 0 x old.ring old.page old.seen old.halted old.entry old.fetched → Shows before x → Stands before x.start (is_some old.halted) → old.told ≡ None
+pub looked_goes : (before : List Line) (old otherwise : View) (answer : BackAnswer) (frame word : ℕ) (x : Sight) → Serves 0 x old.ring old.page old.seen old.halted old.entry old.fetched → Shows before x → ObeysRing before x.start (is_some old.halted) → old.told ≡ None
     → otherwise.told ≡ None → otherwise.halted ≡ old.halted → Knows (record x { produced = word }) otherwise
     → BackGoes x.start x.values before old (looked old word otherwise) answer (moves.Read back.Back old.page.number frame 0 word)
 looked_goes before old otherwise answer frame word x s shows stands told other_told other_halted knows =

@@ -47,7 +47,7 @@ use Rattle.ring_laws.proofs.After.{kept_after}
 use Rattle.ring_laws.proofs.JobRuns.{Stand, stand_start, stand_happens}
 use Rattle.ring_laws.proofs.Makers.{Holds, IsMine, open_more}
 use Rattle.ring_laws.proofs.MakerLines.{calm_quiet, calm_open, front_lines_calm, submit_calm, look_calm, settle_calm, told_calm, Does, back_does, serving_asks}
-use Rattle.ring_laws.proofs.MakerTurns.{IsMadeBy, Made, made_aside, quiet_hands, changed_hands, Stands, Turned, job_turned, all_by_place}
+use Rattle.ring_laws.proofs.MakerTurns.{IsMadeBy, Made, made_aside, quiet_hands, changed_hands, HandStands, Turned, job_turned, all_by_place}
 
 no_lines : (before : List Line) (v : back.View) → Made before v → Made (before ++ []) v
 no_lines before v m = subst (λ (ls : List Line). Made ls v) (sym (append-nil before)) m
@@ -86,7 +86,7 @@ job_made config w before k o (Some a) e old s m =
     let n : World = job_after w k (Some a) in
     let running : is_some v.halted ≡ false = job_running (is_some v.halted) w.under k (ask_job v.jobs k) o a e in
     let asks = ap (λ (b : Bool). back_act w.under (mover.Job k) (if b then ask.Wait else ask_job v.jobs k) o) (sym running) ∙ e in
-    let stands : AllByRecursion (Stands (before ++ job_shows w k (Some a))) n.back.jobs.works = all_by_place (Stands (before ++ job_shows w k (Some a))) n.back.jobs.works
+    let stands : AllByRecursion (HandStands (before ++ job_shows w k (Some a))) n.back.jobs.works = all_by_place (HandStands (before ++ job_shows w k (Some a))) n.back.jobs.works
     (λ i t found x is. in_hand (before ++ job_shows w k (Some a)) n.under.pages n.under.grants n.back i t x s.memory.tells s.safe.held found is) in
     let jobs : AreJobs config (entry_values before) (this_epoch before) v.fetched v.jobs.works = old.tells.jobs running in
     let turned : Turned before (job_shows w k (Some a)) n.back.jobs.works = job_turned before w.under v.jobs.works k o a (place_of v.jobs.works k) (work_of v.jobs.works k) refl refl asks m.obeys jobs.apart (m.hands running) stands in

@@ -106,8 +106,8 @@ changed_hands words epoch old new (fetches works fetched at some) runs small non
     subst (λ (ws : List Work). AllByRecursion (IsMadeBy epoch) ws) (sym works) (all_both (IsMadeBy epoch) old.jobs.works (t ∷ []) all (made, tt))
 
 -- the mapping in the hand of a job stands by the lines
-abbrev pub Stands : List Line → Work → Type 0
-Stands ls t = (m : Mapping) → mapping_at t.stage ≡ Some m → IsSomeAnd (numbered m.number (standing_behind ls)) (λ (x : Standing). x.gref ≡ m.gref)
+abbrev pub HandStands : List Line → Work → Type 0
+HandStands ls t = (m : Mapping) → mapping_at t.stage ≡ Some m → IsSomeAnd (numbered m.number (standing_behind ls)) (λ (x : Standing). x.gref ≡ m.gref)
 
 -- behind a job's lines
 record Behind (before ys : List Line) (k : ℕ) : Type 0 where
@@ -142,10 +142,10 @@ told_obeys before told line obeys mine opens = subst (λ (ls : List Line). Obeys
 -- another job, of which the lines make and unmap nothing
 record IsOther (before ys : List Line) (k : ℕ) (u : Work) : Type 0 where
   apart : u.number ≢ k
-  stands : Stands (before ++ ys) u
+  stands : HandStands (before ++ ys) u
 
-all_other : (before ys : List Line) (k : ℕ) (works : List Work) → AllByRecursion (λ (u : Work). u.number ≢ k) works → AllByRecursion (Stands (before ++ ys)) works → AllByRecursion (IsOther before ys k) works
-all_other before ys k works apart stands = all_pairs (λ (u : Work). u.number ≢ k) (Stands (before ++ ys)) (IsOther before ys k) works (λ u other s. record { apart = other; stands = s }) apart stands
+all_other : (before ys : List Line) (k : ℕ) (works : List Work) → AllByRecursion (λ (u : Work). u.number ≢ k) works → AllByRecursion (HandStands (before ++ ys)) works → AllByRecursion (IsOther before ys k) works
+all_other before ys k works apart stands = all_pairs (λ (u : Work). u.number ≢ k) (HandStands (before ++ ys)) (IsOther before ys k) works (λ u other s. record { apart = other; stands = s }) apart stands
 
 -- the lines and the jobs behind a job's move
 pub record Turned (before ys : List Line) (works : List Work) : Type 0 where
@@ -153,7 +153,7 @@ pub record Turned (before ys : List Line) (works : List Work) : Type 0 where
   pub hands : AllByRecursion (IsMadeBy (this_epoch (before ++ ys))) works
 
 pub job_turned : (before : List Line) (h : Hypervisor) (works : List Work) (k : ℕ) (o : Outcome) (a : BackAct) (place : Option ℕ) (found : Option Work) → place_of works k ≡ place → work_at works place ≡ found → back_act h (mover.Job k) (asked found) o ≡ Some a
-    → Obeys IsMine before → AreApart (numbers works) → AllByRecursion (IsMadeBy (this_epoch before)) works → AllByRecursion (Stands (before ++ lines_of_job found a)) (told_works works place found a.answer) → Turned before (lines_of_job found a) (told_works works place found a.answer)
+    → Obeys IsMine before → AreApart (numbers works) → AllByRecursion (IsMadeBy (this_epoch before)) works → AllByRecursion (HandStands (before ++ lines_of_job found a)) (told_works works place found a.answer) → Turned before (lines_of_job found a) (told_works works place found a.answer)
 job_turned before h works k o a place None at is e obeys apart all stands = absurd (none-some a e)
 job_turned before h works k o a None (Some t) at is e obeys apart all stands = absurd (none-some t is)
 job_turned before h works k o a (Some place) (Some t) at is e obeys apart all stands =
@@ -168,13 +168,13 @@ job_turned before h works k o a (Some place) (Some t) at is e obeys apart all st
     let b : Behind before ys k = behind before ys k t.stage makes.way in
     let new : Work = step_of t a.answer in
     let same : IsSame t (step_of t a.answer) = step_same t.stage t a.answer in
-    let standing : AllByRecursion (Stands (before ++ ys)) (among.front ++ step_of t a.answer ∷ among.rest) = subst (λ (ws : List Work). AllByRecursion (Stands (before ++ ys)) ws) (among.set new) stands in
+    let standing : AllByRecursion (HandStands (before ++ ys)) (among.front ++ step_of t a.answer ∷ among.rest) = subst (λ (ws : List Work). AllByRecursion (HandStands (before ++ ys)) ws) (among.set new) stands in
     let apart_now : AreApart (numbers (among.front ++ t ∷ among.rest)) = subst (λ (ws : List Work). AreApart (numbers ws)) among.is apart in
     let others : (u : Work) → IsOther before ys t.number u → IsMadeBy (this_epoch before) u → IsMadeBy (this_epoch before ++ ys) u =
     λ u s made. holds_more (mapping_at u.stage) u.number ys (this_epoch before) (b.others u.number (λ e'. s.apart (e' ∙ sym number))) (λ m e'. b.none m.number m.gref (s.stands m e')) made in
     let mine : IsMadeBy (this_epoch before ++ ys) (step_of t a.answer) = subst (λ (i : ℕ). Holds (mapping_at new.stage) (left_to i (this_epoch before ++ ys))) (sym (same.number ∙ number)) makes.hand in
-    let fronts : AllByRecursion (IsOther before ys t.number) among.front = all_other before ys t.number among.front (others_before among.front among.rest t apart_now) (all_first (Stands (before ++ ys)) among.front (step_of t a.answer ∷ among.rest) standing) in
-    let rests : AllByRecursion (IsOther before ys t.number) among.rest = all_other before ys t.number among.rest (others_behind among.front among.rest t apart_now) (all_second (Stands (before ++ ys)) among.front (step_of t a.answer ∷ among.rest) standing).1 in
+    let fronts : AllByRecursion (IsOther before ys t.number) among.front = all_other before ys t.number among.front (others_before among.front among.rest t apart_now) (all_first (HandStands (before ++ ys)) among.front (step_of t a.answer ∷ among.rest) standing) in
+    let rests : AllByRecursion (IsOther before ys t.number) among.rest = all_other before ys t.number among.rest (others_behind among.front among.rest t apart_now) (all_second (HandStands (before ++ ys)) among.front (step_of t a.answer ∷ among.rest) standing).1 in
     let front = all_pairs (IsOther before ys t.number) (IsMadeBy (this_epoch before)) (IsMadeBy (this_epoch before ++ ys)) among.front others fronts (all_first (IsMadeBy (this_epoch before)) among.front (t ∷ among.rest) parts) in
     let rest = all_pairs (IsOther before ys t.number) (IsMadeBy (this_epoch before)) (IsMadeBy (this_epoch before ++ ys)) among.rest others rests later.1 in
     let joined : AllByRecursion (IsMadeBy (this_epoch before ++ ys)) (among.front ++ step_of t a.answer ∷ among.rest) = all_both (IsMadeBy (this_epoch before ++ ys)) among.front (step_of t a.answer ∷ among.rest) front (mine, rest) in

@@ -13,7 +13,8 @@ use Rattle.blk_layout.specs.declared.segment.Segment.{Segment}
 use Rattle.segment_list.specs.Segments.{IsSound, length_of}
 use Rattle.report_rules.specs.declared.work.Task.{Task}
 use Rattle.report_rules.specs.declared.work.Task.TheVariants as tasks
-use Rattle.report_rules.specs.Steps.{spot, advanced, walk_of, is_step_at, step_at, is_refusal, mapping_after}
+use Rattle.report_rules.specs.Step.{is_refusal}
+use Rattle.report_rules.specs.Walk.{spot, advanced, walk_of, is_step_at, step_at, mapping_after}
 use Rattle.back_jobs.specs.Task.{mode_of}
 use Rattle.ring_laws.proofs.JobLines.{walk_own, moves_step, failed_own}
 use Rattle.ring_laws.proofs.TaskSteps.{advances, IsPlace, store_more, load_more}

@@ -20,7 +20,9 @@ use Rattle.report_rules.specs.Standing.{this_epoch, is_unmap_of, unless_unmapped
 use Rattle.report_rules.specs.Work.{work_tasks, work_verdict, status_by, work_response}
 use Rattle.report_rules.specs.declared.job.Fetched.{Fetched}
 use Rattle.report_rules.specs.Job.{is_job, entry_values, words_of_job, back_mover_job}
-use Rattle.report_rules.specs.Steps.{walk_of, failed_in, values_read}
+use Rattle.report_rules.specs.Step.{values_read}
+use Rattle.report_rules.specs.Walk.{walk_of}
+use Rattle.report_rules.specs.Steps.{failed_in}
 use Rattle.report_rules.specs.Made.{made_by, left_to}
 use Rattle.report_rules.specs.Reply.{end_of, status_at_end, words_with, words_due, response_due}
 use Rattle.back_jobs.specs.declared.stage.Stage.{Stage}

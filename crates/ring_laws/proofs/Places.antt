@@ -15,7 +15,8 @@ use Rattle.report_rules.specs.declared.walk.Spot.{Spot}
 use Rattle.report_rules.specs.declared.work.Task.{Task}
 use Rattle.report_rules.specs.declared.work.Task.TheVariants as tasks
 use Rattle.report_rules.specs.Work.{stores_of, loads_of}
-use Rattle.report_rules.specs.Steps.{spot, advanced, walk_of, failed_in, touched_by}
+use Rattle.report_rules.specs.Walk.{spot, advanced, walk_of}
+use Rattle.report_rules.specs.Steps.{failed_in, touched_by}
 use Rattle.report_rules.specs.Data.{words_from}
 use Rattle.report_rules.specs.Reply.{end_of}
 use Rattle.back_jobs.specs.declared.stage.Stage.{Stage}

@@ -18,7 +18,7 @@ use Rattle.split_model.specs.World.{World, start_of, is_quiet}
 use Rattle.split_model.specs.Happening.{Happening, FrontMoves, BackMoves, JobMoves, Submits, Notifies, Looks, Settles, happens, lines_at, after, lines_of, front_after, front_shows, back_after, back_shows, job_after, job_shows, front_turn, back_turn, job_turn}
 use Rattle.split_model.proofs.SafeAnswers.{jobs_of}
 use Rattle.split_model.specs.Report.{report_of, ended_report_of}
-use Rattle.ring_laws.proofs.Stands.{stands_none, stands_more, foreign_stretch}
+use Rattle.ring_laws.proofs.ObeysRing.{ring_none, ring_more, foreign_stretch}
 use Rattle.ring_laws.proofs.Knows.{Follows}
 use Rattle.ring_laws.proofs.Stages.{back_goes}
 use Rattle.ring_laws.proofs.Free.{follow_free, follow_all, front_free, job_free, job_running, free_front, free_told, free_submit, free_look, free_settle, free_end}
@@ -82,7 +82,7 @@ follows_begin config detail = record {
   grown = refl;
   shows = record { pages = refl; replied = refl; produced = refl; words = refl; start = refl; values = refl; abi = refl; fresh = λ none. refl; few = λ page pages e. absurd (cc) };
   knows = record { entries = refl; running = refl; unmapped = refl; replied = refl; produced = refl; words = refl; consumed = refl; values = refl; numbered = refl };
-  stands = stands_more [] (lines.Begin config detail) config.start false (stands_none config.start) refl refl (λ over. refl) refl (λ small. foreign_stretch [] (lines.Begin config detail) refl refl);
+  stands = ring_more [] (lines.Begin config detail) config.start false (ring_none config.start) refl refl (λ over. refl) refl (λ small. foreign_stretch [] (lines.Begin config detail) refl refl);
 }
 
 report_follows : (config : Options) (detail : Detail) (history : List Happening) → FollowsTo config.start (report_of config detail history) (after history (start_of config))

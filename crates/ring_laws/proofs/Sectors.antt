@@ -11,7 +11,8 @@ use Rattle.blk_layout.specs.declared.segment.Segment.{Segment}
 use Rattle.segment_list.specs.Segments.{length_of}
 use Rattle.report_rules.specs.declared.work.Task.{Task}
 use Rattle.report_rules.specs.declared.work.Task.TheVariants as tasks
-use Rattle.report_rules.specs.Steps.{spot, advanced, walk_of, is_step_at, step_at, is_refusal, mapping_after}
+use Rattle.report_rules.specs.Step.{is_refusal}
+use Rattle.report_rules.specs.Walk.{spot, advanced, walk_of, is_step_at, step_at, mapping_after}
 use Rattle.ring_laws.proofs.TaskSteps.{advances, IsPlace, store_read, store_disk, store_more, store_end, load_disk, load_write, load_more, load_end}
 use Rattle.ring_laws.proofs.Places.{Within, store_at, load_at}
 

@@ -27,7 +27,7 @@ use Rattle.blk_back.specs.Step.{at, give_up, replied, loop_step}
 use Rattle.split_model.proofs.SafeActs.{of_back, back_test}
 use Rattle.ring_laws.proofs.Shows.{Sight, Shows, shows_other}
 use Rattle.ring_laws.proofs.Touches.{shows_replied}
-use Rattle.ring_laws.proofs.Stands.{Stands, stands_more, shows_none, foreign_stretch, word_inside}
+use Rattle.ring_laws.proofs.ObeysRing.{ObeysRing, ring_more, shows_none, foreign_stretch, word_inside}
 use Rattle.ring_laws.proofs.Knows.{unhalted, Serves, KnowsAt, Knows, Follows, BackGoes}
 use Rattle.ring_laws.proofs.Serving.{not_over, served_line, between, serve_other, serve_write, serve_slot, serve_index, over_other}
 use Rattle.ring_laws.proofs.Looking.{giving_knows, looked_goes, seen_producer}
@@ -37,26 +37,26 @@ use Rattle.ring_laws.proofs.Back.{Goes, map_goes, bind_goes, fetch_goes, word_go
 abbrev Loops : ℕ → List ℕ → List Line → Option Reply → View → BackAct → Type 0
 Loops start values before r v a = BackGoes start values before v (loop_step v r a.answer) a.answer a.shown
 
-idle_goes : (before : List Line) (h : Hypervisor) (v : View) (o : Outcome) (a : BackAct) (x : Sight) (asleep none : Bool) → (requests_of v.ring v.seen == 0) ≡ none → Serves 0 x v.ring v.page v.seen v.halted v.entry v.fetched → Knows x v → Shows before x → Stands before x.start (is_some v.halted) → v.told ≡ None
+idle_goes : (before : List Line) (h : Hypervisor) (v : View) (o : Outcome) (a : BackAct) (x : Sight) (asleep none : Bool) → (requests_of v.ring v.seen == 0) ≡ none → Serves 0 x v.ring v.page v.seen v.halted v.entry v.fetched → Knows x v → Shows before x → ObeysRing before x.start (is_some v.halted) → v.told ≡ None
     → back_act h back.Back (if asleep then ask.Wait else (if none then ask.Read v.page 0 else ask.Read v.page (slot_word v.ring.cons 0))) o ≡ Some a → Loops x.start x.values before None v a
 idle_goes before h v o a x true none t s kept shows stands told e = back_test (Loops x.start x.values before None v) (is_pending h.channels end.Back) _ a (serve_other before v _ _ (moves.Event mover.Back) x s shows stands refl told refl kept) e
 idle_goes before h v o a x false true t s kept shows stands told e = of_back (Loops x.start x.values before None v) _ a (look_goes before v (frame_of h.grants v.page) _ _ x t s shows stands told) e
 idle_goes before h v o a x false false t s kept shows stands told e = of_back (Loops x.start x.values before None v) _ a (word_goes before v (frame_of h.grants v.page) _ _ x t s shows stands told) e
 
-loop_goes : (before : List Line) (h : Hypervisor) (v : View) (o : Outcome) (a : BackAct) (x : Sight) (r : Option Reply) → Serves 0 x v.ring v.page v.seen v.halted v.entry v.fetched → Knows x v → Shows before x → Stands before x.start (is_some v.halted) → v.told ≡ None
+loop_goes : (before : List Line) (h : Hypervisor) (v : View) (o : Outcome) (a : BackAct) (x : Sight) (r : Option Reply) → Serves 0 x v.ring v.page v.seen v.halted v.entry v.fetched → Knows x v → Shows before x → ObeysRing before x.start (is_some v.halted) → v.told ≡ None
     → back_act h back.Back (loop_ask v r) o ≡ Some a → Loops x.start x.values before r v a
 loop_goes before h v o a x (Some r) s kept shows stands told e = of_back (Loops x.start x.values before (Some r) v) _ a (serve_slot before v _ _ (frame_of h.grants v.page) v.ring.prod 0 (response_word r 0) x s shows stands (omega arith) told refl s) e
 loop_goes before h v o a x None s kept shows stands told e = idle_goes before h v o a x v.asleep (requests_of v.ring v.seen == 0) refl s kept shows stands told e
 
 -- the reply's producer is written, and the reply told
-producer_goes : (before : List Line) (v : View) (frame : ℕ) (r : Reply) (answer : BackAnswer) (x : Sight) → Serves 0 x v.ring v.page v.seen v.halted v.entry v.fetched → Shows before x → Stands before x.start (is_some v.halted) → BackGoes x.start x.values before v (replied v r) answer (moves.Write back.Back v.page.number frame 2 (next_of v.ring.prod))
+producer_goes : (before : List Line) (v : View) (frame : ℕ) (r : Reply) (answer : BackAnswer) (x : Sight) → Serves 0 x v.ring v.page v.seen v.halted v.entry v.fetched → Shows before x → ObeysRing before x.start (is_some v.halted) → BackGoes x.start x.values before v (replied v r) answer (moves.Write back.Back v.page.number frame 2 (next_of v.ring.prod))
 producer_goes before v frame r answer x s shows stands =
     let shown : Move = moves.Write back.Back v.page.number frame 2 (next_of v.ring.prod) in
     let reply : Line = lines.Reply r.id r.status in
     let longer : List Line = before ++ lines.Move shown ∷ [] in
     let one : Shows (before ++ lines.Move shown ∷ []) (record x { replied = next_of v.ring.prod }) = shows_replied before x v.page.number frame (next_of v.ring.prod) s.mapped shows in
-    let first : Stands (before ++ lines.Move shown ∷ []) x.start (is_some v.halted) = served_line before x v.halted shown s.running stands (shows_none before (lines.Move shown) refl) (λ small. between before shown x v.ring v.page v.seen v.halted v.entry v.fetched s shows refl (word_inside before v.page.number 2 (omega arith))) in
-    let second : Stands (longer ++ reply ∷ []) x.start (is_some v.halted) = stands_more longer reply x.start (is_some v.halted) first refl (shows_none longer reply refl) (λ over. not_over v.halted true s.running over) refl (λ small. foreign_stretch longer reply refl refl) in
+    let first : ObeysRing (before ++ lines.Move shown ∷ []) x.start (is_some v.halted) = served_line before x v.halted shown s.running stands (shows_none before (lines.Move shown) refl) (λ small. between before shown x v.ring v.page v.seen v.halted v.entry v.fetched s shows refl (word_inside before v.page.number 2 (omega arith))) in
+    let second : ObeysRing (longer ++ reply ∷ []) x.start (is_some v.halted) = ring_more longer reply x.start (is_some v.halted) first refl (shows_none longer reply refl) (λ over. not_over v.halted true s.running over) refl (λ small. foreign_stretch longer reply refl refl) in
     let two : Shows (longer ++ reply ∷ []) (record x { replied = next_of v.ring.prod }) = shows_other longer reply (record x { replied = next_of v.ring.prod }) refl one in
     let after : Follows x.start x.values (before ++ lines.Move shown ∷ reply ∷ []) (replied v r) = record {
       sight = record x { replied = next_of v.ring.prod };
@@ -65,7 +65,7 @@ producer_goes before v frame r answer x s shows stands =
       grown = sym (append-nil x.values);
       shows = subst (λ (ls : List Line). Shows ls (record x { replied = next_of v.ring.prod })) (append_assoc before (lines.Move shown ∷ []) (reply ∷ [])) two;
       knows = record { entries = s.entries; running = s.running; mapped = s.mapped; replied = refl; produced = s.produced; count = s.count; words = s.words; within = s.within; consumed = s.consumed; long = s.long; numbered = s.numbered; copied = s.copied; copied_last = s.copied_last };
-      stands = subst (λ (ls : List Line). Stands ls x.start (is_some v.halted)) (append_assoc before (lines.Move shown ∷ []) (reply ∷ [])) second;
+      stands = subst (λ (ls : List Line). ObeysRing ls x.start (is_some v.halted)) (append_assoc before (lines.Move shown ∷ []) (reply ∷ [])) second;
     } in
     subst (λ (ls : List Line). Follows x.start x.values (before ++ lines.Move shown ∷ reply ∷ ls) (replied v r)) (sym (unhalted v.halted)) after
 
@@ -73,7 +73,7 @@ either_stage : (b : Bool) (p q : Stage) (x : Sight) (v : View) → KnowsAt p x v
 either_stage true p q x v h k = h
 either_stage false p q x v h k = k
 
-pub back_goes : (before : List Line) (h : Hypervisor) (s : Stage) (v : View) (o : Outcome) (a : BackAct) (x : Sight) → KnowsAt s x v.ring v.page v.seen v.halted v.entry v.fetched → Knows x v → Shows before x → Stands before x.start (is_some v.halted) → v.told ≡ None
+pub back_goes : (before : List Line) (h : Hypervisor) (s : Stage) (v : View) (o : Outcome) (a : BackAct) (x : Sight) → KnowsAt s x v.ring v.page v.seen v.halted v.entry v.fetched → Knows x v → Shows before x → ObeysRing before x.start (is_some v.halted) → v.told ≡ None
     → back_act h back.Back (ask_at s v) o ≡ Some a → Goes x.start x.values before s v a
 back_goes before h stage.MapRing v o a x k kept shows stands told e = of_back (Goes x.start x.values before stage.MapRing v) _ a (map_goes before h v x (verdict_at h.pages 8 ReadWrite) k shows stands told) e
 back_goes before h stage.Bind v o a x k kept shows stands told e = of_back (Goes x.start x.values before stage.Bind v) _ a (bind_goes before h v x (state_of h.channels 1) k shows stands told) e

@@ -20,8 +20,11 @@ use Rattle.report_rules.specs.Standing.{is_epoch, this_epoch}
 use Rattle.report_rules.specs.Stretch.{entry_word_read}
 use Rattle.report_rules.specs.Work.{work_tasks, work_verdict, status_by}
 use Rattle.report_rules.specs.Job.{is_job, fetched_after, fetched_of}
-use Rattle.report_rules.specs.Steps.{spot, stepper, move_in, job_step, walked, walk_of, value_read, values_read, work_of, spot_of, failed_in, IsNextStep, IsStepOf, IsStepAt}
+use Rattle.report_rules.specs.Step.{stepper, move_in, job_step, value_read, values_read, work_of}
+use Rattle.report_rules.specs.Walk.{spot, walked, walk_of, spot_of}
+use Rattle.report_rules.specs.Steps.{failed_in, IsNextStep, IsStepOf, IsStepAt}
 use Rattle.report_rules.specs.Reply.{end_of, status_at_end, words_with, words_due, response_due}
+use Rattle.report_rules.proofs.Walked.{next_of_step}
 use Rattle.report_rules.proofs.Prefixes.{fetched_more}
 use Rattle.blk_back.specs.declared.told.BackTold.{BackTold}
 use Rattle.blk_back.specs.declared.told.BackTold.TheVariants as back_told
@@ -64,7 +67,7 @@ no_step before k move words due own step =
     let f : Fetched = e.fetched in
     let asked : IsSomeAnd (fetched_of before k) (IsStepOf before k move) = subst (λ (o : Option ℕ). IfSome o (λ (j : ℕ). IsSomeAnd (fetched_of before j) (IsStepOf before j move))) own step in
     let s : IsStepOf before k move e.fetched = subst (λ (o : Option Fetched). IsSomeAnd o (IsStepOf before k move)) e.known asked in
-    by_spot f (spot_of before k f) s.whole s.next e.ended
+    by_spot f (spot_of before k f) s.whole (next_of_step before k move f s) e.ended
   where
     by_end : (tasks : ℕ) (served status : Status) (x : Spot) → x.refused ≡ false → nat_le tasks x.done ≡ false → end_of false tasks served (Some x) ≡ Some status → ⊥
     by_end tasks served status x unrefused within ended = none_here (x.place == 0) served status (sym (rw (unrefused, within) refl) ∙ ended)

@@ -8,7 +8,8 @@ use Rattle.blk_base.specs.declared.moves.Move.{Move}
 use Rattle.blk_base.specs.declared.moves.Move.TheVariants as moves
 use Rattle.report_rules.specs.declared.work.Task.{Task}
 use Rattle.report_rules.specs.declared.work.Task.TheVariants as tasks
-use Rattle.report_rules.specs.Steps.{spot, step_at, is_step_at, is_refusal, mapping_after, spot_behind, spot_in, advanced}
+use Rattle.report_rules.specs.Step.{is_refusal}
+use Rattle.report_rules.specs.Walk.{spot, step_at, is_step_at, mapping_after, spot_behind, spot_in, advanced}
 
 pub task_at : (done more : List Task) (task : Task) → slice_get (done ++ task ∷ more) (length done) ≡ Some task
 task_at [] more task = refl

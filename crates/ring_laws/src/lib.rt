@@ -31,7 +31,8 @@ pub fn the_overruns_halt_the_back()
 /// only the 1024 words of the ring's page. An index has
 /// 32 bits (`RING_IDX`), so a ring starts at one below 2^32: that is the one premise.
 pub fn the_entries_are_fetched_in_stretches()
-    ensures report { (config : Options) (detail : Detail) (history : List Happening) → config.start < 2 ^ 32 → AreStretches (report_of config detail history) }
+    ensures report { (config : Options) (detail : Detail) (history : List Happening) → config.start < 2 ^ 32
+        → AreStretches (report_of config detail history) }
     ensures ended { (config : Options) (detail : Detail) (history : List Happening) → config.start < 2 ^ 32
         → AreStretches (ended_report_of config detail history) }
 {}

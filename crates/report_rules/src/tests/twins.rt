@@ -1,167 +1,111 @@
 // Replies to jobs whose requests have one number.
-use super::worked::{add, connected, fetch, read_sector};
+use super::worked::{WRITE, add, connected, fetch, read_sector};
 use crate::are_replies;
 use schedule_text::LineList;
 use std::alloc::Global;
 use std::test::Fail;
 
-fn holds(alloc: Global, report: &LineList) -> Result<bool, Fail> {
-    Ok(
-        are_replies(alloc, report.lines.as_slice())
-            .ok()
-            .ok_or("out of memory")?,
-    )
-}
+const FIRST: &str = "m back write 1 2 16 00000001\nm back write 1 2 17 00000000";
 
-const LOW: &str = "m back write 1 2 16 00000001";
+const LAST: &str = "m back write 1 2 18 00000001\nm back write 1 2 2 00000001";
 
-const HIGH: &str = "m back write 1 2 17 00000000";
-
-const LAST: &str = "m back write 1 2 18 00000001";
-
-const FAILED: &str = "m back write 1 2 18 ffff0001";
-
-const PUSH: &str = "m back write 1 2 2 00000001";
+const FAILED: &str = "m back write 1 2 18 ffff0001\nm back write 1 2 2 00000001";
 
 // A write is fetched, and its job reads its words through mapping 2.
 fn begun(alloc: Global) -> Result<LineList, Fail> {
     let mut report = connected(alloc)?;
-    fetch(&mut report, 1, 1)?;
-    add(&mut report, &["m job 1 map 24 r ok 2 18"])?;
-    read_sector(&mut report, 1, 2, 0)?;
+    fetch(&mut report, 1, WRITE)?;
+    add(&mut report, "m job 1 map 24 r ok 2 18")?;
+    read_sector(&mut report, 1, 2)?;
     Ok(report)
 }
 
-fn begun_with(alloc: Global, texts: &[&str]) -> Result<bool, Fail> {
+// Two writes of one number are fetched; the first is done, the second has read its words.
+fn both(alloc: Global) -> Result<LineList, Fail> {
     let mut report = begun(alloc)?;
-    add(&mut report, texts)?;
-    holds(alloc, &report)
+    fetch(&mut report, 2, WRITE)?;
+    add(
+        &mut report,
+        "m job 1 dwrite 0\neffect 1 0\nm job 2 map 24 r ok 3 18",
+    )?;
+    read_sector(&mut report, 2, 3)?;
+    Ok(report)
+}
+
+// Whether the replies of a report are as they should be that goes on with these parts.
+fn holds_with(alloc: Global, mut report: LineList, parts: &[&str; 5]) -> Result<bool, Fail> {
+    for part in parts {
+        add(&mut report, part)?;
+    }
+    Ok(are_replies(alloc, report.lines.as_slice())?)
 }
 
 #[test]
 fn a_job_ends_before_its_response_and_gives_up_before_its_reply(
     rt: HostRuntime,
 ) -> Result<(), Fail> {
-    let alloc = rt.alloc();
-    let done = ["m job 1 dwrite 0", "effect 1 0"];
+    let done = "m job 1 dwrite 0\neffect 1 0";
     let gone = "m job 1 unmap 2";
     let told = "reply 1 ok";
-    assert_eq!(rt;
-        begun_with(
-            alloc,
-            &[done[0], done[1], LOW, HIGH, gone, LAST, PUSH, told]
-        )?,
-        true
-    );
-    assert_eq!(rt;
-        begun_with(
-            alloc,
-            &[done[0], done[1], LOW, HIGH, LAST, PUSH, gone, told]
-        )?,
-        false
-    );
-    assert_eq!(rt;
-        begun_with(alloc, &[done[0], done[1], LOW, HIGH, LAST, PUSH, told])?,
-        false
-    );
-    assert_eq!(rt;
-        begun_with(alloc, &[done[0], done[1], LOW, HIGH, LAST, PUSH])?,
-        true
-    );
-    assert_eq!(rt; begun_with(alloc, &[LOW, done[0], done[1]])?, false);
+    for (parts, right) in [
+        ([done, FIRST, gone, LAST, told], true),
+        ([done, FIRST, LAST, gone, told], false),
+        ([done, FIRST, LAST, told, ""], false),
+        ([done, FIRST, LAST, "", ""], true),
+        (["m back write 1 2 16 00000001", done, "", "", ""], false),
+    ] {
+        let alloc = rt.alloc();
+        assert_eq!(rt; holds_with(alloc, begun(alloc)?, &parts)?, right);
+    }
     Ok(())
-}
-
-// Two writes of one number are fetched; the first is done, the second has read its words.
-fn both(alloc: Global) -> Result<LineList, Fail> {
-    let mut report = begun(alloc)?;
-    fetch(&mut report, 2, 1)?;
-    add(
-        &mut report,
-        &["m job 1 dwrite 0", "effect 1 0", "m job 2 map 24 r ok 3 18"],
-    )?;
-    read_sector(&mut report, 2, 3, 0)?;
-    Ok(report)
-}
-
-fn both_with(alloc: Global, texts: &[&str]) -> Result<bool, Fail> {
-    let mut report = both(alloc)?;
-    add(&mut report, texts)?;
-    holds(alloc, &report)
 }
 
 #[test]
 fn the_words_of_a_row_are_those_of_one_job(rt: HostRuntime) -> Result<(), Fail> {
-    let alloc = rt.alloc();
-    let disk = "m job 2 dwrite 0";
-    let gone = ["m job 1 unmap 2", "m job 2 unmap 3"];
-    assert_eq!(rt;
-        both_with(alloc, &[disk, "fault 1 0", LOW, HIGH, FAILED])?,
-        true
-    );
-    assert_eq!(rt;
-        both_with(alloc, &[LOW, HIGH, disk, "fault 1 0", FAILED])?,
-        false
-    );
-    assert_eq!(rt;
-        both_with(
-            alloc,
-            &[
-                disk,
-                "fault 1 0",
-                gone[1],
-                LOW,
-                HIGH,
-                FAILED,
-                PUSH,
-                "reply 1 error"
-            ]
-        )?,
-        true
-    );
-    assert_eq!(rt;
-        both_with(
-            alloc,
-            &[
-                disk,
-                "fault 1 0",
-                gone[0],
-                LOW,
-                HIGH,
-                FAILED,
-                PUSH,
-                "reply 1 error"
-            ]
-        )?,
-        false
-    );
+    let fault = "m job 2 dwrite 0\nfault 1 0";
+    let told = "reply 1 error";
+    for (parts, right) in [
+        ([fault, FIRST, "m back write 1 2 18 ffff0001", "", ""], true),
+        (
+            [FIRST, fault, "m back write 1 2 18 ffff0001", "", ""],
+            false,
+        ),
+        ([fault, "m job 2 unmap 3", FIRST, FAILED, told], true),
+        ([fault, "m job 1 unmap 2", FIRST, FAILED, told], false),
+    ] {
+        let alloc = rt.alloc();
+        assert_eq!(rt; holds_with(alloc, both(alloc)?, &parts)?, right);
+    }
     Ok(())
 }
 
+// Two successful replies, to the first slot and to the second.
+const REPLIED: &str = "m back write 1 2 16 00000001
+m back write 1 2 17 00000000
+m back write 1 2 18 00000001
+m back write 1 2 2 00000001
+reply 1 ok";
+
+const AGAIN: &str = "m back write 1 2 44 00000001
+m back write 1 2 45 00000000
+m back write 1 2 46 00000001
+m back write 1 2 2 00000002
+reply 1 ok";
+
 #[test]
 fn a_reply_is_of_the_lowest_job_that_gave_up(rt: HostRuntime) -> Result<(), Fail> {
-    let alloc = rt.alloc();
-    let done = ["m job 2 dwrite 0", "effect 1 0"];
-    let second = [
-        "m back write 1 2 44 00000001",
-        "m back write 1 2 45 00000000",
-        "m back write 1 2 46 00000001",
-        "m back write 1 2 2 00000002",
-        "reply 1 ok",
-    ];
-    let mut report = both(alloc)?;
-    add(&mut report, &[done[0], done[1], "m job 2 unmap 3"])?;
-    add(&mut report, &[LOW, HIGH, LAST, PUSH, "reply 1 ok"])?;
-    assert_eq!(rt; holds(alloc, &report)?, true);
-    add(&mut report, &["m job 1 unmap 2"])?;
-    add(&mut report, &second)?;
-    assert_eq!(rt; holds(alloc, &report)?, true);
-    add(&mut report, &["m back write 1 2 72 00000001"])?;
-    assert_eq!(rt; holds(alloc, &report)?, false);
-    report = both(alloc)?;
-    add(&mut report, &[done[0], done[1], "m job 2 unmap 3"])?;
-    add(&mut report, &[LOW, HIGH, LAST, PUSH, "reply 1 ok"])?;
-    add(&mut report, &second)?;
-    assert_eq!(rt; holds(alloc, &report)?, false);
+    let done = "m job 2 dwrite 0\neffect 1 0\nm job 2 unmap 3";
+    let gone = "m job 1 unmap 2";
+    for (parts, right) in [
+        ([done, REPLIED, gone, AGAIN, ""], true),
+        (
+            [done, REPLIED, gone, AGAIN, "m back write 1 2 72 00000001"],
+            false,
+        ),
+        ([done, REPLIED, AGAIN, "", ""], false),
+    ] {
+        let alloc = rt.alloc();
+        assert_eq!(rt; holds_with(alloc, both(alloc)?, &parts)?, right);
+    }
     Ok(())
 }

@@ -54,96 +54,88 @@ fn indirect(op: u8, count: u16) -> RawRequest {
     }
 }
 
-// Whether a request is worked on so, where grants aren't persistent and these words were read.
-fn has_tasks(
-    alloc: Global,
-    request: &RawRequest,
-    words: &[u32],
-    tasks: &[Task],
-) -> Result<bool, Fail> {
-    let work = work_tasks(alloc, request, &DISK, false, words)
-        .ok()
-        .ok_or("out of memory")?;
-    Ok(work.as_slice() == tasks)
+// What is done for a request, where grants aren't persistent and these words were read.
+fn tasks_of(alloc: Global, request: &RawRequest, words: &[u32]) -> Result<Vec<Task>, Fail> {
+    Ok(work_tasks(alloc, request, &DISK, false, words)?)
 }
 
 fn status_of(alloc: Global, request: &RawRequest, words: &[u32]) -> Result<Status, Fail> {
-    let verdict = work_verdict(alloc, request, &DISK, words)
-        .ok()
-        .ok_or("out of memory")?;
+    let verdict = work_verdict(alloc, request, &DISK, words)?;
     Ok(status_by(&verdict))
 }
 
-#[test]
-fn an_entry_tells_its_work(rt: HostRuntime) -> Result<(), Fail> {
-    let alloc = rt.alloc();
+// The request of the worked report.
+fn worked_request() -> RawRequest {
     let mut words = [0u32; 28];
     for i in 0..8u32 {
         words[i as usize] = entry_word(i);
     }
-    let request = read_request(Abi::X64, &words);
-    let store = Task::Store {
-        gref: 24,
-        mode: Mode::ReadOnly,
-        sector: 0,
-        first: 0,
-        count: 1,
-    };
-    assert_eq!(rt; has_tasks(alloc, &request, &[], &[store])?, true);
-    let kept = Task::Store {
-        gref: 24,
-        mode: Mode::ReadWrite,
-        sector: 0,
-        first: 0,
-        count: 1,
-    };
-    let work = work_tasks(alloc, &request, &DISK, true, &[])
-        .ok()
-        .ok_or("out of memory")?;
-    assert_eq!(rt; work.as_slice() == [kept].as_slice(), true);
+    read_request(Abi::X64, &words)
+}
+
+#[test]
+fn an_entry_tells_its_work(rt: HostRuntime) -> Result<(), Fail> {
+    let request = worked_request();
+    for (persistent, mode) in [(false, Mode::ReadOnly), (true, Mode::ReadWrite)] {
+        let work = work_tasks(rt.alloc(), &request, &DISK, persistent, &[])?;
+        let store = Task::Store {
+            gref: 24,
+            mode,
+            sector: 0,
+            first: 0,
+            count: 1,
+        };
+        assert_eq!(rt; work.as_slice(), [store].as_slice());
+    }
     let response = Response {
         id: 1,
         op: 1,
         status: Status::Okay,
     };
-    assert_eq!(rt;
-        work_response(&request, status_of(alloc, &request, &[])?),
-        response
-    );
+    let status = status_of(rt.alloc(), &request, &[])?;
+    assert_eq!(rt; work_response(&request, status), response);
+    Ok(())
+}
+
+const FIRST: Task = Task::Load {
+    gref: 24,
+    sector: 3,
+    first: 0,
+    count: 8,
+};
+
+const SECOND: Task = Task::Load {
+    gref: 25,
+    sector: 11,
+    first: 2,
+    count: 2,
+};
+
+#[test]
+fn segments_follow_each_other_on_the_disk(rt: HostRuntime) -> Result<(), Fail> {
+    let tasks = [FIRST, SECOND];
+    for (op, count, sector, done) in [(0, 1, 3, 1), (0, 2, 3, 2), (0, 2, 7, 0), (4, 2, 3, 0)] {
+        let work = tasks_of(rt.alloc(), &direct(op, count, sector), &[])?;
+        assert_eq!(rt; work.as_slice(), &tasks[..done], "{op} {count} {sector}");
+    }
     Ok(())
 }
 
 #[test]
-fn segments_follow_each_other_on_the_disk(rt: HostRuntime) -> Result<(), Fail> {
-    let alloc = rt.alloc();
-    let first = Task::Load {
-        gref: 24,
-        sector: 3,
-        first: 0,
-        count: 8,
-    };
-    let second = Task::Load {
-        gref: 25,
-        sector: 11,
-        first: 2,
-        count: 2,
-    };
-    assert_eq!(rt; has_tasks(alloc, &direct(0, 1, 3), &[], &[first])?, true);
+fn a_request_that_is_not_served_has_no_work(rt: HostRuntime) -> Result<(), Fail> {
     assert_eq!(rt;
-        has_tasks(alloc, &direct(0, 2, 3), &[], &[first, second])?,
-        true
+        status_of(rt.alloc(), &direct(0, 2, 7), &[])?,
+        Status::Error
     );
-    assert_eq!(rt; has_tasks(alloc, &direct(0, 2, 7), &[], &[])?, true);
-    assert_eq!(rt; status_of(alloc, &direct(0, 2, 7), &[])?, Status::Error);
-    assert_eq!(rt; has_tasks(alloc, &direct(4, 2, 3), &[], &[])?, true);
-    assert_eq!(rt;
-        work_verdict(alloc, &direct(4, 2, 3), &DISK, &[]).ok(),
-        Some(Verdict::Error(Why::Op))
-    );
-    assert_eq!(rt;
-        has_tasks(alloc, &direct(3, 0, 3), &[], &[Task::Flush])?,
-        true
-    );
+    let verdict = work_verdict(rt.alloc(), &direct(4, 2, 3), &DISK, &[])?;
+    assert_eq!(rt; verdict, Verdict::Error(Why::Op));
+    Ok(())
+}
+
+#[test]
+fn a_flush_and_a_discard_have_one_task(rt: HostRuntime) -> Result<(), Fail> {
+    let flush = tasks_of(rt.alloc(), &direct(3, 0, 3), &[])?;
+    assert_eq!(rt; flush.as_slice(), [Task::Flush].as_slice());
     let discard = RawRequest::Discard {
         flag: 0,
         device: 51712,
@@ -155,57 +147,58 @@ fn segments_follow_each_other_on_the_disk(rt: HostRuntime) -> Result<(), Fail> {
         sector: 2,
         count: 14,
     };
-    assert_eq!(rt; has_tasks(alloc, &discard, &[], &[trim])?, true);
+    let work = tasks_of(rt.alloc(), &discard, &[])?;
+    assert_eq!(rt; work.as_slice(), [trim].as_slice());
+    Ok(())
+}
+
+const PAGE: Task = Task::Page { gref: 30, words: 4 };
+
+const STORE: Task = Task::Store {
+    gref: 24,
+    mode: Mode::ReadOnly,
+    sector: 0,
+    first: 0,
+    count: 8,
+};
+
+const LAST: Task = Task::Store {
+    gref: 25,
+    mode: Mode::ReadOnly,
+    sector: 8,
+    first: 2,
+    count: 2,
+};
+
+#[test]
+fn an_indirect_request_has_its_pages_read_first(rt: HostRuntime) -> Result<(), Fail> {
+    let request = indirect(1, 2);
+    let tasks = [PAGE, STORE, LAST];
+    for (words, read, done) in [
+        ([24, 0x0700, 25, 0x0302], 0, 1),
+        ([24, 0x0700, 25, 0x0302], 3, 1),
+        ([24, 0x0700, 25, 0x0302], 4, 3),
+        ([24, 0x0800, 25, 0x0302], 4, 1),
+    ] {
+        let work = tasks_of(rt.alloc(), &request, &words[..read])?;
+        assert_eq!(rt; work.as_slice(), &tasks[..done], "{read} words read");
+    }
+    let wrong = status_of(rt.alloc(), &request, &[24, 0x0800, 25, 0x0302])?;
+    assert_eq!(rt; wrong, Status::Error);
+    assert_eq!(rt; work_response(&request, Status::Error).op, 1);
     Ok(())
 }
 
 #[test]
-fn an_indirect_request_has_its_pages_read_first(rt: HostRuntime) -> Result<(), Fail> {
-    let alloc = rt.alloc();
-    let page = Task::Page { gref: 30, words: 4 };
-    let store = Task::Store {
-        gref: 24,
-        mode: Mode::ReadOnly,
-        sector: 0,
-        first: 0,
-        count: 8,
-    };
-    let last = Task::Store {
-        gref: 25,
-        mode: Mode::ReadOnly,
-        sector: 8,
-        first: 2,
-        count: 2,
-    };
-    let request = indirect(1, 2);
-    let read = [24, 0x0700, 25, 0x0302];
-    assert_eq!(rt; has_tasks(alloc, &request, &[], &[page])?, true);
-    assert_eq!(rt;
-        has_tasks(alloc, &request, &[24, 0x0700, 25], &[page])?,
-        true
-    );
-    assert_eq!(rt;
-        has_tasks(alloc, &request, &read, &[page, store, last])?,
-        true
-    );
-    assert_eq!(rt;
-        status_of(alloc, &request, &[24, 0x0800, 25, 0x0302])?,
-        Status::Error
-    );
-    assert_eq!(rt;
-        has_tasks(alloc, &request, &[24, 0x0800, 25, 0x0302], &[page])?,
-        true
-    );
+fn a_page_has_512_segments(rt: HostRuntime) -> Result<(), Fail> {
     let whole = Task::Page {
         gref: 30,
         words: 1024,
     };
     let rest = Task::Page { gref: 31, words: 2 };
-    assert_eq!(rt;
-        has_tasks(alloc, &indirect(0, 513), &[], &[whole, rest])?,
-        true
-    );
-    assert_eq!(rt; has_tasks(alloc, &indirect(2, 2), &[], &[])?, true);
-    assert_eq!(rt; work_response(&request, Status::Error).op, 1);
+    let work = tasks_of(rt.alloc(), &indirect(0, 513), &[])?;
+    assert_eq!(rt; work.as_slice(), [whole, rest].as_slice());
+    let none = tasks_of(rt.alloc(), &indirect(2, 2), &[])?;
+    assert_eq!(rt; none.len(), 0);
     Ok(())
 }

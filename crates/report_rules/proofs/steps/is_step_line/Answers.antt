@@ -3,7 +3,8 @@ use Rattle.std.specs.Prelude.{Option, IfSome, IsSomeAnd, IfOk}
 use Rattle.std.specs.Bool.{Decides}
 use Rattle.schedule_text.specs.declared.line.Line.{Line}
 use Rattle.report_rules.specs.Job.{fetched_of}
-use Rattle.report_rules.specs.Steps.{stepper, IsStepOf, IsStepAt}
+use Rattle.report_rules.specs.Step.{stepper}
+use Rattle.report_rules.specs.Steps.{IsStepOf, IsStepAt}
 use Rattle.report_rules.proofs.steps.is_step_line.Goals as goal
 
 pub returns-in-Move-Some : goal.returns-in-Move-Some

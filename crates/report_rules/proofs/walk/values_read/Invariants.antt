@@ -1,7 +1,7 @@
 use Rattle.std.proofs.Common.{◌≡◌, ◌++◌, drop}
 use Rattle.std.specs.List.{filter_map}
 use Rattle.report_rules.specs.Standing.{this_epoch}
-use Rattle.report_rules.specs.Steps.{value_read}
+use Rattle.report_rules.specs.Step.{value_read}
 use Rattle.report_rules.proofs.walk.values_read.Given as goal
 
 -- the words that the lines so far show are taken

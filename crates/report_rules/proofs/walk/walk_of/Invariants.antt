@@ -1,5 +1,5 @@
 use Rattle.std.proofs.Common.{◌≡◌, take}
-use Rattle.report_rules.specs.Steps.{walk_of}
+use Rattle.report_rules.specs.Walk.{walk_of}
 use Rattle.report_rules.proofs.walk.walk_of.Given as goal
 
 -- how far the job came by the lines so far

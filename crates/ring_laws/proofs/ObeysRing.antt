@@ -25,14 +25,14 @@ abbrev pub is_overrun : Line → Bool
 is_overrun (lines.Halt (halts.Overrun produced replied)) = true
 is_overrun line = false
 
-pub record Stands (before : List Line) (start : ℕ) (over : Bool) : Type 0 where
+pub record ObeysRing (before : List Line) (start : ℕ) (over : Bool) : Type 0 where
   pub overruns : Obeys IsOverrunAt before
   pub stretches : start < 2 ^ 32 → Obeys IsStretchAt before
   pub last : overrun_shown before ≡ None
   pub halted : overran_behind before ≡ true → over ≡ true
 
-pub stands_none : (start : ℕ) → Stands [] start false
-stands_none start = record { overruns = obeys_none IsOverrunAt; stretches = λ small. obeys_none IsStretchAt; last = refl; halted = λ e. e }
+pub ring_none : (start : ℕ) → ObeysRing [] start false
+ring_none start = record { overruns = obeys_none IsOverrunAt; stretches = λ small. obeys_none IsStretchAt; last = refl; halted = λ e. e }
 
 shown_more : (before : List Line) (line : Line) → overrun_shown (before ++ line ∷ []) ≡ overrun_by before line
 shown_more before line = rw (reverse-append before (line ∷ []), reverse-reverse before) refl
@@ -58,15 +58,15 @@ no_overrun : (line : Line) (produced replied : ℕ) → is_overrun line ≡ fals
 no_overrun line produced replied none e = let is : is_overrun line ≡ true = ap is_overrun e in cc
 
 -- no overrun was shown last, and the line is no halt for one
-allowed : (before : List Line) (line : Line) (start : ℕ) (over : Bool) → Stands before start over → (over ≡ true → is_service line ≡ false) → is_overrun line ≡ false → IsOverrunAt before line
+allowed : (before : List Line) (line : Line) (start : ℕ) (over : Bool) → ObeysRing before start over → (over ≡ true → is_service line ≡ false) → is_overrun line ≡ false → IsOverrunAt before line
 allowed before line start over s idle none = record {
   halted = rw s.last tt;
   only = λ produced replied e. absurd (no_overrun line produced replied none e);
   serves_nothing = λ overran. idle (s.halted overran);
 }
 
-pub stands_more : (before : List Line) (line : Line) (start : ℕ) (over : Bool) → Stands before start over → is_epoch line ≡ false → overrun_by before line ≡ None → (over ≡ true → is_service line ≡ false) → is_overrun line ≡ false → (start < 2 ^ 32 → IsStretchAt before line) → Stands (before ++ line ∷ []) start over
-stands_more before line start over s same shown idle none stretch = record {
+pub ring_more : (before : List Line) (line : Line) (start : ℕ) (over : Bool) → ObeysRing before start over → is_epoch line ≡ false → overrun_by before line ≡ None → (over ≡ true → is_service line ≡ false) → is_overrun line ≡ false → (start < 2 ^ 32 → IsStretchAt before line) → ObeysRing (before ++ line ∷ []) start over
+ring_more before line start over s same shown idle none stretch = record {
   overruns = obeys_more IsOverrunAt before line s.overruns (allowed before line start over s idle none);
   stretches = λ small. obeys_more IsStretchAt before line (s.stretches small) (stretch small);
   last = shown_more before line ∙ shown;
@@ -74,10 +74,10 @@ stands_more before line start over s same shown idle none stretch = record {
 }
 
 -- a read that overran, and the halt behind it
-pub stands_overrun : (before : List Line) (line : Line) (start produced replied : ℕ) → Stands before start false → is_epoch line ≡ false → overrun_by before line ≡ Some (record { produced = produced; replied = replied }) → is_overrun line ≡ false
+pub ring_overrun : (before : List Line) (line : Line) (start produced replied : ℕ) → ObeysRing before start false → is_epoch line ≡ false → overrun_by before line ≡ Some (record { produced = produced; replied = replied }) → is_overrun line ≡ false
     → (start < 2 ^ 32 → IsStretchAt before line) → (start < 2 ^ 32 → IsStretchAt (before ++ line ∷ []) (lines.Halt (halts.Overrun produced replied)))
-    → Stands (before ++ line ∷ lines.Halt (halts.Overrun produced replied) ∷ []) start true
-stands_overrun before line start produced replied s same shown none stretch behind =
+    → ObeysRing (before ++ line ∷ lines.Halt (halts.Overrun produced replied) ∷ []) start true
+ring_overrun before line start produced replied s same shown none stretch behind =
     let halt : Line = lines.Halt (halts.Overrun produced replied) in
     let longer : List Line = before ++ line ∷ [] in
     let told : overrun_shown (before ++ line ∷ []) ≡ Some (record { produced = produced; replied = replied }) = shown_more before line ∙ shown in
@@ -87,7 +87,7 @@ stands_overrun before line start produced replied s same shown none stretch behi
       only = λ p r e. only_this p r e;
       serves_nothing = λ overran. refl;
     } in
-    subst (λ (ls : List Line). Stands ls start true) (append_assoc before (line ∷ []) (lines.Halt (halts.Overrun produced replied) ∷ []))
+    subst (λ (ls : List Line). ObeysRing ls start true) (append_assoc before (line ∷ []) (lines.Halt (halts.Overrun produced replied) ∷ []))
     (record {
       overruns = obeys_more IsOverrunAt longer halt one allowed_halt;
       stretches = λ small. obeys_more IsStretchAt longer halt (obeys_more IsStretchAt before line (s.stretches small) (stretch small)) (behind small);
