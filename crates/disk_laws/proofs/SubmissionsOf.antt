@@ -11,7 +11,7 @@ use Rattle.split_model.specs.Happening.{Happening, FrontMoves, BackMoves, JobMov
 use Rattle.split_model.specs.Kind.{Makes, MakesSoFar, AreOf, AreOfSoFar, AreOfAll, front_moves, back_moves, round_start, IsBeginning, IsRoundSoFar, AreRoundsSoFar, IsSettlingSoFar, never, settle_bound}
 use Rattle.split_model.proofs.Echo.{is_move, front_are_moves, back_are_moves, job_are_moves, each_are_moves, start_are_moves, rounds_are_moves}
 use Rattle.blk_front.specs.Submit.{is_connected}
-use Rattle.disk_laws.specs.Submissions.{job_of, jobs_of, submitted_at, submitted_of}
+use Rattle.machine_pipeline.specs.Submissions.{job_submitted, jobs_of, submitted_at, submitted_of}
 
 -- moves submit nothing
 moves_submit : (hs : List Happening) → AllByRecursion (λ (h : Happening). is_move h ≡ true) hs → submitted_of hs ≡ []
@@ -86,11 +86,11 @@ events_submit [] w hs is = ap submitted_of is
 events_submit (e ∷ es) w hs is =
     ap submitted_of is.2 ∙ (both_submit is.0 is.1
     ∙ (ap (λ (x : List Job). x ++ submitted_of is.1) (event_submits e w is.0 is.3)
-    ∙ (ap (λ (x : List Job). jobs_of (e ∷ []) ++ x) (events_submit es (after is.0 w) is.1 is.4) ∙ sym (filter_map-append job_of (e ∷ []) es))))
+    ∙ (ap (λ (x : List Job). jobs_of (e ∷ []) ++ x) (events_submit es (after is.0 w) is.1 is.4) ∙ sym (filter_map-append job_submitted (e ∷ []) es))))
 
 -- and of one more, as far as it came
 pub events_so_far_submit : (es : List Event) (e : Event) (w : World) (hs more : List Happening) → AreOfAll es w hs → AreOfSoFar e (after hs w) more → submitted_of (hs ++ more) ≡ jobs_of (es ++ e ∷ [])
 events_so_far_submit es e w hs more is last =
     both_submit hs more
     ∙ (ap (λ (x : List Job). x ++ submitted_of more) (events_submit es w hs is)
-    ∙ (ap (λ (x : List Job). jobs_of es ++ x) (so_far_submits e (after hs w) more last) ∙ sym (filter_map-append job_of es (e ∷ []))))
+    ∙ (ap (λ (x : List Job). jobs_of es ++ x) (so_far_submits e (after hs w) more last) ∙ sym (filter_map-append job_submitted es (e ∷ []))))

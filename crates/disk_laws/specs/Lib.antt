@@ -1,5 +1,1 @@
-pub mod Allowed
-pub mod Plain
-pub mod Content
-pub mod Submissions
 pub mod Run

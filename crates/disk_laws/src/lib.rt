@@ -1,7 +1,8 @@
 //! What every report of the machine tells of its requests: it is a run of the plain disk
 //! (`plain_disk`), answers each submission by the rule, and shows no breach of the protocol
-//! (`io/blkif.h`, `io/ring.h`). The machine is the pure function of `split_model`; each law is over
-//! every history of the happenings that are carried out, in any order, with what any disk answers.
+//! (`io/blkif.h`, `io/ring.h`). Every history of the machine is a run of the pipeline
+//! (`machine_pipeline`), whatever happens, in any order, with what any disk answers; and these are the
+//! laws of every run of the pipeline (`pipeline_laws`).
 //!
 //! The premises: a ring of one page and a disk that may be written (`IsPlain`); the back moves only
 //! once the front is connected, and what is submitted are writes of one sector (`AreAllowed`). The
@@ -16,12 +17,13 @@ ghost use Rattle.split_model.specs.World.{World, start_of};
 ghost use Rattle.split_model.specs.Happening.{Happening, DiskRuns};
 ghost use Rattle.schedule_text.specs.Recorder.{kept_of};
 ghost use Rattle.split_model.specs.Report.{report_of, ended_report_of};
-ghost use Rattle.disk_laws.specs.Plain.{IsPlain};
-ghost use Rattle.disk_laws.specs.Allowed.{AreAllowed};
-ghost use Rattle.disk_laws.specs.Run.{IsRun};
-ghost use Rattle.disk_laws.specs.Submissions.{submitted_of};
+ghost use Rattle.machine_pipeline.specs.Plain.{IsPlain};
+ghost use Rattle.machine_pipeline.specs.Allowed.{AreAllowed};
+ghost use Rattle.machine_pipeline.specs.Submissions.{submitted_of};
+ghost use Rattle.pipeline_laws.specs.Run.{IsRun};
 ghost use Rattle.pipeline_laws.specs.Submissions.{AreAnswered};
 ghost use Rattle.pipeline_laws.specs.Unbroken.{IsUnbroken};
+ghost use Rattle.pipeline_laws.specs.States.{AreStates};
 
 /// What a recorder keeps of the report of a history is a run of the plain disk, from what the disk
 /// held to what it holds; where the disk doesn't tell, from sectors that nobody knows. So too with
@@ -46,11 +48,20 @@ pub fn every_submission_is_answered_by_the_rule()
         → AreAnswered (submitted_of history) (kept_of detail (ended_report_of config detail history)) }
 {}
 
-/// No line of it says that the front was broken, that the back halted, or that a request wasn't
-/// supported.
+/// No line of it says that the front was broken, that the back halted but where its front was gone, or
+/// that a request wasn't supported.
 pub fn no_end_breaks_the_protocol()
     ensures report { (config : Options) (detail : Detail) (history : List Happening) → IsPlain config → AreAllowed history (start_of config)
         → IsUnbroken (kept_of detail (report_of config detail history)) }
     ensures ended { (config : Options) (detail : Detail) (history : List Happening) → IsPlain config → AreAllowed history (start_of config)
         → IsUnbroken (kept_of detail (ended_report_of config detail history)) }
+{}
+
+/// The front connects once, and nothing is closed, left or broken out of turn (the states of
+/// `io/xenbus.h`).
+pub fn the_front_connects_and_closes_in_order()
+    ensures report { (config : Options) (detail : Detail) (history : List Happening) → IsPlain config → AreAllowed history (start_of config)
+        → AreStates (kept_of detail (report_of config detail history)) }
+    ensures ended { (config : Options) (detail : Detail) (history : List Happening) → IsPlain config → AreAllowed history (start_of config)
+        → AreStates (kept_of detail (ended_report_of config detail history)) }
 {}

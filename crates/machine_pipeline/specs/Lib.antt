@@ -1,2 +1,6 @@
-pub mod Stations
-pub mod Image
+pub mod Allowed
+pub mod Plain
+pub mod Submissions
+pub mod Sectors
+pub mod Step
+pub mod Run

@@ -1,17 +1,36 @@
-//! How the machine of shared words (`split_model`) stands for a pipeline (`pipeline_laws`): at which
-//! station each request is, by what the front, the back, its jobs and the ring have of it (the
-//! requests and responses of `io/ring.h`). That each move of the machine keeps this, and makes the
-//! pipeline's steps, is still to be proved.
+//! How the machine of shared words (`split_model`) stands for a pipeline (`pipeline_laws`): at each
+//! moment a request is at one station, by what the front, the ring (`io/ring.h`), the back and its
+//! jobs have of it. Whatever happens is nothing to the pipeline, or one step of it. No word of the
+//! plain disk stands here: what a report of the machine is follows from the pipeline's laws.
+//!
+//! The premises: a ring of one page and a disk that may be written (`IsPlain`); the back moves only
+//! once the front is connected, and what is submitted are writes of one sector (`AreAllowed`). The
+//! happenings that the events of a schedule make are such.
 #![tactic(auto)]
 
-ghost use Rattle.std.specs.Prelude.{◌^◌, ◌<◌};
+ghost use Rattle.std.specs.Prelude.{List};
 ghost use Rattle.blk_base.specs.Options.{Options};
+ghost use Rattle.blk_io.specs.Disk.{DiskSeen, HasLength};
 ghost use Rattle.split_model.specs.World.{start_of};
+ghost use Rattle.split_model.specs.Happening.{Happening, DiskRuns};
 ghost use Rattle.pipeline_laws.specs.Pipeline.{pipeline_of};
-ghost use Rattle.machine_pipeline.specs.Stations.{nothing_passed};
-ghost use Rattle.machine_pipeline.specs.Image.{IsImage};
+ghost use Rattle.machine_pipeline.specs.Plain.{IsPlain};
+ghost use Rattle.machine_pipeline.specs.Allowed.{AreAllowed};
+ghost use Rattle.machine_pipeline.specs.Step.{GoesStepwise};
+ghost use Rattle.machine_pipeline.specs.Run.{IsPipelineRun};
 
-/// The machine begins as the pipeline with no request.
-pub fn the_machine_begins_as_an_empty_pipeline()
-    ensures { (options : Options) → options.start < 2 ^ 32 → IsImage options (start_of options) nothing_passed (pipeline_of options) }
+/// Each happening of a history leaves the pipeline as it is, or makes exactly one of its steps,
+/// which the pipeline allows: the lines that the happening shows are that step's, but for moves of
+/// the machine, and its call of the disk is the one that the happening makes.
+pub fn each_happening_is_at_most_one_step()
+    ensures { (config : Options) (history : List Happening) → IsPlain config → AreAllowed history (start_of config)
+        → GoesStepwise history (start_of config) (pipeline_of config) }
+{}
+
+/// So every history is a run of the pipeline, with the same lines and submissions, over the same
+/// disk; where the disk doesn't tell, over some sectors that its calls are consistent with.
+pub fn every_history_is_a_run_of_the_pipeline()
+    ensures { (config : Options) (history : List Happening) (before now : DiskSeen) → IsPlain config → AreAllowed history (start_of config)
+        → HasLength before.content config.sectors → DiskRuns history (start_of config) before now
+        → IsPipelineRun config history before.content now.content }
 {}

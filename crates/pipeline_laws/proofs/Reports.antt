@@ -1,7 +1,6 @@
 -- The laws of a whole report, from those of all steps so far.
 use Rattle.std.proofs.Common.{◌≡◌, ℕ, false, List, [], ◌∷◌, refl, ap, ◌∙◌, subst}
 use Rattle.std.specs.Prelude.{Option, Some, None}
-use Rattle.std.specs.List.{list_any}
 use Rattle.std.proofs.lemmas.Option.{none-some}
 use Rattle.blk_base.specs.Options.{Options}
 use Rattle.schedule_text.specs.declared.line.Line.TheVariants as lines
@@ -13,7 +12,7 @@ use Rattle.pipeline_laws.specs.Run.{PipelineRun, run_report, BeginsWith, BeginsW
 use Rattle.pipeline_laws.specs.Submissions.{submitted_of, IsAnswerAt, AreAnswered}
 use Rattle.pipeline_laws.specs.Answered.{AreAnsweredOnce, IsQuietAnswered}
 use Rattle.pipeline_laws.specs.Unbroken.{IsUnbroken}
-use Rattle.pipeline_laws.specs.States.{is_closing, IsStateAt, AreStates}
+use Rattle.pipeline_laws.specs.States.{IsStateAt, AreStates}
 use Rattle.pipeline_laws.proofs.AnsweredRuns.{run_answers_once, run_answers_at_quiet}
 use Rattle.pipeline_laws.proofs.Running.{IsSoFar, so_far_first, so_far_report}
 use Rattle.pipeline_laws.proofs.Ruled.{all_obey}
@@ -83,7 +82,7 @@ report_states r =
     all_obey IsStateAt r.steps (lines.Begin r.options r.detail ∷ []) (pipeline_of r.options) r.disk.content r.disk.later states_hold r.allowed r.disk.runs (first_line r)
     (obeys_more IsStateAt [] (lines.Begin r.options r.detail) (obeys_none IsStateAt) tt)
 
-pub report_unbroken : (r : PipelineRun) → list_any is_closing (run_report r) ≡ false → IsUnbroken (run_report r)
-report_unbroken r none =
+pub report_unbroken : (r : PipelineRun) → IsUnbroken (run_report r)
+report_unbroken r =
     let whole = runs_within r [] (none_known r.disk.content) in
-    unbroken (run_report r) [] whole.disk none (report_states r) whole.run
+    unbroken (run_report r) [] whole.disk (report_states r) whole.run

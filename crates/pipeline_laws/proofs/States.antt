@@ -61,34 +61,6 @@ states_hold before p content Resumes may so obeys = obeys_more IsStateAt before 
 states_hold before p content Rests may so obeys = obeys_more IsStateAt before _ obeys tt
 states_hold before p content (Shows line) may so obeys = obeys_more IsStateAt before _ obeys (aside_states before line may)
 
-or_none : (b : Bool) → b ≡ (b || false)
-or_none true = refl
-or_none false = refl
-
-or_all : (b : Bool) → true ≡ (b || true)
-or_all true = refl
-or_all false = refl
-
-or_either : (a b c : Bool) → ((a || b) || c) ≡ (a || (b || c))
-or_either true b c = refl
-or_either false b c = refl
-
-or_first : (a b : Bool) → (a || b) ≡ false → a ≡ false
-or_first true b e = e
-or_first false b e = refl
-
--- a front that is closing said so
-seen_closing : (s : Sight) (line : Line) → (seen s line).closing ≡ (s.closing || is_closing line)
-seen_closing s lines.Closing = or_all s.closing
-seen_closing s line = or_none s.closing
-
-closing_said : (ls : List Line) (s : Sight) → (fold seen s ls).closing ≡ (s.closing || list_any is_closing ls)
-closing_said [] s = or_none s.closing
-closing_said (line ∷ ls) s = closing_said ls (seen s line) ∙ (ap (λ (b : Bool). b || list_any is_closing ls) (seen_closing s line) ∙ or_either s.closing (is_closing line) (list_any is_closing ls))
-
-any_before : (before rest : List Line) (line : Line) → list_any is_closing (before ++ line ∷ rest) ≡ false → list_any is_closing before ≡ false
-any_before before rest line none = or_first (list_any is_closing before) (list_any is_closing (line ∷ rest)) (sym (list_any-append is_closing before (line ∷ rest)) ∙ none)
-
 -- the plain disk takes no reply `unsupported`
 no_refusal : (d d' : Disk) (id : ℕ) (r : Option Asked) → replied_of d id Unsupported r ≡ Some d' → ⊥
 no_refusal d d' id None e = none-some d' e
@@ -99,20 +71,14 @@ no_refusal d d' id (Some r) e = never (is_open r.stage) (is_none r.reply) (cond_
     never true false t = absurd (cc)
     never false b t = absurd (cc)
 
-whole_at : (report before rest : List Line) (line : Line) (first : List (List ℕ)) (d : Disk) → list_any is_closing report ≡ false → AreStates report → after report (disk_of first) ≡ Some d → report ≡ before ++ line ∷ rest → is_breach line ≡ false
-whole_at report before rest line first d none states run split = by_line line (states before rest line split) (stands_behind report before rest line first d run split)
+whole_at : (report before rest : List Line) (line : Line) (first : List (List ℕ)) (d : Disk) → AreStates report → after report (disk_of first) ≡ Some d → report ≡ before ++ line ∷ rest → is_breach line ≡ false
+whole_at report before rest line first d states run split = by_line line (states before rest line split) (stands_behind report before rest line first d run split)
   where
-    not_closing : (sight_after before).closing ≡ true → ⊥
-    not_closing e =
-        let said : (sight_after before).closing ≡ list_any is_closing before = closing_said before nothing_seen in
-        let silent : list_any is_closing before ≡ false = any_before before rest line (ap (λ (ls : List Line). list_any is_closing ls) (sym split) ∙ none) in
-        absurd (cc)
-
     by_line : (l : Line) → IsStateAt before l → StandsBehind before l first → is_breach l ≡ false
     by_line (lines.Broken word) state stands = absurd state
-    by_line (lines.Halt why) state stands = absurd (not_closing state.0)
+    by_line (lines.Halt why) state stands = rw state.1 refl
     by_line (lines.Reply id Unsupported) state stands = absurd (no_refusal stands.disk stands.next id (request_of stands.disk.requests id) stands.taken)
     by_line l state stands = refl
 
-pub unbroken : (report : List Line) (first : List (List ℕ)) (d : Disk) → list_any is_closing report ≡ false → AreStates report → after report (disk_of first) ≡ Some d → IsUnbroken report
-unbroken report first d none states run k line within = whole_at report (take k report) (drop (suc k) report) (get_or report k line) first d none states run (split_at report k line within)
+pub unbroken : (report : List Line) (first : List (List ℕ)) (d : Disk) → AreStates report → after report (disk_of first) ≡ Some d → IsUnbroken report
+unbroken report first d states run k line within = whole_at report (take k report) (drop (suc k) report) (get_or report k line) first d states run (split_at report k line within)

@@ -10,7 +10,6 @@
 #![tactic(auto)]
 
 ghost use Rattle.std.specs.Prelude.{◌≡◌, ℕ, false, List, [], ◌∷◌, ◌++◌, length, Option, Some, None};
-ghost use Rattle.std.specs.List.{list_any};
 ghost use Rattle.blk_base.specs.Options.{Options};
 ghost use Rattle.blk_base.specs.declared.operation.Status.{Status};
 ghost use Rattle.blk_base.specs.declared.operation.Status.TheVariants.{Okay};
@@ -29,7 +28,7 @@ ghost use Rattle.pipeline_laws.specs.Run.{PipelineRun, run_report, BeginsWithin,
 ghost use Rattle.pipeline_laws.specs.Submissions.{submitted_of, AreAnswered};
 ghost use Rattle.pipeline_laws.specs.Answered.{AreAnsweredOnce, IsQuietAnswered};
 ghost use Rattle.pipeline_laws.specs.Unbroken.{IsUnbroken};
-ghost use Rattle.pipeline_laws.specs.States.{is_closing, AreStates};
+ghost use Rattle.pipeline_laws.specs.States.{AreStates};
 ghost use Rattle.pipeline_laws.specs.Recorded.{IsKeptRun};
 ghost use Rattle.pipeline_laws.specs.Queue.{IsQueue};
 ghost use Rattle.pipeline_laws.specs.Samples.{two_sectors, write, barrier, other_write, long_write, past_end, barrier_steps, barrier_lines, order_steps, order_lines, read_steps, read_lines, fault_steps, fault_lines, second_begun, two_entries, two_jobs, half_done, two_reads};
@@ -67,10 +66,10 @@ pub fn the_front_closes_when_all_is_served()
     ensures { (r : PipelineRun) → AreStates (run_report r) }
 {}
 
-/// While the front doesn't begin to close, no line says that it was broken, that the back halted, or
-/// that a request wasn't supported.
+/// No line says that the front was broken, that the back halted but where its front was gone, or that
+/// a request wasn't supported.
 pub fn no_end_breaks_the_protocol()
-    ensures { (r : PipelineRun) → list_any is_closing (run_report r) ≡ false → IsUnbroken (run_report r) }
+    ensures { (r : PipelineRun) → IsUnbroken (run_report r) }
 {}
 
 /// What a recorder keeps of a report, without the moves where its word is `lines`, is the report of a

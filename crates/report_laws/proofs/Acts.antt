@@ -30,8 +30,8 @@ use Rattle.schedule_text.specs.declared.line.Line.TheVariants as lines
 use Rattle.schedule_text.specs.Plain.{plain_move}
 use Rattle.schedule_text.specs.Range.{IsInRange, MoveHasWidths, MoverHasWidths, BackHasWidths, is_move_allowed, is_mover_allowed, is_back_allowed}
 use Rattle.hypervisor.specs.Hypervisor.{Hypervisor}
-use Rattle.hypervisor.specs.Act.{FrontAct, BackAct, Outcome, Gave, Took, Failed, front_act, back_act, mover_of, job_of, map_act, bind_act, wait_act, read_act, disk_act}
-use Rattle.blk_front.specs.Ask.{IsWithin}
+use Rattle.hypervisor.specs.Act.{FrontAct, BackAct, Outcome, Gave, Took, Failed, front_act, back_act, mover_of, job_number, map_act, bind_act, wait_act, read_act, disk_act}
+use Rattle.blk_front.specs.Ask.{StaysInMemory}
 use Rattle.back_jobs.specs.Hands.{Names}
 use Rattle.split_model.specs.Safe.{AreHeld}
 use Rattle.split_model.proofs.SafeActs.{of_front, of_back, front_test, back_test}
@@ -56,7 +56,7 @@ FrontFits h ask = Unit {0}
 abbrev FrontActFits : FrontAct → Type 0
 FrontActFits a = ActFits a.shown a.under.pages
 
-pub front_act_fits : (h : Hypervisor) (ask : FrontAsk) (a : FrontAct) → AreWords h.pages → IsWithin ask → FrontFits h ask → front_act h ask ≡ Some a → ActFits a.shown a.under.pages
+pub front_act_fits : (h : Hypervisor) (ask : FrontAsk) (a : FrontAct) → AreWords h.pages → StaysInMemory ask → FrontFits h ask → front_act h ask ≡ Some a → ActFits a.shown a.under.pages
 front_act_fits h front_ask.Wait a words within fits e = front_test FrontActFits (is_pending h.channels end.Front) _ a (act_fits (moves.Event mover.Front) h.pages tt refl refl words) e
 front_act_fits h front_ask.Fence a words within fits e = of_front FrontActFits _ a (act_fits (moves.Fence mover.Front) h.pages tt refl refl words) e
 front_act_fits h (front_ask.Read frame word) a words within fits e =
@@ -87,7 +87,7 @@ mover_allowed (back_mover.Job k) h = h
 
 -- a call of the disk is a job's
 abbrev pub IsCaller : BackMover → Type 0
-IsCaller who = (job_of who < 2 ^ 64) × (nat_lt 0 (job_of who) ≡ true)
+IsCaller who = (job_number who < 2 ^ 64) × (nat_lt 0 (job_number who) ≡ true)
 
 -- the values that the back or a job asks to write have 32 bits, and so have references and ports; sectors have 64
 abbrev pub BackFits : BackMover → BackAsk → Type 0
@@ -181,7 +181,7 @@ back_act_fits h who back_ask.ClosePort o a hands words grantable held few is nam
 back_act_fits h who (back_ask.GetKey path) o a hands words grantable held few is names fits e = absurd (none-some a e)
 back_act_fits h who (back_ask.SetKey path text) o a hands words grantable held few is names fits e = absurd (none-some a e)
 back_act_fits h who (back_ask.Watch path) o a hands words grantable held few is names fits e = absurd (none-some a e)
-back_act_fits h who (back_ask.DiskRead sector) o a hands words grantable held few is names fits e = read_act_fits h (moves.DiskRead (job_of who) sector) o a (act_fits (moves.DiskRead (job_of who) sector) h.pages (fits.1.0, fits.0) fits.1.1 refl words) e
-back_act_fits h who (back_ask.DiskWrite sector sector_words) o a hands words grantable held few is names fits e = disk_act_fits h (moves.DiskWrite (job_of who) sector) o a (act_fits (moves.DiskWrite (job_of who) sector) h.pages (fits.1.0, fits.0) fits.1.1 refl words) e
-back_act_fits h who back_ask.Flush o a hands words grantable held few is names fits e = disk_act_fits h (moves.DiskFlush (job_of who)) o a (act_fits (moves.DiskFlush (job_of who)) h.pages fits.0 fits.1 refl words) e
-back_act_fits h who (back_ask.Trim sector count) o a hands words grantable held few is names fits e = disk_act_fits h (moves.DiskTrim (job_of who) sector count) o a (act_fits (moves.DiskTrim (job_of who) sector count) h.pages (fits.2.0, fits.0, fits.1) fits.2.1 refl words) e
+back_act_fits h who (back_ask.DiskRead sector) o a hands words grantable held few is names fits e = read_act_fits h (moves.DiskRead (job_number who) sector) o a (act_fits (moves.DiskRead (job_number who) sector) h.pages (fits.1.0, fits.0) fits.1.1 refl words) e
+back_act_fits h who (back_ask.DiskWrite sector sector_words) o a hands words grantable held few is names fits e = disk_act_fits h (moves.DiskWrite (job_number who) sector) o a (act_fits (moves.DiskWrite (job_number who) sector) h.pages (fits.1.0, fits.0) fits.1.1 refl words) e
+back_act_fits h who back_ask.Flush o a hands words grantable held few is names fits e = disk_act_fits h (moves.DiskFlush (job_number who)) o a (act_fits (moves.DiskFlush (job_number who)) h.pages fits.0 fits.1 refl words) e
+back_act_fits h who (back_ask.Trim sector count) o a hands words grantable held few is names fits e = disk_act_fits h (moves.DiskTrim (job_number who) sector count) o a (act_fits (moves.DiskTrim (job_number who) sector count) h.pages (fits.2.0, fits.0, fits.1) fits.2.1 refl words) e

@@ -26,7 +26,7 @@ use Rattle.split_model.specs.Shown.{front_lines}
 use Rattle.split_model.specs.Happening.{Happening, FrontMoves, BackMoves, JobMoves, Submits, Notifies, Looks, Settles, happens, lines_at, after, lines_of, front_after, front_shows, back_after, back_shows, job_after, job_shows, front_turn, back_turn, job_turn, submit_line}
 use Rattle.split_model.specs.Report.{report_of}
 use Rattle.split_model.proofs.Safe.{safe_start, safe_happens}
-use Rattle.disk_laws.specs.Plain.{IsPlain}
+use Rattle.machine_pipeline.specs.Plain.{IsPlain}
 use Rattle.report_laws.specs.QuietRing.{says_answer, answers_told}
 use Rattle.report_laws.proofs.Lines.{OfBack, back_all, job_all}
 use Rattle.report_laws.proofs.Counts.{CountsAt, with_told, front_counts}

@@ -6,19 +6,19 @@ use Rattle.blk_base.specs.Options.{Options}
 use Rattle.schedule_text.specs.declared.line.Line.{Line}
 use Rattle.schedule_text.specs.declared.line.Line.TheVariants as lines
 use Rattle.xen_pages.specs.Pages.{word_of}
-use Rattle.plain_disk.specs.Disk.{Disk}
+use Rattle.pipeline_laws.specs.Pipeline.{Pipeline}
 use Rattle.hypervisor.specs.Act.{Took}
 use Rattle.blk_front.specs.declared.stage.Stage.{Stage}
 use Rattle.blk_front.specs.Submit as front_submit
 use Rattle.blk_front.specs.Submit.{ending_of}
 use Rattle.split_model.specs.World.{World, start_of, is_quiet}
 use Rattle.split_model.specs.Happening.{Happening, FrontMoves, BackMoves, JobMoves, Submits, Notifies, Looks, Settles, lines_at, after, front_shows, back_shows, job_shows, front_turn, back_turn, job_turn, submit_line}
-use Rattle.disk_laws.specs.Plain.{IsPlain}
-use Rattle.disk_laws.specs.Allowed.{AreAllowed}
-use Rattle.disk_laws.proofs.Flow.{Flow, has_ring, wrapped}
-use Rattle.disk_laws.proofs.Holds.{AreIndices, Stands}
-use Rattle.disk_laws.proofs.Quiet.{IsCaughtUp, caught_up_at}
-use Rattle.disk_laws.proofs.Together.{always_runs}
+use Rattle.machine_pipeline.specs.Plain.{IsPlain}
+use Rattle.machine_pipeline.specs.Allowed.{AreAllowed}
+use Rattle.machine_pipeline.proofs.Flow.{Flow, has_ring, wrapped}
+use Rattle.machine_pipeline.proofs.Holds.{AreIndices, Stands}
+use Rattle.machine_pipeline.proofs.Quiet.{IsCaughtUp, caught_up_at}
+use Rattle.machine_pipeline.proofs.Together.{always_stands}
 use Rattle.report_laws.specs.AtRest.{IsAtRest}
 use Rattle.report_laws.proofs.Lines.{is_usual, AreUsual, front_usual, back_usual, job_usual, submit_usual}
 
@@ -27,7 +27,7 @@ pub none_left : {X : Type 0} (xs : List X) → length xs ≡ 0 → xs ≡ []
 none_left [] e = refl
 none_left (x ∷ xs) e = absurd (omega arith)
 
-pub rest_of : (config : Options) (w : World) (g : Flow) (d : Disk) → is_quiet w ≡ true → Stands config w g d → IsAtRest w
+pub rest_of : (config : Options) (w : World) (g : Flow) (d : Pipeline) → is_quiet w ≡ true → Stands config w g d → IsAtRest w
 rest_of config w g d quiet stands = record {
   served = requests ∙ (ap (wrapped g.start) (sym rest.replied) ∙ sym responses);
   fetched = indices.fetched ∙ (ap (wrapped g.start) rest.fetched ∙ sym requests);
@@ -53,8 +53,8 @@ rest_of config w g d quiet stands = record {
 
 pub always_rests : (config : Options) (history : List Happening) → IsPlain config → AreAllowed history (start_of config) → is_quiet (after history (start_of config)) ≡ true → IsAtRest (after history (start_of config))
 always_rests config history plain may quiet =
-    let gone = always_runs config history [] plain may in
-    rest_of config (after history (start_of config)) gone.flow gone.disk quiet gone.stands
+    let gone = always_stands config history plain may in
+    rest_of config (after history (start_of config)) gone.flow gone.pipeline quiet gone.stands
 
 -- a happening shows `quiet` only where the machine is
 none_usual : (ls : List Line) → AreUsual ls → Contains ls lines.Quiet → ⊥

@@ -13,7 +13,7 @@ use Rattle.blk_base.specs.declared.moves.BackMover.TheVariants.{Back, Job}
 use Rattle.ring_words.specs.Ring.{requests_of}
 use Rattle.blk_layout.specs.Response.{response_words_of}
 use Rattle.blk_layout.specs.declared.segment.Segment.{Segment}
-use Rattle.plain_disk.specs.Disk.{Disk}
+use Rattle.pipeline_laws.specs.Pipeline.{Pipeline}
 use Rattle.plain_disk.specs.declared.request.Request.{Request as Asked}
 use Rattle.plain_disk.specs.declared.request.Place.{Place}
 use Rattle.hypervisor.specs.Act.{Outcome, back_act}
@@ -31,10 +31,10 @@ use Rattle.blk_back.specs.Ask.{ask_at, ask_of, loop_ask, next_reply, response_wo
 use Rattle.blk_back.specs.Step.{job_ask_of}
 use Rattle.split_model.specs.World.{World}
 use Rattle.split_model.specs.Happening.{job_turn}
-use Rattle.disk_laws.proofs.Flow.{Flow, segment_for}
-use Rattle.disk_laws.proofs.Holds.{Holds, Stands, AtWork, IsWork, IsSubmitted, IsReplying}
-use Rattle.disk_laws.proofs.Lists.{all_at, found_at}
-use Rattle.disk_laws.proofs.BackReplyBegins.{IsLowestDone, lowest_done, replying}
+use Rattle.machine_pipeline.proofs.Flow.{Flow, segment_for}
+use Rattle.machine_pipeline.proofs.Holds.{Holds, Stands, AtWork, IsWork, IsSubmitted, IsReplying}
+use Rattle.machine_pipeline.proofs.Lists.{all_at, found_at}
+use Rattle.machine_pipeline.proofs.BackReplyBegins.{IsLowestDone, lowest_done, replying}
 use Rattle.report_laws.proofs.Words.{each_fits}
 use Rattle.report_laws.proofs.Acts.{IsMover, BackFits}
 
@@ -48,7 +48,7 @@ reply_fits : (r : Reply) (i : ℕ) → r.id < 2 ^ 64 → r.op < 2 ^ 8 → respon
 reply_fits r i long small = each_fits (response_words_of (record { id = r.id; op = r.op; status = r.status })) (response_words r.id r.op r.status long small) i
 
 -- the numbers that the back knows are below those of the front's requests
-pub few_fetched : (config : Options) (w : World) (g : Flow) (d : Disk) (b : Stage) → Holds config w g d w.front.stage b → g.fetched < 2 ^ 32
+pub few_fetched : (config : Options) (w : World) (g : Flow) (d : Pipeline) (b : Stage) → Holds config w g d w.front.stage b → g.fetched < 2 ^ 32
 few_fetched config w g d b h =
     let indices = h.indices in
     let few = indices.few in
@@ -56,7 +56,7 @@ few_fetched config w g d b h =
     let pushed = indices.fetched_pushed in
     omega arith
 
-written : (config : Options) (w : World) (g : Flow) (d : Disk) (b : Stage) (works : List Work) (r : Reply) (i : ℕ) → Holds config w g d w.front.stage b → IsReplying g.fetched d.requests d.done works r → response_word r i < 2 ^ 32
+written : (config : Options) (w : World) (g : Flow) (d : Pipeline) (b : Stage) (works : List Work) (r : Reply) (i : ℕ) → Holds config w g d w.front.stage b → IsReplying g.fetched works r → response_word r i < 2 ^ 32
 written config w g d b works r i h is =
     let few = few_fetched config w g d b h in
     let reached = is.reached in
@@ -67,13 +67,13 @@ unvalued true b m word word' = tt
 unvalued false true m word word' = tt
 unvalued false false m word word' = tt
 
-loop_fits : (config : Options) (w : World) (g : Flow) (d : Disk) (next : Option Reply) → next_reply w.back ≡ next → Holds config w g d w.front.stage stage.Loop → BackFits Back (loop_ask w.back next)
+loop_fits : (config : Options) (w : World) (g : Flow) (d : Pipeline) (next : Option Reply) → next_reply w.back ≡ next → Holds config w g d w.front.stage stage.Loop → BackFits Back (loop_ask w.back next)
 loop_fits config w g d (Some r) e h =
     let l : IsLowestDone w.back.jobs.works r = lowest_done w.back.jobs.works r _ refl e in
-    written config w g d stage.Loop _ r 0 h (replying g.submitted g.fetched d.requests d.done w.back.jobs.works r l h.works)
+    written config w g d stage.Loop _ r 0 h (replying g.submitted g.fetched w.back.jobs.works r l h.works)
 loop_fits config w g d None e h = unvalued w.back.asleep (requests_of w.back.ring w.back.seen == 0) w.back.page 0 (slot_word w.back.ring.cons 0)
 
-back_at : (config : Options) (w : World) (g : Flow) (d : Disk) (b : Stage) → Holds config w g d w.front.stage b → BackFits Back (ask_at b w.back)
+back_at : (config : Options) (w : World) (g : Flow) (d : Pipeline) (b : Stage) → Holds config w g d w.front.stage b → BackFits Back (ask_at b w.back)
 back_at config w g d stage.MapRing h = omega arith
 back_at config w g d stage.Bind h = omega arith
 back_at config w g d stage.Loop h = loop_fits config w g d (next_reply w.back) refl h
@@ -83,7 +83,7 @@ back_at config w g d (stage.Producer r) h = omega arith
 back_at config w g d stage.StoreEvent h = omega arith
 back_at config w g d b h = tt
 
-pub back_asks : (config : Options) (w : World) (g : Flow) (d : Disk) → Stands config w g d → BackFits Back (ask_of w.back)
+pub back_asks : (config : Options) (w : World) (g : Flow) (d : Pipeline) → Stands config w g d → BackFits Back (ask_of w.back)
 back_asks config w g d stands = back_at config w g d w.back.stage stands.holds
 
 -- a job of a number that asks with the widths of the grammar
@@ -94,17 +94,17 @@ pub record JobAsks (w : World) (number : ℕ) : Type 0 where
 segment_fits : (number : ℕ) (rest : List Segment) (writes : Bool) (r : Request) → r.frame < 1018 → rest ≡ segment_for r ∷ [] → BackFits (Job number) (map_ask rest writes)
 segment_fits number rest writes r low e = subst (λ (x : List Segment). BackFits (Job number) (map_ask x writes)) (sym e) (omega arith)
 
-work_fits : (asked : List Asked) (done : List Place) (k number : ℕ) (r : Request) (t : Work) (s : JobStage) → r.frame < 1018 → r.sector < 2 ^ 64 → number < 2 ^ 64 → nat_lt 0 number ≡ true → AtWork asked done k r t s → BackFits (Job number) (task.ask_at s t)
-work_fits asked done k number r t job.Map low sector long positive at = segment_fits number t.rest t.writes r low at.0.rest
-work_fits asked done k number r t (job.ReadWord m i) low sector long positive at = tt
-work_fits asked done k number r t (job.DiskWrite m) low sector long positive at = (subst (λ (n : ℕ). n < 2 ^ 64) (sym at.0.disk) sector, (long, positive))
-work_fits asked done k number r t (job.DiskRead m) low sector long positive at = absurd at
-work_fits asked done k number r t (job.WriteWord m i) low sector long positive at = absurd at
-work_fits asked done k number r t (job.Unmap m) low sector long positive at = tt
-work_fits asked done k number r t (job.GiveUp m) low sector long positive at = tt
-work_fits asked done k number r t (job.Done status) low sector long positive at = tt
+work_fits : (number : ℕ) (r : Request) (t : Work) (s : JobStage) → r.frame < 1018 → r.sector < 2 ^ 64 → number < 2 ^ 64 → nat_lt 0 number ≡ true → AtWork r t s → BackFits (Job number) (task.ask_at s t)
+work_fits number r t job.Map low sector long positive at = segment_fits number t.rest t.writes r low at.rest
+work_fits number r t (job.ReadWord m i) low sector long positive at = tt
+work_fits number r t (job.DiskWrite m) low sector long positive at = (subst (λ (n : ℕ). n < 2 ^ 64) (sym at.0.disk) sector, (long, positive))
+work_fits number r t (job.DiskRead m) low sector long positive at = absurd at
+work_fits number r t (job.WriteWord m i) low sector long positive at = absurd at
+work_fits number r t (job.Unmap m) low sector long positive at = tt
+work_fits number r t (job.GiveUp m) low sector long positive at = tt
+work_fits number r t (job.Done status) low sector long positive at = tt
 
-found_asks : (config : Options) (w : World) (g : Flow) (d : Disk) (number p : ℕ) (t : Work) → Stands config w g d → place_of w.back.jobs.works number ≡ Some p → slice_get w.back.jobs.works p ≡ Some t → (t.number == number) ≡ true → IsWork g.submitted g.fetched d.requests d.done t → JobAsks w number
+found_asks : (config : Options) (w : World) (g : Flow) (d : Pipeline) (number p : ℕ) (t : Work) → Stands config w g d → place_of w.back.jobs.works number ≡ Some p → slice_get w.back.jobs.works p ≡ Some t → (t.number == number) ≡ true → IsWork g.submitted g.fetched t → JobAsks w number
 found_asks config w g d number p t stands place here same work =
     let few = few_fetched config w g d w.back.stage stands.holds in
     let positive = work.positive in
@@ -118,15 +118,15 @@ found_asks config w g d number p t stands place here same work =
     let asked : job_ask_of w.back number ≡ task.ask_at t.stage t = rw (stands.holds.unhalted, place, here) refl in
     record {
       mover = record { widths = long; allowed = above };
-      fits = subst (BackFits (Job number)) (sym asked) (work_fits d.requests d.done (t.number - 1) number work.r t t.stage submitted.high (omega arith) long above work.at);
+      fits = subst (BackFits (Job number)) (sym asked) (work_fits number work.r t t.stage submitted.high (omega arith) long above work.at);
     }
 
 -- a job that isn't held does nothing
-pub job_asks : (config : Options) (w : World) (g : Flow) (d : Disk) (number : ℕ) (o : Outcome) → Stands config w g d → (job_turn w number o ≡ None) ⊎ JobAsks w number
+pub job_asks : (config : Options) (w : World) (g : Flow) (d : Pipeline) (number : ℕ) (o : Outcome) → Stands config w g d → (job_turn w number o ≡ None) ⊎ JobAsks w number
 job_asks config w g d number o stands = by_place (place_of w.back.jobs.works number) refl
   where
     by_place : (place : Option ℕ) → place_of w.back.jobs.works number ≡ place → (job_turn w number o ≡ None) ⊎ JobAsks w number
     by_place None e = inl (let waits : job_ask_of w.back number ≡ ask.Wait = rw (stands.holds.unhalted, e) refl in ap (λ (x : BackAsk). back_act w.under (Job number) x o) waits)
     by_place (Some p) e =
         let found = found_at (λ (t : Work). t.number == number) w.back.jobs.works p e in
-        inr (found_asks config w g d number p found.0 stands e found.1 found.2 (all_at (IsWork g.submitted g.fetched d.requests d.done) w.back.jobs.works p found.0 stands.holds.works.each found.1))
+        inr (found_asks config w g d number p found.0 stands e found.1 found.2 (all_at (IsWork g.submitted g.fetched) w.back.jobs.works p found.0 stands.holds.works.each found.1))

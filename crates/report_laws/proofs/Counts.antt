@@ -14,8 +14,8 @@ use Rattle.blk_front.specs.declared.told.Told.{Told}
 use Rattle.blk_front.specs.declared.told.Told.TheVariants as told
 use Rattle.blk_front.specs.View.{View, next_request}
 use Rattle.blk_front.specs.Step.{broken, looked, loop_step, issued, response_at, is_mapped, at, ended, step_at}
-use Rattle.disk_laws.proofs.Flow.{wrapped}
-use Rattle.disk_laws.proofs.Wrapped.{next_wrapped}
+use Rattle.machine_pipeline.proofs.Flow.{wrapped}
+use Rattle.machine_pipeline.proofs.Wrapped.{next_wrapped}
 
 -- the consumer of responses, by how many answers were told; nothing is said of a front that broke
 abbrev pub CountsAt : (start answers cons : ℕ) → Stage → Type 0

@@ -7,7 +7,7 @@ use Rattle.blk_base.specs.declared.ask.FrontAsk.TheVariants.{Wait, Read}
 use Rattle.ring_words.specs.Ring.{next_of, responses_of}
 use Rattle.blk_layout.specs.Entry.{words_of}
 use Rattle.hypervisor.specs.Hypervisor.{Hypervisor}
-use Rattle.plain_disk.specs.Disk.{Disk}
+use Rattle.pipeline_laws.specs.Pipeline.{Pipeline}
 use Rattle.blk_front.specs.declared.request.Request.{Request}
 use Rattle.blk_front.specs.declared.stage.Stage.{Stage}
 use Rattle.blk_front.specs.declared.stage.Stage.TheVariants as stage
@@ -16,10 +16,10 @@ use Rattle.blk_front.specs.Ask.{ask_at, ask_of, loop_ask}
 use Rattle.blk_front.specs.Step.{entry_of}
 use Rattle.split_model.specs.World.{World}
 use Rattle.split_model.specs.Safe.{IsPorted}
-use Rattle.disk_laws.specs.Plain.{IsPlain}
-use Rattle.disk_laws.proofs.Flow.{Flow}
-use Rattle.disk_laws.proofs.Holds.{Holds, Stands, IsSubmitted}
-use Rattle.disk_laws.proofs.Next.{IsNext, next_is}
+use Rattle.machine_pipeline.specs.Plain.{IsPlain}
+use Rattle.machine_pipeline.proofs.Flow.{Flow}
+use Rattle.machine_pipeline.proofs.Holds.{Holds, Stands, IsSubmitted}
+use Rattle.machine_pipeline.proofs.Next.{IsNext, next_is}
 use Rattle.report_laws.proofs.Words.{each_fits}
 use Rattle.report_laws.proofs.Acts.{FrontFits}
 
@@ -110,7 +110,7 @@ record IsIssued (r : Request) : Type 0 where
   frame : r.frame < 1018
   entry : (i : ℕ) → slice_index (entry_of r) i < 2 ^ 32
 
-issued : (config : Options) (w : World) (g : Flow) (d : Disk) (s : Stage) (r : Request) → Holds config w g d s w.back.stage → next_request w.front ≡ Some r → IsIssued r
+issued : (config : Options) (w : World) (g : Flow) (d : Pipeline) (s : Stage) (r : Request) → Holds config w g d s w.back.stage → next_request w.front ≡ Some r → IsIssued r
 issued config w g d s r h e =
     let next : IsNext g.submitted w.front.requests g.pushed w.front.waiting r = next_is w.front g.submitted w.front.sectors w.front.last g.pushed _ r h.queue h.submitted h.pool e in
     let is : IsSubmitted w.front.sectors g.pushed r = h.submitted.each g.pushed r next.known in
@@ -133,7 +133,7 @@ loop_fits : (h : Hypervisor) (v : View) (next : Option Request) → ((r : Reques
 loop_fits h v (Some r) known = (known r refl).tag
 loop_fits h v None known = unvalued h v.asleep (responses_of v.ring v.seen == 0) ring_frame 2 (slot_frame v.ring.cons 0) (slot_word v.ring.cons 0)
 
-asks_at : (config : Options) (w : World) (g : Flow) (d : Disk) (s : Stage) → IsPlain config → IsPorted s w.under.channels → Holds config w g d s w.back.stage → FrontFits w.under (ask_at s w.front)
+asks_at : (config : Options) (w : World) (g : Flow) (d : Pipeline) (s : Stage) → IsPlain config → IsPorted s w.under.channels → Holds config w g d s w.back.stage → FrontFits w.under (ask_at s w.front)
 asks_at config w g d (stage.RingWord k) plain ported h = fresh_fits w.front.start k (subst (λ (n : ℕ). n < 2 ^ 32) (sym h.started.known) plain.start)
 asks_at config w g d stage.RingFrame plain ported h = omega arith
 asks_at config w g d stage.RingFlags plain ported h = omega arith
@@ -151,5 +151,5 @@ asks_at config w g d stage.StoreEvent plain ported h = omega arith
 asks_at config w g d (stage.Broken word) plain ported h = absurd h.front_at
 asks_at config w g d s plain ported h = tt
 
-pub front_asks : (config : Options) (w : World) (g : Flow) (d : Disk) → IsPlain config → Stands config w g d → FrontFits w.under (ask_of w.front)
+pub front_asks : (config : Options) (w : World) (g : Flow) (d : Pipeline) → IsPlain config → Stands config w g d → FrontFits w.under (ask_of w.front)
 front_asks config w g d plain stands = asks_at config w g d w.front.stage plain stands.safe.ported stands.holds

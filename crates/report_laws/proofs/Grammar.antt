@@ -18,10 +18,8 @@ use Rattle.schedule_text.specs.declared.line.Line.TheVariants as lines
 use Rattle.schedule_text.specs.Plain.{plain}
 use Rattle.schedule_text.specs.Range.{IsInRange, JobHasWidths, AreOptions}
 use Rattle.schedule_text.specs.Recorder.{recorded}
-use Rattle.plain_disk.specs.declared.request.Request.{Request as Asked}
-use Rattle.plain_disk.specs.Request.{opened}
-use Rattle.plain_disk.specs.Disk.{Disk, disk_of}
-use Rattle.plain_disk.specs.Step.{step, after as run_after}
+use Rattle.pipeline_laws.specs.Station.{Request as Asked, submitted}
+use Rattle.pipeline_laws.specs.Pipeline.{Pipeline, Step, Submits, pipeline_of}
 use Rattle.hypervisor.specs.Act.{FrontAct, BackAct, Outcome, Took}
 use Rattle.blk_front.specs.declared.told.Told.{Told}
 use Rattle.blk_front.specs.declared.told.Refusal.{Refusal}
@@ -38,47 +36,49 @@ use Rattle.blk_back.specs.Step as back_step
 use Rattle.blk_back.specs.Hands.{hands_of}
 use Rattle.split_model.specs.World.{World, start_of, is_quiet}
 use Rattle.split_model.specs.Shown.{back_lines, halt_lines, refusal_word}
-use Rattle.split_model.specs.Happening.{Happening, FrontMoves, BackMoves, JobMoves, Submits, Notifies, Looks, Settles, happens, lines_at, lines_of, front_after, front_shows, back_after, back_shows, job_after, job_shows, front_turn, back_turn, job_turn, submit_line}
+use Rattle.split_model.specs.Happening.{Happening, FrontMoves, BackMoves, JobMoves, Submits as Submission, Notifies, Looks, Settles, happens, lines_at, lines_of, front_after, front_shows, back_after, back_shows, job_after, job_shows, front_turn, back_turn, job_turn, submit_line}
 use Rattle.schedule_text.specs.Recorder.{kept_of}
 use Rattle.split_model.specs.Report.{report_of, ended_report_of}
 use Rattle.split_model.proofs.SafeActs.{made_front}
 use Rattle.move_laws.specs.Permitted.{IsPermitted, ArePermitted}
 use Rattle.move_laws.proofs.Always.{always_within}
 use Rattle.move_laws.proofs.Runs.{FollowsTo, follows_happens, follows_begin}
-use Rattle.disk_laws.specs.Plain.{IsPlain}
-use Rattle.disk_laws.specs.Allowed.{AreAllowed}
-use Rattle.disk_laws.proofs.Flow.{Flow, start_flow}
-use Rattle.disk_laws.proofs.Holds.{Holds, Stands, FrontAt, IsSubmitted}
-use Rattle.disk_laws.proofs.Lists.{get_within, get_last}
-use Rattle.disk_laws.proofs.StartingHolds.{start_holds}
-use Rattle.disk_laws.proofs.SightFront.{front_tells, Tells}
-use Rattle.disk_laws.proofs.Together.{HasGone, step_kept}
+use Rattle.machine_pipeline.specs.Plain.{IsPlain}
+use Rattle.machine_pipeline.specs.Allowed.{AreAllowed}
+use Rattle.machine_pipeline.proofs.Flow.{Flow, start_flow}
+use Rattle.machine_pipeline.proofs.Holds.{Holds, Stands, FrontAt, IsSubmitted}
+use Rattle.machine_pipeline.proofs.Lists.{get_within, get_last}
+use Rattle.machine_pipeline.proofs.StartingHolds.{start_holds}
+use Rattle.machine_pipeline.proofs.SightFront.{front_tells, Tells}
+use Rattle.machine_pipeline.proofs.Together.{HasGone, step_kept}
 use Rattle.report_laws.specs.Grammar.{IsInGrammar}
 use Rattle.report_laws.proofs.Words.{AreWords, fresh_words}
 use Rattle.report_laws.proofs.Acts.{ActFits, front_act_fits, back_act_fits}
-use Rattle.report_laws.proofs.Told.{IsGood, AreGood, good, both_good, AreFewWrites, front_lines_good, back_lines_good}
+use Rattle.report_laws.proofs.Told.{IsGood, AreGood, AreFit, good, both_good, AreFewWrites, shown_fit, front_lines_good, back_lines_good}
 use Rattle.report_laws.proofs.FrontAsks.{front_asks}
 use Rattle.report_laws.proofs.BackAsks.{few_fetched, back_asks, JobAsks, job_asks}
 use Rattle.report_laws.proofs.Maps.{FewMaps}
 use Rattle.report_laws.proofs.Mapped.{back_few, job_few}
 use Rattle.report_laws.proofs.Texts.{given_back}
+use Rattle.machine_pipeline.specs.Step.{CallAt, IsSame, after_step}
+use Rattle.machine_pipeline.specs.Submissions.{submitted_at}
 
 -- each request that was asked is one of the front's
-asked_of : (config : Options) (w : World) (g : Flow) (d : Disk) → Stands config w g d → (k : ℕ) (q : Asked) → slice_get d.requests k ≡ Some q → (r : Request) × (q.job ≡ Write r.sector 1 r.tag) × IsSubmitted w.front.sectors k r
+asked_of : (config : Options) (w : World) (g : Flow) (d : Pipeline) → Stands config w g d → (k : ℕ) (q : Asked) → slice_get d.requests k ≡ Some q → (r : Request) × (q.job ≡ Write r.sector 1 r.tag) × IsSubmitted w.front.sectors k r
 asked_of config w g d stands k q e =
     let within = slice_get_within d.requests k q e in
-    let many = stands.holds.known.as_many in
+    let many = stands.holds.stations.known.as_many in
     let its = get_within g.submitted k (omega arith) in
-    (its.0, stands.holds.known.each k its.0 q its.1 e, stands.holds.submitted.each k its.0 its.1)
+    (its.0, stands.holds.stations.known.each k its.0 q its.1 e, stands.holds.submitted.each k its.0 its.1)
 
-few_writes : (config : Options) (w : World) (g : Flow) (d : Disk) → Stands config w g d → AreFewWrites d.requests
+few_writes : (config : Options) (w : World) (g : Flow) (d : Pipeline) → Stands config w g d → AreFewWrites d.requests
 few_writes config w g d stands =
-    let many = stands.holds.known.as_many in
+    let many = stands.holds.stations.known.as_many in
     let counted = stands.holds.submitted.counted in
     let few = stands.holds.indices.few in
     record { few = omega arith; writes = λ k q e. let its = asked_of config w g d stands k q e in let r : Request = its.0 in (r.sector, r.tag, its.1) }
 
-asked_fits : (config : Options) (w : World) (g : Flow) (d : Disk) (k : ℕ) (q : Asked) → Stands config w g d → slice_get d.requests k ≡ Some q → JobHasWidths q.job
+asked_fits : (config : Options) (w : World) (g : Flow) (d : Pipeline) (k : ℕ) (q : Asked) → Stands config w g d → slice_get d.requests k ≡ Some q → JobHasWidths q.job
 asked_fits config w g d k q stands e =
     let its = asked_of config w g d stands k q e in
     let r : Request = its.0 in
@@ -88,7 +88,7 @@ asked_fits config w g d k q stands e =
     subst JobHasWidths (sym its.1) (omega arith, (omega arith, omega arith), is.tag)
 
 -- fewer mappings than 2 ^ 64 are made
-few_made : (config : Options) (w : World) (g : Flow) (d : Disk) → Stands config w g d → FewMaps w.under.grants.made w.back → w.under.grants.made + 1 < 2 ^ 64
+few_made : (config : Options) (w : World) (g : Flow) (d : Pipeline) → Stands config w g d → FewMaps w.under.grants.made w.back → w.under.grants.made + 1 < 2 ^ 64
 few_made config w g d stands few =
     let count = stands.holds.indices.count in
     let small = few_fetched config w g d w.back.stage stands.holds in
@@ -97,8 +97,8 @@ few_made config w g d stands few =
 -- what stands before a happening, and what it shows and leaves
 record IsWell (config : Options) (before : List Line) (w : World) : Type 0 where
   flow : Flow
-  disk : Disk
-  stands : Stands config w flow disk
+  pipeline : Pipeline
+  stands : Stands config w flow pipeline
   follows : FollowsTo before w
   words : AreWords w.under.pages
   few : FewMaps w.under.grants.made w.back
@@ -111,23 +111,33 @@ record ShowsGood (ls : List Line) (w : World) : Type 0 where
 move_good : (shown : Move) (pages : List ℕ) → ActFits shown pages → IsGood (lines.Move shown)
 move_good shown pages fits = record { in_range = fits.line; bare = ap (λ (m : Move). lines.Move m) fits.bare }
 
+-- what a happening shows of requests is fit
+went_fit : {asked : Option Job} {call : (before after : List (List ℕ)) → Type 0} {said : List Line} {v : World} (config : Options) (w : World) (g : Flow) (d : Pipeline) → Stands config w g d → HasGone asked call config said v d → AreFit said
+went_fit {v = v} config w g d stands gone = shown_fit _ _ _ d gone.step (few_writes config w g d stands) widths gone.does
+  where
+    widths : (job : Job) → gone.step ≡ Some (Submits job) → JobHasWidths job
+    widths job e =
+        let after : Stands config v gone.flow (after_step d (Some (Submits job))) = subst (λ (s : Option Step). Stands config v gone.flow (after_step d s)) e gone.stands in
+        asked_fits config v gone.flow (after_step d (Some (Submits job))) (length d.requests) (submitted job) after (get_last d.requests (submitted job))
+
 -- the front
-unbroken : (config : Options) (w : World) (g : Flow) (d : Disk) (word : ℕ) → Stands config w g d → w.front.stage ≡ front_stage.Broken word → ⊥
+unbroken : (config : Options) (w : World) (g : Flow) (d : Pipeline) (word : ℕ) → Stands config w g d → w.front.stage ≡ front_stage.Broken word → ⊥
 unbroken config w g d word stands e =
     let h : Holds config w g d w.front.stage w.back.stage = stands.holds in
-    subst (FrontAt g.start g.pushed g.taken g.front_seen g.submitted g.replies d.requests (front.next_request w.front) w.front.entry) e h.front_at
+    subst (FrontAt g.start g.pushed g.taken g.front_seen g.submitted g.replies (front.next_request w.front) w.front.entry) e h.front_at
 
-front_good : (config : Options) (before : List Line) (w : World) (act : Option FrontAct) → IsPlain config → (is : IsWell config before w) → IsPermitted w FrontMoves → front_turn w ≡ act → HasGone config (front_shows w act) (front_after w act) is.disk → ShowsGood (front_shows w act) (front_after w act)
+front_good : (config : Options) (before : List Line) (w : World) (act : Option FrontAct) → IsPlain config → (is : IsWell config before w) → IsPermitted w FrontMoves → front_turn w ≡ act → HasGone None IsSame config (front_shows w act) (front_after w act) is.pipeline → ShowsGood (front_shows w act) (front_after w act)
 front_good config before w None plain is within e gone = record { good_lines = tt; words = is.words; few = is.few }
 front_good config before w (Some a) plain is within e gone =
     let v : front.View = front_step.step_of w.front a.answer in
-    let fits : ActFits a.shown a.under.pages = front_act_fits w.under (front_ask.ask_of w.front) a is.words within (front_asks config w is.flow is.disk plain is.stands) e in
+    let fits : ActFits a.shown a.under.pages = front_act_fits w.under (front_ask.ask_of w.front) a is.words within (front_asks config w is.flow is.pipeline plain is.stands) e in
     let tells = front_tells w.front.stage w.front a.answer is.stands.safe.front_told refl in
     record {
       good_lines = (
         move_good a.shown a.under.pages fits,
-        front_lines_good is.disk gone.disk v.told (few_writes config w is.flow is.disk is.stands)
-            (λ word same. unbroken config (front_after w (Some a)) gone.flow gone.disk word gone.stands (subst (λ (t : Option Told). Tells (front_submit.is_connected w.front.stage) t v.stage) same tells)) gone.run,
+        front_lines_good v.told
+            (λ word same. unbroken config (front_after w (Some a)) gone.flow (after_step is.pipeline gone.step) word gone.stands (subst (λ (t : Option Told). Tells (front_submit.is_connected w.front.stage) t v.stage) same tells))
+            (went_fit config w is.flow is.pipeline is.stands gone).1,
       );
       words = fits.words;
       few = subst (λ (n : ℕ). FewMaps n w.back) (sym (ap (λ t. t.made) (made_front w.under (front_ask.ask_of w.front) a e))) is.few;
@@ -137,25 +147,24 @@ front_good config before w (Some a) plain is within e gone =
 unhalted : (before now : Option Halt) → before ≡ None → now ≡ None → halt_lines before now ≡ []
 unhalted before now p q = rw (p, q) refl
 
-back_good : (config : Options) (before : List Line) (w : World) (act : Option BackAct) → (is : IsWell config before w) → IsPermitted w BackMoves → back_turn w Took ≡ act → HasGone config (back_shows w act) (back_after w act) is.disk → ShowsGood (back_shows w act) (back_after w act)
+back_good : (config : Options) (before : List Line) (w : World) (act : Option BackAct) → (is : IsWell config before w) → IsPermitted w BackMoves → back_turn w Took ≡ act → HasGone None IsSame config (back_shows w act) (back_after w act) is.pipeline → ShowsGood (back_shows w act) (back_after w act)
 back_good config before w None is within e gone = record { good_lines = tt; words = is.words; few = is.few }
 back_good config before w (Some a) is within e gone =
     let b : back.View = back_step.step_of w.back a.answer in
     let fits : ActFits a.shown a.under.pages = back_act_fits w.under back_mover.Back (back_ask.ask_of w.back) Took a (hands_of w.back) is.words is.follows.tells.grantable is.stands.safe.held
-    (few_made config w is.flow is.disk is.stands is.few) (record { widths = tt; allowed = refl }) within (back_asks config w is.flow is.disk is.stands) e in
+    (few_made config w is.flow is.pipeline is.stands is.few) (record { widths = tt; allowed = refl }) within (back_asks config w is.flow is.pipeline is.stands) e in
     let none : back_lines b.told a.answer ++ halt_lines w.back.halted b.halted ≡ back_lines b.told a.answer =
     ap (λ (ls : List Line). back_lines b.told a.answer ++ ls) (unhalted w.back.halted b.halted is.stands.holds.unhalted gone.stands.holds.unhalted) ∙ append-nil (back_lines b.told a.answer) in
-    let run : run_after (back_lines b.told a.answer) is.disk ≡ Some gone.disk = subst (λ (ls : List Line). run_after ls is.disk ≡ Some gone.disk) none gone.run in
     record {
-      good_lines = (move_good a.shown a.under.pages fits, subst AreGood (sym none) (back_lines_good is.disk gone.disk b.told a.answer (few_writes config w is.flow is.disk is.stands) run));
+      good_lines = (move_good a.shown a.under.pages fits, subst AreGood (sym none) (back_lines_good b.told a.answer (subst AreFit none (went_fit config w is.flow is.pipeline is.stands gone).1)));
       words = fits.words;
-      few = back_few config w is.flow is.disk a is.stands is.few e;
+      few = back_few config w is.flow is.pipeline a is.stands is.few e;
     }
 
 -- a job
-job_good : (config : Options) (before : List Line) (w : World) (number : ℕ) (o : Outcome) (act : Option BackAct) → (is : IsWell config before w) → IsPermitted w (JobMoves number o) → job_turn w number o ≡ act → HasGone config (job_shows w number act) (job_after w number act) is.disk → ShowsGood (job_shows w number act) (job_after w number act)
+job_good : (config : Options) (before : List Line) (w : World) (number : ℕ) (o : Outcome) (act : Option BackAct) → (is : IsWell config before w) → IsPermitted w (JobMoves number o) → job_turn w number o ≡ act → HasGone None (CallAt w (JobMoves number o)) config (job_shows w number act) (job_after w number act) is.pipeline → ShowsGood (job_shows w number act) (job_after w number act)
 job_good config before w number o None is within e gone = record { good_lines = tt; words = is.words; few = is.few }
-job_good config before w number o (Some a) is within e gone = by_asks (job_asks config w is.flow is.disk number o is.stands)
+job_good config before w number o (Some a) is within e gone = by_asks (job_asks config w is.flow is.pipeline number o is.stands)
   where
     b : back.View
     b = back_step.job_step w.back number a.answer
@@ -164,36 +173,27 @@ job_good config before w number o (Some a) is within e gone = by_asks (job_asks 
     by_asks (inl none) = absurd (none-some a (sym none ∙ e))
     by_asks (inr asks) =
         let fits : ActFits a.shown a.under.pages = back_act_fits w.under (back_mover.Job number) (back_step.job_ask_of w.back number) o a (hands_of w.back) is.words is.follows.tells.grantable is.stands.safe.held
-        (few_made config w is.flow is.disk is.stands is.few) asks.mover within asks.fits e in
+        (few_made config w is.flow is.pipeline is.stands is.few) asks.mover within asks.fits e in
         record {
-          good_lines = (move_good a.shown a.under.pages fits, back_lines_good is.disk gone.disk b.told a.answer (few_writes config w is.flow is.disk is.stands) gone.run);
+          good_lines = (move_good a.shown a.under.pages fits, back_lines_good b.told a.answer (went_fit config w is.flow is.pipeline is.stands gone).1);
           words = fits.words;
-          few = job_few config w is.flow is.disk number o a is.stands is.few e;
+          few = job_few config w is.flow is.pipeline number o a is.stands is.few e;
         }
 
 -- a submission
-submit_good : (config : Options) (w : World) (g : Flow) (d d' : Disk) (job : Job) (r : Result ℕ Refusal) → Stands config w g d' → run_after (submit_line job r ∷ []) d ≡ Some d' → AreGood (submit_line job r ∷ [])
-submit_good config w g d d' job (Err r) stands run = (good (lines.Refuse (refusal_word r)) tt refl refl, tt)
-submit_good config w g d d' job (Ok number) stands run = option_and_then_some (run_after []) (step d (lines.Submit number job)) d' run (λ x taken same.
-    let both = cond_some _ _ _ taken in
-    let is : x ≡ d' = same_Some x d' same in
-    let requests : d.requests ++ opened job ∷ [] ≡ d'.requests = ap (λ (y : Disk). y.requests) (both.1 ∙ is) in
-    let last : slice_get d'.requests (length d.requests) ≡ Some (opened job) = ap (λ (rs : List Asked). slice_get rs (length d.requests)) (sym requests) ∙ get_last d.requests (opened job) in
-    let within = slice_get_within d'.requests (length d.requests) (opened job) last in
-    let few = (few_writes config w g d' stands).few in
-    let numbered = both.0 in
-    let id : number ≡ length d.requests + 1 = grind (arith, nat_tests) in
-    (good (lines.Submit number job) (omega arith, asked_fits config w g d' (length d.requests) (opened job) stands last) refl refl, tt))
+submit_good : (job : Job) (r : Result ℕ Refusal) → AreFit (submit_line job r ∷ []) → AreGood (submit_line job r ∷ [])
+submit_good job (Err r) fit = (good (lines.Refuse (refusal_word r)) tt refl refl, tt)
+submit_good job (Ok number) fit = fit
 
 look_good : (quiet : Bool) (other : Line) → IsGood other → AreGood ((if quiet then lines.Quiet else other) ∷ [])
 look_good true other h = (good lines.Quiet tt refl refl, tt)
 look_good false other h = (h, tt)
 
-one_good : (config : Options) (before : List Line) (w : World) (h : Happening) → IsPlain config → (is : IsWell config before w) → IsPermitted w h → HasGone config (lines_at w h) (happens w h) is.disk → ShowsGood (lines_at w h) (happens w h)
+one_good : (config : Options) (before : List Line) (w : World) (h : Happening) → IsPlain config → (is : IsWell config before w) → IsPermitted w h → HasGone (submitted_at h) (CallAt w h) config (lines_at w h) (happens w h) is.pipeline → ShowsGood (lines_at w h) (happens w h)
 one_good config before w FrontMoves plain is within gone = front_good config before w (front_turn w) plain is within refl gone
 one_good config before w BackMoves plain is within gone = back_good config before w (back_turn w Took) is within refl gone
 one_good config before w (JobMoves number outcome) plain is within gone = job_good config before w number outcome (job_turn w number outcome) is within refl gone
-one_good config before w (Submits job) plain is within gone = record { good_lines = submit_good config (happens w (Submits job)) gone.flow is.disk gone.disk job (front_submit.submit_of w.front job).0 gone.stands gone.run; words = is.words; few = is.few }
+one_good config before w (Submission job) plain is within gone = record { good_lines = submit_good job (front_submit.submit_of w.front job).0 (went_fit config w is.flow is.pipeline is.stands gone); words = is.words; few = is.few }
 one_good config before w (Notifies at) plain is within gone = record { good_lines = tt; words = is.words; few = is.few }
 one_good config before w Looks plain is within gone = record { good_lines = look_good (is_quiet w) lines.Busy (good lines.Busy tt refl refl); words = is.words; few = is.few }
 one_good config before w Settles plain is within gone = record { good_lines = look_good (is_quiet w) lines.Unsettled (good lines.Unsettled tt refl refl); words = is.words; few = is.few }
@@ -201,11 +201,11 @@ one_good config before w Settles plain is within gone = record { good_lines = lo
 all_good : (config : Options) (hs : List Happening) (before : List Line) (w : World) → IsPlain config → IsWell config before w → AreAllowed hs w → ArePermitted hs w → AreGood (lines_of hs w)
 all_good config [] before w plain is may within = tt
 all_good config (h ∷ hs) before w plain is may within =
-    let gone = step_kept config w is.flow is.disk h plain is.stands may.0 in
+    let gone = step_kept config w is.flow is.pipeline h plain is.stands may.0 in
     let shows = one_good config before w h plain is within.0 gone in
     let next : IsWell config (before ++ lines_at w h) (happens w h) = record {
       flow = gone.flow;
-      disk = gone.disk;
+      pipeline = after_step is.pipeline gone.step;
       stands = gone.stands;
       follows = follows_happens w h before is.stands.safe within.0 is.follows;
       words = shows.words;
@@ -216,8 +216,8 @@ all_good config (h ∷ hs) before w plain is may within =
 start_well : (config : Options) (detail : Detail) → IsPlain config → IsWell config (lines.Begin config detail ∷ []) (start_of config)
 start_well config detail plain = record {
   flow = start_flow config.start;
-  disk = disk_of [];
-  stands = start_holds config plain [];
+  pipeline = pipeline_of config;
+  stands = start_holds config plain;
   follows = follows_begin config detail;
   words = fresh_words 1114112;
   few = omega arith;

@@ -20,7 +20,7 @@ use Rattle.event_channel.specs.declared.channels.PortState.TheVariants as port
 use Rattle.event_channel.specs.Channels.{state_of, is_pending}
 use Rattle.ring_words.specs.Ring.{requests_of}
 use Rattle.blk_layout.specs.declared.segment.Segment.{Segment}
-use Rattle.plain_disk.specs.Disk.{Disk}
+use Rattle.pipeline_laws.specs.Pipeline.{Pipeline}
 use Rattle.plain_disk.specs.declared.request.Request.{Request as Asked}
 use Rattle.plain_disk.specs.declared.request.Place.{Place}
 use Rattle.hypervisor.specs.Hypervisor.{Hypervisor}
@@ -40,9 +40,9 @@ use Rattle.blk_back.specs.Step.{step_at, step_of, job_ask_of, job_step}
 use Rattle.split_model.specs.World.{World}
 use Rattle.split_model.specs.Happening.{back_turn, job_turn}
 use Rattle.split_model.proofs.SafeActs.{of_back, back_test, of_read, of_disk}
-use Rattle.disk_laws.proofs.Flow.{Flow, segment_for}
-use Rattle.disk_laws.proofs.Holds.{Stands, AtWork, IsWork}
-use Rattle.disk_laws.proofs.Lists.{all_at, found_at, count_set}
+use Rattle.machine_pipeline.proofs.Flow.{Flow, segment_for}
+use Rattle.machine_pipeline.proofs.Holds.{Stands, AtWork, IsWork}
+use Rattle.machine_pipeline.proofs.Lists.{all_at, found_at, count_set}
 use Rattle.report_laws.proofs.Maps.{maps_next, ring_to_map, FewAt, FewMaps, step_few, ring_few}
 use Rattle.report_laws.proofs.BackAsks.{few_fetched}
 
@@ -100,7 +100,7 @@ back_few_at : (b : Stage) (v : View) (h : Hypervisor) (a : BackAct) → v.stage 
 back_few_at stage.MapRing v h a same small e few = of_back (λ (x : BackAct). FewMaps x.under.grants.made (step_at stage.MapRing v x.answer)) _ a (ring_few h v (verdict_at h.pages 8 ReadWrite) few) e
 back_few_at b v h a same small e few = subst (λ (n : ℕ). FewMaps n (step_at b v a.answer)) (sym (unmade h Back (ask_at b v) Took a (back_unmapped b v refl) e)) (step_few h.grants.made b v a.answer same small refl few)
 
-pub back_few : (config : Options) (w : World) (g : Flow) (d : Disk) (a : BackAct) → Stands config w g d → FewMaps w.under.grants.made w.back → back_turn w Took ≡ Some a → FewMaps a.under.grants.made (step_of w.back a.answer)
+pub back_few : (config : Options) (w : World) (g : Flow) (d : Pipeline) (a : BackAct) → Stands config w g d → FewMaps w.under.grants.made w.back → back_turn w Took ≡ Some a → FewMaps a.under.grants.made (step_of w.back a.answer)
 back_few config w g d a stands few e =
     let small = few_fetched config w g d w.back.stage stands.holds in
     let count = stands.holds.indices.count in
@@ -122,18 +122,18 @@ either_work false t t' p q = q
 last_segment : (t : Work) (r : Request) → t.rest ≡ segment_for r ∷ [] → maps_next (let x : Work = next_segment t (rest_of t.rest) in x.stage) ≡ false
 last_segment t r e = subst (λ (rest : List Segment). maps_next (let x : Work = next_segment t (rest_of rest) in x.stage) ≡ false) (sym e) refl
 
-later_unmapped : (asked : List Asked) (done : List Place) (k : ℕ) (r : Request) (t : Work) (s : JobStage) (a : BackAnswer) → maps_next s ≡ false → t.stage ≡ s → AtWork asked done k r t s → maps_next (let x : Work = task.step_at s t a in x.stage) ≡ false
-later_unmapped asked done k r t job.Map a free same at = absurd (true≢false free)
-later_unmapped asked done k r t (job.ReadWord m i) (answer.Word word) free same at = either_stage (i == 127) (job.DiskWrite m) (job.ReadWord m (i + 1)) refl refl
-later_unmapped asked done k r t (job.DiskWrite m) answer.Done free same at =
+later_unmapped : (r : Request) (t : Work) (s : JobStage) (a : BackAnswer) → maps_next s ≡ false → t.stage ≡ s → AtWork r t s → maps_next (let x : Work = task.step_at s t a in x.stage) ≡ false
+later_unmapped r t job.Map a free same at = absurd (true≢false free)
+later_unmapped r t (job.ReadWord m i) (answer.Word word) free same at = either_stage (i == 127) (job.DiskWrite m) (job.ReadWord m (i + 1)) refl refl
+later_unmapped r t (job.DiskWrite m) answer.Done free same at =
     let next = counted t in
     either_work (next.within == last_of next.rest) (record next { stage = job.Unmap m }) (record next { within = next.within + 1; stage = sector_stage next.writes m }) refl (sector_unmapped next.writes m)
-later_unmapped asked done k r t (job.DiskWrite m) answer.DiskFailed free same at = refl
-later_unmapped asked done k r t (job.DiskRead m) a free same at = absurd at
-later_unmapped asked done k r t (job.WriteWord m i) a free same at = absurd at
-later_unmapped asked done k r t (job.Unmap m) answer.Done free same at = last_segment t r at.0
-later_unmapped asked done k r t (job.GiveUp m) answer.Done free same at = refl
-later_unmapped asked done k r t s a free same at = ap maps_next same ∙ free
+later_unmapped r t (job.DiskWrite m) answer.DiskFailed free same at = refl
+later_unmapped r t (job.DiskRead m) a free same at = absurd at
+later_unmapped r t (job.WriteWord m i) a free same at = absurd at
+later_unmapped r t (job.Unmap m) answer.Done free same at = last_segment t r at.0
+later_unmapped r t (job.GiveUp m) answer.Done free same at = refl
+later_unmapped r t s a free same at = ap maps_next same ∙ free
 
 work_unmapped : (s : JobStage) (t : Work) → maps_next s ≡ false → is_map (task.ask_at s t) ≡ false
 work_unmapped job.Map t free = absurd (true≢false free)
@@ -153,24 +153,24 @@ map_few h number gref mode t (Err refusal) = omega arith
 still_few : (made made' : ℕ) (s s' : JobStage) → made' ≡ made → maps_next s' ≡ false → MadeWith made' s' ≤ MadeWith made s
 still_few made made' s s' same free = let none : ◌≡◌ {A = ℕ} (cond (maps_next s') 1 0) 0 = ap (λ (b : Bool). cond b 1 0) free in omega arith
 
-work_few : (asked : List Asked) (done : List Place) (k number : ℕ) (h : Hypervisor) (r : Request) (t : Work) (s : JobStage) (o : Outcome) (a : BackAct) → t.stage ≡ s → AtWork asked done k r t s → back_act h (Job number) (task.ask_at s t) o ≡ Some a → MadeWith a.under.grants.made (let x : Work = task.step_at s t a.answer in x.stage) ≤ MadeWith h.grants.made s
-work_few asked done k number h r t job.Map o a same at e =
-    let asks : back_act h (Job number) (ask.Map (r.frame + 6) (mode_of t.writes)) o ≡ Some a = subst (λ (rest : List Segment). back_act h (Job number) (map_ask rest t.writes) o ≡ Some a) at.0.rest e in
+work_few : (number : ℕ) (h : Hypervisor) (r : Request) (t : Work) (s : JobStage) (o : Outcome) (a : BackAct) → t.stage ≡ s → AtWork r t s → back_act h (Job number) (task.ask_at s t) o ≡ Some a → MadeWith a.under.grants.made (let x : Work = task.step_at s t a.answer in x.stage) ≤ MadeWith h.grants.made s
+work_few number h r t job.Map o a same at e =
+    let asks : back_act h (Job number) (ask.Map (r.frame + 6) (mode_of t.writes)) o ≡ Some a = subst (λ (rest : List Segment). back_act h (Job number) (map_ask rest t.writes) o ≡ Some a) at.rest e in
     of_back (λ (x : BackAct). MadeWith x.under.grants.made (let y : Work = task.step_at job.Map t x.answer in y.stage) ≤ MadeWith h.grants.made job.Map) _ a (map_few h number (r.frame + 6) (mode_of t.writes) t (verdict_at h.pages (r.frame + 6) (mode_of t.writes))) asks
-work_few asked done k number h r t s o a same at e =
-    still_few h.grants.made a.under.grants.made s _ (unmade h (Job number) (task.ask_at s t) o a (work_unmapped s t refl) e) (later_unmapped asked done k r t s a.answer refl same at)
+work_few number h r t s o a same at e =
+    still_few h.grants.made a.under.grants.made s _ (unmade h (Job number) (task.ask_at s t) o a (work_unmapped s t refl) e) (later_unmapped r t s a.answer refl same at)
 
-found_few : (config : Options) (w : World) (g : Flow) (d : Disk) (number p : ℕ) (t : Work) (o : Outcome) (a : BackAct) → Stands config w g d → FewMaps w.under.grants.made w.back → job_turn w number o ≡ Some a → place_of w.back.jobs.works number ≡ Some p → slice_get w.back.jobs.works p ≡ Some t → IsWork g.submitted g.fetched d.requests d.done t → FewMaps a.under.grants.made (job_step w.back number a.answer)
+found_few : (config : Options) (w : World) (g : Flow) (d : Pipeline) (number p : ℕ) (t : Work) (o : Outcome) (a : BackAct) → Stands config w g d → FewMaps w.under.grants.made w.back → job_turn w number o ≡ Some a → place_of w.back.jobs.works number ≡ Some p → slice_get w.back.jobs.works p ≡ Some t → IsWork g.submitted g.fetched t → FewMaps a.under.grants.made (job_step w.back number a.answer)
 found_few config w g d number p t o a stands few e place here work =
     let asked : job_ask_of w.back number ≡ task.ask_at t.stage t = rw (stands.holds.unhalted, place, here) refl in
     let acts : back_act w.under (Job number) (task.ask_at t.stage t) o ≡ Some a = subst (λ (x : BackAsk). back_act w.under (Job number) x o ≡ Some a) asked e in
-    let less = work_few d.requests d.done (t.number - 1) number w.under work.r t t.stage o a refl work.at acts in
+    let less = work_few number w.under work.r t t.stage o a refl work.at acts in
     let now : Work = task.step_at t.stage t a.answer in
     let set = count_set (λ (x : Work). maps_next x.stage) w.back.jobs.works p t now here in
     let works : (let v : View = job_step w.back number a.answer in v.jobs.works) ≡ slice_set w.back.jobs.works p now = rw (place, here) refl in
     subst (λ (ws : List Work). FewAt a.under.grants.made ws w.back.stage w.back.fetched) (sym works) (omega arith)
 
-pub job_few : (config : Options) (w : World) (g : Flow) (d : Disk) (number : ℕ) (o : Outcome) (a : BackAct) → Stands config w g d → FewMaps w.under.grants.made w.back → job_turn w number o ≡ Some a → FewMaps a.under.grants.made (job_step w.back number a.answer)
+pub job_few : (config : Options) (w : World) (g : Flow) (d : Pipeline) (number : ℕ) (o : Outcome) (a : BackAct) → Stands config w g d → FewMaps w.under.grants.made w.back → job_turn w number o ≡ Some a → FewMaps a.under.grants.made (job_step w.back number a.answer)
 job_few config w g d number o a stands few e = by_place (place_of w.back.jobs.works number) refl
   where
     by_place : (place : Option ℕ) → place_of w.back.jobs.works number ≡ place → FewMaps a.under.grants.made (job_step w.back number a.answer)
@@ -179,4 +179,4 @@ job_few config w g d number o a stands few e = by_place (place_of w.back.jobs.wo
         absurd (none-some a (sym (ap (λ (x : BackAsk). back_act w.under (Job number) x o) waits) ∙ e))
     by_place (Some p) place =
         let found = found_at (λ (t : Work). t.number == number) w.back.jobs.works p place in
-        found_few config w g d number p found.0 o a stands few e place found.1 (all_at (IsWork g.submitted g.fetched d.requests d.done) w.back.jobs.works p found.0 stands.holds.works.each found.1)
+        found_few config w g d number p found.0 o a stands few e place found.1 (all_at (IsWork g.submitted g.fetched) w.back.jobs.works p found.0 stands.holds.works.each found.1)

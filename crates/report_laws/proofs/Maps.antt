@@ -25,7 +25,7 @@ use Rattle.blk_back.specs.declared.stage.Stage.TheVariants as stage
 use Rattle.blk_back.specs.View.{View}
 use Rattle.blk_back.specs.Ask.{next_reply}
 use Rattle.blk_back.specs.Step.{giving_up, give_up, overrun, looked, loop_step, next_number, fetched, fetch_step, step_at}
-use Rattle.disk_laws.proofs.Lists.{found_at}
+use Rattle.machine_pipeline.proofs.Lists.{found_at}
 
 -- a job that maps next
 abbrev pub maps_next : JobStage → Bool

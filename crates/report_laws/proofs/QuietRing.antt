@@ -9,7 +9,6 @@ use Rattle.schedule_text.specs.declared.line.Line.TheVariants as lines
 use Rattle.xen_pages.specs.Pages.{word_of}
 use Rattle.report_rules.specs.Ring.{start_told, start_of}
 use Rattle.report_rules.specs.Value.{value_before}
-use Rattle.plain_disk.specs.Disk.{disk_of}
 use Rattle.split_model.specs.World as world
 use Rattle.split_model.specs.World.{World, is_quiet}
 use Rattle.split_model.specs.Happening.{Happening, happens, after, lines_of}
@@ -18,11 +17,11 @@ use Rattle.split_model.specs.Report.{report_of, ended_report_of}
 use Rattle.move_laws.specs.Tells.{Tells}
 use Rattle.move_laws.proofs.Runs.{report_follows}
 use Rattle.move_laws.proofs.Recorded.{report_kept, ended_kept}
-use Rattle.disk_laws.specs.Plain.{IsPlain}
-use Rattle.disk_laws.specs.Allowed.{AreAllowed}
-use Rattle.disk_laws.proofs.Flow.{wrapped}
-use Rattle.disk_laws.proofs.Quiet.{IsCaughtUp, caught_up_at}
-use Rattle.disk_laws.proofs.Together.{HasGone, always_runs}
+use Rattle.machine_pipeline.specs.Plain.{IsPlain}
+use Rattle.machine_pipeline.specs.Allowed.{AreAllowed}
+use Rattle.machine_pipeline.proofs.Flow.{wrapped}
+use Rattle.machine_pipeline.proofs.Quiet.{IsCaughtUp, caught_up_at}
+use Rattle.machine_pipeline.proofs.Together.{IsStanding, always_stands}
 use Rattle.report_laws.specs.Begun.{is_begin}
 use Rattle.report_laws.specs.AtRest.{IsAtRest}
 use Rattle.report_laws.specs.QuietRing.{answers_told, IsServedRing, IsQuietRingAt, IsQuietRing}
@@ -70,14 +69,14 @@ served_where_quiet config history plain may quiet = record {
     responses : value_before report 2 2 ≡ word_of w.under.pages 2 2
     responses = tells.values 2 2 (omega arith) (omega arith)
 
-    gone : HasGone config (lines_of history (world.start_of config)) w (disk_of [])
-    gone = always_runs config history [] plain may
+    gone : IsStanding config w
+    gone = always_stands config history plain may
 
     caught : IsCaughtUp w gone.flow
-    caught = caught_up_at config w gone.flow gone.disk quiet gone.stands
+    caught = caught_up_at config w gone.flow gone.pipeline quiet gone.stands
 
     rest : IsAtRest w
-    rest = rest_of config w gone.flow gone.disk quiet gone.stands
+    rest = rest_of config w gone.flow gone.pipeline quiet gone.stands
 
     taken : w.front.ring.cons ≡ wrapped config.start (answers_told report)
     taken = subst (CountsAt config.start (answers_told report) w.front.ring.cons) caught.looping (report_counts config Moves history plain)

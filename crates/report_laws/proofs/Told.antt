@@ -1,28 +1,27 @@
--- The lines that tell what came of a move are lines of the grammar without text, where the plain disk takes them.
-use Rattle.std.proofs.Common.{◌≡◌, ℕ, ◌-◌, ◌^◌, ◌<◌, ◌&&◌, Bool, true, false, not, List, [], ◌∷◌, ◌++◌, length, refl, sym, ap, ◌∙◌, arith, true≢false}
-use Rattle.std.specs.Prelude.{Option, Some, None, nat_lt, slice_get, is_none}
-use Rattle.std.specs.List.{AllByRecursion}
-use Rattle.std.proofs.lemmas.Bool.Decides.{nat_tests}
-use Rattle.std.proofs.lemmas.Option.{none-some, cond_some, option_and_then_some, slice_get_within}
+-- The lines that tell what came of a move are lines of the grammar without text, as the pipeline's steps are.
+use Rattle.std.proofs.Common.{◌≡◌, ℕ, ◌+◌, ◌^◌, ◌<◌, ◌&&◌, Bool, true, false, List, [], ◌∷◌, ◌++◌, length, refl, sym, ap, ◌∙◌, subst, arith, true≢false}
+use Rattle.std.specs.Prelude.{Option, Some, None, slice_get}
+use Rattle.std.specs.List.{AllByRecursion, list_all}
+use Rattle.std.proofs.lemmas.Option.{slice_get_within}
+use Rattle.blk_base.specs.declared.config.Job.{Job}
 use Rattle.blk_base.specs.declared.config.Job.TheVariants.{Write}
-use Rattle.blk_base.specs.declared.operation.Status.{Status}
 use Rattle.blk_base.specs.declared.ask.BackAnswer.{BackAnswer}
 use Rattle.blk_base.specs.declared.ask.BackAnswer.TheVariants as answers
 use Rattle.schedule_text.specs.declared.line.Line.{Line}
 use Rattle.schedule_text.specs.declared.line.Line.TheVariants as lines
 use Rattle.schedule_text.specs.Plain.{plain}
-use Rattle.schedule_text.specs.Range.{IsInRange, HasWidths, is_allowed}
-use Rattle.plain_disk.specs.declared.request.Request.{Request as Asked}
-use Rattle.plain_disk.specs.declared.request.Place.{Place}
-use Rattle.plain_disk.specs.Request.{places_of, is_read, is_done, may_serve, is_open}
-use Rattle.plain_disk.specs.Disk.{Disk, request_of}
-use Rattle.plain_disk.specs.Step.{step, after, effect_of, read_of, fault_of, replied_of, answered_of}
+use Rattle.schedule_text.specs.Range.{IsInRange, HasWidths, is_allowed, JobHasWidths}
+use Rattle.plain_disk.specs.Request.{places_of, is_read}
 use Rattle.blk_front.specs.declared.told.Told.{Told}
 use Rattle.blk_front.specs.declared.told.Told.TheVariants as front_told
 use Rattle.blk_back.specs.declared.told.BackTold.{BackTold}
 use Rattle.blk_back.specs.declared.told.BackTold.TheVariants as back_told
 use Rattle.split_model.specs.Shown.{front_lines, back_lines, effect_line}
-use Rattle.pipeline_laws.proofs.Answered.{number_at}
+use Rattle.pipeline_laws.specs.Station.{Request as Asked}
+use Rattle.pipeline_laws.specs.Move.{Move, Fills, Reads, Flushes, Trims, Fails, Replies, Answers, Tells, move_lines}
+use Rattle.pipeline_laws.specs.Pipeline.{Pipeline, Step, Submits, Refuses, Moves, Connects, StartsToClose, Closes, Leaves, Resumes, Rests, Shows, step_lines}
+use Rattle.pipeline_laws.specs.Allowed.{IsAllowed, May, is_aside}
+use Rattle.machine_pipeline.specs.Step.{Does, IsAllowedStep, shown_of}
 
 -- a line of the grammar, with nothing unused behind its texts
 pub record IsGood (line : Line) : Type 0 where
@@ -44,91 +43,89 @@ pub record AreFewWrites (asked : List Asked) : Type 0 where
   pub few : length asked < 2 ^ 32
   pub writes : (k : ℕ) (q : Asked) → slice_get asked k ≡ Some q → (sector : ℕ) × (tag : ℕ) × (q.job ≡ Write sector 1 tag)
 
-long_id : (asked : List Asked) (id : ℕ) (q : Asked) → AreFewWrites asked → request_of asked id ≡ Some q → id < 2 ^ 64
-long_id asked id q all e =
-    let at = number_at asked id q e in
-    let within = slice_get_within asked (id - 1) q at.1 in
-    let few = all.few in
-    let positive = at.0 in
-    omega arith
+-- of the lines that tell of a request, each is a line of the grammar
+abbrev pub IsFit : Line → Type 0
+IsFit (lines.Submit id job) = IsGood (lines.Submit id job)
+IsFit (lines.Effect id index) = IsGood (lines.Effect id index)
+IsFit (lines.EffectRead id index words) = ⊥
+IsFit (lines.Fault id index) = IsGood (lines.Fault id index)
+IsFit (lines.Reply id status) = IsGood (lines.Reply id status)
+IsFit (lines.Answer id status) = IsGood (lines.Answer id status)
+IsFit line = Unit {0}
 
-one_place : (asked : List Asked) (id : ℕ) (q : Asked) → AreFewWrites asked → request_of asked id ≡ Some q → places_of q.job ≡ 1
-one_place asked id q all e = let its = all.writes (id - 1) q (number_at asked id q e).1 in ap places_of its.2
+abbrev pub AreFit : List Line → Type 0
+AreFit ls = AllByRecursion IsFit ls
 
-no_read : (asked : List Asked) (id : ℕ) (q : Asked) → AreFewWrites asked → request_of asked id ≡ Some q → is_read q.job ≡ false
-no_read asked id q all e = let its = all.writes (id - 1) q (number_at asked id q e).1 in ap is_read its.2
+aside_fit : (line : Line) → is_aside line ≡ true → IsFit line
+aside_fit (lines.Submit id job) e = absurd (true≢false (sym e))
+aside_fit (lines.Effect id index) e = absurd (true≢false (sym e))
+aside_fit (lines.EffectRead id index words) e = absurd (true≢false (sym e))
+aside_fit (lines.Fault id index) e = absurd (true≢false (sym e))
+aside_fit (lines.Reply id status) e = absurd (true≢false (sym e))
+aside_fit (lines.Answer id status) e = absurd (true≢false (sym e))
+aside_fit line e = tt
 
-fourth : (a b c d e : Bool) → (a && b && c && d && e) ≡ true → d ≡ true
-fourth true true true true e t = refl
-fourth true true true false e t = absurd (true≢false (sym t))
-fourth true true false d e t = absurd (true≢false (sym t))
-fourth true false c d e t = absurd (true≢false (sym t))
-fourth false b c d e t = absurd (true≢false (sym t))
+-- a move of a request
+move_fit : (d : Pipeline) (k : ℕ) (x : Asked) (move : Move) → AreFewWrites d.requests → slice_get d.requests k ≡ Some x → May d k x move → AreFit (move_lines k move)
+move_fit d k x move all here may = by_move move may
+  where
+    small : k + 1 < 2 ^ 64
+    small = let within = slice_get_within d.requests k x here in let few = all.few in omega arith
 
-middle : (a b c : Bool) → (a && b && c) ≡ true → b ≡ true
-middle true true c t = refl
-middle true false c t = absurd (true≢false (sym t))
-middle false b c t = absurd (true≢false (sym t))
+    one : places_of x.job ≡ 1
+    one = let its = all.writes k x here in ap places_of its.2
 
-first : (a b : Bool) → (a && b) ≡ true → a ≡ true
-first true b t = refl
-first false b t = absurd (true≢false (sym t))
+    no_read : is_read x.job ≡ false
+    no_read = let its = all.writes k x here in ap is_read its.2
 
-head : (a b c : Bool) → (a && b && c) ≡ true → a ≡ true
-head true b c t = refl
-head false b c t = absurd (true≢false (sym t))
+    by_move : (move : Move) → May d k x move → AreFit (move_lines k move)
+    by_move (Fills index) may = (good (lines.Effect (k + 1) index) (small, omega (arith, may.1, one)) refl refl, tt)
+    by_move (Reads index words) may = absurd (true≢false (sym may.0 ∙ no_read))
+    by_move Flushes may = (tt, tt)
+    by_move Trims may = (tt, tt)
+    by_move (Fails index) may = (good (lines.Fault (k + 1) index) (small, omega (arith, may.0, one)) refl refl, tt)
+    by_move (Replies status) may = (good (lines.Reply (k + 1) status) small refl refl, tt)
+    by_move (Answers status) may = (good (lines.Answer (k + 1) status) small refl refl, tt)
+    by_move (Tells index words) may = (tt, tt)
+    by_move move may = tt
 
--- the request that a line names, where the plain disk takes the line
-named : {P : Type 0} (o : Option Asked) (of : Option Asked → Option Disk) (d' : Disk) → of None ≡ None → of o ≡ Some d' → ((q : Asked) → o ≡ Some q → of (Some q) ≡ Some d' → P) → P
-named None of d' none e so = absurd (none-some d' (sym none ∙ e))
-named (Some q) of d' none e so = so q refl e
+step_fit : (d : Pipeline) (s : Step) → AreFewWrites d.requests → ((job : Job) → s ≡ Submits job → JobHasWidths job) → IsAllowed d s → AreFit (step_lines d s)
+step_fit d (Submits job) all asked may = (good (lines.Submit (length d.requests + 1) job) (let few = all.few in omega arith, asked job refl) refl refl, tt)
+step_fit d (Refuses job refusal) all asked may = (tt, tt)
+step_fit d (Moves k x move) all asked may = move_fit d k x move all may.0.here may.1
+step_fit d Connects all asked may = (tt, tt)
+step_fit d StartsToClose all asked may = (tt, tt)
+step_fit d Closes all asked may = (tt, tt)
+step_fit d (Leaves why) all asked may = (tt, tt)
+step_fit d Resumes all asked may = (tt, tt)
+step_fit d Rests all asked may = (tt, tt)
+step_fit d (Shows line) all asked may = (aside_fit line may, tt)
 
-index_fits : (asked : List Asked) (id index : ℕ) (q : Asked) → AreFewWrites asked → request_of asked id ≡ Some q → nat_lt index (places_of q.job) ≡ true → index < 2 ^ 32
-index_fits asked id index q all e t =
-    let one = one_place asked id q all e in
-    let within : nat_lt index 1 ≡ true = ap (nat_lt index) (sym one) ∙ t in
-    grind (arith, nat_tests)
+both_true : (a b : Bool) → (a && b) ≡ true → (a ≡ true) × (b ≡ true)
+both_true true b e = (refl, e)
+both_true false b e = absurd (true≢false (sym e))
 
-within_places : (done : List Place) (id index : ℕ) (q : Asked) → may_serve done id q index ≡ true → nat_lt index (places_of q.job) ≡ true
-within_places done id index q t = fourth (is_open q.stage) (is_none q.reply) (not q.faulted) (nat_lt index (places_of q.job)) (not (is_done done id index)) t
+with_asides : (asides : List Line) (ls : List Line) → list_all is_aside asides ≡ true → AreFit ls → AreFit (asides ++ ls)
+with_asides [] ls e fit = fit
+with_asides (line ∷ asides) ls e fit = let its = both_true (is_aside line) (list_all is_aside asides) e in (aside_fit line its.0, with_asides asides ls its.1 fit)
 
-effect_good : (d d' : Disk) (id index : ℕ) → AreFewWrites d.requests → step d (lines.Effect id index) ≡ Some d' → IsGood (lines.Effect id index)
-effect_good d d' id index all e = named (request_of d.requests id) (effect_of d id index) d' refl e (λ q at taken.
-    let passed = (cond_some _ _ _ taken).0 in
-    let serves : may_serve d.done id q index ≡ true = middle _ _ _ passed in
-    good (lines.Effect id index) (long_id d.requests id q all at, index_fits d.requests id index q all at (within_places d.done id index q serves)) refl refl)
+-- what a happening shows
+pub shown_fit : (asked : Option Job) (call : (before after : List (List ℕ)) → Type 0) (said : List Line) (d : Pipeline) (step : Option Step) → AreFewWrites d.requests → ((job : Job) → step ≡ Some (Submits job) → JobHasWidths job) → Does asked call said d step → AreFit said
+shown_fit asked call said d step all widths does = subst AreFit (sym does.shows) (with_asides does.asides (shown_of d step) does.aside (by_step step widths does.allowed))
+  where
+    by_step : (s : Option Step) → ((job : Job) → s ≡ Some (Submits job) → JobHasWidths job) → IsAllowedStep d s → AreFit (shown_of d s)
+    by_step None widths may = tt
+    by_step (Some s) widths may = step_fit d s all (λ job e. widths job (ap Some e)) may
 
-no_effect_read : (d d' : Disk) (id index : ℕ) (words : List ℕ) → AreFewWrites d.requests → step d (lines.EffectRead id index words) ≡ Some d' → ⊥
-no_effect_read d d' id index words all e = named (request_of d.requests id) (read_of d id index words) d' refl e (λ q at taken.
-    true≢false (sym (head _ _ _ (cond_some _ _ _ taken).0) ∙ no_read d.requests id q all at))
+pub front_lines_good : (t : Option Told) → ((word : ℕ) → t ≡ Some (front_told.Broken word) → ⊥) → AreFit (front_lines t) → AreGood (front_lines t)
+front_lines_good None whole fit = tt
+front_lines_good (Some front_told.Ready) whole fit = (good lines.Ready tt refl refl, tt)
+front_lines_good (Some (front_told.Answer id status)) whole fit = fit
+front_lines_good (Some (front_told.Broken word)) whole fit = absurd (whole word refl)
 
-fault_good : (d d' : Disk) (id index : ℕ) → AreFewWrites d.requests → step d (lines.Fault id index) ≡ Some d' → IsGood (lines.Fault id index)
-fault_good d d' id index all e = named (request_of d.requests id) (fault_of d id index) d' refl e (λ q at taken.
-    let serves : may_serve d.done id q index ≡ true = first _ _ (cond_some _ _ _ taken).0 in
-    good (lines.Fault id index) (long_id d.requests id q all at, index_fits d.requests id index q all at (within_places d.done id index q serves)) refl refl)
-
-reply_good : (d d' : Disk) (id : ℕ) (status : Status) → AreFewWrites d.requests → step d (lines.Reply id status) ≡ Some d' → IsGood (lines.Reply id status)
-reply_good d d' id status all e = named (request_of d.requests id) (replied_of d id status) d' refl e (λ q at taken. good (lines.Reply id status) (long_id d.requests id q all at) refl refl)
-
-answer_good : (d d' : Disk) (id : ℕ) (status : Status) → AreFewWrites d.requests → step d (lines.Answer id status) ≡ Some d' → IsGood (lines.Answer id status)
-answer_good d d' id status all e = named (request_of d.requests id) (answered_of d id status) d' refl e (λ q at taken. good (lines.Answer id status) (long_id d.requests id q all at) refl refl)
-
--- one line that the plain disk takes
-one_taken : (line : Line) (d d' : Disk) → after (line ∷ []) d ≡ Some d' → (x : Disk) × (step d line ≡ Some x)
-one_taken line d d' e = option_and_then_some (after []) (step d line) d' e (λ x taken rest. (x, taken))
-
-pub front_lines_good : (d d' : Disk) (t : Option Told) → AreFewWrites d.requests → ((word : ℕ) → t ≡ Some (front_told.Broken word) → ⊥) → after (front_lines t) d ≡ Some d' → AreGood (front_lines t)
-front_lines_good d d' None all whole e = tt
-front_lines_good d d' (Some front_told.Ready) all whole e = (good lines.Ready tt refl refl, tt)
-front_lines_good d d' (Some (front_told.Answer id status)) all whole e = let is = one_taken (lines.Answer id status) d d' e in (answer_good d is.0 id status all is.1, tt)
-front_lines_good d d' (Some (front_told.Broken word)) all whole e = absurd (whole word refl)
-
-effect_line_good : (d d' : Disk) (id index : ℕ) (a : BackAnswer) → AreFewWrites d.requests → after (effect_line id index a ∷ []) d ≡ Some d' → IsGood (effect_line id index a)
-effect_line_good d d' id index (answers.Sector words) all e = let is = one_taken (lines.EffectRead id index words) d d' e in absurd (no_effect_read d is.0 id index words all is.1)
-effect_line_good d d' id index a all e = let is = one_taken (lines.Effect id index) d d' e in effect_good d is.0 id index all is.1
-
-pub back_lines_good : (d d' : Disk) (t : Option BackTold) (a : BackAnswer) → AreFewWrites d.requests → after (back_lines t a) d ≡ Some d' → AreGood (back_lines t a)
-back_lines_good d d' None a all e = tt
-back_lines_good d d' (Some (back_told.Effect id index)) a all e = (effect_line_good d d' id index a all e, tt)
-back_lines_good d d' (Some (back_told.Fault id index)) a all e = let is = one_taken (lines.Fault id index) d d' e in (fault_good d is.0 id index all is.1, tt)
-back_lines_good d d' (Some (back_told.Reply id status)) a all e = let is = one_taken (lines.Reply id status) d d' e in (reply_good d is.0 id status all is.1, tt)
+pub back_lines_good : (t : Option BackTold) (a : BackAnswer) → AreFit (back_lines t a) → AreGood (back_lines t a)
+back_lines_good None a fit = tt
+back_lines_good (Some (back_told.Effect id index)) (answers.Sector words) fit = absurd fit.0
+back_lines_good (Some (back_told.Effect id index)) a fit = fit
+back_lines_good (Some (back_told.Fault id index)) a fit = fit
+back_lines_good (Some (back_told.Reply id status)) a fit = fit

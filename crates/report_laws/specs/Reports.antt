@@ -7,8 +7,8 @@ use Rattle.split_model.specs.World.{World, start_of}
 use Rattle.split_model.specs.Happening.{Happening, after}
 use Rattle.schedule_text.specs.Recorder.{kept_of}
 use Rattle.split_model.specs.Report.{report_of, ended_report_of}
-use Rattle.disk_laws.specs.Plain.{IsPlain}
-use Rattle.disk_laws.specs.Allowed.{AreAllowed}
+use Rattle.machine_pipeline.specs.Plain.{IsPlain}
+use Rattle.machine_pipeline.specs.Allowed.{AreAllowed}
 
 -- of the report of each history
 abbrev pub OfEachReport : (Options → Detail → List Line → Type 0) → Type 0

@@ -3,7 +3,7 @@
 //! (`io/ring.h`), and its text gives back exactly its lines. The machine is the pure function of
 //! `split_model`; each law is over every list of happenings, of what a recorder keeps of the
 //! report, so with and without the lines of moves (`OfEachReport`), and where it says `OfPlain`
-//! the premises are those of `disk_laws`. What obeys a rule obeys it up to each of its lines.
+//! the premises are those of `machine_pipeline`. What obeys a rule obeys it up to each of its lines.
 #![tactic(auto)]
 
 ghost use Rattle.std.specs.Prelude.{◌≡◌, ℕ, ◌≤◌, ◌^◌, List, [], ◌∷◌, ◌++◌, map, Contains};
@@ -31,7 +31,8 @@ ghost use Rattle.report_laws.specs.Wrong.{begun_twice, moved, ready_late, unserv
 pub fn every_report_begins_once()
     ensures report { OfEachReport IsBegun }
     ensures ended { OfEachEnded IsBegun }
-    ensures before { (config : Options) (detail : Detail) (first more : List Line) → IsBegun config detail (first ++ more) → IsBegunSoFar config detail first }
+    ensures before { (config : Options) (detail : Detail) (first more : List Line) → IsBegun config detail (first ++ more)
+        → IsBegunSoFar config detail first }
 {}
 
 /// A `ready` line stands before each `quiet` line.
@@ -64,7 +65,8 @@ pub fn every_report_is_in_the_grammar()
 /// Two lists of lines of the grammar that have one text are the same, but for what lies unused
 /// behind a line's texts.
 pub fn one_text_has_one_reading()
-    ensures { (one other : List Line) → AreInGrammar one → AreInGrammar other → report_text one ≡ report_text other → map plain one ≡ map plain other }
+    ensures { (one other : List Line) → AreInGrammar one → AreInGrammar other → report_text one ≡ report_text other
+        → map plain one ≡ map plain other }
 {}
 
 /// The rules refuse a second `begin`, a move where none is shown, `quiet` before `ready`, `quiet`

@@ -1,4 +1,4 @@
-use Rattle.disk_laws.proofs.Runs.{reports_run, ended_reports_run}
+use Rattle.disk_laws.proofs.Reports.{reports_run, ended_reports_run}
 use Rattle.disk_laws.proofs.every_report_is_a_run_of_the_plain_disk.Goals as goal
 
 pub returns-clause-report : goal.returns-clause-report

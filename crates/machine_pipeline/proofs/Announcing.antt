@@ -1,0 +1,120 @@
+-- The front announces the request that it pushed: a back that sleeps, and knew of none before it, is sent an event.
+use Rattle.std.proofs.Common.{◌≡◌, ℕ, ◌+◌, ◌-◌, Bool, true, false, List, refl, inl, inr, arith, None}
+use Rattle.std.specs.Prelude.{if◌then◌else◌}
+use Rattle.std.specs.List.{list_any}
+use Rattle.blk_base.specs.Options.{Options}
+use Rattle.blk_base.specs.Distance.{distance_of}
+use Rattle.ring_words.specs.Ring.{notifies}
+use Rattle.xen_pages.specs.Pages.{word_of}
+use Rattle.event_channel.specs.declared.channels.PortState.{PortState}
+use Rattle.event_channel.specs.Channels.{is_bound_port}
+use Rattle.pipeline_laws.specs.Pipeline.{Pipeline}
+use Rattle.blk_front.specs.declared.stage.Stage.{Stage as FrontStage}
+use Rattle.blk_front.specs.declared.stage.Stage.TheVariants as front
+use Rattle.blk_front.specs.View.{next_request}
+use Rattle.blk_back.specs.declared.stage.Stage.{Stage as BackStage}
+use Rattle.blk_back.specs.declared.stage.Stage.TheVariants as back
+use Rattle.split_model.specs.World.{World}
+use Rattle.split_model.specs.Safe.{IsSafe}
+use Rattle.machine_pipeline.proofs.Flow.{Flow, wrapped, filled, is_named, is_granted, entered, may_back_sleep, is_bound_back, may_front_sleep, is_issuing}
+use Rattle.machine_pipeline.proofs.Holds.{FrontAt, FrontSends, PortsAt, Holds}
+use Rattle.machine_pipeline.proofs.Turns.{FrontGoes, said_nothing}
+use Rattle.machine_pipeline.proofs.Issuing.{ring_turned, slots_turned, frames_turned, entries_turned, with_front, issue_kept}
+
+-- a step that changes the stage alone, between two at which nothing of a request is begun
+turned_on : (config : Options) (w : World) (g : Flow) (d : Pipeline) (s s' : FrontStage)
+    → may_front_sleep s ≡ true → may_front_sleep s' ≡ true → is_issuing s' ≡ is_issuing s
+    → Holds config w g d s w.back.stage
+    → FrontAt g.start g.pushed g.taken g.front_seen g.submitted g.replies (next_request w.front) w.front.entry s'
+    → filled s ≡ 0 → filled s' ≡ 0 → entered s ≡ 0 → entered s' ≡ 0 → is_named s' ≡ false → is_granted s' ≡ false
+    → (w.back.asleep ≡ true → FrontSends s g.pushed g.fetched → FrontSends s' g.pushed g.fetched)
+    → Holds config (with_front w s' w.front.entry w.under.pages) g d s' w.back.stage
+turned_on config w g d s s' i i' same h at full full' few few' unnamed ungranted sends =
+    issue_kept config w g d s s' w.front.entry w.under.pages i i' same h at h.memory (λ x lt. refl) (record { flags = refl; frame = refl })
+    (slots_turned g.start g.fetched g.pushed g.taken g.replied g.submitted g.replies w.under.pages w.under.pages s s' w.back.stage (λ x from to. refl) (omega arith) few' h.slots)
+    (frames_turned g.pushed w.under.pages w.under.pages s s' w.front.requests (omega arith) (omega arith) (λ n x lt i l. refl) h.frames)
+    (entries_turned g.pushed w.under.pages w.under.pages w.under.grants.live s s' w.front.requests i' (λ t. absurd (cc)) (λ t. absurd (cc)) (λ n x lt. record { flags = refl; frame = refl }) h.entries)
+    sends
+
+pub producer_fence_goes : (config : Options) (w : World) (g : Flow) (d : Pipeline) (old : ℕ) → IsSafe w → Holds config w g d (front.ProducerFence old) w.back.stage → FrontGoes config w d (front.ProducerFence old)
+producer_fence_goes config w g d old safe h = record {
+  flow = g;
+  step = None;
+  does = said_nothing d _ w.front.told safe.front_told;
+  holds = turned_on config w g d (front.ProducerFence old) (front.RequestEvent old) refl refl refl h h.front_at refl refl refl refl refl refl (λ t sends. sends);
+}
+
+-- the first request that a sleeping back doesn't know of passes its event word
+notified : (start fetched pushed old prod event : ℕ) → old ≡ wrapped start (pushed - 1) → prod ≡ wrapped start pushed → event ≡ wrapped start (fetched + 1) → pushed ≡ fetched + 1 → notifies old prod event ≡ true
+notified start fetched pushed old prod event e f i one =
+    let none : distance_of event prod ≡ 0 = omega arith in
+    let some : distance_of old prod ≡ 1 = omega arith in
+    rw (none, some) refl
+
+pub event_goes : (config : Options) (w : World) (g : Flow) (d : Pipeline) (old : ℕ) → IsSafe w → Holds config w g d (front.RequestEvent old) w.back.stage → FrontGoes config w d (front.RequestEvent old)
+event_goes config w g d old safe h = record {
+  flow = g;
+  step = None;
+  does = said_nothing d _ w.front.told safe.front_told;
+  holds = by_test (notifies old w.front.ring.prod (word_of w.under.pages 2 1)) refl;
+}
+  where
+    by_test : (b : Bool) → notifies old w.front.ring.prod (word_of w.under.pages 2 1) ≡ b → Holds config (with_front w (if b then front.Send else front.Loop) w.front.entry w.under.pages) g d (if b then front.Send else front.Loop) w.back.stage
+    by_test true t = turned_on config w g d (front.RequestEvent old) front.Send refl refl refl h tt refl refl refl refl refl refl (λ t sends. tt)
+    by_test false t = turned_on config w g d (front.RequestEvent old) front.Loop refl refl refl h tt refl refl refl refl refl refl (λ sleeps sends.
+        let x = h.indices in
+        let u = h.back_sleep in
+        let yes : notifies old w.front.ring.prod (word_of w.under.pages 2 1) ≡ true = notified g.start g.fetched g.pushed old w.front.ring.prod (word_of w.under.pages 2 1) h.front_at.1 x.pushed (u.armed sleeps) sends in
+        absurd (cc))
+
+-- a back that sleeps is bound to the front's port
+bound_asleep : (b : BackStage) (asleep : Bool) → (may_back_sleep b ≡ false → asleep ≡ false) → asleep ≡ true → is_bound_back b ≡ true
+bound_asleep back.MapRing asleep may t = let no = may refl in absurd (cc)
+bound_asleep back.Bind asleep may t = let no = may refl in absurd (cc)
+bound_asleep b asleep may t = refl
+
+pending_sent : (bound : Bool) (made : ℕ) (ports : List PortState) (pending : Bool) → PortsAt true bound made ports → bound ≡ true → (if list_any is_bound_port ports then true else pending) ≡ true
+pending_sent true made ports pending at e = rw (at.1) refl
+pending_sent false made ports pending at e = absurd (cc)
+
+pub send_goes : (config : Options) (w : World) (g : Flow) (d : Pipeline) → IsSafe w → Holds config w g d front.Send w.back.stage → FrontGoes config w d front.Send
+send_goes config w g d safe h =
+    let z = h.front_sleep in
+    let u = h.back_sleep in
+    record {
+      flow = g;
+      step = None;
+      does = said_nothing d _ w.front.told safe.front_told;
+      holds = record {
+        started = h.started;
+        sized = h.sized;
+        indices = h.indices;
+        queue = h.queue;
+        submitted = h.submitted;
+        pool = h.pool;
+        stations = h.stations;
+        works = h.works;
+        counted = h.counted;
+        info = h.info;
+        replies = h.replies;
+        front_at = tt;
+        unused = tt;
+        back_at = h.back_at;
+        unhalted = h.unhalted;
+        memory = h.memory;
+        ring = ring_turned g.start g.pushed g.replied w.under.pages w.under.pages front.Send front.Loop w.back.stage refl refl (λ x lt. refl) (record { flags = refl; frame = refl }) h.ring;
+        slots = slots_turned g.start g.fetched g.pushed g.taken g.replied g.submitted g.replies w.under.pages w.under.pages front.Send front.Loop w.back.stage (λ x from to. refl) (omega arith) refl h.slots;
+        frames = frames_turned g.pushed w.under.pages w.under.pages front.Send front.Loop w.front.requests (omega arith) (omega arith) (λ n x lt i l. refl) h.frames;
+        entries = entries_turned g.pushed w.under.pages w.under.pages w.under.grants.live front.Send front.Loop w.front.requests refl (λ t. absurd (cc)) (λ t. absurd (cc)) (λ n x lt. record { flags = refl; frame = refl }) h.entries;
+        mapped = h.mapped;
+        page = h.page;
+        front_sleep = record { arming = λ t. absurd (cc); armed = z.armed; may = λ t. absurd (cc); woken = z.woken };
+        back_sleep = record {
+          arming = u.arming;
+          armed = u.armed;
+          may = u.may;
+          woken = λ t. inr (inl (pending_sent (is_bound_back w.back.stage) w.under.channels.made w.under.channels.ports w.under.channels.back_pending h.ports (bound_asleep w.back.stage w.back.asleep u.may t)));
+        };
+        ports = h.ports;
+      };
+    }

@@ -1,0 +1,95 @@
+-- The back copies the entry of the next request, word by word.
+use Rattle.std.proofs.Common.{◌≡◌, ℕ, ◌+◌, ◌<◌, ◌≤◌, ◌==◌, false, List, [], ◌∷◌, ◌++◌, length, take, refl, ap, sym, ◌∙◌, inl, inr, arith}
+use Rattle.std.specs.Prelude.{Some, slice_get, slice_index, None}
+use Rattle.std.proofs.lemmas.Bool.{false≢true}
+use Rattle.blk_base.specs.Options.{Options}
+use Rattle.blk_base.specs.Distance.{distance_of}
+use Rattle.blk_base.specs.declared.ask.BackAnswer.{BackAnswer}
+use Rattle.blk_base.specs.declared.moves.Move.{Move as Shown}
+use Rattle.pipeline_laws.specs.Pipeline.{Pipeline}
+use Rattle.ring_words.specs.Ring.{Ring, requests_of}
+use Rattle.xen_pages.specs.Pages.{word_of}
+use Rattle.grant_table.specs.Table.{frame_of}
+use Rattle.blk_front.specs.declared.request.Request.{Request}
+use Rattle.blk_front.specs.View.{slot_word}
+use Rattle.blk_front.specs.Step.{entry_of, entry_request}
+use Rattle.std.proofs.lemmas.Bool.{cases_eq}
+use Rattle.std.proofs.lemmas.List.{take_more}
+use Rattle.blk_base.specs.declared.operation.Abi.TheVariants.{X64}
+use Rattle.blk_layout.proofs.Back.{length-words_of}
+use Rattle.blk_back.specs.declared.stage.Stage.{Stage as BackStage}
+use Rattle.blk_back.specs.declared.stage.Stage.TheVariants as stage
+use Rattle.blk_back.specs.Step.{fetched}
+use Rattle.split_model.specs.World.{World}
+use Rattle.machine_pipeline.proofs.Lists.{get_within}
+use Rattle.machine_pipeline.proofs.Flow.{Flow, wrapped, is_issuing, ending_at}
+use Rattle.machine_pipeline.proofs.Holds.{Holds}
+use Rattle.machine_pipeline.proofs.BackStill.{BackStands}
+use Rattle.machine_pipeline.proofs.BackQuiet.{IsBetween, goes_moved, quiet_with, front_sleep_at, back_sleep_at}
+use Rattle.machine_pipeline.proofs.BackFences.{between}
+use Rattle.machine_pipeline.proofs.BackWrites.{page_at}
+use Rattle.machine_pipeline.proofs.BackLooks.{LooksAs}
+use Rattle.machine_pipeline.proofs.StationsBack.{begins_fetch}
+use Rattle.machine_pipeline.proofs.Turns.{does_step}
+use Rattle.split_model.specs.Shown.{back_lines, halt_lines}
+use Rattle.blk_front.specs.Submit.{is_connected}
+
+-- where the back saw more than it fetched
+some_requests : (start fetched seen word : ℕ) (ring : Ring) → ring.cons ≡ wrapped start fetched → word ≡ wrapped start seen → fetched ≤ seen → (requests_of ring word == 0) ≡ false → fetched < seen
+some_requests start fetched seen word ring cons here from some = elim (cases_eq fetched seen) [
+  | inl e ↦
+      let none : distance_of ring.cons word ≡ 0 = omega arith in
+      let nothing : requests_of ring word ≡ 0 = omega arith in
+      absurd (false≢true (sym some ∙ rw nothing refl))
+  | inr other ↦ omega arith
+]
+
+-- the next request that was pushed and not fetched, and each word of its entry
+pub record IsNext (w : World) (g : Flow) : Type 0 where
+  pub r : Request
+  pub known : slice_get g.submitted g.fetched ≡ Some r
+  pub words : (i : ℕ) → i < 28 → word_of w.under.pages (frame_of w.under.grants w.back.page) (slot_word w.back.ring.cons i) ≡ slice_index (entry_of r) i
+
+pub next_pushed : (config : Options) (w : World) (g : Flow) (d : Pipeline) (b : BackStage) → BackStands config w g d b → IsBetween b w.back → g.fetched < g.back_seen → IsNext w g
+next_pushed config w g d b p i some =
+    let h : Holds config w g d w.front.stage b = p.holds in
+    let x = h.indices in
+    let pushed : g.fetched < g.pushed = omega (arith, x.back_to) in
+    let within : g.fetched < length g.submitted = omega (arith, x.all, h.submitted.counted) in
+    let found = get_within g.submitted g.fetched within in
+    record {
+      r = found.0;
+      known = found.1;
+      words = λ k lt.
+          ap (λ (f : ℕ). word_of w.under.pages f (slot_word w.back.ring.cons k)) (page_at config w g d b p i)
+          ∙ ap (λ (c : ℕ). word_of w.under.pages 2 (slot_word c k)) x.fetched
+          ∙ h.slots.entries g.fetched found.0 (omega arith) pushed found.1 k lt;
+    }
+
+pub length_entry : (r : Request) → length (entry_of r) ≡ 28
+length_entry r = length-words_of X64 (entry_request r)
+
+-- one word more of the entry
+pub one_more : (r : Request) (k word : ℕ) (entry : List ℕ) → k < 28 → entry ≡ take k (entry_of r) → word ≡ slice_index (entry_of r) k → entry ++ word ∷ [] ≡ take (k + 1) (entry_of r)
+one_more r k word entry lt begun here = rw (begun, here) (sym (take_more (entry_of r) k 0 (let all = length_entry r in omega arith)))
+
+-- the entry's first word is read in the loop
+pub goes_first : (config : Options) (w : World) (g : Flow) (d : Pipeline) (shown : Shown) (given : BackAnswer) (word : ℕ)
+    → word ≡ word_of w.under.pages (frame_of w.under.grants w.back.page) (slot_word w.back.ring.cons 0)
+    → w.back.asleep ≡ false
+    → (requests_of w.back.ring w.back.seen == 0) ≡ false
+    → BackStands config w g d stage.Loop
+    → LooksAs config w d shown given (record w.back { entry = word ∷ []; stage = stage.Fetch 1 })
+goes_first config w g d shown given word read awake some p =
+    let h : Holds config w g d w.front.stage stage.Loop = p.holds in
+    let x = h.indices in
+    let i : IsBetween stage.Loop w.back = between stage.Loop w.back refl refl refl refl in
+    let more : g.fetched < g.back_seen = some_requests g.start g.fetched g.back_seen w.back.seen w.back.ring x.fetched x.back_saw x.back_from some in
+    let n : IsNext w g = next_pushed config w g d stage.Loop p i more in
+    let s = begins_fetch config g d (is_connected w.front.stage) (is_issuing w.front.stage) (ending_at w.front.stage) None w.front.requests w.back.jobs.works (omega (arith, more, x.back_to)) h.stations in
+    goes_moved config w g d (Some s.step) stage.Loop (stage.Fetch 1) (record w.back { entry = word ∷ [] }) w.under.pages w.under.channels g.back_seen shown given (does_step shown (back_lines w.back.told given ++ halt_lines w.back.halted w.back.halted) (rw (p.untold, h.unhalted) refl) s) p
+    (quiet_with config w g d stage.Loop (stage.Fetch 1) w.back.asleep w.back.seen (word ∷ []) w.under.channels g.back_seen h i (between (stage.Fetch 1) w.back refl refl refl refl) s.now x
+    (omega arith, omega arith, more, (n.r, n.known, one_more n.r 0 word [] (omega arith) refl (read ∙ n.words 0 (omega arith))))
+    (front_sleep_at g.start g.taken g.replied w.under.pages w.front.asleep w.under.channels.front_pending w.front.stage stage.Loop (stage.Fetch 1) (λ t s. absurd s) h.front_sleep)
+    (back_sleep_at g.start g.fetched g.pushed w.under.pages w.back.asleep w.under.channels.back_pending w.front.stage stage.Loop (stage.Fetch 1) (λ t. absurd (false≢true t)) (λ t. awake) h.back_sleep)
+    refl refl)

@@ -1,0 +1,201 @@
+-- The last word of an entry is read: its job is begun.
+use Rattle.std.proofs.Common.{◌≡◌, ◌≢◌, ℕ, ◌+◌, ◌%◌, ◌^◌, ◌<◌, ◌==◌, Bool, true, false, if◌then◌else◌, List, [], ◌∷◌, ◌++◌, length, take, refl, ap, sym, subst, ◌∙◌, arith, length-append}
+use Rattle.std.specs.Prelude.{Some, None, slice_get, slice_index, count_by}
+use Rattle.std.proofs.lemmas.Option.{same_Some}
+use Rattle.std.proofs.lemmas.Bool.{false≢true}
+use Rattle.std.proofs.lemmas.Bool.Decides.{nat_tests}
+use Rattle.blk_base.specs.Options.{Options}
+use Rattle.blk_base.specs.declared.parts.Mapping.{Mapping}
+use Rattle.blk_base.specs.declared.ask.BackAnswer.{BackAnswer}
+use Rattle.blk_base.specs.declared.moves.Move.{Move as Shown}
+use Rattle.pipeline_laws.specs.Pipeline.{Pipeline}
+use Rattle.ring_words.specs.Ring.{Ring, next_of}
+use Rattle.xen_pages.specs.Pages.{word_of}
+use Rattle.grant_table.specs.Table.{frame_of}
+use Rattle.event_channel.specs.Channels.{taken}
+use Rattle.back_jobs.specs.Task.{Work}
+use Rattle.blk_front.specs.declared.request.Request.{Request}
+use Rattle.blk_front.specs.declared.stage.Stage.{Stage as FrontStage}
+use Rattle.blk_front.specs.View.{slot_word}
+use Rattle.blk_front.specs.Step.{entry_of}
+use Rattle.blk_front.specs.Submit.{ending_of, is_connected}
+use Rattle.blk_back.specs.declared.stage.Reply.{Reply}
+use Rattle.blk_back.specs.declared.stage.Stage.TheVariants as stage
+use Rattle.blk_back.specs.Step.{fetched}
+use Rattle.split_model.specs.World.{World}
+use Rattle.split_model.specs.Shown.{back_lines, halt_lines}
+use Rattle.machine_pipeline.specs.Step.{IsSame}
+use Rattle.machine_pipeline.proofs.Flow.{Flow, segment_for, worked, is_issuing, ending_at}
+use Rattle.machine_pipeline.proofs.Stations.{AreStations}
+use Rattle.machine_pipeline.proofs.StationsBack.{fetches}
+use Rattle.machine_pipeline.proofs.Holds.{Holds, AreIndices, IsSubmitted, IsWork, AreReplies, AreSlots}
+use Rattle.machine_pipeline.proofs.Turns.{BackGoes, Stepped, does_step}
+use Rattle.machine_pipeline.proofs.BackStill.{BackStands}
+use Rattle.machine_pipeline.proofs.BackQuiet.{IsBetween, goes_still, quiet_with, ring_at, front_sleep_at, back_sleep_at}
+use Rattle.machine_pipeline.proofs.BackFences.{between}
+use Rattle.std.proofs.lemmas.List.{take_all}
+use Rattle.blk_base.specs.declared.operation.Abi.TheVariants.{X64}
+use Rattle.blk_layout.specs.Entry.{request_of}
+use Rattle.segment_list.specs.declared.verdict.DiskInfo.{DiskInfo}
+use Rattle.segment_list.specs.Verdict.{verdict_of}
+use Rattle.back_jobs.specs.Task.{begun, moving}
+use Rattle.back_jobs.proofs.Hands.{started_hands}
+use Rattle.blk_front.specs.Step.{entry_request}
+use Rattle.blk_back.specs.Step.{next_number}
+use Rattle.machine_pipeline.proofs.BackWrites.{next_wrapped}
+use Rattle.machine_pipeline.proofs.BackLooks.{LooksAs}
+use Rattle.machine_pipeline.proofs.BackFetch.{IsNext, next_pushed, one_more, length_entry}
+use Rattle.machine_pipeline.proofs.BackBegins.{entry_job, is_work, works_with}
+
+-- one request more was fetched
+indices_with : (g : Flow) (front_ring back_ring : Ring) (front_seen back_seen number last waiting unfinished ending : ℕ) → g.fetched < g.back_seen → AreIndices g front_ring back_ring front_seen back_seen number last waiting unfinished ending → AreIndices (record g { fetched = g.fetched + 1 }) front_ring (record back_ring { cons = next_of back_ring.cons }) front_seen back_seen ((number + 1) % 2 ^ 64) last waiting unfinished ending
+indices_with g front_ring back_ring front_seen back_seen number last waiting unfinished ending more x = record {
+  front_entries = x.front_entries;
+  back_entries = x.back_entries;
+  pushed = x.pushed;
+  taken = x.taken;
+  replied = x.replied;
+  fetched = next_wrapped g.start g.fetched back_ring.cons x.fetched;
+  front_saw = x.front_saw;
+  back_saw = x.back_saw;
+  count = omega (arith, x.count, x.few, x.all, x.back_to);
+  taken_replied = x.taken_replied;
+  replied_fetched = omega (arith, x.replied_fetched);
+  fetched_pushed = omega (arith, x.back_to);
+  front_from = x.front_from;
+  front_to = x.front_to;
+  back_from = omega arith;
+  back_to = x.back_to;
+  all = x.all;
+  few = x.few;
+  held = x.held;
+  room = x.room;
+}
+
+replies_with : (fetched taken replied : ℕ) (replies : List Reply) → AreReplies fetched taken replied replies → AreReplies (fetched + 1) taken replied replies
+replies_with fetched taken replied replies h = record {
+  counted = h.counted;
+  each = λ k d lt. let was = h.each k d lt in record { positive = was.positive; reached = let le = was.reached in omega arith; op = was.op };
+  distinct = h.distinct;
+}
+
+slots_with : (start fetched pushed taken replied : ℕ) (submitted : List Request) (replies : List Reply) (pages : List ℕ) (s : FrontStage) (k : ℕ) → AreSlots start fetched pushed taken replied submitted replies pages s (stage.Fetch k) → AreSlots start (fetched + 1) pushed taken replied submitted replies pages s stage.Loop
+slots_with start fetched pushed taken replied submitted replies pages s k h = record {
+  entries = λ j r from to e i lt. h.entries j r (omega arith) to e i lt;
+  entry = h.entry;
+  responses = h.responses;
+  response = λ rep t i lt. cc;
+}
+
+goes_fetched : (config : Options) (w : World) (g : Flow) (d : Pipeline) (k : ℕ) (shown : Shown) (given : BackAnswer) (r : Request) (words : List ℕ)
+    → BackStands config w g d (stage.Fetch k)
+    → slice_get g.submitted g.fetched ≡ Some r
+    → words ≡ entry_of r
+    → LooksAs config w d shown given (fetched w.back words)
+goes_fetched config w g d k shown given r words p known e = subst (λ (ws : List ℕ). LooksAs config w d shown given (fetched w.back ws)) (sym e) (record {
+  flow = record g { fetched = g.fetched + 1 };
+  step = Some s.step;
+  does = does_step shown (back_lines w.back.told given ++ halt_lines w.back.halted w.back.halted) (rw (p.untold, h.unhalted) refl) s;
+  holds = record {
+    started = h.started;
+    sized = h.sized;
+    indices = indices_with g w.front.ring w.back.ring w.front.seen w.back.seen w.back.fetched w.front.last w.front.waiting (length w.front.requests) (ending_of w.front.stage) h.back_at.2 x;
+    queue = h.queue;
+    submitted = h.submitted;
+    pool = h.pool;
+    stations = s.now;
+    works = works_with g.submitted g.fetched w.back.jobs.works t h.works is (ap (λ (u : Work). u.number) made ∙ number);
+    counted = omega (arith, length-append w.back.jobs.works (t ∷ []), h.counted);
+    info = h.info;
+    replies = replies_with g.fetched g.taken g.replied g.replies h.replies;
+    front_at = h.front_at;
+    unused = h.unused;
+    back_at = tt;
+    unhalted = h.unhalted;
+    memory = h.memory;
+    ring = ring_at g.start g.pushed g.replied w.under.pages w.front.stage (stage.Fetch k) stage.Loop refl h.ring;
+    slots = slots_with g.start g.fetched g.pushed g.taken g.replied g.submitted g.replies w.under.pages w.front.stage k h.slots;
+    frames = h.frames;
+    entries = h.entries;
+    mapped = record { counted = λ test. h.mapped.counted test ∙ ap (λ (l : List Mapping). count_by test (l ++ w.back.page ∷ [])) (sym (started_hands w.back.jobs (next_number w.back) (request_of X64 (entry_of r)))); framed = h.mapped.framed };
+    page = record { gref = λ u. h.page.gref refl; mode = λ u. h.page.mode refl };
+    front_sleep = front_sleep_at g.start g.taken g.replied w.under.pages w.front.asleep w.under.channels.front_pending w.front.stage (stage.Fetch k) stage.Loop (λ u s. absurd s) h.front_sleep;
+    back_sleep = record { arming = λ u. absurd (false≢true u); armed = λ u. absurd (false≢true (sym awake ∙ u)); may = λ u. awake; woken = λ u. absurd (false≢true (sym awake ∙ u)) };
+    ports = h.ports;
+  };
+})
+  where
+    h : Holds config w g d w.front.stage (stage.Fetch k)
+    h = p.holds
+
+    x : AreIndices g w.front.ring w.back.ring w.front.seen w.back.seen w.back.fetched w.front.last w.front.waiting (length w.front.requests) (ending_of w.front.stage)
+    x = h.indices
+
+    awake : w.back.asleep ≡ false
+    awake = h.back_sleep.may refl
+
+    number : next_number w.back ≡ g.fetched + 1
+    number = omega (arith, x.count, x.few, x.all, x.fetched_pushed)
+
+    t : Work
+    t = begun (next_number w.back) (request_of X64 (entry_of r)) w.back.jobs.info.sectors (verdict_of (request_of X64 (entry_of r)) w.back.jobs.info)
+
+    sub : IsSubmitted config.sectors g.fetched r
+    sub = subst (λ (sectors : ℕ). IsSubmitted sectors g.fetched r) h.sized (h.submitted.each g.fetched r known)
+
+    made : t ≡ moving (next_number w.back) (entry_request r) w.back.jobs.info.sectors true r.sector (segment_for r ∷ [])
+    made = ap (λ (i : DiskInfo). begun (next_number w.back) (request_of X64 (entry_of r)) w.back.jobs.info.sectors (verdict_of (request_of X64 (entry_of r)) i)) h.info ∙ entry_job config (next_number w.back) w.back.jobs.info.sectors g.fetched r p.plain (omega (arith, x.few, x.all, x.fetched_pushed)) sub
+
+    is : IsWork g.submitted (g.fetched + 1) t
+    is = subst (λ (u : Work). IsWork g.submitted (g.fetched + 1) u) (sym made) (is_work g.submitted g.fetched w.back.jobs.info.sectors config.sectors (next_number w.back) r number known sub)
+
+    s : Stepped None IsSame d [] (λ p. AreStations config (record g { fetched = g.fetched + 1 }) p (is_connected w.front.stage) (is_issuing w.front.stage) false (ending_at w.front.stage) None w.front.requests (w.back.jobs.works ++ t ∷ []))
+    s = fetches config g d (is_connected w.front.stage) (is_issuing w.front.stage) (ending_at w.front.stage) None w.front.requests w.back.jobs.works t (omega (arith, x.back_to, h.back_at.2)) (ap (λ (u : Work). u.number) made ∙ number) (ap (λ (u : Work). worked u.stage) made) h.stations
+
+goes_further : (config : Options) (w : World) (g : Flow) (d : Pipeline) (k word : ℕ) (shown : Shown) (given : BackAnswer) (last : Bool)
+    → (k == 27) ≡ last
+    → word ≡ word_of w.under.pages (frame_of w.under.grants w.back.page) (slot_word w.back.ring.cons k)
+    → BackStands config w g d (stage.Fetch k)
+    → LooksAs config w d shown given (if last then fetched w.back (w.back.entry ++ word ∷ []) else record w.back { entry = w.back.entry ++ word ∷ []; stage = stage.Fetch (k + 1) })
+goes_further config w g d k word shown given last tested read p = by_test last tested
+  where
+    h : Holds config w g d w.front.stage (stage.Fetch k)
+    h = p.holds
+
+    few : k < 28
+    few = h.back_at.1
+
+    i : IsBetween (stage.Fetch k) w.back
+    i = between (stage.Fetch k) w.back refl refl refl refl
+
+    n : IsNext w g
+    n = next_pushed config w g d (stage.Fetch k) p i h.back_at.2
+
+    r : Request
+    r = h.back_at.3.0
+
+    known : slice_get g.submitted g.fetched ≡ Some r
+    known = h.back_at.3.1
+
+    same : n.r ≡ r
+    same = same_Some n.r r (sym n.known ∙ known)
+
+    more : w.back.entry ++ word ∷ [] ≡ take (k + 1) (entry_of r)
+    more = one_more r k word w.back.entry few h.back_at.3.2 (read ∙ n.words k few ∙ ap (λ (q : Request). slice_index (entry_of q) k) same)
+
+    by_test : (last : Bool) → (k == 27) ≡ last → LooksAs config w d shown given (if last then fetched w.back (w.back.entry ++ word ∷ []) else record w.back { entry = w.back.entry ++ word ∷ []; stage = stage.Fetch (k + 1) })
+    by_test true u =
+        let all : take (k + 1) (entry_of r) ≡ entry_of r = take_all (k + 1) (entry_of r) (let sized = length_entry r in let whole : k ≡ 27 = grind (arith, nat_tests) in omega arith) in
+        goes_fetched config w g d k shown given r (w.back.entry ++ word ∷ []) p known (more ∙ all)
+    by_test false u =
+        let apart : k ≢ 27 = grind (arith, nat_tests) in
+        let awake : w.back.asleep ≡ false = h.back_sleep.may refl in
+        goes_still config w g d (stage.Fetch k) (stage.Fetch (k + 1)) (record w.back { entry = w.back.entry ++ word ∷ [] }) w.under.pages w.under.channels g.back_seen shown given p
+        (quiet_with config w g d (stage.Fetch k) (stage.Fetch (k + 1)) w.back.asleep w.back.seen (w.back.entry ++ word ∷ []) w.under.channels g.back_seen h i (between (stage.Fetch (k + 1)) w.back refl refl refl refl) h.stations h.indices
+        (omega arith, omega arith, h.back_at.2, (r, known, more))
+        (front_sleep_at g.start g.taken g.replied w.under.pages w.front.asleep w.under.channels.front_pending w.front.stage (stage.Fetch k) (stage.Fetch (k + 1)) (λ t s. absurd s) h.front_sleep)
+        (back_sleep_at g.start g.fetched g.pushed w.under.pages w.back.asleep w.under.channels.back_pending w.front.stage (stage.Fetch k) (stage.Fetch (k + 1)) (λ t. absurd (false≢true t)) (λ t. awake) h.back_sleep)
+        refl refl)
+
+pub goes_fetch : (config : Options) (w : World) (g : Flow) (d : Pipeline) (k : ℕ) → BackStands config w g d (stage.Fetch k) → BackGoes config w d (stage.Fetch k)
+goes_fetch config w g d k p = goes_further config w g d k (word_of w.under.pages (frame_of w.under.grants w.back.page) (slot_word w.back.ring.cons k)) _ _ (k == 27) refl refl p

@@ -1,0 +1,145 @@
+-- The back reads the producer of the requests, in its loop and before it sleeps.
+use Rattle.std.proofs.Common.{◌≡◌, ℕ, ◌+◌, ◌^◌, ◌<◌, ◌≤◌, ◌==◌, Bool, true, false, if◌then◌else◌, ◌∷◌, ◌++◌, length, refl, ap, sym, ◌∙◌, inl, arith}
+use Rattle.std.specs.Prelude.{Some, None}
+use Rattle.std.proofs.lemmas.Bool.{false≢true}
+use Rattle.std.proofs.lemmas.Bool.Decides.{nat_tests}
+use Rattle.blk_base.specs.Options.{Options}
+use Rattle.blk_base.specs.Distance.{distance_of}
+use Rattle.blk_base.specs.declared.ask.BackAnswer.{BackAnswer}
+use Rattle.blk_base.specs.declared.moves.Move.{Move as Shown}
+use Rattle.schedule_text.specs.declared.line.Line.TheVariants.{Move}
+use Rattle.pipeline_laws.specs.Pipeline.{Pipeline}
+use Rattle.ring_words.specs.Ring.{Ring, overruns}
+use Rattle.xen_pages.specs.Pages.{word_of}
+use Rattle.grant_table.specs.Table.{frame_of}
+use Rattle.blk_front.specs.declared.stage.Stage.{Stage as FrontStage}
+use Rattle.blk_front.specs.declared.stage.Stage.TheVariants as front
+use Rattle.blk_front.specs.Submit.{is_connected, ending_of}
+use Rattle.blk_back.specs.declared.stage.Stage.{Stage as BackStage}
+use Rattle.blk_back.specs.declared.stage.Stage.TheVariants as stage
+use Rattle.blk_back.specs.View.{View}
+use Rattle.blk_back.specs.declared.told.Halt.TheVariants as halt
+use Rattle.blk_back.specs.Step.{give_up, looked}
+use Rattle.split_model.specs.World.{World}
+use Rattle.split_model.specs.Shown.{back_lines, halt_lines}
+use Rattle.machine_pipeline.proofs.Flow.{Flow, wrapped, has_ring, is_fetching}
+use Rattle.machine_pipeline.proofs.Holds.{Holds, AreIndices, BackSends}
+use Rattle.machine_pipeline.proofs.Turns.{BackGoes, Goes}
+use Rattle.machine_pipeline.proofs.BackStill.{BackStands}
+use Rattle.machine_pipeline.proofs.BackQuiet.{IsBetween, goes_still, quiet_with, front_sleep_at, back_sleep_at, stations_between}
+use Rattle.machine_pipeline.proofs.BackFences.{between}
+use Rattle.machine_pipeline.proofs.BackWrites.{page_at}
+
+-- an honest front is never further ahead than the ring has entries
+no_overrun : (start replied pushed word : ℕ) (ring : Ring) → ring.entries ≡ 32 → ring.prod ≡ wrapped start replied → word ≡ wrapped start pushed → replied ≤ pushed → pushed ≤ replied + 32 → overruns ring word ≡ false
+no_overrun start replied pushed word ring size prod here from to =
+    let ahead : distance_of ring.prod word ≤ 32 = omega arith in
+    grind (arith, nat_tests)
+
+same_index : (start m n : ℕ) → m ≤ n → n < m + 2 ^ 32 → wrapped start n ≡ wrapped start m → n ≡ m
+same_index start m n from to same = omega arith
+
+-- the view once the producer was read, by the tests of what was read
+abbrev looked_by : (over same : Bool) → View → ℕ → View → View
+looked_by over same v word otherwise = if over then give_up (record v { halted = Some (halt.Overrun word v.ring.prod) }) else (if same then otherwise else record v { seen = word; stage = stage.Loop })
+
+abbrev pub LooksAs : Options → World → Pipeline → Shown → BackAnswer → View → Type 0
+LooksAs config w d shown given v = Goes config (Move shown ∷ back_lines v.told given ++ halt_lines w.back.halted v.halted) (record { front = w.front; back = record v { told = None }; under = w.under }) d
+
+-- the producer as it was read, and what follows of it
+pub record IsLook (w : World) (g : Flow) (word : ℕ) : Type 0 where
+  pub is : word ≡ wrapped g.start g.pushed
+  pub bounded : overruns w.back.ring word ≡ false
+  pub none : word ≡ w.back.ring.cons → g.pushed ≡ g.fetched
+  pub indices : AreIndices (record g { back_seen = g.pushed }) w.front.ring w.back.ring w.front.seen word w.back.fetched w.front.last w.front.waiting (length w.front.requests) (ending_of w.front.stage)
+
+pub look : (config : Options) (w : World) (g : Flow) (d : Pipeline) (b : BackStage) (word : ℕ) → Holds config w g d w.front.stage b → word ≡ wrapped g.start g.pushed → IsLook w g word
+look config w g d b word h here =
+    let x = h.indices in
+    record {
+      is = here;
+      bounded = no_overrun g.start g.replied g.pushed word w.back.ring x.back_entries x.replied here (omega (arith, x.replied_fetched, x.fetched_pushed)) (omega (arith, x.all, x.held, x.room, x.taken_replied));
+      none = λ e. same_index g.start g.fetched g.pushed x.fetched_pushed (omega (arith, x.all, x.few)) (sym here ∙ e ∙ x.fetched);
+      indices = record {
+        front_entries = x.front_entries;
+        back_entries = x.back_entries;
+        pushed = x.pushed;
+        taken = x.taken;
+        replied = x.replied;
+        fetched = x.fetched;
+        front_saw = x.front_saw;
+        back_saw = here;
+        count = x.count;
+        taken_replied = x.taken_replied;
+        replied_fetched = x.replied_fetched;
+        fetched_pushed = x.fetched_pushed;
+        front_from = x.front_from;
+        front_to = x.front_to;
+        back_from = x.fetched_pushed;
+        back_to = omega arith;
+        all = x.all;
+        few = x.few;
+        held = x.held;
+        room = x.room;
+      };
+    }
+
+-- something new is seen, or it isn't and `otherwise` holds
+looks_by : (config : Options) (w : World) (g : Flow) (d : Pipeline) (b : BackStage) (word : ℕ) (shown : Shown) (given : BackAnswer) (otherwise : View) (over same : Bool)
+    → BackStands config w g d b
+    → IsBetween b w.back
+    → is_fetching b ≡ false
+    → (BackSends b g.replied g.taken → ⊥)
+    → IsLook w g word
+    → over ≡ false
+    → (same ≡ true → LooksAs config w d shown given otherwise)
+    → LooksAs config w d shown given (looked_by over same w.back word otherwise)
+looks_by config w g d b word shown given otherwise true same p i unfetching unsent l bounded none = absurd (false≢true (sym bounded))
+looks_by config w g d b word shown given otherwise false true p i unfetching unsent l bounded none = none refl
+looks_by config w g d b word shown given otherwise false false p i unfetching unsent l bounded none =
+    let h : Holds config w g d w.front.stage b = p.holds in
+    goes_still config w g d b stage.Loop (record w.back { seen = word }) w.under.pages w.under.channels g.pushed shown given p
+    (quiet_with config w g d b stage.Loop w.back.asleep word w.back.entry w.under.channels g.pushed h i (between stage.Loop w.back refl refl refl refl) (stations_between config w g d b h unfetching i.none) l.indices tt
+    (front_sleep_at g.start g.taken g.replied w.under.pages w.front.asleep w.under.channels.front_pending w.front.stage b stage.Loop (λ t s. absurd (unsent s)) h.front_sleep)
+    (back_sleep_at g.start g.fetched g.pushed w.under.pages w.back.asleep w.under.channels.back_pending w.front.stage b stage.Loop (λ t. absurd (false≢true t)) (λ t. absurd (false≢true (sym t))) h.back_sleep)
+    refl refl)
+
+-- the producer stands in word 0 of the ring's page
+producer : (config : Options) (w : World) (g : Flow) (d : Pipeline) (b : BackStage) → BackStands config w g d b → IsBetween b w.back → word_of w.under.pages (frame_of w.under.grants w.back.page) 0 ≡ wrapped g.start g.pushed
+producer config w g d b p i =
+    let h : Holds config w g d w.front.stage b = p.holds in
+    ap (λ (f : ℕ). word_of w.under.pages f 0) (page_at config w g d b p i) ∙ h.ring.requests (rung w.front.stage p.connected)
+  where
+    rung : (s : FrontStage) → is_connected s ≡ true → has_ring s ≡ true
+    rung (front.RingWord k) c = c
+    rung s c = refl
+
+-- where nothing is new the back sleeps
+pub goes_look_again : (config : Options) (w : World) (g : Flow) (d : Pipeline) → BackStands config w g d stage.LookAgain → BackGoes config w d stage.LookAgain
+goes_look_again config w g d p =
+    let h : Holds config w g d w.front.stage stage.LookAgain = p.holds in
+    let i : IsBetween stage.LookAgain w.back = between stage.LookAgain w.back refl refl refl refl in
+    let word : ℕ = word_of w.under.pages (frame_of w.under.grants w.back.page) 0 in
+    let l : IsLook w g word = look config w g d stage.LookAgain word h (producer config w g d stage.LookAgain p i) in
+    looks_by config w g d stage.LookAgain word _ _ (record w.back { seen = word; stage = stage.Loop; asleep = true }) (overruns w.back.ring word) (word == w.back.ring.cons) p i refl (λ s. s) l l.bounded
+    (λ same.
+    let e : g.pushed ≡ g.fetched = l.none (grind (arith, nat_tests)) in
+    goes_still config w g d stage.LookAgain stage.Loop (record w.back { seen = word; asleep = true }) w.under.pages w.under.channels g.pushed _ _ p
+    (quiet_with config w g d stage.LookAgain stage.Loop true word w.back.entry w.under.channels g.pushed h i (between stage.Loop w.back refl refl refl refl) h.stations l.indices tt
+    (front_sleep_at g.start g.taken g.replied w.under.pages w.front.asleep w.under.channels.front_pending w.front.stage stage.LookAgain stage.Loop (λ t s. absurd s) h.front_sleep)
+    (record { arming = λ t. absurd (false≢true t); armed = λ t. h.back_sleep.arming refl; may = λ t. absurd (false≢true (sym t)); woken = λ t. inl e })
+    refl refl))
+
+-- in the loop with nothing at hand: where nothing is new the back stores its event word
+pub goes_loop_look : (config : Options) (w : World) (g : Flow) (d : Pipeline) (shown : Shown) (given : BackAnswer) (word : ℕ) → word ≡ word_of w.under.pages (frame_of w.under.grants w.back.page) 0 → w.back.asleep ≡ false → BackStands config w g d stage.Loop → LooksAs config w d shown given (looked w.back word (record w.back { seen = word; stage = stage.StoreEvent }))
+goes_loop_look config w g d shown given word read awake p =
+    let h : Holds config w g d w.front.stage stage.Loop = p.holds in
+    let i : IsBetween stage.Loop w.back = between stage.Loop w.back refl refl refl refl in
+    let l : IsLook w g word = look config w g d stage.Loop word h (read ∙ producer config w g d stage.Loop p i) in
+    looks_by config w g d stage.Loop word shown given (record w.back { seen = word; stage = stage.StoreEvent }) (overruns w.back.ring word) (word == w.back.ring.cons) p i refl (λ s. s) l l.bounded
+    (λ same.
+    goes_still config w g d stage.Loop stage.StoreEvent (record w.back { seen = word }) w.under.pages w.under.channels g.pushed shown given p
+    (quiet_with config w g d stage.Loop stage.StoreEvent w.back.asleep word w.back.entry w.under.channels g.pushed h i (between stage.StoreEvent w.back refl refl refl refl) h.stations l.indices tt
+    (front_sleep_at g.start g.taken g.replied w.under.pages w.front.asleep w.under.channels.front_pending w.front.stage stage.Loop stage.StoreEvent (λ t s. absurd s) h.front_sleep)
+    (back_sleep_at g.start g.fetched g.pushed w.under.pages w.back.asleep w.under.channels.back_pending w.front.stage stage.Loop stage.StoreEvent (λ t. absurd (false≢true t)) (λ t. awake) h.back_sleep)
+    refl refl))

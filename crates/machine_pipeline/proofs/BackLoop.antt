@@ -1,0 +1,109 @@
+-- The back's loop: it replies to what is done, or sleeps, or looks for more, or begins to copy the next entry.
+use Rattle.std.proofs.Common.{◌≡◌, ◌==◌, Bool, true, false, if◌then◌else◌, List, [], ◌∷◌, ◌++◌, refl, sym, subst}
+use Rattle.std.specs.Prelude.{Option, Some, None}
+use Rattle.std.proofs.lemmas.Bool.{false≢true}
+use Rattle.blk_base.specs.Options.{Options}
+use Rattle.blk_base.specs.declared.parts.End.TheVariants as end
+use Rattle.blk_base.specs.declared.ask.BackAnswer.{BackAnswer}
+use Rattle.blk_base.specs.declared.ask.BackAnswer.TheVariants as answer
+use Rattle.blk_base.specs.declared.moves.BackMover.TheVariants as back_mover
+use Rattle.blk_base.specs.declared.moves.Mover.TheVariants as mover
+use Rattle.blk_base.specs.declared.moves.Move.{Move as Shown}
+use Rattle.blk_base.specs.declared.moves.Move.TheVariants as moves
+use Rattle.schedule_text.specs.declared.line.Line.{Line}
+use Rattle.schedule_text.specs.declared.line.Line.TheVariants.{Move}
+use Rattle.pipeline_laws.specs.Pipeline.{Pipeline}
+use Rattle.ring_words.specs.Ring.{requests_of}
+use Rattle.xen_pages.specs.Pages.{word_of}
+use Rattle.grant_table.specs.Table.{frame_of}
+use Rattle.event_channel.specs.Channels.{ChannelState, taken}
+use Rattle.hypervisor.specs.Hypervisor.{Hypervisor}
+use Rattle.hypervisor.specs.Act.{BackAct, Took, back_act}
+use Rattle.back_jobs.specs.Hands.{hands_in}
+use Rattle.blk_front.specs.View.{slot_word}
+use Rattle.blk_back.specs.declared.stage.Reply.{Reply}
+use Rattle.blk_back.specs.declared.stage.Stage.{Stage as BackStage}
+use Rattle.blk_back.specs.declared.stage.Stage.TheVariants as stage
+use Rattle.blk_back.specs.View.{View}
+use Rattle.blk_back.specs.Ask.{next_reply, loop_ask}
+use Rattle.blk_back.specs.Step.{looked, loop_step}
+use Rattle.split_model.specs.World.{World}
+use Rattle.split_model.specs.Shown.{back_lines, halt_lines}
+use Rattle.machine_pipeline.proofs.Flow.{Flow}
+use Rattle.machine_pipeline.proofs.Holds.{Holds}
+use Rattle.machine_pipeline.proofs.Turns.{BackGoes, Goes, no_move}
+use Rattle.machine_pipeline.proofs.BackStill.{BackStands}
+use Rattle.machine_pipeline.proofs.BackQuiet.{IsBetween, goes_still, quiet_with}
+use Rattle.machine_pipeline.proofs.BackFences.{page_frame, between}
+use Rattle.blk_base.specs.declared.ask.BackAsk.{BackAsk}
+use Rattle.blk_base.specs.declared.ask.BackAsk.TheVariants as ask
+use Rattle.blk_back.specs.View.{slot_word as back_slot_word}
+use Rattle.machine_pipeline.proofs.BackLooks.{goes_loop_look}
+use Rattle.machine_pipeline.proofs.BackFetch.{goes_first}
+use Rattle.machine_pipeline.proofs.BackReplyBegins.{goes_reply}
+use Rattle.machine_pipeline.specs.Step.{IsSame}
+
+abbrev pub says_by : World → (BackAnswer → View) → Option BackAct → List Line
+says_by w step None = []
+says_by w step (Some a) =
+    let v : View = step a.answer in
+    Move a.shown ∷ back_lines v.told a.answer ++ halt_lines w.back.halted v.halted
+
+abbrev pub next_by : World → (BackAnswer → View) → Option BackAct → World
+next_by w step None = w
+next_by w step (Some a) = record { front = w.front; back = record (step a.answer) { told = None }; under = a.under }
+
+-- a move by what it asks, and what an answer makes of the back
+abbrev pub ActGoes : Options → World → Pipeline → (BackAnswer → View) → Option BackAct → Type 0
+ActGoes config w d step act = Goes config (says_by w step act) (next_by w step act) d
+
+-- no event is there to be taken
+stays : (config : Options) (w : World) (g : Flow) (d : Pipeline) (b : BackStage) → BackStands config w g d b → Goes config [] w d
+stays config w g d b p = record { flow = g; step = None; does = no_move IsSame d (λ a b same. same); holds = subst (λ (s : BackStage). Holds config w g d w.front.stage s) (sym p.at) p.holds }
+
+-- an event wakes the back
+goes_event : (config : Options) (w : World) (g : Flow) (d : Pipeline) (shown : Shown) (given : BackAnswer) → BackStands config w g d stage.Loop
+    → Goes config (Move shown ∷ back_lines w.back.told given ++ halt_lines w.back.halted w.back.halted) (record { front = w.front; back = record w.back { asleep = false; told = None }; under = (let u : Hypervisor = w.under in record u { channels = taken w.under.channels end.Back }) }) d
+goes_event config w g d shown given p =
+    let h : Holds config w g d w.front.stage stage.Loop = p.holds in
+    let i : IsBetween stage.Loop w.back = between stage.Loop w.back refl refl refl refl in
+    let c : ChannelState = taken w.under.channels end.Back in
+    subst (λ (s : BackStage). Goes config (Move shown ∷ back_lines w.back.told given ++ halt_lines w.back.halted w.back.halted) (record { front = w.front; back = record w.back { stage = s; asleep = false; told = None }; under = (let u : Hypervisor = w.under in record u { channels = taken w.under.channels end.Back }) }) d) (sym p.at)
+    (goes_still config w g d stage.Loop stage.Loop (record w.back { asleep = false }) w.under.pages c g.back_seen shown given p
+    (quiet_with config w g d stage.Loop stage.Loop false w.back.seen w.back.entry c g.back_seen h i i h.stations h.indices tt
+    (record { arming = h.front_sleep.arming; armed = h.front_sleep.armed; may = h.front_sleep.may; woken = h.front_sleep.woken })
+    (record { arming = λ t. absurd (false≢true t); armed = λ t. absurd (false≢true t); may = λ t. refl; woken = λ t. absurd (false≢true t) })
+    refl refl))
+
+waits : (config : Options) (w : World) (g : Flow) (d : Pipeline) (pending : Bool) → BackStands config w g d stage.Loop
+    → ActGoes config w d (loop_step w.back None) (if pending then Some (record { answer = answer.Event; under = (let u : Hypervisor = w.under in record u { channels = taken w.under.channels end.Back }); shown = moves.Event mover.Back }) else None)
+waits config w g d true p = goes_event config w g d (moves.Event mover.Back) answer.Event p
+waits config w g d false p = stays config w g d stage.Loop p
+
+-- the producer, or the next entry's first word
+abbrev read_ask : Bool → View → BackAsk
+read_ask none v = if none then ask.Read v.page 0 else ask.Read v.page (back_slot_word v.ring.cons 0)
+
+abbrev read_step : Bool → View → BackAnswer → View
+read_step none v (answer.Word word) = if none then looked v word (record v { seen = word; stage = stage.StoreEvent }) else record v { entry = word ∷ []; stage = stage.Fetch 1 }
+read_step none v given = record v { asleep = false }
+
+reads : (config : Options) (w : World) (g : Flow) (d : Pipeline) (none : Bool) → (requests_of w.back.ring w.back.seen == 0) ≡ none → w.back.asleep ≡ false → BackStands config w g d stage.Loop
+    → ActGoes config w d (read_step none w.back) (back_act w.under back_mover.Back (read_ask none w.back) Took)
+reads config w g d true some awake p = goes_loop_look config w g d _ _ (word_of w.under.pages (frame_of w.under.grants w.back.page) 0) refl awake p
+reads config w g d false some awake p = goes_first config w g d _ _ (word_of w.under.pages (frame_of w.under.grants w.back.page) (slot_word w.back.ring.cons 0)) refl awake some p
+
+looks : (config : Options) (w : World) (g : Flow) (d : Pipeline) (asleep : Bool) → w.back.asleep ≡ asleep → BackStands config w g d stage.Loop
+    → ActGoes config w d (loop_step w.back None) (back_act w.under back_mover.Back (if asleep then ask.Wait else read_ask (requests_of w.back.ring w.back.seen == 0) w.back) Took)
+looks config w g d true sleeps p = waits config w g d w.under.channels.back_pending p
+looks config w g d false sleeps p = reads config w g d (requests_of w.back.ring w.back.seen == 0) refl sleeps p
+
+loops : (config : Options) (w : World) (g : Flow) (d : Pipeline) (r : Option Reply) → next_reply w.back ≡ r → BackStands config w g d stage.Loop
+    → ActGoes config w d (loop_step w.back r) (back_act w.under back_mover.Back (loop_ask w.back r) Took)
+loops config w g d (Some rep) e p =
+    let h : Holds config w g d w.front.stage stage.Loop = p.holds in
+    goes_reply config w g d rep (frame_of w.under.grants w.back.page) _ _ p (page_frame w.under.grants (hands_in w.back.jobs.works) w.back.page p.held h.mapped.framed (h.page.gref refl)) e
+loops config w g d None e p = looks config w g d w.back.asleep refl p
+
+pub goes_loop : (config : Options) (w : World) (g : Flow) (d : Pipeline) → BackStands config w g d stage.Loop → BackGoes config w d stage.Loop
+goes_loop config w g d p = loops config w g d (next_reply w.back) refl p

@@ -1,0 +1,211 @@
+-- The back pushes a response.
+use Rattle.std.proofs.Common.{◌≡◌, ℕ, zero, suc, ◌+◌, ◌-◌, ◌<◌, Bool, true, List, [], ◌∷◌, ◌++◌, length, refl, ap, sym, subst, ◌∙◌, inl, inr, arith, ◌≢◌, ◌^◌, ◌≤◌, length-append, false}
+use Rattle.std.specs.Prelude.{Option, Some, None, slice_get, slice_set, ◌⊎◌}
+use Rattle.std.proofs.lemmas.Option.{none-some, same_Some, slice_get-get_or}
+use Rattle.std.proofs.lemmas.Bool.{false≢true}
+use Rattle.blk_base.specs.Options.{Options}
+use Rattle.blk_base.specs.declared.operation.Status.{Status}
+use Rattle.blk_base.specs.declared.moves.BackMover.TheVariants as back_mover
+use Rattle.blk_base.specs.declared.moves.Move.{Move as Shown}
+use Rattle.blk_base.specs.declared.moves.Move.TheVariants as moves
+use Rattle.schedule_text.specs.declared.line.Line.TheVariants.{Move}
+use Rattle.pipeline_laws.specs.Pipeline.{Pipeline}
+use Rattle.ring_words.specs.Ring.{Ring, next_of}
+use Rattle.xen_pages.specs.Pages.{word_of, with_word}
+use Rattle.grant_table.specs.Table.{frame_of}
+use Rattle.event_channel.specs.Channels.{taken}
+use Rattle.back_jobs.specs.Hands.{hands_in}
+use Rattle.blk_front.specs.declared.request.Request.{Request}
+use Rattle.blk_front.specs.declared.stage.Stage.{Stage as FrontStage}
+use Rattle.blk_front.specs.declared.stage.Stage.TheVariants as front
+use Rattle.blk_front.specs.View.{slot_word, next_request}
+use Rattle.blk_front.specs.Submit.{is_connected, ending_of}
+use Rattle.blk_back.specs.declared.stage.Reply.{Reply}
+use Rattle.blk_back.specs.declared.stage.Stage.TheVariants as stage
+use Rattle.blk_back.specs.declared.told.Halt.{Halt}
+use Rattle.blk_back.specs.Ask.{response_word}
+use Rattle.blk_back.specs.Step.{fetched}
+use Rattle.split_model.specs.World.{World}
+use Rattle.split_model.specs.Shown.{halt_lines}
+use Rattle.machine_pipeline.proofs.Flow.{Flow, wrapped, ending_at, is_issuing}
+use Rattle.machine_pipeline.proofs.Holds.{Holds, AreIndices, IsReplying, IsReply, AreReplies, IsEnding, IsTaken, FrontAt, AreRingWords, AreSlots, IsFrontSleep}
+use Rattle.machine_pipeline.proofs.Turns.{BackGoes, Stepped, does_step}
+use Rattle.machine_pipeline.proofs.Kept.{slots_kept, front_sleep_kept, back_sleep_kept}
+use Rattle.machine_pipeline.proofs.Frames.{entered_few}
+use Rattle.machine_pipeline.proofs.BackStill.{BackStands, frames_beside, entries_beside}
+use Rattle.machine_pipeline.proofs.BackQuiet.{back_sleep_at}
+use Rattle.machine_pipeline.proofs.BackFences.{page_frame}
+use Rattle.schedule_text.specs.declared.line.Line.TheVariants as lines
+use Rattle.machine_pipeline.proofs.BackWrites.{RingWritten, ring_written, begun, next_wrapped}
+use Rattle.std.proofs.lemmas.List.Elements.{All-push}
+use Rattle.std.proofs.lemmas.List.Quantifiers.{all_pairs_push}
+use Rattle.blk_front.specs.declared.stage.Ending.{Ending}
+use Rattle.machine_pipeline.proofs.Lists.{get_append}
+use Rattle.pipeline_laws.specs.Station.{Replying, Replied, Taking}
+use Rattle.machine_pipeline.specs.Step.{IsSame}
+use Rattle.machine_pipeline.proofs.Stations.{AreStations, apart}
+use Rattle.machine_pipeline.proofs.StationsBack.{replies}
+
+-- one response more was pushed
+indices_replied : (g : Flow) (replies : List Reply) (front_ring back_ring : Ring) (front_seen back_seen number last waiting unfinished ending : ℕ) → g.replied < g.fetched → AreIndices g front_ring back_ring front_seen back_seen number last waiting unfinished ending → AreIndices (record g { replied = g.replied + 1; replies = replies }) front_ring (record back_ring { prod = next_of back_ring.prod }) front_seen back_seen number last waiting unfinished ending
+indices_replied g replies front_ring back_ring front_seen back_seen number last waiting unfinished ending owed x = record {
+  front_entries = x.front_entries;
+  back_entries = x.back_entries;
+  pushed = x.pushed;
+  taken = x.taken;
+  replied = next_wrapped g.start g.replied back_ring.prod x.replied;
+  fetched = x.fetched;
+  front_saw = x.front_saw;
+  back_saw = x.back_saw;
+  count = x.count;
+  taken_replied = omega (arith, x.taken_replied);
+  replied_fetched = omega arith;
+  fetched_pushed = x.fetched_pushed;
+  front_from = x.front_from;
+  front_to = omega (arith, x.front_to);
+  back_from = x.back_from;
+  back_to = x.back_to;
+  all = x.all;
+  few = x.few;
+  held = x.held;
+  room = x.room;
+}
+
+-- an element of a list with one more is one of the list's, or the last
+last_or_before : (replies : List Reply) (rep r : Reply) (k : ℕ) → slice_get (replies ++ rep ∷ []) k ≡ Some r → (slice_get replies k ≡ Some r) ⊎ ((k ≡ length replies) × (rep ≡ r))
+last_or_before [] rep r zero e = inr (refl, same_Some rep r e)
+last_or_before [] rep r (suc k) e = absurd (none-some r e)
+last_or_before (x ∷ replies) rep r zero e = inl e
+last_or_before (x ∷ replies) rep r (suc k) e = elim (last_or_before replies rep r k e) [ inl h ↦ inl h | inr h ↦ inr (let at = h.0 in omega arith, h.1) ]
+
+slots_replied : (start fetched pushed taken replied old : ℕ) (submitted : List Request) (replies : List Reply) (pages : List ℕ) (s : FrontStage) (rep : Reply) → length replies + taken ≡ replied → AreSlots start fetched pushed taken replied submitted replies pages s (stage.Producer rep) → AreSlots start fetched pushed taken (replied + 1) submitted (replies ++ rep ∷ []) pages s (stage.ProducerFence old)
+slots_replied start fetched pushed taken replied old submitted replies pages s rep counted h = record {
+  entries = h.entries;
+  entry = h.entry;
+  responses = λ k r e i lt. elim (last_or_before replies rep r k e) [
+    | inl before ↦ h.responses k r before i lt
+    | inr last ↦
+        let at : taken + k ≡ replied = omega (arith, last.0) in
+        subst (λ (x : Reply). word_of pages 2 (slot_word (wrapped start (taken + k)) i) ≡ response_word x i) last.1
+        (ap (λ (n : ℕ). word_of pages 2 (slot_word (wrapped start n) i)) at ∙ h.response rep refl i lt)
+  ];
+  response = λ r e i lt. cc;
+}
+
+ring_replied : (start pushed replied word old : ℕ) (before new : List ℕ) (s : FrontStage) (rep : Reply) → RingWritten before new 2 word → word ≡ wrapped start (replied + 1) → is_connected s ≡ true → AreRingWords start pushed replied before s (stage.Producer rep) → AreRingWords start pushed (replied + 1) new s (stage.ProducerFence old)
+ring_replied start pushed replied word old before new s rep r e c h = record {
+  begun = begun start new s c;
+  requests = λ t. r.words 0 (omega arith) ∙ h.requests t;
+  responses = λ t. r.here ∙ e;
+  named = λ t u. absurd (false≢true (sym u));
+  granted = λ t u. absurd (false≢true (sym u));
+}
+
+front_sleep_replied : (start taken replied old : ℕ) (pages : List ℕ) (asleep pending : Bool) (s : FrontStage) (rep : Reply) → IsFrontSleep start taken replied pages asleep pending s (stage.Producer rep) → IsFrontSleep start taken (replied + 1) pages asleep pending s (stage.ProducerFence old)
+front_sleep_replied start taken replied old pages asleep pending s rep h = record {
+  arming = h.arming;
+  armed = h.armed;
+  may = h.may;
+  woken = λ t. elim (h.woken t) [ inl e ↦ inr (inr (omega arith)) | inr r ↦ elim r [ inl e ↦ inr (inl e) | inr r ↦ absurd r ] ];
+}
+
+-- one response more
+replies_more : (fetched taken replied : ℕ) (replies : List Reply) (rep : Reply) → 1 ≤ rep.id → rep.id ≤ fetched → rep.op < 2 ^ 8 → ((i : ℕ) (other : Reply) → slice_get replies i ≡ Some other → other.id ≢ rep.id) → AreReplies fetched taken replied replies → AreReplies fetched taken (replied + 1) (replies ++ rep ∷ [])
+replies_more fetched taken replied replies rep positive reached op others h = record {
+  counted = omega (arith, length-append replies (rep ∷ []), h.counted);
+  each = All-push (IsReply fetched) replies rep h.each (record { positive = positive; reached = reached; op = op });
+  distinct = all_pairs_push (λ (a b : Reply). a.id ≢ b.id) replies rep h.distinct (λ i x lt. others i _ (slice_get-get_or replies i x lt));
+}
+
+ending_still : (submitted : List Request) (replies : List Reply) (rep : Reply) (e : Ending) → rep.id ≢ e.number → IsEnding submitted replies e → IsEnding submitted (replies ++ rep ∷ []) e
+ending_still submitted replies rep e other h = record {
+  r = h.r;
+  known = h.known;
+  positive = h.positive;
+  frame = h.frame;
+  alone = All-push (λ (x : Reply). x.id ≢ e.number) replies rep h.alone other;
+}
+
+abbrev taken_still : (taken seen : ℕ) (replies : List Reply) (rep : Reply) → IsTaken taken seen replies → IsTaken taken seen (replies ++ rep ∷ [])
+taken_still taken seen replies rep t = record { rep = t.rep; oldest = get_append replies (rep ∷ []) 0 t.rep t.oldest; seen = t.seen }
+
+front_still : (start pushed taken seen : ℕ) (submitted : List Request) (replies : List Reply) (next : Option Request) (entry : List ℕ) (s : FrontStage) (rep : Reply) → ((e : Ending) → ending_at s ≡ Some e → rep.id ≢ e.number) → FrontAt start pushed taken seen submitted replies next entry s → FrontAt start pushed taken seen submitted (replies ++ rep ∷ []) next entry s
+front_still start pushed taken seen submitted replies next entry (front.ResponseHigh low) rep other h = (taken_still taken seen replies rep h.0, h.1)
+front_still start pushed taken seen submitted replies next entry (front.ResponseLast low high) rep other h = (taken_still taken seen replies rep h.0, h.1, h.2)
+front_still start pushed taken seen submitted replies next entry (front.GrantRead e) rep other h = ending_still submitted replies rep e (other e refl) h
+front_still start pushed taken seen submitted replies next entry (front.GrantEnd e before) rep other h = (ending_still submitted replies rep e (other e refl) h.0, h.1)
+front_still start pushed taken seen submitted replies next entry s rep other h = h
+
+pub goes_producer : (config : Options) (w : World) (g : Flow) (d : Pipeline) (rep : Reply) → BackStands config w g d (stage.Producer rep) → BackGoes config w d (stage.Producer rep)
+goes_producer config w g d rep p = record {
+  flow = record g { replied = g.replied + 1; replies = g.replies ++ rep ∷ [] };
+  step = Some s.step;
+  does = does_step _ (lines.Reply rep.id rep.status ∷ halt_lines w.back.halted w.back.halted) (rw h.unhalted refl) s;
+  holds = record {
+    started = h.started;
+    sized = h.sized;
+    indices = indices_replied g (g.replies ++ rep ∷ []) w.front.ring w.back.ring w.front.seen w.back.seen w.back.fetched w.front.last w.front.waiting (length w.front.requests) (ending_of w.front.stage) owed x;
+    queue = h.queue;
+    submitted = h.submitted;
+    pool = h.pool;
+    stations = s.now;
+    works = h.works;
+    counted = omega (arith, h.counted);
+    info = h.info;
+    replies = replies_more g.fetched g.taken g.replied g.replies rep a.positive a.reached a.op others h.replies;
+    front_at = front_still g.start g.pushed g.taken g.front_seen g.submitted g.replies (next_request w.front) w.front.entry w.front.stage rep ending_other h.front_at;
+    unused = h.unused;
+    back_at = (omega arith, x.replied ∙ ap (λ (i : ℕ). wrapped g.start i) (omega arith));
+    unhalted = h.unhalted;
+    memory = wrote.memory;
+    ring = ring_replied g.start g.pushed g.replied word w.back.ring.prod w.under.pages new w.front.stage rep wrote next p.connected h.ring;
+    slots = slots_replied g.start g.fetched g.pushed g.taken g.replied w.back.ring.prod g.submitted g.replies new w.front.stage rep h.replies.counted (slots_kept g.start g.fetched g.pushed g.taken g.replied g.submitted g.replies w.under.pages new w.front.stage (stage.Producer rep) (λ i from to. wrote.words i (omega arith)) (entered_few g.start g.pushed g.taken g.front_seen g.submitted g.replies _ w.front.entry w.front.stage h.front_at) h.slots);
+    frames = frames_beside config w g d w.front.stage (stage.Producer rep) new h wrote.others;
+    entries = entries_beside config w g d w.front.stage (stage.Producer rep) new h wrote.others;
+    mapped = h.mapped;
+    page = record { gref = λ t. h.page.gref refl; mode = λ t. h.page.mode refl };
+    front_sleep = front_sleep_replied g.start g.taken g.replied w.back.ring.prod new w.front.asleep w.under.channels.front_pending w.front.stage rep (front_sleep_kept g.start g.taken g.replied w.under.pages new w.front.asleep w.under.channels.front_pending w.front.stage (stage.Producer rep) (wrote.words 3 (omega arith)) h.front_sleep);
+    back_sleep = back_sleep_at g.start g.fetched g.pushed new w.back.asleep w.under.channels.back_pending w.front.stage (stage.Producer rep) (stage.ProducerFence w.back.ring.prod) (λ t. t) (λ t. cc) (back_sleep_kept g.start g.fetched g.pushed w.under.pages new w.back.asleep w.under.channels.back_pending w.front.stage (stage.Producer rep) (wrote.words 1 (omega arith)) h.back_sleep);
+    ports = h.ports;
+  };
+}
+  where
+    h : Holds config w g d w.front.stage (stage.Producer rep)
+    h = p.holds
+
+    x : AreIndices g w.front.ring w.back.ring w.front.seen w.back.seen w.back.fetched w.front.last w.front.waiting (length w.front.requests) (ending_of w.front.stage)
+    x = h.indices
+
+    a : IsReplying g.fetched w.back.jobs.works rep
+    a = h.back_at
+
+    s : Stepped None IsSame d (lines.Reply rep.id rep.status ∷ []) (λ x. AreStations config (record g { replied = g.replied + 1; replies = g.replies ++ rep ∷ [] }) x (is_connected w.front.stage) (is_issuing w.front.stage) false (ending_at w.front.stage) None w.front.requests w.back.jobs.works)
+    s = replies config g d (is_connected w.front.stage) (is_issuing w.front.stage) false (ending_at w.front.stage) w.front.requests w.back.jobs.works rep a.positive h.replies.counted h.stations
+
+    -- no response that waits names its request, nor is its grant being ended
+    others : (i : ℕ) (other : Reply) → slice_get g.replies i ≡ Some other → other.id ≢ rep.id
+    others i other at same = apart d.requests (other.id - 1) (rep.id - 1) (Replied other.status) (Replying rep.status) (h.stations.replied i other at) (h.stations.replying rep refl) (omega arith) (ap (λ (id : ℕ). id - 1) same)
+
+    ending_other : (e : Ending) → ending_at w.front.stage ≡ Some e → rep.id ≢ e.number
+    ending_other e at same = apart d.requests (e.number - 1) (rep.id - 1) (Taking e.status) (Replying rep.status) (h.stations.taking e at) (h.stations.replying rep refl) (omega arith) (ap (λ (id : ℕ). id - 1) (sym same))
+
+    owed : g.replied < g.fetched
+    owed = omega (arith, h.counted)
+
+    frame : ℕ
+    frame = frame_of w.under.grants w.back.page
+
+    in_two : frame ≡ 2
+    in_two = page_frame w.under.grants (hands_in w.back.jobs.works) w.back.page p.held h.mapped.framed (h.page.gref refl)
+
+    word : ℕ
+    word = next_of w.back.ring.prod
+
+    next : word ≡ wrapped g.start (g.replied + 1)
+    next = next_wrapped g.start g.replied w.back.ring.prod x.replied
+
+    new : List ℕ
+    new = with_word w.under.pages frame 2 word
+
+    wrote : RingWritten w.under.pages new 2 word
+    wrote = ring_written w.under.pages frame 2 word in_two (omega arith) h.memory

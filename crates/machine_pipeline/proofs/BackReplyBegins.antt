@@ -1,0 +1,146 @@
+-- In the loop the lowest job that is done is taken, and its response begun.
+use Rattle.std.proofs.Common.{◌≡◌, ◌≢◌, ℕ, ◌+◌, ◌-◌, ◌<◌, List, [], ◌∷◌, ◌++◌, length, refl, ap, sym, subst, ◌∙◌, inl, inr, arith, get_or, false}
+use Rattle.std.specs.Prelude.{All, AllPairs, Option, Some, None, slice_get, option_and_then, position}
+use Rattle.std.specs.List.{remove}
+use Rattle.std.proofs.lemmas.Option.{none-some, same_Some, slice_get_within, get_or_from_slice_get}
+use Rattle.std.proofs.lemmas.List.Quantifiers.{all_pairs_remove}
+use Rattle.blk_base.specs.Options.{Options}
+use Rattle.blk_base.specs.declared.parts.Mapping.{Mapping}
+use Rattle.blk_base.specs.declared.ask.BackAnswer.{BackAnswer}
+use Rattle.blk_base.specs.declared.moves.Move.{Move as Shown}
+use Rattle.schedule_text.specs.declared.line.Line.TheVariants.{Move}
+use Rattle.pipeline_laws.specs.Pipeline.{Pipeline}
+use Rattle.xen_pages.specs.Pages.{with_word}
+use Rattle.hypervisor.specs.Act.{with_pages}
+use Rattle.back_jobs.specs.Task.{Work}
+use Rattle.back_jobs.specs.Jobs.{Held as Jobs}
+use Rattle.blk_front.specs.declared.request.Request.{Request}
+use Rattle.blk_front.specs.View.{slot_word}
+use Rattle.blk_back.specs.declared.stage.Reply.{Reply}
+use Rattle.blk_back.specs.declared.stage.Stage.TheVariants as stage
+use Rattle.blk_back.specs.Ask.{response_word, next_reply, reply_of}
+use Rattle.blk_back.specs.Step.{fetched}
+use Rattle.split_model.specs.World.{World}
+use Rattle.split_model.specs.Shown.{back_lines, halt_lines}
+use Rattle.machine_pipeline.proofs.Flow.{Flow, is_issuing, ending_at, worked}
+use Rattle.machine_pipeline.proofs.Holds.{Holds, AreWorks, IsWork, IsReplying}
+use Rattle.blk_front.specs.Submit.{is_connected}
+use Rattle.machine_pipeline.specs.Step.{IsSame}
+use Rattle.machine_pipeline.proofs.Turns.{Goes, Stepped, does_step}
+use Rattle.machine_pipeline.proofs.Lists.{all_at}
+use Rattle.machine_pipeline.proofs.Stations.{AreStations}
+use Rattle.machine_pipeline.proofs.StationsBack.{begins_response}
+use Rattle.machine_pipeline.proofs.BackStill.{BackStands}
+use Rattle.std.proofs.lemmas.Bool.{cases_lt}
+use Rattle.std.proofs.lemmas.List.Edits.{length-remove, get_or-remove_below, get_or-remove_above}
+use Rattle.back_jobs.specs.declared.stage.Stage.{Stage as JobStage}
+use Rattle.back_jobs.specs.declared.stage.Stage.TheVariants as job
+use Rattle.back_jobs.specs.Jobs.{is_done, work_at, response_of, response_at, removed_at, without_done}
+use Rattle.back_jobs.proofs.Hands.{done_hands}
+use Rattle.machine_pipeline.proofs.BackReplies.{goes_word}
+
+-- what holds of each element holds of those but one
+all_remove : {X : Type 0} → (P : X → Type 0) (xs : List X) (n : ℕ) → n < length xs → All P xs → All P (remove xs n)
+all_remove P xs n within all k x lt = elim (cases_lt k n) [
+  | inl before ↦ rw (get_or-remove_below xs n x k before within) (all k x (omega arith))
+  | inr behind ↦ rw (get_or-remove_above xs n x k behind within) (all (k + 1) x (let one = length-remove xs n within in omega arith))
+]
+
+-- in an ascending list each other number is another one
+others_apart : (works : List Work) (n : ℕ) (t : Work) → slice_get works n ≡ Some t → AllPairs (λ (a b : Work). a.number < b.number) works → All (λ (u : Work). u.number ≢ t.number) (remove works n)
+others_apart works n t at up k x lt = elim (cases_lt k n) [
+  | inl before ↦ rw (get_or-remove_below works n x k before within) (λ same. let below = apart k n x before within in let e = here x in omega arith)
+  | inr behind ↦ rw (get_or-remove_above works n x k behind within) (λ same. let below = apart n (k + 1) x (omega arith) (let one = length-remove works n within in omega arith) in let e = here x in omega arith)
+]
+  where
+    within : n < length works
+    within = slice_get_within works n t at
+
+    apart : (i j : ℕ) (x : Work) → i < j → j < length works → (let a : Work = get_or works i x in a.number) < (let b : Work = get_or works j x in b.number)
+    apart i j x first second = up i j x first second
+
+    here : (x : Work) → (let a : Work = get_or works n x in a.number) ≡ t.number
+    here x = ap (λ (a : Work). a.number) (get_or_from_slice_get works n t x at)
+
+-- the lowest job that is done, whose response this is
+pub record IsLowestDone (works : List Work) (rep : Reply) : Type 0 where
+  pub place : ℕ
+  pub t : Work
+  pub found : position (λ (u : Work). is_done u) works ≡ Some place
+  pub at : slice_get works place ≡ Some t
+  pub stage : t.stage ≡ job.Done rep.status
+  pub id : rep.id ≡ t.id
+  pub op : rep.op ≡ t.op
+
+pub lowest_done : (works : List Work) (rep : Reply) (place : Option ℕ) → position (λ (u : Work). is_done u) works ≡ place → reply_of (option_and_then response_of (work_at works place)) ≡ Some rep → IsLowestDone works rep
+lowest_done works rep None found e = absurd (none-some rep e)
+lowest_done works rep (Some place) found e = by_work (slice_get works place) refl e
+  where
+    by_stage : (t : Work) (s : JobStage) → slice_get works place ≡ Some t → t.stage ≡ s → reply_of (response_at s t) ≡ Some rep → IsLowestDone works rep
+    by_stage t (job.Done status) at is e =
+        let same : (let r : Reply = record { id = t.id; op = t.op; status = status } in r ≡ rep) = same_Some (record { id = t.id; op = t.op; status = status }) rep e in
+        record {
+          place = place;
+          t = t;
+          found = found;
+          at = at;
+          stage = is ∙ ap (λ (r : Reply). job.Done r.status) same;
+          id = ap (λ (r : Reply). r.id) (sym same);
+          op = ap (λ (r : Reply). r.op) (sym same);
+        }
+    by_stage t s at is e = absurd (none-some rep e)
+
+    by_work : (found : Option Work) → slice_get works place ≡ found → reply_of (option_and_then response_of found) ≡ Some rep → IsLowestDone works rep
+    by_work None at e = absurd (none-some rep e)
+    by_work (Some t) at e = by_stage t t.stage at refl e
+
+-- the job's result is taken: what is known of its response
+pub replying : (submitted : List Request) (fetched : ℕ) (works : List Work) (rep : Reply) (l : IsLowestDone works rep) → AreWorks submitted fetched works → IsReplying fetched (remove works l.place) rep
+replying submitted fetched works rep l h =
+    let t : Work = l.t in
+    let within : l.place < length works = slice_get_within works l.place t l.at in
+    let is : IsWork submitted fetched t = subst (λ (u : Work). IsWork submitted fetched u) (get_or_from_slice_get works l.place t t l.at) (h.each l.place t within) in
+    let number : rep.id ≡ t.number = l.id ∙ is.id in
+    record {
+      positive = omega (arith, is.positive);
+      reached = omega (arith, is.reached);
+      op = omega (arith, is.op, l.op);
+      alone = subst (λ (k : ℕ). All (λ (u : Work). u.number ≢ k) (remove works l.place)) (sym number) (others_apart works l.place t l.at h.ascending);
+    }
+
+pub goes_reply : (config : Options) (w : World) (g : Flow) (d : Pipeline) (rep : Reply) (frame : ℕ) (shown : Shown) (given : BackAnswer)
+    → BackStands config w g d stage.Loop
+    → frame ≡ 2
+    → next_reply w.back ≡ Some rep
+    → Goes config (Move shown ∷ back_lines w.back.told given ++ halt_lines w.back.halted w.back.halted) (record { front = w.front; back = record w.back { jobs = without_done w.back.jobs; stage = stage.ReplyHigh rep; told = None }; under = with_pages w.under (with_word w.under.pages frame (slot_word w.back.ring.prod 0) (response_word rep 0)) }) d
+goes_reply config w g d rep frame shown given p in_two e =
+    goes_word config w g d (Some s.step) stage.Loop (stage.ReplyHigh rep) rep 0 (without_done w.back.jobs) frame shown given (does_step shown (back_lines w.back.told given ++ halt_lines w.back.halted w.back.halted) (rw (p.untold, h.unhalted) refl) s) p
+    (record { few = omega arith; here = refl; upto = refl; paged = refl; paged_still = refl; bound = refl; bound_still = refl; unarmed = refl; sleeps = refl })
+    in_two (λ s. s) (λ j lt. absurd (omega arith))
+    (rw gone s.now)
+    (rw gone (record { each = all_remove (IsWork g.submitted g.fetched) works l.place within h.works.each; ascending = all_pairs_remove (λ (a b : Work). a.number < b.number) works l.place within h.works.ascending }))
+    (rw gone (omega (arith, length-remove works l.place within, h.counted)))
+    refl
+    (rw gone (replying g.submitted g.fetched works rep l h.works))
+    (ap (λ (m : List Mapping). m ++ w.back.page ∷ []) (done_hands w.back.jobs))
+  where
+    h : Holds config w g d w.front.stage stage.Loop
+    h = p.holds
+
+    works : List Work
+    works = w.back.jobs.works
+
+    l : IsLowestDone works rep
+    l = lowest_done works rep (position (λ (u : Work). is_done u) works) refl e
+
+    within : l.place < length works
+    within = slice_get_within works l.place l.t l.at
+
+    gone : (let j : Jobs = without_done w.back.jobs in j.works) ≡ remove works l.place
+    gone = ap (λ (place : Option ℕ). removed_at works place) l.found
+
+    is : IsWork g.submitted g.fetched l.t
+    is = all_at (IsWork g.submitted g.fetched) works l.place l.t h.works.each l.at
+
+    s : Stepped None IsSame d [] (λ x. AreStations config g x (is_connected w.front.stage) (is_issuing w.front.stage) false (ending_at w.front.stage) (Some rep) w.front.requests (remove works l.place))
+    s = begins_response config g d (is_connected w.front.stage) (is_issuing w.front.stage) false (ending_at w.front.stage) w.front.requests works l.place l.t rep l.at (ap worked l.stage) (l.id ∙ is.id) h.works.ascending (λ i u at. let work = all_at (IsWork g.submitted g.fetched) works i u h.works.each at in work.positive) h.stations

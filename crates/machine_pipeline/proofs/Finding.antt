@@ -1,0 +1,115 @@
+-- The front finds the request that a response names.
+use Rattle.std.proofs.Common.{◌≡◌, ℕ, ◌+◌, ◌-◌, ◌*◌, ◌/◌, ◌^◌, ◌<◌, ◌≤◌, ◌==◌, ◌⊎◌, inl, inr, Bool, true, false, List, [], ◌∷◌, length, take, refl, ap, sym, ◌∙◌, subst, arith}
+use Rattle.std.specs.Prelude.{Option, Some, None, slice_get, option_map, Result, Ok, Err, nat_lt}
+use Rattle.std.specs.List.{list_any}
+use Rattle.std.proofs.lemmas.Option.{none-some, slice_get_within}
+use Rattle.std.proofs.lemmas.Bool.Decides.{nat_tests}
+use Rattle.blk_base.specs.Options.{Options}
+use Rattle.blk_layout.specs.declared.response.Response.{Response}
+use Rattle.blk_layout.specs.Response.{response_of, response_with, status_of}
+use Rattle.blk_base.specs.declared.operation.Status.{Status}
+use Rattle.blk_layout.proofs.ResponseLaid.{response_back}
+use Rattle.pipeline_laws.specs.Pipeline.{Pipeline}
+use Rattle.pipeline_laws.specs.Station.{Replied, is_finished}
+use Rattle.blk_front.specs.declared.request.Request.{Request}
+use Rattle.blk_front.specs.declared.stage.Ending.{Ending}
+use Rattle.blk_front.specs.declared.stage.Stage.{Stage as FrontStage}
+use Rattle.blk_front.specs.Step.{found_at, issued}
+use Rattle.blk_back.specs.declared.stage.Reply.{Reply}
+use Rattle.blk_back.specs.Ask.{response_word}
+use Rattle.split_model.specs.World.{World}
+use Rattle.machine_pipeline.proofs.Flow.{Flow, ending_at}
+use Rattle.machine_pipeline.proofs.Holds.{Holds, IsReply}
+use Rattle.machine_pipeline.proofs.Lists.{place_of_any}
+use Rattle.machine_pipeline.proofs.Removals.{taken_was, taken_has, found_somewhere}
+use Rattle.machine_pipeline.proofs.Lists.{found_at as placed_at}
+use Rattle.machine_pipeline.proofs.Stations.{StandsAt}
+
+-- the response as its three words have it
+abbrev pub response_for : Reply → Response
+response_for rep = record { id = rep.id; op = rep.op; status = rep.status }
+
+same_three : (a b c x y z : ℕ) → a ≡ x → b ≡ y → c ≡ z → ◌≡◌ {A = List ℕ} (a ∷ b ∷ c ∷ []) (x ∷ y ∷ z ∷ [])
+same_three a b c x y z e f g = rw (e, f, g) refl
+
+pub read_back : (rep : Reply) (low high last : ℕ) → rep.op < 2 ^ 8 → low ≡ response_word rep 0 → high ≡ response_word rep 1 → last ≡ response_word rep 2 → response_of (low ∷ high ∷ last ∷ []) ≡ Ok (response_for rep)
+read_back rep low high last op e f g = ap response_of (same_three low high last (response_word rep 0) (response_word rep 1) (response_word rep 2) e f g) ∙ response_back (response_for rep) op
+
+-- its id is that of its first two words
+abbrev id_of : Result Response ℕ → ℕ
+id_of (Ok r) = r.id
+id_of (Err word) = 0
+
+abbrev IsOkay : Result Response ℕ → Type 0
+IsOkay (Ok r) = Unit {0}
+IsOkay (Err word) = ⊥
+
+pub first_two : (low high last : ℕ) (r : Response) → response_of (low ∷ high ∷ last ∷ []) ≡ Ok r → low + high * 2 ^ 32 ≡ r.id
+first_two low high last r e = by_status (status_of (last / 2 ^ 16)) e
+  where
+    by_status : (o : Option Status) → response_with (low ∷ high ∷ last ∷ []) o ≡ Ok r → low + high * 2 ^ 32 ≡ r.id
+    by_status None e = absurd (subst IsOkay (sym e) tt)
+    by_status (Some status) e = ap id_of e
+
+pub record IsFound (w : World) (g : Flow) (id : ℕ) : Type 0 where
+  pub place : ℕ
+  pub r : Request
+  pub here : slice_get w.front.requests place ≡ Some r
+  pub early : place < length w.front.requests - w.front.waiting
+  pub number : r.number ≡ id
+  pub found : issued w.front id ≡ Some (place, r)
+
+pub finds : (config : Options) (w : World) (g : Flow) (d : Pipeline) (s : FrontStage) (rep : Reply)
+    → Holds config w g d s w.back.stage
+    → ending_at s ≡ None
+    → IsReply g.fetched rep
+    → StandsAt d.requests (rep.id - 1) (Replied rep.status)
+    → IsFound w g rep.id
+finds config w g d s rep h none is was = by_place (h.stations.opened.held (rep.id - 1) was.q was.at (ap is_finished was.there))
+  where
+    test : Request → Bool
+    test r = r.number == rep.id
+
+    early_of : (i : ℕ) (r : Request) → slice_get w.front.requests i ≡ Some r → r.number ≡ rep.id → i < length w.front.requests - w.front.waiting
+    early_of i r e same = by_test (nat_lt i (length w.front.requests - w.front.waiting)) refl
+      where
+        by_test : (b : Bool) → nat_lt i (length w.front.requests - w.front.waiting) ≡ b → i < length w.front.requests - w.front.waiting
+        by_test true t = grind (arith, nat_tests)
+        by_test false t =
+            let late : length w.front.requests - w.front.waiting ≤ i = grind (arith, nat_tests) in
+            let within = slice_get_within w.front.requests i r e in
+            let queue = h.queue in
+            let indices = h.indices in
+            let reached = is.reached in
+            let number = queue.next (i - (length w.front.requests - w.front.waiting)) r (omega arith) (ap (slice_get w.front.requests) (omega arith) ∙ e) in
+            absurd (omega arith)
+
+    by_place : (list_any (λ (r : Request). r.number == rep.id - 1 + 1) w.front.requests ≡ true) ⊎ ((e : Ending) × (ending_at s ≡ Some e) × (e.number ≡ rep.id - 1 + 1)) → IsFound w g rep.id
+    by_place (inl any) =
+        let at = place_of_any (λ (r : Request). r.number == rep.id - 1 + 1) w.front.requests any in
+        let positive = is.positive in
+        let same : (let r : Request = at.1 in r.number) ≡ rep.id = numbers at.1.number rep.id positive at.3 in
+        let passes : (let r : Request = at.1 in (r.number == rep.id)) ≡ true = same_test at.1.number rep.id same in
+        let few = length w.front.requests - w.front.waiting in
+        let early = early_of at.0 at.1 at.2 same in
+        let first = found_somewhere (λ (r : Request). r.number == rep.id) (take few w.front.requests) at.0 at.1 (taken_has few w.front.requests at.0 at.1 at.2 early) passes in
+        let it = placed_at (λ (r : Request). r.number == rep.id) (take few w.front.requests) first.0 first.1 in
+        let whole = taken_was few w.front.requests first.0 it.0 it.1 in
+        record {
+          place = first.0;
+          r = it.0;
+          here = whole.1;
+          early = whole.0;
+          number = tested (let r : Request = it.0 in r.number) rep.id it.2;
+          found = ap (found_at w.front.requests) first.1 ∙ ap (option_map (λ (r : Request). (first.0, r))) whole.1;
+        }
+      where
+        numbers : (n id : ℕ) → 1 ≤ id → (n == id - 1 + 1) ≡ true → n ≡ id
+        numbers n id le t = grind (arith, nat_tests)
+
+        same_test : (n id : ℕ) → n ≡ id → (n == id) ≡ true
+        same_test n id e = grind (arith, nat_tests)
+
+        tested : (n id : ℕ) → (n == id) ≡ true → n ≡ id
+        tested n id t = grind (arith, nat_tests)
+    by_place (inr other) = absurd (none-some other.0 (sym none ∙ other.1))

@@ -1,0 +1,141 @@
+-- What one request more makes of the front's queue and pool, and of what the pipeline knows.
+use Rattle.std.proofs.Common.{◌≡◌, ◌≢◌, ℕ, zero, suc, ◌+◌, ◌-◌, ◌^◌, ◌<◌, ◌≤◌, ◌==◌, ◌⊎◌, ◌||◌, Bool, true, false, not, cond, List, [], ◌∷◌, ◌++◌, length, get_or, refl, ap, sym, ◌∙◌, subst, inl, inr, arith, length-append, length-set, get_or-set_other}
+use Rattle.std.specs.Prelude.{Option, Some, None, slice_get, slice_index_or, count_by}
+use Rattle.std.specs.List.{list_any}
+use Rattle.std.proofs.lemmas.Bool.{cases_lt}
+use Rattle.std.proofs.lemmas.Bool.Decides.{nat_tests}
+use Rattle.std.proofs.lemmas.Option.{none-some, same_Some, slice_get_within, get_or_from_slice_get}
+use Rattle.std.proofs.lemmas.Grind.{get_or-set_at}
+use Rattle.std.proofs.lemmas.List.{take-append-le}
+use Rattle.std.proofs.lemmas.List.Elements.{All-push}
+use Rattle.std.proofs.lemmas.List.Sums.{sum_by_push}
+use Rattle.std.proofs.lemmas.List.Quantifiers.{all_pairs_push}
+use Rattle.std.proofs.lemmas.List.Folds.{list_any-append}
+use Rattle.blk_base.specs.declared.config.Job.TheVariants.{Write}
+use Rattle.pipeline_laws.specs.Station.{Request as Asked, is_finished}
+use Rattle.blk_front.specs.declared.request.Request.{Request}
+use Rattle.blk_front.specs.declared.stage.Ending.{Ending}
+use Rattle.blk_front.specs.Pool.{with_taken}
+use Rattle.machine_pipeline.proofs.Flow.{frame_count}
+use Rattle.machine_pipeline.proofs.Holds.{AreQueued, IsSubmitted, AreSubmitted, ArePooled}
+use Rattle.machine_pipeline.proofs.Stations.{AreKnown, AreOpen}
+use Rattle.machine_pipeline.proofs.Lists.{get_append, get_last, get_within, count_set}
+
+pub longer : {X : Type 0} (xs : List X) (y : X) → length (xs ++ y ∷ []) ≡ length xs + 1
+longer xs y = length-append xs (y ∷ [])
+
+-- what stands at a place once one more was added: what stood there, or that one
+pub push_was : {X : Type 0} (xs : List X) (y : X) (k : ℕ) (x : X) → slice_get (xs ++ y ∷ []) k ≡ Some x → (slice_get xs k ≡ Some x) ⊎ ((k ≡ length xs) × (x ≡ y))
+push_was [] y zero x e = inr (refl, sym (same_Some y x e))
+push_was [] y (suc k) x e = absurd (none-some x e)
+push_was (z ∷ xs) y zero x e = inl e
+push_was (z ∷ xs) y (suc k) x e = elim (push_was xs y k x e) [ inl was ↦ inl was | inr last ↦ inr (ap suc last.0, last.1) ]
+
+pub same_before : {X : Type 0} (xs : List X) (y : X) (k : ℕ) → k < length xs → slice_get (xs ++ y ∷ []) k ≡ slice_get xs k
+same_before xs y k lt = let was = get_within xs k lt in get_append xs (y ∷ []) k was.0 was.1 ∙ sym was.1
+
+pub submitted_more : (submitted : List Request) (sectors last : ℕ) (x : Request) → x.number ≡ last + 1 → x.sector < sectors → x.tag < 2 ^ 32 → 18 ≤ x.frame → x.frame < 1018 → AreSubmitted submitted sectors last → AreSubmitted (submitted ++ x ∷ []) sectors (last + 1)
+submitted_more submitted sectors last x number on_disk small low high h = record {
+  counted = longer submitted x ∙ ap (λ (n : ℕ). n + 1) h.counted;
+  each = λ k r e. elim (push_was submitted x k r e) [
+    | inl was ↦ h.each k r was
+    | inr new ↦
+        let counted = h.counted in
+        subst (IsSubmitted sectors k) (sym new.1) (record { number = (let at = new.0 in omega arith); sector = on_disk; tag = small; low = low; high = high })
+  ];
+  sized = h.sized;
+}
+
+pub queue_more : (submitted : List Request) (pushed sectors last : ℕ) (requests : List Request) (waiting : ℕ) (x : Request)
+    → x.number ≡ last + 1 → last ≡ pushed + waiting → waiting ≤ length requests
+    → AreSubmitted submitted sectors last
+    → AreQueued submitted pushed requests waiting
+    → AreQueued (submitted ++ x ∷ []) pushed (requests ++ x ∷ []) (waiting + 1)
+queue_more submitted pushed sectors last requests waiting x number all few are h =
+    let long = longer requests x in
+    let counted = are.counted in
+    let fewer : length (requests ++ x ∷ []) - (waiting + 1) ≡ length requests - waiting = omega arith in
+    let here : x.number - 1 ≡ length submitted = omega arith in
+    record {
+      known = All-push (λ (r : Request). slice_get (submitted ++ x ∷ []) (r.number - 1) ≡ Some r) requests x
+          (λ k d lt. get_append submitted (x ∷ []) _ (get_or requests k d) (h.known k d lt))
+          (ap (slice_get (submitted ++ x ∷ [])) here ∙ get_last submitted x);
+      ascending = all_pairs_push (λ (r s : Request). r.number < s.number) requests x h.ascending
+          (λ k d lt. let within = slice_get_within submitted _ (get_or requests k d) (h.known k d lt) in omega arith);
+      issued = rw (fewer, take-append-le (length requests - waiting) requests (x ∷ []) (omega arith)) h.issued;
+      next = λ j r lt e. elim (push_was requests x (length requests - waiting + j) r (ap (λ (n : ℕ). slice_get (requests ++ x ∷ []) (n + j)) (sym fewer) ∙ e)) [
+        | inl was ↦ (let within = slice_get_within requests (length requests - waiting + j) r was in h.next j r (omega arith) was)
+        | inr new ↦ (let at = new.0 in ap (λ (q : Request). q.number) new.1 ∙ (omega arith))
+      ];
+    }
+
+-- a free frame is taken
+pub pooled_more : (pool : List Bool) (requests : List Request) (ending : Option Ending) (x : Request) → 18 ≤ x.frame → x.frame < 1018 → slice_get pool (x.frame - 18) ≡ Some false → ArePooled pool requests ending → ArePooled (with_taken pool x.frame) (requests ++ x ∷ []) ending
+pooled_more pool requests ending x low high free h =
+    let long = longer requests x in
+    let used = h.used in
+    let counted = count_set (λ (b : Bool). b) pool (x.frame - 18) false true free in
+    record {
+      size = length-set pool (x.frame - 18) true ∙ h.size;
+      each = λ f lt. by_test f lt (x.frame == 18 + f) refl;
+      used = (omega arith);
+    }
+  where
+    free_at : (f : ℕ) → x.frame - 18 ≡ f → slice_index_or pool f false ≡ false
+    free_at f e = ap (λ (n : ℕ). slice_index_or pool n false) (sym e) ∙ get_or_from_slice_get pool (x.frame - 18) false false free
+
+    by_test : (f : ℕ) → f < 1000 → (b : Bool) → (x.frame == 18 + f) ≡ b → count_by (λ (r : Request). r.frame == 18 + f) (requests ++ x ∷ []) + frame_count ending (18 + f) ≡ cond (slice_index_or (with_taken pool x.frame) f false) 1 0
+    by_test f lt true t =
+        let more = sum_by_push (λ (r : Request). cond (r.frame == 18 + f) 1 0) requests x in
+        let here : x.frame - 18 ≡ f = grind (arith, nat_tests) in
+        let was : count_by (λ (r : Request). r.frame == 18 + f) requests + frame_count ending (18 + f) ≡ 0 = h.each f lt ∙ rw (free_at f here) refl in
+        let size = h.size in
+        let now : slice_index_or (with_taken pool x.frame) f false ≡ true = get_or-set_at pool (x.frame - 18) f true false (omega arith) (omega arith) in
+        let one : ◌≡◌ {A = ℕ} (cond (x.frame == 18 + f) 1 0) 1 = rw t refl in
+        rw now (omega arith)
+    by_test f lt false t =
+        let more = sum_by_push (λ (r : Request). cond (r.frame == 18 + f) 1 0) requests x in
+        let apart : x.frame - 18 ≢ f = grind (arith, nat_tests) in
+        let was = h.each f lt in
+        let now : slice_index_or (with_taken pool x.frame) f false ≡ slice_index_or pool f false = get_or-set_other pool (x.frame - 18) f true false (omega arith) in
+        let none : ◌≡◌ {A = ℕ} (cond (x.frame == 18 + f) 1 0) 0 = rw t refl in
+        rw now (omega arith)
+
+pub known_more : (submitted : List Request) (asked : List Asked) (x : Request) (q : Asked) → q.job ≡ Write x.sector 1 x.tag → AreKnown submitted asked → AreKnown (submitted ++ x ∷ []) (asked ++ q ∷ [])
+known_more submitted asked x q job h =
+    let as_many = h.as_many in
+    record {
+      as_many = longer asked q ∙ (ap (λ (n : ℕ). n + 1) as_many ∙ sym (longer submitted x));
+      each = λ k r p e f. elim (push_was submitted x k r e) [
+        | inl was ↦ (elim (push_was asked q k p f) [
+          | inl stood ↦ h.each k r p was stood
+          | inr new ↦ absurd (let within = slice_get_within submitted k r was in let at = new.0 in omega arith)
+        ])
+        | inr last ↦ (elim (push_was asked q k p f) [
+          | inl stood ↦ absurd (let within = slice_get_within asked k p stood in let at = last.0 in omega arith)
+          | inr new ↦ rw (last.1, new.1) job
+        ])
+      ];
+    }
+
+pub opened_more : (asked : List Asked) (requests : List Request) (ending : Option Ending) (x : Request) (q : Asked) → is_finished q.station ≡ false → x.number ≡ length asked + 1 → AreOpen asked requests ending → AreOpen (asked ++ q ∷ []) (requests ++ x ∷ []) ending
+opened_more asked requests ending x q unfinished_yet number h =
+    let long = longer requests x in
+    let unfinished = h.unfinished in
+    record {
+      unfinished = sum_by_push (λ (p : Asked). cond (not (is_finished p.station)) 1 0) asked q ∙ rw unfinished_yet (omega arith);
+      held = λ k p e fin. elim (push_was asked q k p e) [
+        | inl was ↦ (elim (h.held k p was fin) [
+          | inl some ↦ inl (list_any-append (λ (r : Request). r.number == k + 1) requests (x ∷ []) ∙ rw some refl)
+          | inr ended ↦ inr ended
+        ])
+        | inr new ↦ inl (list_any-append (λ (r : Request). r.number == k + 1) requests (x ∷ []) ∙ (let at = new.0 in rw (numbered x.number (k + 1) (omega arith)) (or_true (list_any (λ (r : Request). r.number == k + 1) requests))))
+      ];
+    }
+  where
+    numbered : (n m : ℕ) → n ≡ m → (n == m) ≡ true
+    numbered n m e = grind (arith, nat_tests)
+
+    or_true : (b : Bool) → (b || true) ≡ true
+    or_true true = refl
+    or_true false = refl

@@ -1,0 +1,137 @@
+-- The mappings in the hands of the back and its jobs, and those of one request's frame among them.
+use Rattle.std.proofs.Common.{◌≡◌, ◌≢◌, ℕ, zero, suc, ◌+◌, ◌-◌, ◌<◌, ◌≤◌, ◌==◌, ◌⊎◌, inl, inr, Bool, true, false, cond, List, [], ◌∷◌, refl, ap, sym, ◌∙◌, subst, arith}
+use Rattle.std.specs.Prelude.{Option, Some, None, slice_get, count_by, nat_lt}
+use Rattle.std.specs.List.{list_any}
+use Rattle.std.proofs.lemmas.Option.{none-some, same_Some}
+use Rattle.std.proofs.lemmas.List.Sums.{sum_by-append}
+use Rattle.std.proofs.lemmas.Bool.Decides.{nat_tests}
+use Rattle.blk_base.specs.declared.parts.Mapping.{Mapping}
+use Rattle.pipeline_laws.specs.Station.{Station, Taking, Request as Asked, is_finished}
+use Rattle.blk_front.specs.declared.request.Request.{Request}
+use Rattle.blk_front.specs.declared.stage.Ending.{Ending}
+use Rattle.back_jobs.specs.declared.stage.Stage.{Stage as JobStage}
+use Rattle.back_jobs.specs.declared.stage.Stage.TheVariants as job
+use Rattle.back_jobs.specs.Task.{Work}
+use Rattle.back_jobs.specs.Jobs.{mapping_at}
+use Rattle.back_jobs.specs.Hands.{hands_in}
+use Rattle.blk_back.specs.declared.stage.Stage.{Stage as BackStage}
+use Rattle.blk_back.specs.declared.stage.Stage.TheVariants as back
+use Rattle.blk_back.specs.Hands.{given_up, page_at}
+use Rattle.machine_pipeline.proofs.Flow.{frame_count, has_page}
+use Rattle.machine_pipeline.proofs.Holds.{AreQueued, ArePooled, IsHand, AtWork, IsWork, BackAt}
+use Rattle.machine_pipeline.proofs.Stations.{StandsAt, AreOpen, IsTaking, kind_of, early_open, apart}
+use Rattle.machine_pipeline.proofs.Lists.{all_at, place_of_any, count_two, count_one, count_none}
+
+-- a submitted request stands at a place of the front's
+pub record IsQueued (requests : List Request) (r : Request) : Type 0 where
+  pub place : ℕ
+  pub at : slice_get requests place ≡ Some r
+
+same_request : (submitted requests : List Request) (pushed waiting k : ℕ) (r : Request) → AreQueued submitted pushed requests waiting → slice_get submitted k ≡ Some r → list_any (λ (x : Request). x.number == k + 1) requests ≡ true → IsQueued requests r
+same_request submitted requests pushed waiting k r queue known any =
+    let found = place_of_any (λ (x : Request). x.number == k + 1) requests any in
+    let place = all_at (λ (x : Request). slice_get submitted (x.number - 1) ≡ Some x) requests found.0 found.1 queue.known found.2 in
+    let number : (let x : Request = found.1 in x.number - 1) ≡ k = grind (arith, nat_tests, found.3) in
+    let same : found.1 ≡ r = same_Some found.1 r (sym place ∙ (ap (slice_get submitted) number ∙ known)) in
+    record { place = found.0; at = found.2 ∙ ap Some same }
+
+-- a request on its way, whose grant isn't being ended, is one of the front's
+pub queued : (submitted requests : List Request) (pushed waiting k : ℕ) (r : Request) (asked : List Asked) (ending : Option Ending) (station : Station)
+    → AreQueued submitted pushed requests waiting
+    → AreOpen asked requests ending
+    → IsTaking ending asked
+    → kind_of station < 7
+    → slice_get submitted k ≡ Some r
+    → StandsAt asked k station
+    → IsQueued requests r
+queued submitted requests pushed waiting k r asked ending station queue opened taking early known here = by_place (opened.held k here.q here.at (ap is_finished here.there ∙ early_open station (omega arith)))
+  where
+    by_place : (list_any (λ (x : Request). x.number == k + 1) requests ≡ true) ⊎ ((e : Ending) × (ending ≡ Some e) × (e.number ≡ k + 1)) → IsQueued requests r
+    by_place (inl any) = same_request submitted requests pushed waiting k r queue known any
+    by_place (inr other) =
+        let e : Ending = other.0 in
+        let number : e.number - 1 ≡ k = omega (arith, other.2) in
+        absurd (apart asked (e.number - 1) k (Taking e.status) station (taking e other.1) here (omega arith) number)
+
+few_of : (b : Bool) (n : ℕ) → n ≡ cond b 1 0 → n ≤ 1
+few_of true n e = omega arith
+few_of false n e = omega arith
+
+-- at most one of the front's requests has a frame
+once : (pool : List Bool) (requests : List Request) (ending : Option Ending) (frame : ℕ) → ArePooled pool requests ending → 18 ≤ frame → frame < 1018 → count_by (λ (x : Request). x.frame == frame) requests + frame_count ending frame ≤ 1
+once pool requests ending frame pooled low high =
+    let f : 18 + (frame - 18) ≡ frame = omega arith in
+    subst (λ (n : ℕ). count_by (λ (x : Request). x.frame == n) requests + frame_count ending n ≤ 1) f (few_of _ _ (pooled.each (frame - 18) (omega arith)))
+
+-- two of the front's requests have different frames
+pub frames_apart : (pool : List Bool) (requests : List Request) (ending : Option Ending) (i j : ℕ) (r s : Request) → ArePooled pool requests ending → 18 ≤ r.frame → r.frame < 1018 → i ≢ j → slice_get requests i ≡ Some r → slice_get requests j ≡ Some s → r.frame ≢ s.frame
+frames_apart pool requests ending i j r s pooled low high other first second = λ same.
+    let few = once pool requests ending r.frame pooled low high in
+    let here : (r.frame == r.frame) ≡ true = grind (arith, nat_tests) in
+    let there : (s.frame == r.frame) ≡ true = grind (arith, nat_tests) in
+    by_order (nat_lt i j) refl few here there
+  where
+    by_order : (b : Bool) → nat_lt i j ≡ b → count_by (λ (x : Request). x.frame == r.frame) requests + frame_count ending r.frame ≤ 1 → (r.frame == r.frame) ≡ true → (s.frame == r.frame) ≡ true → ⊥
+    by_order true t few here there =
+        let lt : i < j = grind (arith, nat_tests) in
+        let two = count_two (λ (x : Request). x.frame == r.frame) requests i j r s lt first second here there in
+        omega arith
+    by_order false t few here there =
+        let lt : j < i = grind (arith, nat_tests) in
+        let two = count_two (λ (x : Request). x.frame == r.frame) requests j i s r lt second first there here in
+        omega arith
+
+pub ending_apart : (pool : List Bool) (requests : List Request) (e : Ending) (i : ℕ) (r : Request) → ArePooled pool requests (Some e) → 18 ≤ r.frame → r.frame < 1018 → slice_get requests i ≡ Some r → r.frame ≢ e.frame
+ending_apart pool requests e i r pooled low high first = λ same.
+    let few = once pool requests (Some e) r.frame pooled low high in
+    let here : (r.frame == r.frame) ≡ true = grind (arith, nat_tests) in
+    let there : (e.frame == r.frame) ≡ true = grind (arith, nat_tests) in
+    let one = count_one (λ (x : Request). x.frame == r.frame) requests i r first here in
+    let counted : frame_count (Some e) r.frame ≡ 1 = rw there refl in
+    omega arith
+
+-- a request whose number no job with a mapping has is not mapped, nor is the ring's page its frame
+hand_at : (r : Request) (t : Work) (s : JobStage) (m : Mapping) → AtWork r t s → mapping_at s ≡ Some m → IsHand m r
+hand_at r t job.Map m h e = absurd (none-some m e)
+hand_at r t (job.ReadWord n j) m h e = subst (λ (x : Mapping). IsHand x r) (same_Some n m e) h.1
+hand_at r t (job.DiskWrite n) m h e = subst (λ (x : Mapping). IsHand x r) (same_Some n m e) h.1
+hand_at r t (job.DiskRead n) m h e = absurd h
+hand_at r t (job.WriteWord n j) m h e = absurd h
+hand_at r t (job.Unmap n) m h e = subst (λ (x : Mapping). IsHand x r) (same_Some n m e) h.1
+hand_at r t (job.GiveUp n) m h e = subst (λ (x : Mapping). IsHand x r) (same_Some n m e) h
+hand_at r t (job.Done status) m h e = absurd (none-some m e)
+
+pub work_hand : (submitted : List Request) (fetched : ℕ) (t : Work) (m : Mapping) → (h : IsWork submitted fetched t) → mapping_at t.stage ≡ Some m → IsHand m h.r
+work_hand submitted fetched t m h e = hand_at h.r t t.stage m h.at e
+
+pub hands_none : (test : Mapping → Bool) (works : List Work) → ((i : ℕ) (t : Work) (m : Mapping) → slice_get works i ≡ Some t → mapping_at t.stage ≡ Some m → test m ≡ false) → count_by test (hands_in works) ≡ 0
+hands_none test [] none = refl
+hands_none test (t ∷ works) none =
+    let rest = hands_none test works (λ i u m e f. none (suc i) u m e f) in
+    by_hand (mapping_at t.stage) refl rest
+  where
+    by_hand : (m : Option Mapping) → mapping_at t.stage ≡ m → count_by test (hands_in works) ≡ 0 → count_by test (hands_in (t ∷ works)) ≡ 0
+    by_hand None e rest = rw e rest
+    by_hand (Some m) e rest =
+        let here = none zero t m refl e in
+        let both = count_none test (m ∷ []) (one m here) in
+        let all = sum_by-append (λ (x : Mapping). cond (test x) 1 0) (m ∷ []) (hands_in works) in
+        rw e (omega arith)
+      where
+        one : (m : Mapping) → test m ≡ false → (i : ℕ) (x : Mapping) → slice_get (m ∷ []) i ≡ Some x → test x ≡ false
+        one m t zero x e = rw (sym (same_Some m x e)) t
+        one m t (suc i) x e = absurd (none-some x e)
+
+pub nothing_given_up : (b : BackStage) (start fetched back_seen replied : ℕ) (submitted : List Request) (works : List Work) (entry : List ℕ) → BackAt start fetched back_seen replied submitted works entry b → given_up b ≡ []
+nothing_given_up (back.GiveUp m) start fetched back_seen replied submitted works entry h = absurd h
+nothing_given_up b start fetched back_seen replied submitted works entry h = refl
+
+pub page_none : (test : Mapping → Bool) (b : BackStage) (page : Mapping) → (has_page b ≡ true → test page ≡ false) → count_by test (page_at b page) ≡ 0
+page_none test back.MapRing page none = refl
+page_none test back.ClosePort page none = refl
+page_none test back.Halted page none = refl
+page_none test b page none = count_none test (page ∷ []) one
+  where
+    one : (i : ℕ) (x : Mapping) → slice_get (page ∷ []) i ≡ Some x → test x ≡ false
+    one zero x e = rw (sym (same_Some page x e)) (none refl)
+    one (suc i) x e = absurd (none-some x e)

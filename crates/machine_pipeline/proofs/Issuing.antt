@@ -1,0 +1,211 @@
+-- A step of the front while it issues a request leaves all as it was but its stage, its entry and words of memory.
+use Rattle.std.proofs.Common.{◌≡◌, ℕ, ◌+◌, ◌<◌, ◌≤◌, true, false, List, length, get_or, refl, sym, ◌∙◌, inl, inr, arith}
+use Rattle.std.specs.Prelude.{All, None}
+use Rattle.std.proofs.lemmas.Option.{slice_get-get_or}
+use Rattle.blk_base.specs.Options.{Options}
+use Rattle.xen_pages.specs.Pages.{word_of}
+use Rattle.grant_table.specs.declared.held.Held.{Held}
+use Rattle.hypervisor.specs.Hypervisor.{Hypervisor}
+use Rattle.pipeline_laws.specs.Pipeline.{Pipeline}
+use Rattle.blk_front.specs.declared.request.Request.{Request}
+use Rattle.blk_front.specs.declared.stage.Stage.{Stage as FrontStage}
+use Rattle.blk_front.specs.declared.stage.Stage.TheVariants as front
+use Rattle.blk_front.specs.View as front_view
+use Rattle.blk_front.specs.View.{slot_word, next_request}
+use Rattle.blk_front.specs.Submit.{is_connected, ending_of}
+use Rattle.blk_back.specs.declared.stage.Reply.{Reply}
+use Rattle.blk_back.specs.declared.stage.Stage.{Stage as BackStage}
+use Rattle.split_model.specs.World.{World}
+use Rattle.machine_pipeline.proofs.Flow.{Flow, has_ring, is_ring_named, is_ring_granted, filled, is_named, is_granted, entered, ending_at, is_front_arming, may_front_sleep, is_issuing, is_fetching, reply_at}
+use Rattle.machine_pipeline.proofs.Holds.{FrontAt, RingBegun, AreRingWords, AreSlots, IsFilled, AreEntries, FrontSends, Holds}
+use Rattle.machine_pipeline.proofs.Frames.{is_submitted}
+use Rattle.machine_pipeline.proofs.Kept.{SameFrame, SameEntry, slots_kept}
+use Rattle.machine_pipeline.proofs.Stations.{AreStations, turned}
+
+-- the ring is made, no grant is being ended, and no event word was stored for sleep
+pub record IsIssuing (s : FrontStage) : Type 0 where
+  pub ring : has_ring s ≡ true
+  pub named : is_ring_named s ≡ true
+  pub granted : is_ring_granted s ≡ true
+  pub begun : (start : ℕ) (pages : List ℕ) → RingBegun start pages s
+  pub ending : ending_at s ≡ None
+  pub ended : ending_of s ≡ 0
+  pub connected : is_connected s ≡ true
+  pub arming : is_front_arming s ≡ false
+
+-- so it is at the stages at which the front may sleep
+pub issuing : (s : FrontStage) → may_front_sleep s ≡ true → IsIssuing s
+issuing (front.RingWord k) t = absurd (cc)
+issuing front.RingFrame t = absurd (cc)
+issuing front.RingFence t = absurd (cc)
+issuing front.RingFlags t = absurd (cc)
+issuing front.NewPort t = absurd (cc)
+issuing (front.ResponseHigh low) t = absurd (cc)
+issuing (front.ResponseLast low high) t = absurd (cc)
+issuing (front.GrantRead e) t = absurd (cc)
+issuing (front.GrantEnd e before) t = absurd (cc)
+issuing front.StoreEvent t = absurd (cc)
+issuing front.EventFence t = absurd (cc)
+issuing front.LookAgain t = absurd (cc)
+issuing (front.Broken word) t = absurd (cc)
+issuing s t = record { ring = refl; named = refl; granted = refl; begun = λ start pages. tt; ending = refl; ended = refl; connected = refl; arming = refl }
+
+-- the ring's own words and the grant of its frame
+pub ring_turned : (start pushed replied : ℕ) (old new : List ℕ) (s s' : FrontStage) (b : BackStage)
+    → may_front_sleep s ≡ true → may_front_sleep s' ≡ true
+    → ((w : ℕ) → w < 16 → word_of new 2 w ≡ word_of old 2 w)
+    → SameEntry old new 8
+    → AreRingWords start pushed replied old s b
+    → AreRingWords start pushed replied new s' b
+ring_turned start pushed replied old new s s' b m m' same entry h = let i = issuing s m in let i' = issuing s' m' in record {
+  begun = i'.begun start new;
+  requests = λ t. same 0 (omega arith) ∙ h.requests i.ring;
+  responses = λ t. same 2 (omega arith) ∙ h.responses i.ring;
+  named = λ t u. entry.frame ∙ h.named i.named u;
+  granted = λ t u. entry.flags ∙ h.granted i.granted u;
+}
+
+-- entries and responses, where no more of an entry was written
+pub slots_turned : (start fetched pushed taken replied : ℕ) (submitted : List Request) (replies : List Reply) (old new : List ℕ) (s s' : FrontStage) (b : BackStage)
+    → ((w : ℕ) → 16 ≤ w → w < 1024 → word_of new 2 w ≡ word_of old 2 w)
+    → entered s ≤ 28
+    → entered s' ≡ 0
+    → AreSlots start fetched pushed taken replied submitted replies old s b
+    → AreSlots start fetched pushed taken replied submitted replies new s' b
+slots_turned start fetched pushed taken replied submitted replies old new s s' b same few none h =
+    let kept : AreSlots start fetched pushed taken replied submitted replies new s b = slots_kept start fetched pushed taken replied submitted replies old new s b same few h in
+    record {
+      entries = kept.entries;
+      entry = λ r e i lt. absurd (omega arith);
+      responses = kept.responses;
+      response = kept.response;
+    }
+
+-- the requests' frames, where no more of one was filled
+pub frames_turned : (pushed : ℕ) (old new : List ℕ) (s s' : FrontStage) (requests : List Request)
+    → filled s' ≤ filled s
+    → filled s ≤ 128
+    → All (λ (r : Request). SameFrame old new r.frame) requests
+    → All (IsFilled pushed old s) requests
+    → All (IsFilled pushed new s') requests
+frames_turned pushed old new s s' requests less few same h k d lt =
+    let here = same k d lt in
+    let was = h k d lt in
+    record {
+      whole = λ le i l. here i (omega arith) ∙ was.whole le i l;
+      begun = λ e i l. here i (omega arith) ∙ was.begun e i (omega arith);
+    }
+
+-- their grant entries, where none was written
+pub entries_turned : (pushed : ℕ) (old new : List ℕ) (live : List Held) (s s' : FrontStage) (requests : List Request)
+    → may_front_sleep s' ≡ true
+    → (is_named s' ≡ true → is_named s ≡ true)
+    → (is_granted s' ≡ true → is_granted s ≡ true)
+    → All (λ (r : Request). SameEntry old new (r.frame + 6)) requests
+    → AreEntries pushed old live s requests
+    → AreEntries pushed new live s' requests
+entries_turned pushed old new live s s' requests m' named granted same h = let i' = issuing s' m' in record {
+  each = λ k d lt. let here = same k d lt in let was = h.each k d lt in record {
+    named = λ le. here.frame ∙ was.named le;
+    named_next = λ e t. here.frame ∙ was.named_next e (named t);
+    flags = λ le. here.flags ∙ was.flags le;
+    flags_next = λ e t. here.flags ∙ was.flags_next e (granted t);
+  };
+  ending = λ e t. let none = i'.ending in absurd (cc);
+}
+
+-- the frames and the references of the front's requests are those of the pool
+pub frames_elsewhere : (config : Options) (w : World) (g : Flow) (d : Pipeline) (s : FrontStage) (b : BackStage) → Holds config w g d s b → (new : List ℕ) → ((f : ℕ) → 18 ≤ f → SameFrame w.under.pages new f) → All (λ (r : Request). SameFrame w.under.pages new r.frame) w.front.requests
+frames_elsewhere config w g d s b h new same n x lt = let is = is_submitted config w g d s b h n (get_or w.front.requests n x) (slice_get-get_or w.front.requests n x lt) in same _ is.low
+
+pub entries_elsewhere : (config : Options) (w : World) (g : Flow) (d : Pipeline) (s : FrontStage) (b : BackStage) → Holds config w g d s b → (new : List ℕ) → ((gref : ℕ) → gref < 1024 → SameEntry w.under.pages new gref) → All (λ (r : Request). SameEntry w.under.pages new (r.frame + 6)) w.front.requests
+entries_elsewhere config w g d s b h new same n x lt = let is = is_submitted config w g d s b h n (get_or w.front.requests n x) (slice_get-get_or w.front.requests n x lt) in let high = is.high in same _ (omega arith)
+
+-- the machine with the front at another stage, with that entry and that memory
+abbrev pub with_front : World → FrontStage → (entry pages : List ℕ) → World
+with_front w s entry pages = record {
+  front = let v : front_view.View = w.front in record v { stage = s; entry = entry; told = None };
+  back = w.back;
+  under = let h : Hypervisor = w.under in record h { pages = pages };
+}
+
+pub issue_moved : (config : Options) (w : World) (g : Flow) (d d' : Pipeline) (s s' : FrontStage) (entry pages : List ℕ)
+    → may_front_sleep s ≡ true → may_front_sleep s' ≡ true
+    → Holds config w g d s w.back.stage
+    → AreStations config g d' (is_connected s') (is_issuing s') (is_fetching w.back.stage) (ending_at s') (reply_at w.back.stage) w.front.requests w.back.jobs.works
+    → FrontAt g.start g.pushed g.taken g.front_seen g.submitted g.replies (next_request w.front) entry s'
+    → length pages ≡ 1114112
+    → ((x : ℕ) → x < 16 → word_of pages 2 x ≡ word_of w.under.pages 2 x)
+    → SameEntry w.under.pages pages 8
+    → AreSlots g.start g.fetched g.pushed g.taken g.replied g.submitted g.replies pages s' w.back.stage
+    → All (IsFilled g.pushed pages s') w.front.requests
+    → AreEntries g.pushed pages w.under.grants.live s' w.front.requests
+    → (w.back.asleep ≡ true → FrontSends s g.pushed g.fetched → FrontSends s' g.pushed g.fetched)
+    → Holds config (with_front w s' entry pages) g d' s' w.back.stage
+issue_moved config w g d d' s s' entry pages m m' h stations at sized words named slots frames entries sends =
+    let i = issuing s m in
+    let i' = issuing s' m' in
+    let ended : ending_of s' ≡ ending_of s = i'.ended ∙ sym i.ended in
+    let ending : ending_at s' ≡ ending_at s = i'.ending ∙ sym i.ending in
+    let connected : is_connected s' ≡ is_connected s = i'.connected ∙ sym i.connected in
+    let was = h.front_sleep in
+    let bwas = h.back_sleep in
+    record {
+      started = h.started;
+      sized = h.sized;
+      indices = rw ended h.indices;
+      queue = h.queue;
+      submitted = h.submitted;
+      pool = rw ending h.pool;
+      stations = stations;
+      works = h.works;
+      counted = h.counted;
+      info = h.info;
+      replies = h.replies;
+      front_at = at;
+      unused = rw connected h.unused;
+      back_at = h.back_at;
+      unhalted = h.unhalted;
+      memory = sized;
+      ring = ring_turned g.start g.pushed g.replied w.under.pages pages s s' w.back.stage m m' words named h.ring;
+      slots = slots;
+      frames = frames;
+      entries = entries;
+      mapped = h.mapped;
+      page = h.page;
+      front_sleep = record {
+        arming = λ t. let no = i'.arming in absurd (cc);
+        armed = λ t. words 3 (omega arith) ∙ was.armed t;
+        may = λ t. absurd (cc);
+        woken = was.woken;
+      };
+      back_sleep = record {
+        arming = λ t. words 1 (omega arith) ∙ bwas.arming t;
+        armed = λ t. words 1 (omega arith) ∙ bwas.armed t;
+        may = bwas.may;
+        woken = λ t. elim (bwas.woken t) [
+          | inl none ↦ inl none
+          | inr some ↦ elim some [ inl pending ↦ inr (inl pending) | inr comes ↦ inr (inr (sends t comes)) ]
+        ];
+      };
+      ports = rw connected h.ports;
+    }
+
+-- where the pipeline stays
+pub issue_kept : (config : Options) (w : World) (g : Flow) (d : Pipeline) (s s' : FrontStage) (entry pages : List ℕ)
+    → may_front_sleep s ≡ true → may_front_sleep s' ≡ true → is_issuing s' ≡ is_issuing s
+    → Holds config w g d s w.back.stage
+    → FrontAt g.start g.pushed g.taken g.front_seen g.submitted g.replies (next_request w.front) entry s'
+    → length pages ≡ 1114112
+    → ((x : ℕ) → x < 16 → word_of pages 2 x ≡ word_of w.under.pages 2 x)
+    → SameEntry w.under.pages pages 8
+    → AreSlots g.start g.fetched g.pushed g.taken g.replied g.submitted g.replies pages s' w.back.stage
+    → All (IsFilled g.pushed pages s') w.front.requests
+    → AreEntries g.pushed pages w.under.grants.live s' w.front.requests
+    → (w.back.asleep ≡ true → FrontSends s g.pushed g.fetched → FrontSends s' g.pushed g.fetched)
+    → Holds config (with_front w s' entry pages) g d s' w.back.stage
+issue_kept config w g d s s' entry pages m m' same h =
+    let i = issuing s m in
+    let i' = issuing s' m' in
+    issue_moved config w g d d s s' entry pages m m' h
+    (turned config g d (is_connected s) (is_connected s') (is_issuing s) (is_issuing s') (is_fetching w.back.stage) (ending_at s) (ending_at s') (reply_at w.back.stage) w.front.requests w.back.jobs.works (i'.connected ∙ sym i.connected) same (i'.ending ∙ sym i.ending) h.stations)

@@ -1,0 +1,86 @@
+-- A job writes its sector to the disk, or the disk fails at it.
+use Rattle.std.proofs.Common.{◌≡◌, ℕ, ◌-◌, List, [], ◌∷◌, refl, sym, subst}
+use Rattle.std.specs.Prelude.{Some, None, slice_get, slice_set}
+use Rattle.blk_base.specs.Options.{Options}
+use Rattle.blk_base.specs.declared.ask.BackAnswer.TheVariants as answer
+use Rattle.blk_base.specs.declared.moves.Move.TheVariants as moves
+use Rattle.blk_base.specs.declared.parts.Mapping.{Mapping}
+use Rattle.schedule_text.specs.declared.line.Line.TheVariants as lines
+use Rattle.hypervisor.specs.Act.{Outcome, Gave, Took, Failed}
+use Rattle.blk_front.specs.declared.request.Request.{Request}
+use Rattle.back_jobs.specs.declared.stage.Stage.TheVariants as job
+use Rattle.back_jobs.specs.Task.{Work, ask_at, step_at, counted}
+use Rattle.blk_back.specs.Hands.{hands_at}
+use Rattle.split_model.specs.World.{World}
+use Rattle.pipeline_laws.specs.Pipeline.{Pipeline, next}
+use Rattle.machine_pipeline.proofs.Flow.{Flow}
+use Rattle.machine_pipeline.proofs.Holds.{Holds, IsMoving, AtWork, AreMapped}
+use Rattle.machine_pipeline.proofs.Turns.{Stepped, does_step}
+use Rattle.machine_pipeline.proofs.Jobs.{StationsWith, job_holds}
+use Rattle.machine_pipeline.proofs.JobMoves.{IsAt, JobGoesAt, stays, work_of, hands_step}
+use Rattle.machine_pipeline.proofs.JobSteps.{fills, fails}
+use Rattle.machine_pipeline.specs.Step.{CallOf}
+
+-- the disk took the sector
+took_goes : (config : Options) (w : World) (g : Flow) (d : Pipeline) (number p : ℕ) (t : Work) (r : Request) (m : Mapping)
+    → Holds config w g d w.front.stage w.back.stage
+    → IsAt w g d p t r
+    → t.stage ≡ job.DiskWrite m
+    → AtWork r t (job.DiskWrite m)
+    → JobGoesAt config w d number p t (job.DiskWrite m) Took
+took_goes config w g d number p t r m h is e at = record {
+  flow = g;
+  step = Some s.step;
+  does = does_step (moves.DiskWrite number t.disk) (lines.Effect t.id t.moved ∷ []) refl s;
+  holds = subst (λ (x : Work). let v : World = record { front = w.front; back = record w.back { jobs = record w.back.jobs { works = slice_set w.back.jobs.works p x }; told = None }; under = w.under } in Holds config v g (next d s.step) v.front.stage v.back.stage) (sym stepped)
+      (job_holds config w g d (next d s.step) p t then w.under.pages w.under.grants h is.place refl s.now
+      (work_of w g d (next d s.step) p t then r is refl refl refl (moving.rest, at.1))
+      h.memory (λ v lt. refl) (record { flags = refl; frame = refl }) (λ f low high v lt. refl) h.entries
+      (subst (λ (x : Work). AreMapped w.under.grants.live (hands_at w.back.stage (record w.back { jobs = record w.back.jobs { works = slice_set w.back.jobs.works p x } }))) stepped
+      (subst (AreMapped w.under.grants.live) (sym (hands_step w p t (job.DiskWrite m) answer.Done is.place e tt)) h.mapped)));
+}
+  where
+    moving : IsMoving t r
+    moving = at.0
+
+    then : Work
+    then = record (counted t) { stage = job.Unmap m }
+
+    stepped : step_at (job.DiskWrite m) t answer.Done ≡ then
+    stepped = rw (moving.within, moving.rest) refl
+
+    s : Stepped None (CallOf (ask_at (job.DiskWrite m) t) Took) d (lines.Effect t.id t.moved ∷ []) (λ x. StationsWith config w g x (slice_set w.back.jobs.works p then))
+    s = fills config w g d p t then r m h is e at refl refl
+
+-- the disk failed at it
+failed_goes : (config : Options) (w : World) (g : Flow) (d : Pipeline) (number p : ℕ) (t : Work) (r : Request) (m : Mapping)
+    → Holds config w g d w.front.stage w.back.stage
+    → IsAt w g d p t r
+    → t.stage ≡ job.DiskWrite m
+    → AtWork r t (job.DiskWrite m)
+    → JobGoesAt config w d number p t (job.DiskWrite m) Failed
+failed_goes config w g d number p t r m h is e at = record {
+  flow = g;
+  step = Some s.step;
+  does = does_step (moves.DiskWrite number t.disk) (lines.Fault t.id t.moved ∷ []) refl s;
+  holds = job_holds config w g d (next d s.step) p t then w.under.pages w.under.grants h is.place refl s.now
+      (work_of w g d (next d s.step) p t then r is refl refl refl at.1)
+      h.memory (λ v lt. refl) (record { flags = refl; frame = refl }) (λ f low high v lt. refl) h.entries
+      (subst (AreMapped w.under.grants.live) (sym (hands_step w p t (job.DiskWrite m) answer.DiskFailed is.place e tt)) h.mapped);
+}
+  where
+    then : Work
+    then = record t { stage = job.GiveUp m }
+
+    s : Stepped None (CallOf (ask_at (job.DiskWrite m) t) Failed) d (lines.Fault t.id t.moved ∷ []) (λ x. StationsWith config w g x (slice_set w.back.jobs.works p then))
+    s = fails config w g d p t then r m h is e at refl refl
+
+pub disk_goes : (config : Options) (w : World) (g : Flow) (d : Pipeline) (number p : ℕ) (t : Work) (r : Request) (m : Mapping) (o : Outcome)
+    → Holds config w g d w.front.stage w.back.stage
+    → IsAt w g d p t r
+    → t.stage ≡ job.DiskWrite m
+    → AtWork r t (job.DiskWrite m)
+    → JobGoesAt config w d number p t (job.DiskWrite m) o
+disk_goes config w g d number p t r m (Gave words) h is e at = stays (CallOf (ask_at (job.DiskWrite m) t) (Gave words)) config w g d (λ a b call. absurd call) h
+disk_goes config w g d number p t r m Took h is e at = took_goes config w g d number p t r m h is e at
+disk_goes config w g d number p t r m Failed h is e at = failed_goes config w g d number p t r m h is e at

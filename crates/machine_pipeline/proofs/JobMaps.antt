@@ -1,0 +1,306 @@
+-- A job maps its request's frame, and gives the mapping up: what that makes of all that holds.
+use Rattle.std.proofs.Common.{◌≡◌, ◌≢◌, ℕ, ◌+◌, ◌-◌, ◌*◌, ◌/◌, ◌%◌, ◌<◌, ◌≤◌, ◌==◌, ◌⊎◌, inl, inr, Bool, true, false, cond, List, [], ◌∷◌, ◌++◌, length, refl, ap, sym, ◌∙◌, subst, arith, length-set}
+use Rattle.std.specs.Prelude.{Option, Some, None, slice_get, slice_set, count_by, Result, Ok}
+use Rattle.std.proofs.lemmas.Option.{none-some, same_Some}
+use Rattle.std.proofs.lemmas.List.Sums.{sum_by-cons, sum_by-append}
+use Rattle.std.proofs.lemmas.Bool.Decides.{nat_tests}
+use Rattle.blk_base.specs.Options.{Options}
+use Rattle.blk_base.specs.declared.ask.BackAsk.{BackAsk}
+use Rattle.blk_base.specs.declared.ask.BackAsk.TheVariants as ask
+use Rattle.blk_base.specs.declared.ask.BackAnswer.TheVariants as answer
+use Rattle.blk_base.specs.declared.moves.BackMover.TheVariants as back_mover
+use Rattle.blk_base.specs.declared.parts.Mapping.{Mapping}
+use Rattle.blk_base.specs.declared.parts.Mode.TheVariants.{ReadOnly}
+use Rattle.grant_table.specs.declared.held.Held.{Held}
+use Rattle.grant_table.specs.declared.entry.MapRefusal.{MapRefusal}
+use Rattle.blk_base.specs.declared.moves.Move.TheVariants as moves
+use Rattle.grant_table.specs.Entry.{verdict_of, mapped_entry, unmapped_entry}
+use Rattle.grant_table.specs.Table.{GrantTable, entry_word0, entry_word1, with_entry_word0, mappings_of, writers_of, without, next_mapping, verdict_at, unmap_pages, unmap_table}
+use Rattle.pipeline_laws.specs.Pipeline.{Pipeline}
+use Rattle.hypervisor.specs.Hypervisor.{Hypervisor}
+use Rattle.hypervisor.specs.Act.{BackAct, Outcome, back_act, map_act}
+use Rattle.blk_front.specs.declared.request.Request.{Request}
+use Rattle.back_jobs.specs.declared.stage.Stage.TheVariants as job
+use Rattle.back_jobs.specs.Task.{Work, ask_at, step_at, IsAnswer}
+use Rattle.back_jobs.specs.Jobs.{mapping_at}
+use Rattle.back_jobs.specs.Hands.{HandsAfter, HasOneMore}
+use Rattle.blk_back.specs.Hands.{hands_of, hands_at}
+use Rattle.split_model.specs.World.{World}
+use Rattle.split_model.specs.Safe.{AreHeld}
+use Rattle.machine_pipeline.proofs.Flow.{Flow, ending_at, worked}
+use Rattle.machine_pipeline.proofs.Holds.{Holds, IsMoving, IsHand, AtWork, IsWork, IsGranted, AreEntries, AreMapped, ArePooled, flags_with}
+use Rattle.machine_pipeline.proofs.Turns.{GoesBy, nothing}
+use Rattle.machine_pipeline.proofs.Lists.{all_at, set_was}
+use Rattle.machine_pipeline.proofs.Hands.{frames_apart, ending_apart}
+use Rattle.machine_pipeline.proofs.Frames.{is_submitted, work_queued, ending_is, unmapped, none_in_hands}
+use Rattle.machine_pipeline.proofs.Mapped.{mapped_more, mapped_less, hands_more}
+use Rattle.machine_pipeline.proofs.Kept.{SameFrame, SameEntry, other_frame, other_entry}
+use Rattle.machine_pipeline.proofs.JobGrants.{may_map, entries_marked}
+use Rattle.machine_pipeline.proofs.Jobs.{StationsWith, stations_stay, job_holds, other_number}
+use Rattle.machine_pipeline.proofs.JobMoves.{IsAt, JobGoesAt, job_says, job_next, work_of, at_work, live_hand, hands_step}
+use Rattle.machine_pipeline.specs.Step.{CallOf}
+
+-- the job's request among the front's
+record IsOwn (w : World) (g : Flow) (t : Work) (r : Request) : Type 0 where
+  place : ℕ
+  at : slice_get w.front.requests place ≡ Some r
+  number : r.number ≡ t.number
+  reached : r.number ≤ g.pushed
+  low : 18 ≤ r.frame
+  high : r.frame < 1018
+
+own_at : (config : Options) (w : World) (g : Flow) (d : Pipeline) (p : ℕ) (t : Work) (r : Request) → Holds config w g d w.front.stage w.back.stage → IsAt w g d p t r → IsWork g.submitted g.fetched t → IsOwn w g t r
+own_at config w g d p t r h is work =
+    let same : work.r ≡ r = same_Some work.r r (sym work.known ∙ is.known) in
+    let its = work_queued config w g d w.front.stage w.back.stage h p t is.place work in
+    let number = h.submitted.each (t.number - 1) r is.known in
+    let numbered = number.number in
+    let positive = is.positive in
+    let reached = is.reached in
+    let indices = h.indices in
+    let pushed = indices.fetched_pushed in
+    record { place = its.place; at = its.at ∙ ap Some same; number = omega arith; reached = omega arith; low = number.low; high = number.high }
+
+-- the grant entries once the flags of the request's entry were made anew
+marked : (config : Options) (w : World) (g : Flow) (d : Pipeline) (t : Work) (r : Request) (live' : List Held) (flags : ℕ)
+    → Holds config w g d w.front.stage w.back.stage
+    → IsOwn w g t r
+    → flags ≡ flags_with (mappings_of (r.frame + 6) live')
+    → ((f : ℕ) → f ≢ r.frame → mappings_of (f + 6) live' ≡ mappings_of (f + 6) w.under.grants.live)
+    → AreEntries g.pushed (with_entry_word0 w.under.pages (r.frame + 6) flags) live' w.front.stage w.front.requests
+marked config w g d t r live' flags h own same others =
+    entries_marked g.pushed w.under.pages w.under.grants.live live' w.front.stage w.front.requests own.place r flags h.memory own.at own.reached own.high same others
+    (λ j x e. let is = is_submitted config w g d w.front.stage w.back.stage h j x e in is.high)
+    (λ j x off e.
+    let is = is_submitted config w g d w.front.stage w.back.stage h j x e in
+    frames_apart w.front.pool w.front.requests (ending_at w.front.stage) j own.place x r h.pool is.low is.high off e own.at)
+    (λ e same.
+    let ending = ending_is _ _ _ _ _ _ _ _ w.front.stage e h.front_at same in
+    let its = h.submitted.each (e.number - 1) ending.r ending.known in
+    let frame = ending.frame in
+    let apart = ending_apart w.front.pool w.front.requests e own.place r (subst (ArePooled w.front.pool w.front.requests) same h.pool) own.low own.high own.at in
+    ((let top = its.high in omega arith), λ t. apart (sym t)))
+    h.entries
+
+-- what a write of an entry's flags leaves of the ring's frame, of the ring's entry, and of data
+ring_frame_same : (w : World) (gref value : ℕ) → gref < 1024 → SameFrame w.under.pages (with_entry_word0 w.under.pages gref value) 2
+ring_frame_same w gref value few = other_frame w.under.pages (gref / 512) (2 * (gref % 512)) value 2 (omega arith) (omega arith)
+
+data_same : (w : World) (gref value : ℕ) → gref < 1024 → (f : ℕ) → 18 ≤ f → f < 1018 → SameFrame w.under.pages (with_entry_word0 w.under.pages gref value) f
+data_same w gref value few f low high = other_frame w.under.pages (gref / 512) (2 * (gref % 512)) value f (omega arith) (omega arith)
+
+ring_entry_same : (w : World) (gref value : ℕ) → gref < 1024 → 24 ≤ gref → SameEntry w.under.pages (with_entry_word0 w.under.pages gref value) 8
+ring_entry_same w gref value few low = other_entry w.under.pages gref 8 value few (omega arith) (omega arith)
+
+-- how many mappings a reference has beside one more
+more_mappings : (gref : ℕ) (live : List Held) (x : Held) → mappings_of gref (live ++ x ∷ []) ≡ mappings_of gref live + cond (x.mapping.gref == gref) 1 0
+more_mappings gref live x =
+    let all = sum_by-append (λ (y : Held). cond (y.mapping.gref == gref) 1 0) live (x ∷ []) in
+    let one = sum_by-cons (λ (y : Held). cond (y.mapping.gref == gref) 1 0) x [] in
+    omega arith
+
+-- the job maps its frame
+pub map_goes : (config : Options) (w : World) (g : Flow) (d : Pipeline) (number p : ℕ) (t : Work) (r : Request) (o : Outcome)
+    → Holds config w g d w.front.stage w.back.stage
+    → IsAt w g d p t r
+    → t.stage ≡ job.Map
+    → AtWork r t job.Map
+    → JobGoesAt config w d number p t job.Map o
+map_goes config w g d number p t r o h is e at = subst (λ (x : Option BackAct). GoesBy None (CallOf (ask_at job.Map t) o) config (job_says t job.Map x) (job_next w p t job.Map x) d) (sym acted) (record {
+  flow = g;
+  step = None;
+  does = nothing (CallOf (ask_at job.Map t) o) _ d (λ a b call. same_Some b a (subst (λ (x : BackAsk). CallOf x o a b) asked call).1);
+  holds = subst (λ (x : Work). let v : World = record { front = w.front; back = record w.back { jobs = record w.back.jobs { works = slice_set w.back.jobs.works p x }; told = None }; under = under } in Holds config v g d v.front.stage v.back.stage) (sym stepped)
+      (job_holds config w g d d p t later pages grants h is.place refl (stations_stay config w g d p t later h is.place refl (rw e refl))
+      (work_of w g d d p t later r is refl refl refl (record { writes = moving.writes; within = moving.within; rest = moving.rest; moved = moving.moved; disk = moving.disk; words = moving.words }, record { gref = refl; mode = refl }, omega arith, (λ i lt. absurd (omega arith))))
+      sized (ring_frame_same w (r.frame + 6) 13 (let top = own.high in omega arith)) (ring_entry_same w (r.frame + 6) 13 (let top = own.high in omega arith) (let low = own.low in omega arith)) (data_same w (r.frame + 6) 13 (let top = own.high in omega arith))
+      (marked config w g d t r grants.live 13 h own counted others)
+      (mapped_more w.under.grants.live (hands_of w.back) (hands_at w.back.stage (record w.back { jobs = record w.back.jobs { works = slice_set w.back.jobs.works p later } })) m r.frame refl more h.mapped));
+})
+  where
+    moving : IsMoving t r
+    moving = at
+
+    own : IsOwn w g t r
+    own = own_at config w g d p t r h is (at_work w g d p t r is e at)
+
+    m : Mapping
+    m = next_mapping w.under.grants (r.frame + 6) ReadOnly
+
+    held : Held
+    held = record { mapping = m; frame = r.frame }
+
+    pages : List ℕ
+    pages = with_entry_word0 w.under.pages (r.frame + 6) 13
+
+    grants : GrantTable
+    grants = record { made = w.under.grants.made + 1; live = w.under.grants.live ++ held ∷ [] }
+
+    under : Hypervisor
+    under = record w.under { pages = pages; grants = grants }
+
+    later : Work
+    later = record t { stage = job.ReadWord m 0 }
+
+    sized : length pages ≡ 1114112
+    sized = length-set w.under.pages ((r.frame + 6) / 512 * 1024 + 2 * ((r.frame + 6) % 512)) 13 ∙ h.memory
+
+    granted : IsGranted g.pushed w.under.pages w.under.grants.live w.front.stage r
+    granted = all_at (IsGranted g.pushed w.under.pages w.under.grants.live w.front.stage) w.front.requests own.place r h.entries.each own.at
+
+    alone : (i : ℕ) (u : Work) → slice_get w.back.jobs.works i ≡ Some u → u.number ≡ r.number → mapping_at u.stage ≡ None
+    alone i u f same = by_place (i == p) refl
+      where
+        by_place : (b : Bool) → (i == p) ≡ b → mapping_at u.stage ≡ None
+        by_place true t' =
+            let here : i ≡ p = grind (arith, nat_tests) in
+            let it : t ≡ u = same_Some t u (sym is.place ∙ (ap (slice_get w.back.jobs.works) (sym here) ∙ f)) in
+            subst (λ (x : Work). mapping_at x.stage ≡ None) it (rw e refl)
+        by_place false t' =
+            let off : i ≢ p = grind (arith, nat_tests) in
+            absurd (other_number w.back.jobs.works p i t u h.works.ascending off is.place f (same ∙ own.number))
+
+    none : mappings_of (r.frame + 6) w.under.grants.live ≡ 0
+    none = unmapped config w g d w.front.stage w.back.stage h own.place r own.at alone (λ (x : Mapping). x.gref == r.frame + 6) (λ x apart. grind (arith, nat_tests))
+
+    flags : entry_word0 w.under.pages (r.frame + 6) ≡ 5
+    flags = granted.flags own.reached ∙ ap flags_with none
+
+    verdict : verdict_at w.under.pages (r.frame + 6) ReadOnly ≡ Ok r.frame
+    verdict =
+        ap (λ (n : ℕ). verdict_of (r.frame + 6) n (entry_word1 w.under.pages (r.frame + 6)) ReadOnly) flags
+        ∙ (ap (λ (n : ℕ). verdict_of (r.frame + 6) 5 n ReadOnly) (granted.named own.reached)
+        ∙ may_map r.frame (let low = own.low in omega arith) own.high)
+
+    asked : ask_at job.Map t ≡ ask.Map (r.frame + 6) ReadOnly
+    asked = rw (moving.rest, moving.writes) refl
+
+    acted : back_act w.under (back_mover.Job number) (ask_at job.Map t) o ≡ Some (record { answer = answer.Mapped m; under = under; shown = moves.Map (back_mover.Job number) (r.frame + 6) ReadOnly (w.under.grants.made + 1) r.frame })
+    acted =
+        ap (λ (a : BackAsk). back_act w.under (back_mover.Job number) a o) asked
+        ∙ (ap (λ (x : Result ℕ MapRefusal). Some (map_act w.under (back_mover.Job number) (r.frame + 6) ReadOnly x)) verdict
+        ∙ ap (λ (n : ℕ). Some (record { answer = answer.Mapped m; under = record w.under { pages = with_entry_word0 w.under.pages (r.frame + 6) (mapped_entry n ReadOnly); grants = grants }; shown = moves.Map (back_mover.Job number) (r.frame + 6) ReadOnly (w.under.grants.made + 1) r.frame })) flags)
+
+    stepped : step_at job.Map t (answer.Mapped m) ≡ later
+    stepped = rw moving.writes refl
+
+    counted : 13 ≡ flags_with (mappings_of (r.frame + 6) grants.live)
+    counted =
+        let same : (r.frame + 6 == r.frame + 6) ≡ true = grind (arith, nat_tests) in
+        let one : ◌≡◌ {A = ℕ} (cond (r.frame + 6 == r.frame + 6) 1 0) 1 = rw same refl in
+        let free = none in
+        let all : mappings_of (r.frame + 6) grants.live ≡ 1 = more_mappings (r.frame + 6) w.under.grants.live held ∙ omega arith in
+        sym (ap flags_with all)
+
+    others : (f : ℕ) → f ≢ r.frame → mappings_of (f + 6) grants.live ≡ mappings_of (f + 6) w.under.grants.live
+    others f apart =
+        let differs : (r.frame + 6 == f + 6) ≡ false = grind (arith, nat_tests) in
+        let zero_more : ◌≡◌ {A = ℕ} (cond (r.frame + 6 == f + 6) 1 0) 0 = rw differs refl in
+        more_mappings (f + 6) w.under.grants.live held ∙ omega arith
+
+    more : HasOneMore m (hands_of w.back) (hands_at w.back.stage (record w.back { jobs = record w.back.jobs { works = slice_set w.back.jobs.works p later } }))
+    more =
+        subst (λ (x : Work). HasOneMore m (hands_of w.back) (hands_at w.back.stage (record w.back { jobs = record w.back.jobs { works = slice_set w.back.jobs.works p x } }))) stepped
+        (subst (λ (a : BackAsk). HandsAfter a (answer.Mapped m) (hands_of w.back) (hands_at w.back.stage (record w.back { jobs = record w.back.jobs { works = slice_set w.back.jobs.works p (step_at job.Map t (answer.Mapped m)) } }))) asked
+        (hands_step w p t job.Map (answer.Mapped m) is.place e (subst (λ (a : BackAsk). IsAnswer a (answer.Mapped m)) (sym asked) (refl, refl))))
+
+-- how many mappings of the request's frame there are while the job has its one in hand, and when it gave it up
+hand_counted : (config : Options) (w : World) (g : Flow) (d : Pipeline) (p : ℕ) (t t' : Work) (r : Request)
+    → Holds config w g d w.front.stage w.back.stage
+    → IsAt w g d p t r
+    → IsOwn w g t r
+    → mapping_at t'.stage ≡ None
+    → (test : Mapping → Bool) → ((m : Mapping) → m.gref ≢ r.frame + 6 → test m ≡ false)
+    → count_by test (hands_at w.back.stage (record w.back { jobs = record w.back.jobs { works = slice_set w.back.jobs.works p t' } })) ≡ 0
+hand_counted config w g d p t t' r h is own none test apart =
+    none_in_hands config w g d w.front.stage w.back.stage h own.place r own.at (slice_set w.back.jobs.works p t') (λ i u m e f. by_place i u m f (set_was w.back.jobs.works p i t t' u is.place e)) test apart
+  where
+    by_place : (i : ℕ) (u : Work) (m : Mapping) → mapping_at u.stage ≡ Some m → ((i ≡ p) × (u ≡ t')) ⊎ ((i ≢ p) × (slice_get w.back.jobs.works i ≡ Some u)) → (k : ℕ) × (slice_get w.back.jobs.works k ≡ Some u) × (u.number ≢ r.number)
+    by_place i u m f (inl at) = absurd (none-some m (sym none ∙ (ap (λ (x : Work). mapping_at x.stage) (sym at.1) ∙ f)))
+    by_place i u m f (inr other) =
+        let differs = other_number w.back.jobs.works p i t u h.works.ascending other.0 is.place other.1 in
+        let number = own.number in
+        (i, other.1, λ same. differs (same ∙ number))
+
+-- the flags once no mapping is left
+cleared : (n : ℕ) → unmapped_entry 13 0 n ≡ 5
+cleared n = by_test (n == 0) refl
+  where
+    by_test : (b : Bool) → (n == 0) ≡ b → unmapped_entry 13 0 n ≡ 5
+    by_test true t = rw t refl
+    by_test false t = rw t refl
+
+-- the job gives its mapping up, and is at its next stage
+pub unmap_holds : (config : Options) (w : World) (g : Flow) (d d' : Pipeline) (p : ℕ) (t t' : Work) (r : Request) (m : Mapping)
+    → Holds config w g d w.front.stage w.back.stage
+    → AreHeld w.under.grants (hands_of w.back)
+    → IsAt w g d p t r
+    → IsWork g.submitted g.fetched t
+    → mapping_at t.stage ≡ Some m
+    → IsHand m r
+    → mapping_at t'.stage ≡ None
+    → t'.number ≡ t.number
+    → StationsWith config w g d' (slice_set w.back.jobs.works p t')
+    → IsWork g.submitted g.fetched t'
+    → HasOneMore m (hands_at w.back.stage (record w.back { jobs = record w.back.jobs { works = slice_set w.back.jobs.works p t' } })) (hands_of w.back)
+    → (let v : World = record { front = w.front; back = record w.back { jobs = record w.back.jobs { works = slice_set w.back.jobs.works p t' }; told = None }; under = record w.under { pages = unmap_pages w.under.grants w.under.pages m; grants = unmap_table w.under.grants m } } in Holds config v g d' v.front.stage v.back.stage)
+unmap_holds config w g d d' p t t' r m h held is work has hand none number stations now more =
+    subst (λ (pages : List ℕ). let v : World = record { front = w.front; back = record w.back { jobs = record w.back.jobs { works = slice_set w.back.jobs.works p t' }; told = None }; under = record w.under { pages = pages; grants = unmap_table w.under.grants m } } in Holds config v g d' v.front.stage v.back.stage) (sym written_so)
+    (job_holds config w g d d' p t t' pages (unmap_table w.under.grants m) h is.place number stations now
+    sized (ring_frame_same w (r.frame + 6) 5 (let top = own.high in omega arith)) (ring_entry_same w (r.frame + 6) 5 (let top = own.high in omega arith) (let low = own.low in omega arith)) (data_same w (r.frame + 6) 5 (let top = own.high in omega arith))
+    (marked config w g d t r left 5 h own (sym (ap flags_with gone)) others) fewer)
+  where
+    own : IsOwn w g t r
+    own = own_at config w g d p t r h is work
+
+    pages : List ℕ
+    pages = with_entry_word0 w.under.pages (r.frame + 6) 5
+
+    left : List Held
+    left = without m.number w.under.grants.live
+
+    sized : length pages ≡ 1114112
+    sized = length-set w.under.pages ((r.frame + 6) / 512 * 1024 + 2 * ((r.frame + 6) % 512)) 5 ∙ h.memory
+
+    fewer : AreMapped left (hands_at w.back.stage (record w.back { jobs = record w.back.jobs { works = slice_set w.back.jobs.works p t' } }))
+    fewer = mapped_less w.under.grants (hands_of w.back) (hands_at w.back.stage (record w.back { jobs = record w.back.jobs { works = slice_set w.back.jobs.works p t' } })) m held (live_hand w p t m is.place has held) more h.mapped
+
+    gone : mappings_of (r.frame + 6) left ≡ 0
+    gone = fewer.counted (λ (x : Mapping). x.gref == r.frame + 6) ∙ hand_counted config w g d p t t' r h is own none (λ (x : Mapping). x.gref == r.frame + 6) (λ x apart. grind (arith, nat_tests))
+
+    counts : (f : ℕ) → mappings_of (f + 6) w.under.grants.live ≡ mappings_of (f + 6) left + cond (m.gref == f + 6) 1 0
+    counts f =
+        let all = h.mapped.counted (λ (x : Mapping). x.gref == f + 6) in
+        let rest = fewer.counted (λ (x : Mapping). x.gref == f + 6) in
+        let one = hands_more (λ (x : Mapping). x.gref == f + 6) m (hands_at w.back.stage (record w.back { jobs = record w.back.jobs { works = slice_set w.back.jobs.works p t' } })) (hands_of w.back) more in
+        omega arith
+
+    one_mapping : mappings_of (r.frame + 6) w.under.grants.live ≡ 1
+    one_mapping =
+        let gref = hand.gref in
+        let same : (m.gref == r.frame + 6) ≡ true = grind (arith, nat_tests) in
+        let one : ◌≡◌ {A = ℕ} (cond (m.gref == r.frame + 6) 1 0) 1 = rw same refl in
+        let none_left = gone in
+        let all = counts r.frame in
+        omega arith
+
+    others : (f : ℕ) → f ≢ r.frame → mappings_of (f + 6) left ≡ mappings_of (f + 6) w.under.grants.live
+    others f apart =
+        let gref = hand.gref in
+        let differs : (m.gref == f + 6) ≡ false = grind (arith, nat_tests) in
+        let none_more : ◌≡◌ {A = ℕ} (cond (m.gref == f + 6) 1 0) 0 = rw differs refl in
+        let all = counts f in
+        omega arith
+
+    granted : IsGranted g.pushed w.under.pages w.under.grants.live w.front.stage r
+    granted = all_at (IsGranted g.pushed w.under.pages w.under.grants.live w.front.stage) w.front.requests own.place r h.entries.each own.at
+
+    flags : entry_word0 w.under.pages (r.frame + 6) ≡ 13
+    flags = granted.flags own.reached ∙ ap flags_with one_mapping
+
+    written_so : unmap_pages w.under.grants w.under.pages m ≡ pages
+    written_so =
+        ap (λ (n : ℕ). with_entry_word0 w.under.pages n (unmapped_entry (entry_word0 w.under.pages n) (mappings_of n left) (writers_of n left))) hand.gref
+        ∙ (ap (λ (n : ℕ). with_entry_word0 w.under.pages (r.frame + 6) (unmapped_entry n (mappings_of (r.frame + 6) left) (writers_of (r.frame + 6) left))) flags
+        ∙ (ap (λ (n : ℕ). with_entry_word0 w.under.pages (r.frame + 6) (unmapped_entry 13 n (writers_of (r.frame + 6) left))) gone
+        ∙ ap (λ (n : ℕ). with_entry_word0 w.under.pages (r.frame + 6) n) (cleared (writers_of (r.frame + 6) left))))

@@ -1,0 +1,165 @@
+-- Each move of a job, by its stage.
+use Rattle.std.proofs.Common.{◌≡◌, ◌≢◌, ℕ, zero, ◌+◌, ◌-◌, ◌<◌, ◌≤◌, ◌==◌, if◌then◌else◌, Bool, true, false, List, [], ◌∷◌, refl, ap, sym, ◌∙◌, subst, arith, length-set, get_or-set_other}
+use Rattle.std.proofs.lemmas.Grind.{get_or-set_at}
+use Rattle.std.specs.Prelude.{Option, Some, None, slice_get, slice_set, slice_index}
+use Rattle.std.proofs.lemmas.Option.{same_Some}
+use Rattle.std.proofs.lemmas.List.Elements.{All-contains}
+use Rattle.std.proofs.lemmas.Bool.Decides.{nat_tests}
+use Rattle.blk_base.specs.Options.{Options}
+use Rattle.blk_base.specs.declared.parts.Mapping.{Mapping}
+use Rattle.blk_base.specs.declared.ask.BackAsk.TheVariants as ask
+use Rattle.blk_base.specs.declared.ask.BackAnswer.{BackAnswer}
+use Rattle.blk_base.specs.declared.ask.BackAnswer.TheVariants as answer
+use Rattle.blk_base.specs.declared.moves.BackMover.TheVariants as back_mover
+use Rattle.schedule_text.specs.declared.line.Line.{Line}
+use Rattle.schedule_text.specs.declared.line.Line.TheVariants.{Move}
+use Rattle.xen_pages.specs.Pages.{word_of}
+use Rattle.grant_table.specs.Table.{IsLive, frame_of}
+use Rattle.pipeline_laws.specs.Pipeline.{Pipeline}
+use Rattle.hypervisor.specs.Act.{BackAct, Outcome, back_act}
+use Rattle.blk_front.specs.declared.request.Request.{Request}
+use Rattle.back_jobs.specs.declared.stage.Stage.{Stage as JobStage}
+use Rattle.back_jobs.specs.declared.stage.Stage.TheVariants as job
+use Rattle.back_jobs.specs.Task.{Work, ask_at, step_at, word_at, IsAnswer}
+use Rattle.back_jobs.specs.Jobs.{effect_at, mapping_at}
+use Rattle.back_jobs.specs.Hands.{hand_of, hands_in, Names, HandsAfter}
+use Rattle.back_jobs.proofs.Hands.{named_in, told_hands, framed as between}
+use Rattle.blk_back.proofs.Hands.{job_names}
+use Rattle.blk_back.specs.Hands.{hands_of, hands_at, given_up, page_at}
+use Rattle.blk_back.specs.Step.{told_effect}
+use Rattle.split_model.specs.World.{World}
+use Rattle.split_model.specs.Shown.{back_lines}
+use Rattle.split_model.specs.Safe.{AreHeld}
+use Rattle.machine_pipeline.proofs.Flow.{Flow, worked}
+use Rattle.machine_pipeline.proofs.Holds.{Holds, IsWork, IsMoving, AtWork, IsFilled, AreMapped}
+use Rattle.machine_pipeline.proofs.Turns.{GoesBy, nothing, no_move}
+use Rattle.machine_pipeline.proofs.Lists.{all_at, all_same}
+use Rattle.machine_pipeline.proofs.Mapped.{frame_live}
+use Rattle.machine_pipeline.proofs.Frames.{work_queued}
+use Rattle.machine_pipeline.proofs.Jobs.{stations_stay, job_holds}
+use Rattle.machine_pipeline.specs.Step.{CallOf}
+
+-- the act of the job at a place, and what it makes of the machine
+abbrev pub act_at : World → ℕ → Work → JobStage → Outcome → Option BackAct
+act_at w number t j o = back_act w.under (back_mover.Job number) (ask_at j t) o
+
+abbrev pub job_next : World → ℕ → Work → JobStage → Option BackAct → World
+job_next w p t j None = w
+job_next w p t j (Some a) = record { front = w.front; back = record w.back { jobs = record w.back.jobs { works = slice_set w.back.jobs.works p (step_at j t a.answer) }; told = None }; under = a.under }
+
+abbrev pub job_says : Work → JobStage → Option BackAct → List Line
+job_says t j None = []
+job_says t j (Some a) = Move a.shown ∷ back_lines (told_effect (effect_at j t a.answer)) a.answer
+
+abbrev pub JobGoesAt : Options → World → Pipeline → ℕ → ℕ → Work → JobStage → Outcome → Type 0
+JobGoesAt config w d number p t j o = GoesBy None (CallOf (ask_at j t) o) config (job_says t j (act_at w number t j o)) (job_next w p t j (act_at w number t j o)) d
+
+-- nothing happens
+pub stays : (call : (before after : List (List ℕ)) → Type 0) (config : Options) (w : World) (g : Flow) (d : Pipeline) → ((a b : List (List ℕ)) → call a b → b ≡ a) → Holds config w g d w.front.stage w.back.stage → GoesBy None call config [] w d
+stays call config w g d same h = record { flow = g; step = None; does = no_move call d same; holds = h }
+
+-- what is known of the job at a place
+pub record IsAt (w : World) (g : Flow) (d : Pipeline) (p : ℕ) (t : Work) (r : Request) : Type 0 where
+  pub place : slice_get w.back.jobs.works p ≡ Some t
+  pub known : slice_get g.submitted (t.number - 1) ≡ Some r
+  pub positive : 1 ≤ t.number
+  pub reached : t.number ≤ g.fetched
+  pub id : t.id ≡ t.number
+  pub op : t.op ≡ 1
+
+pub work_of : (w : World) (g : Flow) (d d' : Pipeline) (p : ℕ) (t t' : Work) (r : Request) → IsAt w g d p t r → t'.number ≡ t.number → t'.id ≡ t.id → t'.op ≡ t.op → AtWork r t' t'.stage → IsWork g.submitted g.fetched t'
+work_of w g d d' p t t' r is number id op at = record {
+  r = r;
+  known = ap (λ (n : ℕ). slice_get g.submitted (n - 1)) number ∙ is.known;
+  positive = let was = is.positive in omega arith;
+  reached = let was = is.reached in omega arith;
+  id = id ∙ (is.id ∙ sym number);
+  op = op ∙ is.op;
+  at = at;
+}
+
+-- a job holds its mapping
+pub live_hand : (w : World) (p : ℕ) (t : Work) (m : Mapping) → slice_get w.back.jobs.works p ≡ Some t → mapping_at t.stage ≡ Some m → AreHeld w.under.grants (hands_of w.back) → IsLive w.under.grants m
+live_hand w p t m place e held =
+    let own : Names (hand_of t) (ask.Unmap m) = rw e (zero, omega arith, refl) in
+    let names : Names (hands_of w.back) (ask.Unmap m) = job_names w.back (ask.Unmap m) (named_in w.back.jobs.works p t (ask.Unmap m) place own) in
+    All-contains (IsLive w.under.grants) (hands_of w.back) m held.live names
+
+-- what a move makes of the mappings in hands
+pub hands_step : (w : World) (p : ℕ) (t : Work) (j : JobStage) (x : BackAnswer) → slice_get w.back.jobs.works p ≡ Some t → t.stage ≡ j → IsAnswer (ask_at j t) x → HandsAfter (ask_at j t) x (hands_of w.back) (hands_at w.back.stage (record w.back { jobs = record w.back.jobs { works = slice_set w.back.jobs.works p (step_at j t x) } }))
+hands_step w p t j x place e =
+    subst (λ (s : JobStage). IsAnswer (ask_at s t) x → HandsAfter (ask_at s t) x (hands_of w.back) (hands_at w.back.stage (record w.back { jobs = record w.back.jobs { works = slice_set w.back.jobs.works p (step_at s t x) } }))) e
+    (λ own. between (ask_at t.stage t) x (given_up w.back.stage) (page_at w.back.stage w.back.page) (hands_in w.back.jobs.works) (hands_in (slice_set w.back.jobs.works p (step_at t.stage t x))) (told_hands w.back.jobs.works (Some p) (Some t) x place own))
+
+pub at_work : (w : World) (g : Flow) (d : Pipeline) (p : ℕ) (t : Work) (r : Request) {j : JobStage} → IsAt w g d p t r → t.stage ≡ j → AtWork r t j → IsWork g.submitted g.fetched t
+at_work w g d p t r is e at = work_of w g d d p t t r is refl refl refl (subst (AtWork r t) (sym e) at)
+
+-- the words of a job's request lie in its frame
+filled_at : (config : Options) (w : World) (g : Flow) (d : Pipeline) (p : ℕ) (t : Work) (r : Request) → Holds config w g d w.front.stage w.back.stage → IsAt w g d p t r → IsWork g.submitted g.fetched t → (i : ℕ) → i < 128 → word_of w.under.pages r.frame i ≡ r.tag
+filled_at config w g d p t r h is work =
+    let same : work.r ≡ r = same_Some work.r r (sym work.known ∙ is.known) in
+    let its = work_queued config w g d w.front.stage w.back.stage h p t is.place work in
+    let filled = all_at (IsFilled g.pushed w.under.pages w.front.stage) w.front.requests its.place work.r h.frames its.at in
+    let number = h.submitted.each (t.number - 1) work.r work.known in
+    let numbered = number.number in
+    let positive = is.positive in
+    let reached = is.reached in
+    let indices = h.indices in
+    let pushed = indices.fetched_pushed in
+    subst (λ (x : Request). (i : ℕ) → i < 128 → word_of w.under.pages x.frame i ≡ x.tag) same (filled.whole (omega arith))
+
+-- a word of data is read
+pub read_goes : (config : Options) (w : World) (g : Flow) (d : Pipeline) (number p : ℕ) (t : Work) (r : Request) (m : Mapping) (k : ℕ) (o : Outcome)
+    → Holds config w g d w.front.stage w.back.stage
+    → AreHeld w.under.grants (hands_of w.back)
+    → IsAt w g d p t r
+    → t.stage ≡ job.ReadWord m k
+    → AtWork r t (job.ReadWord m k)
+    → JobGoesAt config w d number p t (job.ReadWord m k) o
+read_goes config w g d number p t r m k o h held is e at = record {
+  flow = g;
+  step = None;
+  does = nothing (CallOf (ask_at (job.ReadWord m k) t) o) _ d (λ a b same. same_Some b a same.1);
+  holds = job_holds config w g d d p t (step_at (job.ReadWord m k) t (answer.Word value)) w.under.pages w.under.grants h is.place refl (stations_stay config w g d p t (step_at (job.ReadWord m k) t (answer.Word value)) h is.place refl (read_station (k == 127)))
+      (work_of w g d d p t (step_at (job.ReadWord m k) t (answer.Word value)) r is refl refl refl (by_test (k == 127) refl))
+      h.memory (λ v lt. refl) (record { flags = refl; frame = refl }) (λ f low high v lt. refl) h.entries
+      (subst (AreMapped w.under.grants.live) (sym (hands_step w p t (job.ReadWord m k) (answer.Word value) is.place e tt)) h.mapped);
+}
+  where
+    value : ℕ
+    value = word_of w.under.pages (frame_of w.under.grants m) (word_at t k)
+
+    is_tag : value ≡ r.tag
+    is_tag =
+        let moving = at.0 in
+        let frame : frame_of w.under.grants m ≡ r.frame = (let hand = at.1 in frame_live w.under.grants m r.frame (live_hand w p t m is.place (rw e refl) held) h.mapped.framed hand.gref) in
+        let word : word_at t k ≡ k = (let within = moving.within in omega arith) in
+        let filled = filled_at config w g d p t r h is (at_work w g d p t r is e at) in
+        ap (λ (f : ℕ). word_of w.under.pages f (word_at t k)) frame ∙ (ap (λ (i : ℕ). word_of w.under.pages r.frame i) word ∙ filled k at.2)
+
+    words : List ℕ
+    words = slice_set t.words k value
+
+    tags : (i : ℕ) → i < k + 1 → slice_index words i ≡ r.tag
+    tags i lt = by_place (i == k) refl
+      where
+        by_place : (b : Bool) → (i == k) ≡ b → slice_index words i ≡ r.tag
+        by_place true same =
+            let it : i ≡ k = grind (arith, nat_tests) in
+            let moving = at.0 in
+            let long = moving.words in
+            get_or-set_at t.words k i value 0 (omega (arith, at.2)) (omega arith) ∙ is_tag
+        by_place false same =
+            let apart : i ≢ k = grind (arith, nat_tests) in
+            get_or-set_other t.words k i value 0 (omega arith) ∙ at.3 i (omega arith)
+
+    moved : IsMoving (step_at (job.ReadWord m k) t (answer.Word value)) r
+    moved = let was = at.0 in record { writes = was.writes; within = was.within; rest = was.rest; moved = was.moved; disk = was.disk; words = length-set t.words k value ∙ was.words }
+
+    by_test : (b : Bool) → (k == 127) ≡ b → AtWork r (step_at (job.ReadWord m k) t (answer.Word value)) (if b then job.DiskWrite m else job.ReadWord m (k + 1))
+    by_test true last = (moved, at.1, (let long = moved.words in all_same 128 words r.tag long (λ i lt. tags i (let top : k ≡ 127 = grind (arith, nat_tests) in omega arith))))
+    by_test false last = (moved, at.1, (let apart : k ≢ 127 = grind (arith, nat_tests) in omega (arith, at.2)), tags)
+
+    read_station : (b : Bool) → worked (if b then job.DiskWrite m else job.ReadWord m (k + 1)) ≡ worked t.stage
+    read_station true = rw e refl
+    read_station false = rw e refl

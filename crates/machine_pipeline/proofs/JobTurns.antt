@@ -1,0 +1,140 @@
+-- Whatever move a job makes, all that holds goes on holding.
+use Rattle.std.proofs.Common.{◌≡◌, ℕ, ◌-◌, ◌==◌, List, [], refl, sym, subst}
+use Rattle.std.specs.Prelude.{Option, Some, None, slice_get, slice_set}
+use Rattle.std.proofs.lemmas.Option.{same_Some}
+use Rattle.blk_base.specs.Options.{Options}
+use Rattle.blk_base.specs.declared.ask.BackAsk.{BackAsk}
+use Rattle.blk_base.specs.declared.ask.BackAsk.TheVariants as ask
+use Rattle.grant_table.specs.Table.{unmap_pages, unmap_table}
+use Rattle.back_jobs.specs.Hands.{HasOneMore}
+use Rattle.blk_base.specs.declared.ask.BackAnswer.TheVariants as answer
+use Rattle.blk_base.specs.declared.moves.BackMover.TheVariants as back_mover
+use Rattle.blk_base.specs.declared.parts.Mapping.{Mapping}
+use Rattle.blk_base.specs.declared.operation.Status.TheVariants.{Okay, Error}
+use Rattle.schedule_text.specs.declared.line.Line.{Line}
+use Rattle.pipeline_laws.specs.Pipeline.{Pipeline, next}
+use Rattle.hypervisor.specs.Act.{BackAct, Outcome, back_act}
+use Rattle.blk_front.specs.declared.request.Request.{Request}
+use Rattle.back_jobs.specs.declared.stage.Stage.{Stage as JobStage}
+use Rattle.back_jobs.specs.declared.stage.Stage.TheVariants as job
+use Rattle.back_jobs.specs.Task.{Work, ask_at, step_at}
+use Rattle.back_jobs.specs.Jobs.{place_of}
+use Rattle.blk_back.specs.Hands.{hands_of, hands_at}
+use Rattle.blk_back.specs.Step.{job_ask_of}
+use Rattle.split_model.specs.World.{World}
+use Rattle.split_model.specs.Safe.{AreHeld}
+use Rattle.split_model.specs.Happening.{job_after, job_shows}
+use Rattle.machine_pipeline.proofs.Flow.{Flow}
+use Rattle.machine_pipeline.proofs.Holds.{Holds, AtWork, IsWork}
+use Rattle.machine_pipeline.proofs.Turns.{GoesBy, Stepped, does_step, JobGoes}
+use Rattle.machine_pipeline.proofs.Lists.{all_at, found_at}
+use Rattle.machine_pipeline.proofs.JobMoves.{IsAt, JobGoesAt, act_at, job_says, job_next, stays, work_of, at_work, hands_step, read_goes}
+use Rattle.machine_pipeline.proofs.Jobs.{StationsWith}
+use Rattle.machine_pipeline.proofs.JobSteps.{ends_well, ends_badly}
+use Rattle.machine_pipeline.proofs.JobDisk.{disk_goes}
+use Rattle.machine_pipeline.proofs.JobMaps.{map_goes, unmap_holds}
+use Rattle.machine_pipeline.specs.Step.{CallOf}
+
+unmap_goes : (config : Options) (w : World) (g : Flow) (d : Pipeline) (number p : ℕ) (t : Work) (r : Request) (m : Mapping) (o : Outcome)
+    → Holds config w g d w.front.stage w.back.stage
+    → AreHeld w.under.grants (hands_of w.back)
+    → IsAt w g d p t r
+    → t.stage ≡ job.Unmap m
+    → AtWork r t (job.Unmap m)
+    → JobGoesAt config w d number p t (job.Unmap m) o
+unmap_goes config w g d number p t r m o h held is e at = subst (λ (x : Work). GoesBy None (CallOf (ask_at (job.Unmap m) t) o) config (job_says t (job.Unmap m) (act_at w number t (job.Unmap m) o)) (record { front = w.front; back = record w.back { jobs = record w.back.jobs { works = slice_set w.back.jobs.works p x }; told = None }; under = record w.under { pages = unmap_pages w.under.grants w.under.pages m; grants = unmap_table w.under.grants m } }) d) (sym stepped) (record {
+  flow = g;
+  step = Some s.step;
+  does = does_step _ [] refl s;
+  holds = unmap_holds config w g d (next d s.step) p t later r m h held is (at_work w g d p t r is e at) (rw e refl) at.1 refl refl s.now
+      (work_of w g d (next d s.step) p t later r is refl refl refl tt)
+      (subst (λ (x : Work). HasOneMore m (hands_at w.back.stage (record w.back { jobs = record w.back.jobs { works = slice_set w.back.jobs.works p x } })) (hands_of w.back)) stepped (hands_step w p t (job.Unmap m) answer.Done is.place e tt));
+})
+  where
+    later : Work
+    later = record t { rest = []; stage = job.Done Okay }
+
+    stepped : step_at (job.Unmap m) t answer.Done ≡ later
+    stepped = rw at.0 refl
+
+    s : Stepped None (CallOf (ask_at (job.Unmap m) t) o) d [] (λ x. StationsWith config w g x (slice_set w.back.jobs.works p later))
+    s = ends_well o config w g d p t later r m h is e refl refl
+
+give_up_goes : (config : Options) (w : World) (g : Flow) (d : Pipeline) (number p : ℕ) (t : Work) (r : Request) (m : Mapping) (o : Outcome)
+    → Holds config w g d w.front.stage w.back.stage
+    → AreHeld w.under.grants (hands_of w.back)
+    → IsAt w g d p t r
+    → t.stage ≡ job.GiveUp m
+    → AtWork r t (job.GiveUp m)
+    → JobGoesAt config w d number p t (job.GiveUp m) o
+give_up_goes config w g d number p t r m o h held is e at = record {
+  flow = g;
+  step = Some s.step;
+  does = does_step _ [] refl s;
+  holds = unmap_holds config w g d (next d s.step) p t later r m h held is (at_work w g d p t r is e at) (rw e refl) at refl refl s.now
+      (work_of w g d (next d s.step) p t later r is refl refl refl tt)
+      (hands_step w p t (job.GiveUp m) answer.Done is.place e tt);
+}
+  where
+    later : Work
+    later = record t { stage = job.Done Error }
+
+    s : Stepped None (CallOf (ask_at (job.GiveUp m) t) o) d [] (λ x. StationsWith config w g x (slice_set w.back.jobs.works p later))
+    s = ends_badly o config w g d p t later r m h is e refl refl
+
+by_stage : (config : Options) (w : World) (g : Flow) (d : Pipeline) (number p : ℕ) (t : Work) (r : Request) (o : Outcome) (j : JobStage)
+    → Holds config w g d w.front.stage w.back.stage
+    → AreHeld w.under.grants (hands_of w.back)
+    → IsAt w g d p t r
+    → t.stage ≡ j
+    → AtWork r t j
+    → JobGoesAt config w d number p t j o
+by_stage config w g d number p t r o job.Map h held is e at = map_goes config w g d number p t r o h is e at
+by_stage config w g d number p t r o (job.ReadWord m k) h held is e at = read_goes config w g d number p t r m k o h held is e at
+by_stage config w g d number p t r o (job.DiskWrite m) h held is e at = disk_goes config w g d number p t r m o h is e at
+by_stage config w g d number p t r o (job.DiskRead m) h held is e at = absurd at
+by_stage config w g d number p t r o (job.WriteWord m k) h held is e at = absurd at
+by_stage config w g d number p t r o (job.Unmap m) h held is e at = unmap_goes config w g d number p t r m o h held is e at
+by_stage config w g d number p t r o (job.GiveUp m) h held is e at = give_up_goes config w g d number p t r m o h held is e at
+by_stage config w g d number p t r o (job.Done status) h held is e at = stays (CallOf (ask_at (job.Done status) t) o) config w g d (λ a b call. same_Some b a call.1) h
+
+-- the move of the job at a place is that of its number
+at_place : (config : Options) (w : World) (d : Pipeline) (number p : ℕ) (t : Work) (o : Outcome)
+    → w.back.halted ≡ None
+    → place_of w.back.jobs.works number ≡ Some p
+    → slice_get w.back.jobs.works p ≡ Some t
+    → JobGoesAt config w d number p t t.stage o
+    → JobGoes config w d number o
+at_place config w d number p t o unhalted place here goes =
+    subst (λ (a : BackAsk). GoesBy None (CallOf a o) config (job_shows w number (back_act w.under (back_mover.Job number) a o)) (job_after w number (back_act w.under (back_mover.Job number) a o)) d) (sym asked) (by_act (act_at w number t t.stage o) goes)
+  where
+    asked : job_ask_of w.back number ≡ ask_at t.stage t
+    asked = rw (unhalted, place, here) refl
+
+    by_act : (x : Option BackAct) → GoesBy None (CallOf (ask_at t.stage t) o) config (job_says t t.stage x) (job_next w p t t.stage x) d → GoesBy None (CallOf (ask_at t.stage t) o) config (job_shows w number x) (job_after w number x) d
+    by_act None goes = goes
+    by_act (Some a) goes =
+        let says : job_shows w number (Some a) ≡ job_says t t.stage (Some a) = rw (place, here) refl in
+        let further : job_after w number (Some a) ≡ job_next w p t t.stage (Some a) = rw (place, here) refl in
+        subst (λ (ls : List Line). GoesBy None (CallOf (ask_at t.stage t) o) config ls (job_after w number (Some a)) d) (sym says) (subst (λ (v : World). GoesBy None (CallOf (ask_at t.stage t) o) config (job_says t t.stage (Some a)) v d) (sym further) goes)
+
+no_place : (config : Options) (w : World) (g : Flow) (d : Pipeline) (number : ℕ) (o : Outcome) → Holds config w g d w.front.stage w.back.stage → place_of w.back.jobs.works number ≡ None → JobGoes config w d number o
+no_place config w g d number o h place =
+    subst (λ (a : BackAsk). GoesBy None (CallOf a o) config (job_shows w number (back_act w.under (back_mover.Job number) a o)) (job_after w number (back_act w.under (back_mover.Job number) a o)) d) (sym asked) (stays (CallOf ask.Wait o) config w g d (λ a b call. same_Some b a call.1) h)
+  where
+    asked : job_ask_of w.back number ≡ ask.Wait
+    asked = rw (h.unhalted, place) refl
+
+pub job_kept : (config : Options) (w : World) (g : Flow) (d : Pipeline) (number : ℕ) (o : Outcome)
+    → Holds config w g d w.front.stage w.back.stage
+    → AreHeld w.under.grants (hands_of w.back)
+    → JobGoes config w d number o
+job_kept config w g d number o h held = by_place (place_of w.back.jobs.works number) refl
+  where
+    by_place : (place : Option ℕ) → place_of w.back.jobs.works number ≡ place → JobGoes config w d number o
+    by_place None e = no_place config w g d number o h e
+    by_place (Some p) e =
+        let found = found_at (λ (t : Work). t.number == number) w.back.jobs.works p e in
+        let work = all_at (IsWork g.submitted g.fetched) w.back.jobs.works p found.0 h.works.each found.1 in
+        at_place config w d number p found.0 o h.unhalted e found.1
+        (by_stage config w g d number p found.0 work.r o (let t : Work = found.0 in t.stage) h held (record { place = found.1; known = work.known; positive = work.positive; reached = work.reached; id = work.id; op = work.op }) refl work.at)

@@ -1,0 +1,137 @@
+-- What a move of a job leaves of all that holds, by what it changes.
+use Rattle.std.proofs.Common.{◌≡◌, ◌≢◌, ℕ, ◌-◌, ◌<◌, ◌≤◌, ◌⊎◌, inl, inr, not, Bool, true, false, List, length, refl, ap, sym, ◌∙◌, subst, arith, length-set}
+use Rattle.std.specs.Prelude.{All, AllPairs, Option, Some, None, slice_get, slice_set, count_by, nat_lt}
+use Rattle.std.proofs.lemmas.Option.{none-some, same_Some}
+use Rattle.std.proofs.lemmas.Bool.Decides.{nat_tests}
+use Rattle.blk_base.specs.Options.{Options}
+use Rattle.grant_table.specs.Table.{GrantTable}
+use Rattle.pipeline_laws.specs.Pipeline.{Pipeline}
+use Rattle.blk_base.specs.declared.operation.Status.{Status}
+use Rattle.blk_front.specs.View.{next_request}
+use Rattle.blk_front.specs.declared.request.Request.{Request}
+use Rattle.blk_front.specs.declared.stage.Ending.{Ending}
+use Rattle.back_jobs.specs.Task.{Work}
+use Rattle.blk_back.specs.declared.stage.Reply.{Reply}
+use Rattle.blk_back.specs.declared.stage.Stage.{Stage as BackStage}
+use Rattle.blk_back.specs.declared.stage.Stage.TheVariants as back
+use Rattle.blk_back.specs.Hands.{hands_at}
+use Rattle.split_model.specs.World.{World}
+use Rattle.blk_front.specs.Submit.{is_connected}
+use Rattle.machine_pipeline.proofs.Flow.{Flow, ending_at, reply_at, is_issuing, is_fetching, worked}
+use Rattle.machine_pipeline.proofs.Stations.{AreStations}
+use Rattle.machine_pipeline.proofs.StationsBack.{job_stays}
+use Rattle.machine_pipeline.proofs.Holds.{Holds, BackAt, IsWork, AreWorks, AreEntries, AreMapped}
+use Rattle.machine_pipeline.proofs.Lists.{all_at, all_from, pair_at, pairs_from, set_was}
+use Rattle.machine_pipeline.proofs.Frames.{is_submitted, few_words, filled_few, entered_few}
+use Rattle.machine_pipeline.proofs.Kept.{SameFrame, SameEntry, ring_kept, slots_kept, frames_kept, front_sleep_kept, back_sleep_kept}
+
+-- the numbers of jobs stay in order
+number_was : (works : List Work) (p i : ℕ) (t t' x : Work) → slice_get works p ≡ Some t → t'.number ≡ t.number → slice_get (slice_set works p t') i ≡ Some x → (y : Work) × (slice_get works i ≡ Some y) × (x.number ≡ y.number)
+number_was works p i t t' x here same e = by_place (set_was works p i t t' x here e)
+  where
+    by_place : ((i ≡ p) × (x ≡ t')) ⊎ ((i ≢ p) × (slice_get works i ≡ Some x)) → (y : Work) × (slice_get works i ≡ Some y) × (x.number ≡ y.number)
+    by_place (inl at) = (t, ap (slice_get works) at.0 ∙ here, ap (λ (z : Work). z.number) at.1 ∙ same)
+    by_place (inr other) = (x, other.1, refl)
+
+ascending_after : (works : List Work) (p : ℕ) (t t' : Work) → slice_get works p ≡ Some t → t'.number ≡ t.number → AllPairs (λ (x y : Work). x.number < y.number) works → AllPairs (λ (x y : Work). x.number < y.number) (slice_set works p t')
+ascending_after works p t t' here same pairs = pairs_from (λ (x y : Work). x.number < y.number) (slice_set works p t') (λ i j x y lt first second.
+    let one = number_was works p i t t' x here same first in
+    let two = number_was works p j t t' y here same second in
+    let up = pair_at (λ (a b : Work). a.number < b.number) works i j one.0 two.0 pairs lt one.1 two.1 in
+    let first_number = one.2 in
+    let second_number = two.2 in
+    omega arith)
+
+-- another job has another number
+pub other_number : (works : List Work) (p i : ℕ) (t u : Work) → AllPairs (λ (x y : Work). x.number < y.number) works → i ≢ p → slice_get works p ≡ Some t → slice_get works i ≡ Some u → u.number ≢ t.number
+other_number works p i t u pairs apart here there = by_order (nat_lt i p) refl
+  where
+    by_order : (b : Bool) → nat_lt i p ≡ b → u.number ≢ t.number
+    by_order true e = let lt : i < p = grind (arith, nat_tests) in let up = pair_at (λ (a b : Work). a.number < b.number) works i p u t pairs lt there here in omega arith
+    by_order false e = let lt : p < i = grind (arith, nat_tests) in let up = pair_at (λ (a b : Work). a.number < b.number) works p i t u pairs lt here there in omega arith
+
+works_after : (submitted : List Request) (fetched : ℕ) (works : List Work) (p : ℕ) (t t' : Work)
+    → slice_get works p ≡ Some t
+    → t'.number ≡ t.number
+    → IsWork submitted fetched t'
+    → AreWorks submitted fetched works
+    → AreWorks submitted fetched (slice_set works p t')
+works_after submitted fetched works p t t' here same now h = record {
+  each = all_from (IsWork submitted fetched) (slice_set works p t') (λ i x e. elim (set_was works p i t t' x here e) [
+    | inl at ↦ subst (IsWork submitted fetched) (sym at.1) now
+    | inr other ↦ all_at (IsWork submitted fetched) works i x h.each other.1
+  ]);
+  ascending = ascending_after works p t t' here same h.ascending;
+}
+
+-- the response that is being written is no job's
+back_works : (start fetched back_seen replied : ℕ) (submitted : List Request) (works works' : List Work) (entry : List ℕ) (b : BackStage)
+    → ((rep : Reply) → All (λ (x : Work). x.number ≢ rep.id) works → All (λ (x : Work). x.number ≢ rep.id) works')
+    → BackAt start fetched back_seen replied submitted works entry b
+    → BackAt start fetched back_seen replied submitted works' entry b
+back_works start fetched back_seen replied submitted works works' entry (back.ReplyHigh rep) alone h = record { positive = h.positive; reached = h.reached; op = h.op; alone = alone rep h.alone }
+back_works start fetched back_seen replied submitted works works' entry (back.ReplyLast rep) alone h = record { positive = h.positive; reached = h.reached; op = h.op; alone = alone rep h.alone }
+back_works start fetched back_seen replied submitted works works' entry (back.Producer rep) alone h = record { positive = h.positive; reached = h.reached; op = h.op; alone = alone rep h.alone }
+back_works start fetched back_seen replied submitted works works' entry b alone h = h
+
+alone_after : (works : List Work) (p : ℕ) (t t' : Work) (id : ℕ) → slice_get works p ≡ Some t → t'.number ≡ t.number → All (λ (x : Work). x.number ≢ id) works → All (λ (x : Work). x.number ≢ id) (slice_set works p t')
+alone_after works p t t' id here same alone = all_from (λ (x : Work). x.number ≢ id) (slice_set works p t') (λ i x e.
+    let was = number_was works p i t t' x here same e in
+    let apart = all_at (λ (y : Work). y.number ≢ id) works i was.0 alone was.1 in
+    λ it. apart (sym was.2 ∙ it))
+
+-- the stations with these jobs
+abbrev pub StationsWith : Options → World → Flow → Pipeline → List Work → Type 0
+StationsWith config w g d works = AreStations config g d (is_connected w.front.stage) (is_issuing w.front.stage) (is_fetching w.back.stage) (ending_at w.front.stage) (reply_at w.back.stage) w.front.requests works
+
+-- they stay where the job's stage is another of the same station
+pub stations_stay : (config : Options) (w : World) (g : Flow) (d : Pipeline) (p : ℕ) (t t' : Work)
+    → Holds config w g d w.front.stage w.back.stage
+    → slice_get w.back.jobs.works p ≡ Some t
+    → t'.number ≡ t.number
+    → worked t'.stage ≡ worked t.stage
+    → StationsWith config w g d (slice_set w.back.jobs.works p t')
+stations_stay config w g d p t t' h here number same =
+    job_stays config g d (is_connected w.front.stage) (is_issuing w.front.stage) (is_fetching w.back.stage) (ending_at w.front.stage) (reply_at w.back.stage) w.front.requests w.back.jobs.works p t t' here number same h.stations
+
+-- all of it: the job at place p is this now, the pipeline and memory are these
+pub job_holds : (config : Options) (w : World) (g : Flow) (d d' : Pipeline) (p : ℕ) (t t' : Work) (pages' : List ℕ) (grants' : GrantTable)
+    → Holds config w g d w.front.stage w.back.stage
+    → slice_get w.back.jobs.works p ≡ Some t
+    → t'.number ≡ t.number
+    → StationsWith config w g d' (slice_set w.back.jobs.works p t')
+    → IsWork g.submitted g.fetched t'
+    → length pages' ≡ 1114112
+    → SameFrame w.under.pages pages' 2
+    → SameEntry w.under.pages pages' 8
+    → ((f : ℕ) → 18 ≤ f → f < 1018 → SameFrame w.under.pages pages' f)
+    → AreEntries g.pushed pages' grants'.live w.front.stage w.front.requests
+    → AreMapped grants'.live (hands_at w.back.stage (record w.back { jobs = record w.back.jobs { works = slice_set w.back.jobs.works p t' } }))
+    → (let v : World = record { front = w.front; back = record w.back { jobs = record w.back.jobs { works = slice_set w.back.jobs.works p t' }; told = None }; under = record w.under { pages = pages'; grants = grants' } } in Holds config v g d' v.front.stage v.back.stage)
+job_holds config w g d d' p t t' pages' grants' h here number stations now sized ring entry frames entries mapped = record {
+  started = h.started;
+  sized = h.sized;
+  indices = h.indices;
+  queue = h.queue;
+  submitted = h.submitted;
+  pool = h.pool;
+  stations = stations;
+  works = works_after g.submitted g.fetched w.back.jobs.works p t t' here number now h.works;
+  counted = let long = length-set w.back.jobs.works p t' in let was = h.counted in omega arith;
+  info = h.info;
+  replies = h.replies;
+  front_at = h.front_at;
+  unused = h.unused;
+  back_at = back_works g.start g.fetched g.back_seen g.replied g.submitted w.back.jobs.works (slice_set w.back.jobs.works p t') w.back.entry w.back.stage (λ rep alone. alone_after w.back.jobs.works p t t' rep.id here number alone) h.back_at;
+  unhalted = h.unhalted;
+  memory = sized;
+  ring = ring_kept g.start g.pushed g.replied w.under.pages pages' w.front.stage w.back.stage (λ v lt. ring v (omega arith)) (few_words _ _ _ _ _ _ _ _ w.front.stage h.front_at) entry h.ring;
+  slots = slots_kept g.start g.fetched g.pushed g.taken g.replied g.submitted g.replies w.under.pages pages' w.front.stage w.back.stage (λ v from to. ring v to) (entered_few _ _ _ _ _ _ _ _ w.front.stage h.front_at) h.slots;
+  frames = frames_kept g.pushed w.under.pages pages' w.front.stage w.front.requests (filled_few _ _ _ _ _ _ _ _ w.front.stage h.front_at) (all_from (λ (r : Request). SameFrame w.under.pages pages' r.frame) w.front.requests (λ i r e. let is = is_submitted config w g d w.front.stage w.back.stage h i r e in frames r.frame is.low is.high)) h.frames;
+  entries = entries;
+  mapped = mapped;
+  page = h.page;
+  front_sleep = front_sleep_kept g.start g.taken g.replied w.under.pages pages' w.front.asleep w.under.channels.front_pending w.front.stage w.back.stage (ring 3 (omega arith)) h.front_sleep;
+  back_sleep = back_sleep_kept g.start g.fetched g.pushed w.under.pages pages' w.back.asleep w.under.channels.back_pending w.front.stage w.back.stage (ring 1 (omega arith)) h.back_sleep;
+  ports = h.ports;
+}

@@ -1,0 +1,157 @@
+-- What a write leaves as it was, subject by subject.
+use Rattle.std.proofs.Common.{◌≡◌, ◌≢◌, ℕ, zero, suc, ◌+◌, ◌*◌, ◌/◌, ◌%◌, ◌<◌, ◌≤◌, Bool, List, length, refl, ap, sym, ◌∙◌, arith, get_or-set_other}
+use Rattle.std.specs.Prelude.{All, Some}
+use Rattle.std.proofs.lemmas.Grind.{get_or-set_at}
+use Rattle.xen_pages.specs.Pages.{word_of, with_word}
+use Rattle.grant_table.specs.declared.held.Held.{Held}
+use Rattle.grant_table.specs.Table.{entry_word0, entry_word1}
+use Rattle.blk_front.specs.declared.request.Request.{Request}
+use Rattle.blk_front.specs.declared.stage.Ending.{Ending}
+use Rattle.blk_front.specs.declared.stage.Stage.{Stage as FrontStage}
+use Rattle.blk_front.specs.declared.stage.Stage.TheVariants as front
+use Rattle.blk_front.specs.View.{slot_word}
+use Rattle.blk_back.specs.declared.stage.Reply.{Reply}
+use Rattle.blk_back.specs.declared.stage.Stage.{Stage as BackStage}
+use Rattle.blk_back.specs.declared.stage.Stage.TheVariants as back
+use Rattle.machine_pipeline.proofs.Flow.{wrapped, ending_at, filled, entered, responded}
+use Rattle.machine_pipeline.proofs.Holds.{RingBegun, AreRingWords, AreSlots, IsFilled, AreEntries, IsFrontSleep, IsBackSleep}
+
+-- each word of a frame is as it was
+abbrev pub SameFrame : (old new : List ℕ) → ℕ → Type 0
+SameFrame old new f = (w : ℕ) → w < 1024 → word_of new f w ≡ word_of old f w
+
+-- both words of a reference's entry are as they were
+pub record SameEntry (old new : List ℕ) (gref : ℕ) : Type 0 where
+  pub flags : entry_word0 new gref ≡ entry_word0 old gref
+  pub frame : entry_word1 new gref ≡ entry_word1 old gref
+
+pub written : (pages : List ℕ) (frame word value : ℕ) → length pages ≡ 1114112 → frame < 1088 → word < 1024 → word_of (with_word pages frame word value) frame word ≡ value
+written pages frame word value sized framed worded = get_or-set_at pages (frame * 1024 + word) (frame * 1024 + word) value 0 (omega arith) (omega arith)
+
+pub other_word : (pages : List ℕ) (frame word value w : ℕ) → w ≢ word → word_of (with_word pages frame word value) frame w ≡ word_of pages frame w
+other_word pages frame word value w other = get_or-set_other pages (frame * 1024 + word) (frame * 1024 + w) value 0 (omega arith)
+
+pub other_frame : (pages : List ℕ) (frame word value f : ℕ) → word < 1024 → f ≢ frame → SameFrame pages (with_word pages frame word value) f
+other_frame pages frame word value f worded other w within = get_or-set_other pages (frame * 1024 + word) (f * 1024 + w) value 0 (omega arith)
+
+-- entries stand in frames 0 and 1, two words each
+pub same_entry : (old new : List ℕ) (gref : ℕ) → gref < 1024 → SameFrame old new 0 → SameFrame old new 1 → SameEntry old new gref
+same_entry old new gref few zeroth first = by_frame (gref / 512) refl (omega arith)
+  where
+    by_frame : (f : ℕ) → gref / 512 ≡ f → f < 2 → SameEntry old new gref
+    by_frame zero e lt = record {
+      flags = ap (λ (n : ℕ). word_of new n (2 * (gref % 512))) e ∙ (zeroth (2 * (gref % 512)) (omega arith) ∙ ap (λ (n : ℕ). word_of old n (2 * (gref % 512))) (sym e));
+      frame = ap (λ (n : ℕ). word_of new n (2 * (gref % 512) + 1)) e ∙ (zeroth (2 * (gref % 512) + 1) (omega arith) ∙ ap (λ (n : ℕ). word_of old n (2 * (gref % 512) + 1)) (sym e));
+    }
+    by_frame (suc zero) e lt = record {
+      flags = ap (λ (n : ℕ). word_of new n (2 * (gref % 512))) e ∙ (first (2 * (gref % 512)) (omega arith) ∙ ap (λ (n : ℕ). word_of old n (2 * (gref % 512))) (sym e));
+      frame = ap (λ (n : ℕ). word_of new n (2 * (gref % 512) + 1)) e ∙ (first (2 * (gref % 512) + 1) (omega arith) ∙ ap (λ (n : ℕ). word_of old n (2 * (gref % 512) + 1)) (sym e));
+    }
+    by_frame (suc (suc f)) e lt = absurd (omega arith)
+
+-- another reference's entry
+pub other_entry : (pages : List ℕ) (gref other value : ℕ) → gref < 1024 → other < 1024 → other ≢ gref → SameEntry pages (with_word pages (gref / 512) (2 * (gref % 512)) value) other
+other_entry pages gref other value few fewer apart = record {
+  flags = get_or-set_other pages (gref / 512 * 1024 + 2 * (gref % 512)) (other / 512 * 1024 + 2 * (other % 512)) value 0 (omega arith);
+  frame = get_or-set_other pages (gref / 512 * 1024 + 2 * (gref % 512)) (other / 512 * 1024 + (2 * (other % 512) + 1)) value 0 (omega arith);
+}
+
+-- words of entries lie after the first 16 of the ring's frame
+pub slot_from : (index i : ℕ) → i < 28 → 16 ≤ slot_word index i
+slot_from index i lt = omega arith
+
+pub slot_to : (index i : ℕ) → i < 28 → slot_word index i < 1024
+slot_to index i lt = omega arith
+
+-- the entries of indices that are less than a ring apart have no word in common
+pub slots_apart : (start m n i j : ℕ) → m < n → n < m + 32 → i < 28 → j < 28 → slot_word (wrapped start m) i ≢ slot_word (wrapped start n) j
+slots_apart start m n i j up near first second = λ same. omega arith
+
+ring_begun : (start : ℕ) (old new : List ℕ) (s : FrontStage) → ((w : ℕ) → w < 16 → word_of new 2 w ≡ word_of old 2 w) → ((k : ℕ) → s ≡ front.RingWord k → k ≤ 16) → RingBegun start old s → RingBegun start new s
+ring_begun start old new (front.RingWord k) same few h = λ j lt. let small = few k refl in same j (omega arith) ∙ h j lt
+ring_begun start old new s same few h = tt
+
+pub ring_kept : (start pushed replied : ℕ) (old new : List ℕ) (s : FrontStage) (b : BackStage)
+    → ((w : ℕ) → w < 16 → word_of new 2 w ≡ word_of old 2 w)
+    → ((k : ℕ) → s ≡ front.RingWord k → k ≤ 16)
+    → SameEntry old new 8
+    → AreRingWords start pushed replied old s b
+    → AreRingWords start pushed replied new s b
+ring_kept start pushed replied old new s b same few entry h = record {
+  begun = ring_begun start old new s same few h.begun;
+  requests = λ t. same 0 (omega arith) ∙ h.requests t;
+  responses = λ t. same 2 (omega arith) ∙ h.responses t;
+  named = λ t u. entry.frame ∙ h.named t u;
+  granted = λ t u. entry.flags ∙ h.granted t u;
+}
+
+pub slots_kept : (start fetched pushed taken replied : ℕ) (submitted : List Request) (replies : List Reply) (old new : List ℕ) (s : FrontStage) (b : BackStage)
+    → ((w : ℕ) → 16 ≤ w → w < 1024 → word_of new 2 w ≡ word_of old 2 w)
+    → entered s ≤ 28
+    → AreSlots start fetched pushed taken replied submitted replies old s b
+    → AreSlots start fetched pushed taken replied submitted replies new s b
+slots_kept start fetched pushed taken replied submitted replies old new s b same few h = record {
+  entries = λ k r from to e i lt. here (wrapped start k) i lt ∙ h.entries k r from to e i lt;
+  entry = λ r e i lt. here (wrapped start pushed) i (omega arith) ∙ h.entry r e i lt;
+  responses = λ k rep e i lt. here (wrapped start (taken + k)) i (omega arith) ∙ h.responses k rep e i lt;
+  response = λ rep e i lt. here (wrapped start replied) i (let three = responded_few b in omega arith) ∙ h.response rep e i lt;
+}
+  where
+    here : (index i : ℕ) → i < 28 → word_of new 2 (slot_word index i) ≡ word_of old 2 (slot_word index i)
+    here index i lt = same (slot_word index i) (slot_from index i lt) (slot_to index i lt)
+
+    responded_few : (b : BackStage) → responded b ≤ 3
+    responded_few (back.ReplyHigh r) = omega arith
+    responded_few (back.ReplyLast r) = omega arith
+    responded_few (back.Producer r) = omega arith
+    responded_few b = omega arith
+
+pub frames_kept : (pushed : ℕ) (old new : List ℕ) (s : FrontStage) (requests : List Request)
+    → filled s ≤ 128
+    → All (λ (r : Request). SameFrame old new r.frame) requests
+    → All (IsFilled pushed old s) requests
+    → All (IsFilled pushed new s) requests
+frames_kept pushed old new s requests few same h k d lt =
+    let here = same k d lt in
+    let was = h k d lt in
+    record {
+      whole = λ le i l. here i (omega arith) ∙ was.whole le i l;
+      begun = λ e i l. here i (omega arith) ∙ was.begun e i l;
+    }
+
+pub entries_kept : (pushed : ℕ) (old new : List ℕ) (live : List Held) (s : FrontStage) (requests : List Request)
+    → All (λ (r : Request). SameEntry old new (r.frame + 6)) requests
+    → ((e : Ending) → ending_at s ≡ Some e → SameEntry old new (e.frame + 6))
+    → AreEntries pushed old live s requests
+    → AreEntries pushed new live s requests
+entries_kept pushed old new live s requests same ending h = record {
+  each = λ k d lt. let here = same k d lt in let was = h.each k d lt in record {
+    named = λ le. here.frame ∙ was.named le;
+    named_next = λ e t. here.frame ∙ was.named_next e t;
+    flags = λ le. here.flags ∙ was.flags le;
+    flags_next = λ e t. here.flags ∙ was.flags_next e t;
+  };
+  ending = λ e t. let here = ending e t in here.flags ∙ h.ending e t;
+}
+
+pub front_sleep_kept : (start taken replied : ℕ) (old new : List ℕ) (asleep pending : Bool) (s : FrontStage) (b : BackStage)
+    → word_of new 2 3 ≡ word_of old 2 3
+    → IsFrontSleep start taken replied old asleep pending s b
+    → IsFrontSleep start taken replied new asleep pending s b
+front_sleep_kept start taken replied old new asleep pending s b same h = record {
+  arming = λ t. same ∙ h.arming t;
+  armed = λ t. same ∙ h.armed t;
+  may = h.may;
+  woken = h.woken;
+}
+
+pub back_sleep_kept : (start fetched pushed : ℕ) (old new : List ℕ) (asleep pending : Bool) (s : FrontStage) (b : BackStage)
+    → word_of new 2 1 ≡ word_of old 2 1
+    → IsBackSleep start fetched pushed old asleep pending s b
+    → IsBackSleep start fetched pushed new asleep pending s b
+back_sleep_kept start fetched pushed old new asleep pending s b same h = record {
+  arming = λ t. same ∙ h.arming t;
+  armed = λ t. same ∙ h.armed t;
+  may = h.may;
+  woken = h.woken;
+}

@@ -1,0 +1,187 @@
+-- Whatever happens, a connected front stays connected; and twenty moves connect one that isn't.
+use Rattle.std.proofs.Common.{◌≡◌, ◌≢◌, ℕ, zero, suc, ◌+◌, ◌-◌, ◌*◌, ◌^◌, ◌<◌, ◌≤◌, ◌==◌, if◌then◌else◌, Bool, true, false, List, [], ◌∷◌, refl, sym, subst, arith, true≢false}
+use Rattle.std.specs.Prelude.{Option, Some, None, Result, Ok, Err, nat_lt, replicate}
+use Rattle.std.proofs.lemmas.Bool.Decides.{nat_tests}
+use Rattle.blk_base.specs.Distance.{distance_of}
+use Rattle.blk_base.specs.Options.{Options}
+use Rattle.blk_base.specs.declared.ask.FrontAnswer.{FrontAnswer}
+use Rattle.blk_base.specs.declared.ask.FrontAnswer.TheVariants as answer
+use Rattle.ring_words.specs.Ring.{responses_of, notifies}
+use Rattle.blk_layout.specs.declared.response.Response.{Response}
+use Rattle.blk_layout.specs.Response.{response_of}
+use Rattle.hypervisor.specs.Act.{FrontAct, BackAct, Took}
+use Rattle.blk_front.specs.declared.stage.Stage.{Stage}
+use Rattle.blk_front.specs.declared.stage.Stage.TheVariants as front
+use Rattle.blk_front.specs.declared.request.Request.{Request}
+use Rattle.blk_front.specs.View.{View, next_request}
+use Rattle.blk_front.specs.Step.{at, broken, looked, loop_step, issued, response_at, is_mapped, ended, step_at}
+use Rattle.blk_front.specs.Submit.{is_connected}
+use Rattle.split_model.specs.World.{World, start_of}
+use Rattle.split_model.specs.Happening.{Happening, FrontMoves, BackMoves, JobMoves, Submits, Notifies, Looks, Settles, happens, after, back_turn, job_turn, back_after, job_after}
+use Rattle.split_model.proofs.SafeFront.{submit_kept}
+use Rattle.machine_pipeline.proofs.Turns.{front_turn_at, front_next}
+
+-- a front that makes its ring is at one of its sixteen words
+abbrev pub Connects : Stage → Type 0
+Connects (front.RingWord k) = k < 16
+Connects s = Unit {0}
+
+-- how many moves are left until the front is connected
+abbrev left : Stage → ℕ
+left (front.RingWord k) = 20 - k
+left front.RingFrame = 4
+left front.RingFence = 3
+left front.RingFlags = 2
+left front.NewPort = 1
+left s = 0
+
+pub start_connects : (config : Options) → (let w : World = start_of config in Connects w.front.stage)
+start_connects config = omega arith
+
+connects_of : (s : Stage) → is_connected s ≡ true → Connects s
+connects_of (front.RingWord k) e = absurd (true≢false (sym e))
+connects_of s e = tt
+
+none_left : (s : Stage) → Connects s → left s ≡ 0 → is_connected s ≡ true
+none_left (front.RingWord k) c e = absurd (omega arith)
+none_left front.RingFrame c e = absurd (omega arith)
+none_left front.RingFence c e = absurd (omega arith)
+none_left front.RingFlags c e = absurd (omega arith)
+none_left front.NewPort c e = absurd (omega arith)
+none_left s c e = refl
+
+few_left : (s : Stage) → left s ≤ 20
+few_left (front.RingWord k) = omega arith
+few_left front.RingFrame = omega arith
+few_left front.RingFence = omega arith
+few_left front.RingFlags = omega arith
+few_left front.NewPort = omega arith
+few_left s = omega arith
+
+-- a front with that stage is connected
+abbrev IsOn : View → Type 0
+IsOn x = is_connected x.stage ≡ true
+
+either : (b : Bool) (x y : View) → IsOn x → IsOn y → IsOn (if b then x else y)
+either true x y p q = p
+either false x y p q = q
+
+either_stage : (b : Bool) (x y : Stage) → is_connected x ≡ true → is_connected y ≡ true → is_connected (if b then x else y) ≡ true
+either_stage true x y p q = p
+either_stage false x y p q = q
+
+looked_on : (v : View) (word : ℕ) (otherwise : View) → IsOn otherwise → IsOn (looked v word otherwise)
+looked_on v word otherwise p =
+    either (nat_lt (distance_of v.ring.cons v.ring.prod) (distance_of v.ring.cons word)) (broken word v) (if word == v.ring.cons then otherwise else record v { seen = word; stage = front.Loop }) refl
+    (either (word == v.ring.cons) otherwise (record v { seen = word; stage = front.Loop }) p refl)
+
+loop_on : (v : View) (r : Option Request) (x : FrontAnswer) → IsOn v → IsOn (loop_step v r x)
+loop_on v (Some r) x p = refl
+loop_on v None (answer.Word word) p =
+    either (responses_of v.ring v.seen == 0) (looked v word (record v { seen = word; stage = front.StoreEvent })) (at (front.ResponseHigh word) v)
+    (looked_on v word (record v { seen = word; stage = front.StoreEvent }) refl) refl
+loop_on v None answer.Event p = p
+loop_on v None x p = p
+
+response_on : (v : View) (response : Result Response ℕ) (low : ℕ) (found : Option (ℕ × Request)) → IsOn (response_at v response low found)
+response_on v response low None = refl
+response_on v (Err word) low (Some found) = refl
+response_on v (Ok response) low (Some found) = refl
+
+-- a connected front stays so, whatever it is told
+step_on : (s : Stage) (v : View) (x : FrontAnswer) → IsOn v → is_connected s ≡ true → IsOn (step_at s v x)
+step_on (front.RingWord k) v x p e = absurd (true≢false (sym e))
+step_on front.RingFrame v x p e = absurd (true≢false (sym e))
+step_on front.RingFence v x p e = absurd (true≢false (sym e))
+step_on front.RingFlags v x p e = absurd (true≢false (sym e))
+step_on front.NewPort v x p e = refl
+step_on front.Loop v x p e = loop_on v (next_request v) x p
+step_on (front.Data r k) v x p e = either_stage (k == 127) (front.GrantFrame r) (front.Data r (k + 1)) refl refl
+step_on (front.GrantFrame r) v x p e = refl
+step_on (front.GrantFence r) v x p e = refl
+step_on (front.GrantFlags r) v x p e = refl
+step_on (front.Slot k) v x p e = either_stage (k == 27) front.Producer (front.Slot (k + 1)) refl refl
+step_on front.Producer v x p e = refl
+step_on (front.ProducerFence old) v x p e = refl
+step_on (front.RequestEvent old) v (answer.Word event) p e = either_stage (notifies old v.ring.prod event) front.Send front.Loop refl refl
+step_on front.Send v x p e = refl
+step_on (front.ResponseHigh low) v (answer.Word high) p e = refl
+step_on (front.ResponseLast low high) v (answer.Word last) p e = response_on v (response_of (low ∷ high ∷ last ∷ [])) low (issued v (low + high * 2 ^ 32))
+step_on (front.GrantRead e) v (answer.Word word) p f = either (is_mapped word) (broken word v) (at (front.GrantEnd e word) v) refl refl
+step_on (front.GrantEnd e before) v (answer.Word word) p f = either (word == before) (ended v e) (broken word v) refl refl
+step_on front.StoreEvent v x p e = refl
+step_on front.EventFence v x p e = refl
+step_on front.LookAgain v (answer.Word word) p e = looked_on v word (record v { seen = word; stage = front.Loop; asleep = true }) refl
+step_on s v x p e = p
+
+front_on : (w : World) (s : Stage) (act : Option FrontAct) → is_connected w.front.stage ≡ true → is_connected s ≡ true → (let x : World = front_next s w act in is_connected x.front.stage ≡ true)
+front_on w s None p e = p
+front_on w s (Some a) p e = step_on s w.front a.answer p e
+
+-- a move of a front that isn't connected leaves one move less
+abbrev IsNearer : Stage → Stage → Type 0
+IsNearer s s' = Connects s' × (left s' + 1 ≡ left s)
+
+pub front_nearer : (w : World) (s : Stage) → Connects s → is_connected s ≡ false → (let x : World = front_next s w (front_turn_at s w) in IsNearer s x.front.stage)
+front_nearer w (front.RingWord k) c e = by_last (k == 15) refl
+  where
+    by_last : (b : Bool) → (k == 15) ≡ b → IsNearer (front.RingWord k) (if b then front.RingFrame else front.RingWord (k + 1))
+    by_last true t = let last : k ≡ 15 = grind (arith, nat_tests) in (tt, omega arith)
+    by_last false t = let more : k ≢ 15 = grind (arith, nat_tests) in (omega arith, omega arith)
+front_nearer w front.RingFrame c e = (tt, refl)
+front_nearer w front.RingFence c e = (tt, refl)
+front_nearer w front.RingFlags c e = (tt, refl)
+front_nearer w front.NewPort c e = (tt, refl)
+front_nearer w s c e = absurd (true≢false e)
+
+-- nothing else than the front's own moves changes its stage
+back_same : (w : World) (act : Option BackAct) → (let x : World = back_after w act in x.front.stage ≡ w.front.stage)
+back_same w None = refl
+back_same w (Some a) = refl
+
+job_same : (w : World) (number : ℕ) (act : Option BackAct) → (let x : World = job_after w number act in x.front.stage ≡ w.front.stage)
+job_same w number None = refl
+job_same w number (Some a) = refl
+
+stage_after : (P : Stage → Type 0) (w : World) (h : Happening) → P w.front.stage → ((let x : World = happens w FrontMoves in P x.front.stage)) → (let x : World = happens w h in P x.front.stage)
+stage_after P w FrontMoves p moved = moved
+stage_after P w BackMoves p moved = subst P (sym (back_same w (back_turn w Took))) p
+stage_after P w (JobMoves number outcome) p moved = subst P (sym (job_same w number (job_turn w number outcome))) p
+stage_after P w (Submits job) p moved = let kept = submit_kept w.front job in subst P (sym kept.stage) p
+stage_after P w (Notifies at) p moved = p
+stage_after P w Looks p moved = p
+stage_after P w Settles p moved = p
+
+pub connected_happens : (w : World) (h : Happening) → is_connected w.front.stage ≡ true → (let x : World = happens w h in is_connected x.front.stage ≡ true)
+connected_happens w h e = stage_after (λ (s : Stage). is_connected s ≡ true) w h e (front_on w w.front.stage (front_turn_at w.front.stage w) e e)
+
+pub connected_after : (hs : List Happening) (w : World) → is_connected w.front.stage ≡ true → (let x : World = after hs w in is_connected x.front.stage ≡ true)
+connected_after [] w e = e
+connected_after (h ∷ hs) w e = connected_after hs (happens w h) (connected_happens w h e)
+
+front_connects : (w : World) → Connects w.front.stage → (let x : World = happens w FrontMoves in Connects x.front.stage)
+front_connects w c = by_test (is_connected w.front.stage) refl
+  where
+    by_test : (b : Bool) → is_connected w.front.stage ≡ b → (let x : World = happens w FrontMoves in Connects x.front.stage)
+    by_test true e = let x : World = happens w FrontMoves in connects_of x.front.stage (connected_happens w FrontMoves e)
+    by_test false e = (front_nearer w w.front.stage c e).0
+
+pub connects_after : (hs : List Happening) (w : World) → Connects w.front.stage → (let x : World = after hs w in Connects x.front.stage)
+connects_after [] w c = c
+connects_after (h ∷ hs) w c = connects_after hs (happens w h) (stage_after Connects w h c (front_connects w c))
+
+connected_by : (n : ℕ) (w : World) → Connects w.front.stage → left w.front.stage ≤ n → (let x : World = after (replicate n FrontMoves) w in is_connected x.front.stage ≡ true)
+connected_by zero w c few = none_left w.front.stage c (omega arith)
+connected_by (suc n) w c few = by_test (is_connected w.front.stage) refl (connected_by n (happens w FrontMoves))
+  where
+    by_test : (b : Bool) → is_connected w.front.stage ≡ b
+        → ((let y : World = happens w FrontMoves in Connects y.front.stage) → (let y : World = happens w FrontMoves in left y.front.stage ≤ n) → (let x : World = after (replicate n FrontMoves) (happens w FrontMoves) in is_connected x.front.stage ≡ true))
+        → (let x : World = after (replicate n FrontMoves) (happens w FrontMoves) in is_connected x.front.stage ≡ true)
+    by_test true e rest = connected_after (replicate n FrontMoves) (happens w FrontMoves) (connected_happens w FrontMoves e)
+    by_test false e rest =
+        let nearer = front_nearer w w.front.stage c e in
+        rest nearer.0 (let one = nearer.1 in omega arith)
+
+-- twenty moves connect the front
+pub twenty_connect : (w : World) → Connects w.front.stage → (let x : World = after (replicate 20 FrontMoves) w in is_connected x.front.stage ≡ true)
+twenty_connect w c = connected_by 20 w c (few_left w.front.stage)

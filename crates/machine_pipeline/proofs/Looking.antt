@@ -1,0 +1,156 @@
+-- The front looks for responses: at the producer, and again before it sleeps.
+use Rattle.std.proofs.Common.{◌≡◌, ◌≢◌, ℕ, ◌+◌, ◌*◌, ◌<◌, ◌≤◌, ◌==◌, inl, if◌then◌else◌, Bool, true, false, List, ◌∷◌, length, refl, sym, ◌∙◌, subst, arith, true≢false, length-set}
+use Rattle.std.specs.Prelude.{Option, Some, None, nat_lt}
+use Rattle.std.proofs.lemmas.Bool.Decides.{nat_tests}
+use Rattle.blk_base.specs.Options.{Options}
+use Rattle.blk_base.specs.Distance.{distance_of}
+use Rattle.blk_base.specs.declared.moves.Move.{Move}
+use Rattle.blk_base.specs.declared.moves.Move.TheVariants as moves
+use Rattle.blk_base.specs.declared.moves.Mover.TheVariants as mover
+use Rattle.schedule_text.specs.declared.line.Line.TheVariants as lines
+use Rattle.hypervisor.specs.Hypervisor.{Hypervisor}
+use Rattle.pipeline_laws.specs.Pipeline.{Pipeline}
+use Rattle.ring_words.specs.Ring.{next_of}
+use Rattle.xen_pages.specs.Pages.{word_of, with_word}
+use Rattle.blk_front.specs.declared.told.Told.{Told}
+use Rattle.blk_front.specs.declared.stage.Stage.{Stage as FrontStage}
+use Rattle.blk_front.specs.declared.stage.Stage.TheVariants as front
+use Rattle.blk_front.specs.View.{View, next_request}
+use Rattle.blk_front.specs.Submit.{ending_of}
+use Rattle.blk_front.specs.Step.{at, looked, broken}
+use Rattle.split_model.specs.World.{World}
+use Rattle.split_model.specs.Shown.{front_lines}
+use Rattle.machine_pipeline.proofs.Flow.{Flow, wrapped, ending_at}
+use Rattle.machine_pipeline.proofs.Holds.{Holds, IsFrontSleep, FrontAt}
+use Rattle.machine_pipeline.proofs.Turns.{Goes, FrontGoes, said_nothing}
+use Rattle.machine_pipeline.proofs.Kept.{SameFrame, written, other_word, other_frame}
+use Rattle.machine_pipeline.proofs.Wrapped.{distance_at, same_wrapped, next_wrapped}
+use Rattle.machine_pipeline.proofs.Resting.{IsResting, at_loop, at_look, at_store, at_fence, rest_kept}
+
+-- the front becomes this, and tells nothing
+pub becomes : (config : Options) (w : World) (g : Flow) (d : Pipeline) (m : Move) (x : View) (under : Hypervisor)
+    → x.told ≡ None
+    → Holds config (record { front = record x { told = None }; back = w.back; under = under }) g d x.stage w.back.stage
+    → Goes config (lines.Move m ∷ front_lines x.told) (record { front = record x { told = None }; back = w.back; under = under }) d
+becomes config w g d m x under told h = record { flow = g; step = None; does = said_nothing d m x.told told; holds = h }
+
+too_far : (far near : ℕ) → near ≤ far → nat_lt far near ≡ true → ⊥
+too_far far near le t = grind (arith, nat_tests)
+
+-- what was read of the producer is what was replied: not too far, and the same as what was taken where nothing is new
+pub looked_goes : (config : Options) (w : World) (g : Flow) (d : Pipeline) (s : FrontStage) (m : Move) (word : ℕ) (otherwise : View)
+    → IsResting s → ending_at s ≡ None → ending_of s ≡ 0
+    → Holds config w g d s w.back.stage
+    → w.front.told ≡ None
+    → w.front.asleep ≡ false
+    → word ≡ wrapped g.start g.replied
+    → (g.replied ≡ g.taken → Goes config (lines.Move m ∷ front_lines otherwise.told) (record { front = record otherwise { told = None }; back = w.back; under = w.under }) d)
+    → (let x : View = looked w.front word otherwise in Goes config (lines.Move m ∷ front_lines x.told) (record { front = record x { told = None }; back = w.back; under = w.under }) d)
+looked_goes config w g d s m word otherwise i none zero h told awake read nothing = by_break (nat_lt (distance_of w.front.ring.cons w.front.ring.prod) (distance_of w.front.ring.cons word)) refl
+  where
+    found : View
+    found = let v : View = w.front in record v { seen = word; stage = front.Loop }
+
+    new : Goes config (lines.Move m ∷ front_lines found.told) (record { front = record found { told = None }; back = w.back; under = w.under }) d
+    new =
+        let v : View = w.front in
+        let indices = h.indices in
+        subst (λ (a : Bool). Goes config (lines.Move m ∷ front_lines found.told) (record { front = record v { seen = word; stage = front.Loop; asleep = a; told = None }; back = w.back; under = w.under }) d) (sym awake)
+        (record {
+          flow = record g { front_seen = g.replied };
+          step = None;
+          does = said_nothing d m found.told told;
+          holds = rest_kept config w g d s front.Loop word g.replied false w.under.pages w.under.channels i at_loop none refl zero refl h tt read indices.taken_replied (omega arith) h.memory (λ f apart x lt. refl) (λ x apart lt. refl) refl refl refl
+              (record { arming = λ t. absurd (true≢false (sym t)); armed = λ t. absurd (true≢false (sym t)); may = λ t. refl; woken = λ t. absurd (true≢false (sym t)) });
+        })
+
+    by_new : (b : Bool) → (word == w.front.ring.cons) ≡ b → (let x : View = (if b then otherwise else found) in Goes config (lines.Move m ∷ front_lines x.told) (record { front = record x { told = None }; back = w.back; under = w.under }) d)
+    by_new true t =
+        let indices = h.indices in
+        let same : word ≡ w.front.ring.cons = grind (arith, nat_tests) in
+        nothing (same_wrapped g.start g.taken g.replied indices.taken_replied (omega arith) (sym read ∙ (same ∙ indices.taken)))
+    by_new false t = new
+
+    by_break : (b : Bool) → nat_lt (distance_of w.front.ring.cons w.front.ring.prod) (distance_of w.front.ring.cons word) ≡ b → (let x : View = (if b then broken word w.front else (if word == w.front.ring.cons then otherwise else found)) in Goes config (lines.Move m ∷ front_lines x.told) (record { front = record x { told = None }; back = w.back; under = w.under }) d)
+    by_break true t =
+        let indices = h.indices in
+        let far = distance_at g.start g.taken g.pushed w.front.ring.cons w.front.ring.prod indices.taken indices.pushed (omega arith) (omega arith) in
+        let near = distance_at g.start g.taken g.replied w.front.ring.cons word indices.taken read indices.taken_replied (omega arith) in
+        absurd (too_far _ _ (omega arith) t)
+    by_break false t = by_new (word == w.front.ring.cons) refl
+
+-- before it sleeps the front looks again
+pub look_again_goes : (config : Options) (w : World) (g : Flow) (d : Pipeline)
+    → w.front.told ≡ None
+    → Holds config w g d front.LookAgain w.back.stage
+    → FrontGoes config w d front.LookAgain
+look_again_goes config w g d told h =
+    looked_goes config w g d front.LookAgain (moves.FrontRead 2 2 word) word asleep at_look refl refl h told awake read (λ same. record {
+      flow = record g { front_seen = g.replied };
+      step = None;
+      does = said_nothing d (moves.FrontRead 2 2 word) asleep.told told;
+      holds = (let indices = h.indices in rest_kept config w g d front.LookAgain front.Loop word g.replied true w.under.pages w.under.channels at_look at_loop refl refl refl refl h tt read indices.taken_replied (omega arith) h.memory (λ f apart x lt. refl) (λ x apart lt. refl) refl refl refl
+          (let sleep = h.front_sleep in record { arming = λ t. absurd (true≢false (sym t)); armed = λ t. sleep.arming refl; may = λ t. absurd (true≢false t); woken = λ t. inl same }));
+    })
+  where
+    word : ℕ
+    word = word_of w.under.pages 2 2
+
+    asleep : View
+    asleep = let v : View = w.front in record v { seen = word; stage = front.Loop; asleep = true }
+
+    awake : w.front.asleep ≡ false
+    awake = let sleep = h.front_sleep in sleep.may refl
+
+    read : word ≡ wrapped g.start g.replied
+    read = let ring = h.ring in ring.responses refl
+
+-- nothing changed but the stage, and the front tells nothing
+pub at_stage_goes : (config : Options) (w : World) (g : Flow) (d : Pipeline) (s s' : FrontStage) (m : Move) (pages : List ℕ)
+    → IsResting s → IsResting s'
+    → ending_at s ≡ None → ending_at s' ≡ None → ending_of s ≡ 0 → ending_of s' ≡ 0
+    → w.front.told ≡ None
+    → Holds config w g d s w.back.stage
+    → FrontAt g.start g.pushed g.taken g.front_seen g.submitted g.replies (next_request w.front) w.front.entry s'
+    → length pages ≡ 1114112
+    → ((f : ℕ) → f ≢ 2 → SameFrame w.under.pages pages f)
+    → ((x : ℕ) → x ≢ 3 → x < 1024 → word_of pages 2 x ≡ word_of w.under.pages 2 x)
+    → IsFrontSleep g.start g.taken g.replied pages w.front.asleep w.under.channels.front_pending s' w.back.stage
+    → (let x : View = at s' w.front in Goes config (lines.Move m ∷ front_lines x.told) (record { front = record x { told = None }; back = w.back; under = record w.under { pages = pages } }) d)
+at_stage_goes config w g d s s' m pages i i' none none' zero zero' told h place sized frames words sleep =
+    let indices = h.indices in
+    record {
+      flow = g;
+      step = None;
+      does = said_nothing d m w.front.told told;
+      holds = rest_kept config w g d s s' w.front.seen g.front_seen w.front.asleep pages w.under.channels i i' none none' zero zero' h place indices.front_saw indices.front_from indices.front_to sized frames words refl refl refl sleep;
+    }
+
+-- it stores its event word one past what it took
+pub store_goes : (config : Options) (w : World) (g : Flow) (d : Pipeline)
+    → w.front.told ≡ None
+    → Holds config w g d front.StoreEvent w.back.stage
+    → FrontGoes config w d front.StoreEvent
+store_goes config w g d told h =
+    at_stage_goes config w g d front.StoreEvent front.EventFence (moves.FrontWrite 2 3 (next_of w.front.ring.cons)) pages at_store at_fence refl refl refl refl told h tt
+    (length-set w.under.pages (2 * 1024 + 3) (next_of w.front.ring.cons) ∙ h.memory)
+    (λ f apart. other_frame w.under.pages 2 3 (next_of w.front.ring.cons) f (omega arith) apart)
+    (λ x apart lt. other_word w.under.pages 2 3 (next_of w.front.ring.cons) x apart)
+    (record { arming = λ t. stored; armed = λ t. stored; may = sleep.may; woken = sleep.woken })
+  where
+    pages : List ℕ
+    pages = with_word w.under.pages 2 3 (next_of w.front.ring.cons)
+
+    sleep : IsFrontSleep g.start g.taken g.replied w.under.pages w.front.asleep w.under.channels.front_pending front.StoreEvent w.back.stage
+    sleep = h.front_sleep
+
+    stored : word_of pages 2 3 ≡ wrapped g.start (g.taken + 1)
+    stored = let indices = h.indices in written w.under.pages 2 3 (next_of w.front.ring.cons) h.memory (omega arith) (omega arith) ∙ next_wrapped g.start g.taken w.front.ring.cons indices.taken
+
+pub event_fence_goes : (config : Options) (w : World) (g : Flow) (d : Pipeline)
+    → w.front.told ≡ None
+    → Holds config w g d front.EventFence w.back.stage
+    → FrontGoes config w d front.EventFence
+event_fence_goes config w g d told h =
+    at_stage_goes config w g d front.EventFence front.LookAgain (moves.Fence mover.Front) w.under.pages at_fence at_look refl refl refl refl told h tt h.memory (λ f apart x lt. refl) (λ x apart lt. refl)
+    (let sleep = h.front_sleep in record { arming = λ t. sleep.arming refl; armed = sleep.armed; may = sleep.may; woken = sleep.woken })

@@ -1,0 +1,80 @@
+-- The request that is issued next: the first of those that wait, in a frame that no other one has.
+use Rattle.std.proofs.Common.{◌≡◌, ◌≢◌, ℕ, ◌+◌, ◌-◌, ◌<◌, ◌≤◌, ◌==◌, Bool, true, false, List, length, get_or, refl, ap, sym, ◌∙◌, subst, arith}
+use Rattle.std.specs.Prelude.{All, Option, Some, None, slice_get, if◌then◌else◌}
+use Rattle.std.proofs.lemmas.Bool.Decides.{nat_tests}
+use Rattle.std.proofs.lemmas.Option.{none-some, same_Some, slice_get_within, slice_get-get_or, get_or_from_slice_get}
+use Rattle.blk_front.specs.declared.request.Request.{Request}
+use Rattle.blk_front.specs.declared.stage.Ending.{Ending}
+use Rattle.blk_front.specs.View.{View, next_request}
+use Rattle.ring_words.specs.Ring.{Ring}
+use Rattle.machine_pipeline.proofs.Flow.{Flow}
+use Rattle.machine_pipeline.proofs.Holds.{AreIndices, AreQueued, IsSubmitted, AreSubmitted, ArePooled}
+use Rattle.machine_pipeline.proofs.Hands.{frames_apart}
+
+-- no more wait than are unfinished
+pub waiting_few : {g : Flow} {front_ring back_ring : Ring} {front_seen back_seen number last waiting unfinished ending : ℕ} → AreIndices g front_ring back_ring front_seen back_seen number last waiting unfinished ending → waiting ≤ unfinished
+waiting_few h =
+    let all = h.all in
+    let held = h.held in
+    let taken = h.taken_replied in
+    let replied = h.replied_fetched in
+    let fetched = h.fetched_pushed in
+    omega arith
+
+pub record IsNext (submitted requests : List Request) (pushed waiting : ℕ) (r : Request) : Type 0 where
+  pub waits : 1 ≤ waiting
+  pub place : slice_get requests (length requests - waiting) ≡ Some r
+  pub number : r.number ≡ pushed + 1
+  pub known : slice_get submitted pushed ≡ Some r
+  pub low : 18 ≤ r.frame
+  pub high : r.frame < 1018
+  pub apart : All (λ (q : Request). q.number ≢ pushed + 1 → q.frame ≢ r.frame) requests
+  pub only : All (λ (q : Request). q.number ≡ pushed + 1 → q ≡ r) requests
+
+pub next_is : (v : View) (submitted : List Request) (sectors last pushed : ℕ) (ending : Option Ending) (r : Request)
+    → AreQueued submitted pushed v.requests v.waiting → AreSubmitted submitted sectors last → ArePooled v.pool v.requests ending → next_request v ≡ Some r
+    → IsNext submitted v.requests pushed v.waiting r
+next_is v submitted sectors last pushed ending r queue all pooled e = by_test (v.waiting == 0) refl e
+  where
+    found : 1 ≤ v.waiting → slice_get v.requests (length v.requests - v.waiting) ≡ Some r → IsNext submitted v.requests pushed v.waiting r
+    found waits place =
+        let number : r.number ≡ pushed + 1 + 0 = queue.next 0 r (omega arith) (ap (λ (i : ℕ). slice_get v.requests i) (zeroth (length v.requests - v.waiting)) ∙ place) in
+        let here : get_or v.requests (length v.requests - v.waiting) r ≡ r = get_or_from_slice_get v.requests (length v.requests - v.waiting) r r place in
+        let lt = slice_get_within v.requests (length v.requests - v.waiting) r place in
+        let known : slice_get submitted (r.number - 1) ≡ Some r = subst (λ (q : Request). slice_get submitted (q.number - 1) ≡ Some q) here (queue.known (length v.requests - v.waiting) r lt) in
+        let is : IsSubmitted sectors (r.number - 1) r = all.each (r.number - 1) r known in
+        record {
+          waits = waits;
+          place = place;
+          number = omega arith;
+          known = ap (λ (i : ℕ). slice_get submitted i) (one_less r.number pushed number) ∙ known;
+          low = is.low;
+          high = is.high;
+          apart = λ k d within other same.
+              let q : Request = get_or v.requests k d in
+              let stands : slice_get v.requests k ≡ Some q = slice_get-get_or v.requests k d within in
+              let places : length v.requests - v.waiting ≢ k = λ here. other (ap (λ (x : Request). x.number) (same_Some q r (sym stands ∙ (ap (slice_get v.requests) (sym here) ∙ place))) ∙ (omega arith)) in
+              frames_apart v.pool v.requests ending (length v.requests - v.waiting) k r q pooled is.low is.high places place stands (sym same);
+          only = λ k d within same.
+              let q : Request = get_or v.requests k d in
+              let stands : slice_get submitted (q.number - 1) ≡ Some q = queue.known k d within in
+              let here : slice_get submitted (q.number - 1) ≡ slice_get submitted (r.number - 1) = ap (λ (i : ℕ). slice_get submitted i) (both_less q.number r.number pushed same number) in
+              let equal : Some q ≡ Some r = sym stands ∙ (here ∙ known) in
+              same_Some q r equal;
+        }
+      where
+        zeroth : (n : ℕ) → n + 0 ≡ n
+        zeroth n = omega arith
+
+        both_less : (n m p : ℕ) → n ≡ p + 1 → m ≡ p + 1 + 0 → n - 1 ≡ m - 1
+        both_less n m p e f = omega arith
+
+        one_less : (n p : ℕ) → n ≡ p + 1 + 0 → p ≡ n - 1
+        one_less n p e = omega arith
+
+    by_test : (b : Bool) → (v.waiting == 0) ≡ b → (if b then None else slice_get v.requests (length v.requests - v.waiting)) ≡ Some r → IsNext submitted v.requests pushed v.waiting r
+    by_test true t e = absurd (none-some r e)
+    by_test false t e = found (some_wait v.waiting t) e
+      where
+        some_wait : (n : ℕ) → (n == 0) ≡ false → 1 ≤ n
+        some_wait n t = grind (arith, nat_tests)

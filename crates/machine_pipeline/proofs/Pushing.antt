@@ -1,0 +1,131 @@
+-- The front pushes the request that it issued: its whole producer grows by one.
+use Rattle.std.proofs.Common.{◌≡◌, ℕ, ◌+◌, ◌-◌, ◌≤◌, List, length, take, get_or, refl, ap, sym, ◌∙◌, subst, inl, inr, arith}
+use Rattle.std.specs.Prelude.{All, Some, slice_get, slice_index}
+use Rattle.std.proofs.lemmas.Bool.{cases_lt}
+use Rattle.std.proofs.lemmas.Option.{none-some, get_or_from_slice_get}
+use Rattle.std.proofs.lemmas.List.Elements.{All-weaker, All-more}
+use Rattle.ring_words.specs.Ring.{Ring, next_of}
+use Rattle.xen_pages.specs.Pages.{word_of}
+use Rattle.grant_table.specs.declared.held.Held.{Held}
+use Rattle.grant_table.specs.Table.{mappings_of}
+use Rattle.blk_front.specs.declared.request.Request.{Request}
+use Rattle.blk_front.specs.declared.stage.Stage.TheVariants as front
+use Rattle.blk_front.specs.View.{slot_word}
+use Rattle.blk_front.specs.Step.{entry_of}
+use Rattle.blk_back.specs.declared.stage.Reply.{Reply}
+use Rattle.blk_back.specs.declared.stage.Stage.{Stage as BackStage}
+use Rattle.machine_pipeline.proofs.Flow.{Flow, wrapped}
+use Rattle.machine_pipeline.proofs.Holds.{AreIndices, AreQueued, AreSlots, IsFilled, AreEntries}
+use Rattle.machine_pipeline.proofs.Kept.{SameFrame, SameEntry, slot_from}
+use Rattle.machine_pipeline.proofs.Next.{IsNext}
+use Rattle.machine_pipeline.proofs.Entering.{responded_few}
+
+-- one more was pushed
+abbrev pub pushed_flow : Flow → Flow
+pushed_flow g = record g { pushed = g.pushed + 1 }
+
+pub indices_pushed : (g : Flow) (ring back_ring : Ring) (front_seen back_seen number last waiting unfinished : ℕ) → 1 ≤ waiting
+    → AreIndices g ring back_ring front_seen back_seen number last waiting unfinished 0
+    → AreIndices (pushed_flow g) (record ring { prod = next_of ring.prod }) back_ring front_seen back_seen number last (waiting - 1) unfinished 0
+indices_pushed g ring back_ring front_seen back_seen number last waiting unfinished waits h =
+    let prod = h.pushed in
+    let all = h.all in
+    let fetched = h.fetched_pushed in
+    let saw = h.back_to in
+    record {
+      front_entries = h.front_entries;
+      back_entries = h.back_entries;
+      pushed = rw prod (omega arith);
+      taken = h.taken;
+      replied = h.replied;
+      fetched = h.fetched;
+      front_saw = h.front_saw;
+      back_saw = h.back_saw;
+      count = h.count;
+      taken_replied = h.taken_replied;
+      replied_fetched = h.replied_fetched;
+      fetched_pushed = omega arith;
+      front_from = h.front_from;
+      front_to = h.front_to;
+      back_from = h.back_from;
+      back_to = omega arith;
+      all = omega arith;
+      few = h.few;
+      held = h.held;
+      room = h.room;
+    }
+
+pub queue_pushed : (submitted requests : List Request) (pushed waiting : ℕ) (r : Request) → IsNext submitted requests pushed waiting r → waiting ≤ length requests → AreQueued submitted pushed requests waiting → AreQueued submitted (pushed + 1) requests (waiting - 1)
+queue_pushed submitted requests pushed waiting r next few h =
+    let waits = next.waits in
+    let here : get_or requests (length requests - waiting) r ≡ r = get_or_from_slice_get requests (length requests - waiting) r r next.place in
+    let number = next.number in
+    let first : (let q = get_or requests (length requests - waiting) r in q.number ≤ pushed + 1) = subst (λ (q : Request). q.number ≤ pushed + 1) (sym here) (omega arith) in
+    let before : All (λ (q : Request). q.number ≤ pushed + 1) (take (length requests - waiting) requests) = All-weaker (λ (q : Request). q.number ≤ pushed) (λ (q : Request). q.number ≤ pushed + 1) (λ q le. omega arith) (take (length requests - waiting) requests) h.issued in
+    let more : length requests - waiting + 1 ≡ length requests - (waiting - 1) = omega arith in
+    record {
+      known = h.known;
+      ascending = h.ascending;
+      issued = subst (λ (n : ℕ). All (λ (q : Request). q.number ≤ pushed + 1) (take n requests)) more (All-more (λ (q : Request). q.number ≤ pushed + 1) requests (length requests - waiting) r (omega arith) before first);
+      next = λ j q lt e.
+          let same : length requests - waiting + (j + 1) ≡ length requests - (waiting - 1) + j = omega arith in
+          let is : q.number ≡ pushed + 1 + (j + 1) = h.next (j + 1) q (omega arith) (ap (λ (n : ℕ). slice_get requests n) same ∙ e) in
+          omega arith;
+    }
+
+pub slots_pushed : (start fetched pushed taken replied old_word : ℕ) (submitted : List Request) (replies : List Reply) (old new : List ℕ) (b : BackStage)
+    → ((w : ℕ) → 16 ≤ w → word_of new 2 w ≡ word_of old 2 w)
+    → AreSlots start fetched pushed taken replied submitted replies old front.Producer b
+    → AreSlots start fetched (pushed + 1) taken replied submitted replies new (front.ProducerFence old_word) b
+slots_pushed start fetched pushed taken replied old_word submitted replies old new b same h = record {
+  entries = λ k q from to e i lt. same (slot_word (wrapped start k) i) (slot_from (wrapped start k) i lt) ∙ (elim (cases_lt k pushed) [
+    | inl before ↦ h.entries k q from before e i lt
+    | inr after ↦
+        let here : k ≡ pushed = omega arith in
+        subst (λ (n : ℕ). slice_get submitted n ≡ Some q → word_of old 2 (slot_word (wrapped start n) i) ≡ slice_index (entry_of q) i) (sym here) (λ at. h.entry q at i lt) e
+  ]);
+  entry = λ q e i lt. absurd (omega arith);
+  responses = λ k rep e i lt. same (slot_word (wrapped start (taken + k)) i) (slot_from (wrapped start (taken + k)) i (omega arith)) ∙ h.responses k rep e i lt;
+  response = λ rep e i lt. same (slot_word (wrapped start replied) i) (slot_from (wrapped start replied) i (let three = responded_few b in omega arith)) ∙ h.response rep e i lt;
+}
+
+pub frames_pushed : (pushed old_word : ℕ) (old new : List ℕ) (requests : List Request)
+    → All (λ (r : Request). SameFrame old new r.frame) requests
+    → All (IsFilled pushed old front.Producer) requests
+    → All (IsFilled (pushed + 1) new (front.ProducerFence old_word)) requests
+frames_pushed pushed old_word old new requests same h k d lt =
+    let here = same k d lt in
+    let was = h k d lt in
+    record {
+      whole = λ le i l. here i (omega arith) ∙ (elim (cases_lt pushed (let q = get_or requests k d in q.number)) [
+        | inl above ↦ was.begun (omega arith) i l
+        | inr below ↦ was.whole below i l
+      ]);
+      begun = λ e i l. absurd (omega arith);
+    }
+
+pub entries_pushed : (submitted requests : List Request) (pushed waiting old_word : ℕ) (old new : List ℕ) (live : List Held) (r : Request)
+    → IsNext submitted requests pushed waiting r
+    → mappings_of (r.frame + 6) live ≡ 0
+    → All (λ (q : Request). SameEntry old new (q.frame + 6)) requests
+    → AreEntries pushed old live front.Producer requests
+    → AreEntries (pushed + 1) new live (front.ProducerFence old_word) requests
+entries_pushed submitted requests pushed waiting old_word old new live r next none same h = record {
+  each = λ k d lt.
+      let here = same k d lt in
+      let was = h.each k d lt in
+      let only = next.only k d lt in
+      record {
+        named = λ le. here.frame ∙ (elim (cases_lt pushed (let q = get_or requests k d in q.number)) [
+          | inl above ↦ was.named_next (omega arith) refl
+          | inr below ↦ was.named below
+        ]);
+        named_next = λ e t. absurd (cc);
+        flags = λ le. here.flags ∙ (elim (cases_lt pushed (let q = get_or requests k d in q.number)) [
+          | inl above ↦ was.flags_next (omega arith) refl ∙ rw (only (omega arith), none) refl
+          | inr below ↦ was.flags below
+        ]);
+        flags_next = λ e t. absurd (cc);
+      };
+  ending = λ e t. absurd (none-some e t);
+}

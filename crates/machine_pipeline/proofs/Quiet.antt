@@ -1,0 +1,227 @@
+-- Where all is quiet, each request of the pipeline is finished.
+use Rattle.std.proofs.Common.{◌≡◌, ℕ, ◌+◌, ◌-◌, ◌==◌, ◌&&◌, ◌⊎◌, inl, inr, not, cond, if◌then◌else◌, Bool, true, false, List, [], ◌∷◌, length, refl, ap, sym, ◌∙◌, subst, arith, true≢false}
+use Rattle.std.specs.Prelude.{Option, Some, None, count_by, slice_get, option_and_then}
+use Rattle.std.specs.List.{list_all}
+use Rattle.std.proofs.lemmas.Option.{none-some}
+use Rattle.std.proofs.lemmas.List.Sums.{sum_by-cons}
+use Rattle.std.proofs.lemmas.Bool.Decides.{nat_tests}
+use Rattle.blk_base.specs.Options.{Options}
+use Rattle.blk_base.specs.declared.ask.FrontAsk.{FrontAsk}
+use Rattle.blk_base.specs.declared.ask.BackAsk.{BackAsk}
+use Rattle.schedule_text.specs.declared.line.Line.{Line}
+use Rattle.schedule_text.specs.declared.line.Line.TheVariants as lines
+use Rattle.pipeline_laws.specs.Station.{Request as Asked, is_finished}
+use Rattle.pipeline_laws.specs.Pipeline.{Pipeline, Rests}
+use Rattle.pipeline_laws.specs.Allowed.{AreFinished, is_aside}
+use Rattle.blk_front.specs.declared.request.Request.{Request}
+use Rattle.blk_front.specs.declared.stage.Stage.{Stage as FrontStage}
+use Rattle.blk_front.specs.declared.stage.Stage.TheVariants as front
+use Rattle.blk_front.specs.View.{next_request}
+use Rattle.blk_front.specs.View as front_view
+use Rattle.blk_front.specs.Ask as front_ask
+use Rattle.blk_front.specs.Submit as front_submit
+use Rattle.ring_words.specs.Ring.{responses_of, requests_of}
+use Rattle.back_jobs.specs.Task.{Work}
+use Rattle.blk_back.specs.declared.stage.Reply.{Reply}
+use Rattle.blk_back.specs.declared.stage.Stage.{Stage as BackStage}
+use Rattle.blk_back.specs.declared.stage.Stage.TheVariants as back
+use Rattle.blk_back.specs.Ask as back_ask
+use Rattle.blk_back.specs.View as back_view
+use Rattle.split_model.specs.World.{World, is_quiet}
+use Rattle.split_model.specs.Happening.{Looks, Settles, lines_at}
+use Rattle.machine_pipeline.proofs.Flow.{Flow, ending_at, count_of, reply_at, reply_count}
+use Rattle.machine_pipeline.proofs.Holds.{Holds, Stands, FrontAt, BackAt, FrontSends, BackSends}
+use Rattle.machine_pipeline.proofs.Turns.{Goes}
+use Rattle.machine_pipeline.proofs.Lists.{count_one}
+
+-- a front that waits sleeps in its loop, and has no request to issue
+record FrontSleeps (s : FrontStage) (asleep : Bool) (next : Option Request) : Type 0 where
+  pub looping : s ≡ front.Loop
+  pub sleeps : asleep ≡ true
+  pub none_next : next ≡ None
+  pub no_ending : ending_at s ≡ None
+  pub sends_none : (pushed fetched : ℕ) → FrontSends s pushed fetched → ⊥
+
+front_acts : (b : Bool) (x y : FrontAsk) → front_submit.is_wait x ≡ false → front_submit.is_wait y ≡ false → front_submit.is_wait (if b then x else y) ≡ true → ⊥
+front_acts true x y e f t = true≢false (sym t ∙ e)
+front_acts false x y e f t = true≢false (sym t ∙ f)
+
+front_sleeps : (start pushed taken seen : ℕ) (submitted : List Request) (replies : List Reply) (entry : List ℕ) (v : front_view.View) (s : FrontStage)
+    → front_submit.is_wait (front_ask.ask_at s v) ≡ true
+    → FrontAt start pushed taken seen submitted replies (next_request v) entry s
+    → FrontSleeps s v.asleep (next_request v)
+front_sleeps start pushed taken seen submitted replies entry v front.Loop waits at = in_loop (next_request v) v.asleep waits
+  where
+    in_loop : (next : Option Request) (asleep : Bool) → front_submit.is_wait (front_ask.loop_ask (record v { asleep = asleep }) next) ≡ true → FrontSleeps front.Loop asleep next
+    in_loop (Some r) asleep t = absurd (true≢false (sym t))
+    in_loop None true t = record { looping = refl; sleeps = refl; none_next = refl; no_ending = refl; sends_none = λ p f x. x }
+    in_loop None false t = absurd (front_acts (responses_of v.ring v.seen == 0) _ _ refl refl t)
+front_sleeps start pushed taken seen submitted replies entry v (front.Broken word) waits at = absurd at
+front_sleeps start pushed taken seen submitted replies entry v s waits at = absurd (true≢false (sym waits))
+
+-- a back that waits sleeps in its loop, and replies to nothing
+record BackSleeps (s : BackStage) (asleep : Bool) : Type 0 where
+  pub sleeps : asleep ≡ true
+  pub no_reply : reply_at s ≡ None
+  pub sends_none : (replied taken : ℕ) → BackSends s replied taken → ⊥
+
+back_acts : (b : Bool) (x y : BackAsk) → back_ask.is_wait x ≡ false → back_ask.is_wait y ≡ false → back_ask.is_wait (if b then x else y) ≡ true → ⊥
+back_acts true x y e f t = true≢false (sym t ∙ e)
+back_acts false x y e f t = true≢false (sym t ∙ f)
+
+back_sleeps : (start fetched seen replied : ℕ) (submitted : List Request) (works : List Work) (entry : List ℕ) (v : back_view.View) (s : BackStage)
+    → back_ask.is_wait (back_ask.ask_at s v) ≡ true
+    → BackAt start fetched seen replied submitted works entry s
+    → BackSleeps s v.asleep
+back_sleeps start fetched seen replied submitted works entry v back.Loop waits at = in_loop (back_ask.next_reply v) v.asleep waits
+  where
+    in_loop : (next : Option Reply) (asleep : Bool) → back_ask.is_wait (back_ask.loop_ask (record v { asleep = asleep }) next) ≡ true → BackSleeps back.Loop asleep
+    in_loop (Some r) asleep t = absurd (true≢false (sym t))
+    in_loop None true t = record { sleeps = refl; no_reply = refl; sends_none = λ p f x. x }
+    in_loop None false t = absurd (back_acts (requests_of v.ring v.seen == 0) _ _ refl refl t)
+back_sleeps start fetched seen replied submitted works entry v back.Halted waits at = absurd at
+back_sleeps start fetched seen replied submitted works entry v s waits at = absurd (true≢false (sym waits))
+
+-- what quiet says of each part
+record AreQuiet (front_waits back_idle front_pending back_pending : Bool) : Type 0 where
+  pub front : front_waits ≡ true
+  pub back : back_idle ≡ true
+  pub no_front : front_pending ≡ false
+  pub no_back : back_pending ≡ false
+
+all_quiet : (a b c e : Bool) → (a && b && not c && not e) ≡ true → AreQuiet a b c e
+all_quiet true true false false t = record { front = refl; back = refl; no_front = refl; no_back = refl }
+all_quiet false b c e t = absurd (true≢false (sym t))
+all_quiet true false c e t = absurd (true≢false (sym t))
+all_quiet true true true e t = absurd (true≢false (sym t))
+all_quiet true true false true t = absurd (true≢false (sym t))
+
+both : (a b : Bool) → (a && b) ≡ true → (a ≡ true) × (b ≡ true)
+both true true t = (refl, refl)
+both false b t = absurd (true≢false (sym t))
+both true false t = absurd (true≢false (sym t))
+
+-- an end that sleeps while no event is pending or comes has all that the other end pushed
+caught_up : (a b : ℕ) (pending : Bool) (Sends : Type 0) → pending ≡ false → (Sends → ⊥) → (a ≡ b) ⊎ (pending ≡ true) ⊎ Sends → a ≡ b
+caught_up a b pending Sends unmarked none (inl same) = same
+caught_up a b pending Sends unmarked none (inr (inl t)) = absurd (true≢false (sym t ∙ unmarked))
+caught_up a b pending Sends unmarked none (inr (inr sends)) = absurd (none sends)
+
+-- where all requests wait and none is next there is none
+none_waits : (requests : List Request) (waiting : ℕ) → length requests ≡ waiting → (if waiting == 0 then None else slice_get requests (length requests - waiting)) ≡ None → length requests ≡ 0
+none_waits [] waiting same none = refl
+none_waits (r ∷ requests) waiting same none = by_zero (waiting == 0) refl none
+  where
+    by_zero : (b : Bool) → (waiting == 0) ≡ b → (if b then None else slice_get (r ∷ requests) (length (r ∷ requests) - waiting)) ≡ None → length (r ∷ requests) ≡ 0
+    by_zero true t e = grind (arith, nat_tests)
+    by_zero false t e =
+        let first : length (r ∷ requests) - waiting ≡ 0 = omega arith in
+        absurd (none-some r (sym e ∙ ap (slice_get (r ∷ requests)) first))
+
+-- no request that isn't finished is left
+all_finished : (asked : List Asked) → count_by (λ (q : Asked). not (is_finished q.station)) asked ≡ 0 → (k : ℕ) (x : Asked) → slice_get asked k ≡ Some x → is_finished x.station ≡ true
+all_finished asked none k x at = by_test (is_finished x.station) refl
+  where
+    by_test : (b : Bool) → is_finished x.station ≡ b → is_finished x.station ≡ true
+    by_test true t = t
+    by_test false t = let one = count_one (λ (q : Asked). not (is_finished q.station)) asked k x at (rw t refl) in absurd (omega arith)
+
+-- where all is quiet the front is in its loop, and nothing is left: each request was pushed, fetched and replied to, each response taken, and no job is held
+pub record IsCaughtUp (w : World) (g : Flow) : Type 0 where
+  pub looping : w.front.stage ≡ front.Loop
+  pub fetched : g.fetched ≡ g.pushed
+  pub replied : g.replied ≡ g.pushed
+  pub taken : g.taken ≡ g.pushed
+  pub no_request : length w.front.requests ≡ 0
+  pub no_job : length w.back.jobs.works ≡ 0
+
+pub caught_up_at : (config : Options) (w : World) (g : Flow) (d : Pipeline) → is_quiet w ≡ true → Stands config w g d → IsCaughtUp w g
+caught_up_at config w g d quiet stands = record {
+  looping = front_side.looping;
+  fetched = sym all_fetched;
+  replied = all_replied ∙ sym all_fetched;
+  taken = sym all_taken ∙ (all_replied ∙ sym all_fetched);
+  no_request = none_waits w.front.requests w.front.waiting all_wait front_side.none_next;
+  no_job = no_job;
+}
+  where
+    h : Holds config w g d w.front.stage w.back.stage
+    h = stands.holds
+
+    parts : AreQuiet (front_submit.is_wait (front_ask.ask_of w.front)) (back_ask.is_idle w.back) w.under.channels.front_pending w.under.channels.back_pending
+    parts = all_quiet _ _ _ _ quiet
+
+    front_side : FrontSleeps w.front.stage w.front.asleep (next_request w.front)
+    front_side = front_sleeps g.start g.pushed g.taken g.front_seen g.submitted g.replies w.front.entry w.front w.front.stage parts.front h.front_at
+
+    idle : (back_ask.is_wait (back_ask.ask_of w.back) ≡ true) × ((length w.back.jobs.works == 0) ≡ true)
+    idle = both _ _ parts.back
+
+    back_side : BackSleeps w.back.stage w.back.asleep
+    back_side = back_sleeps g.start g.fetched g.back_seen g.replied g.submitted w.back.jobs.works w.back.entry w.back w.back.stage idle.0 h.back_at
+
+    all_taken : g.replied ≡ g.taken
+    all_taken =
+        let sleep = h.front_sleep in
+        caught_up g.replied g.taken w.under.channels.front_pending (BackSends w.back.stage g.replied g.taken) parts.no_front (back_side.sends_none g.replied g.taken) (sleep.woken front_side.sleeps)
+
+    all_fetched : g.pushed ≡ g.fetched
+    all_fetched =
+        let sleep = h.back_sleep in
+        caught_up g.pushed g.fetched w.under.channels.back_pending (FrontSends w.front.stage g.pushed g.fetched) parts.no_back (front_side.sends_none g.pushed g.fetched) (sleep.woken back_side.sleeps)
+
+    no_job : length w.back.jobs.works ≡ 0
+    no_job = let t = idle.1 in grind (arith, nat_tests)
+
+    all_replied : g.replied ≡ g.fetched
+    all_replied =
+        let none = no_job in
+        let counted : length w.back.jobs.works + 0 + g.replied ≡ g.fetched = subst (λ (r : Option Reply). length w.back.jobs.works + reply_count r + g.replied ≡ g.fetched) back_side.no_reply h.counted in
+        omega arith
+
+    all_wait : length w.front.requests ≡ w.front.waiting
+    all_wait =
+        let replied = all_replied in
+        let taken = all_taken in
+        let fetched = all_fetched in
+        let indices = h.indices in
+        let all = indices.all in
+        let held = indices.held in
+        omega arith
+
+-- so all requests are finished
+quiet_taken : (config : Options) (w : World) (g : Flow) (d : Pipeline) → is_quiet w ≡ true → Stands config w g d → AreFinished d
+quiet_taken config w g d quiet stands = record { each = all_finished d.requests none_open }
+  where
+    none_open : count_by (λ (q : Asked). not (is_finished q.station)) d.requests ≡ 0
+    none_open =
+        let rest = caught_up_at config w g d quiet stands in
+        let opened = stands.holds.stations.opened in
+        let unfinished = opened.unfinished in
+        let none = rest.no_request in
+        let no_ending : count_of (ending_at w.front.stage) ≡ 0 = ap (λ (s : FrontStage). count_of (ending_at s)) rest.looping in
+        omega arith
+
+-- a look tells what is so
+look_goes : (config : Options) (w : World) (g : Flow) (d : Pipeline) (otherwise : Line) → is_aside otherwise ≡ true → Stands config w g d → Goes config ((if is_quiet w then lines.Quiet else otherwise) ∷ []) w d
+look_goes config w g d otherwise passes stands = by_test (is_quiet w) refl
+  where
+    by_test : (b : Bool) → is_quiet w ≡ b → Goes config ((if b then lines.Quiet else otherwise) ∷ []) w d
+    by_test true t = record {
+      flow = g;
+      step = Some Rests;
+      does = record { asides = []; aside = refl; shows = refl; asks = refl; allowed = quiet_taken config w g d t stands; disk = λ a b e. e; possible = λ a. (a, refl) };
+      holds = stands.holds;
+    }
+    by_test false t = record {
+      flow = g;
+      step = None;
+      does = record { asides = otherwise ∷ []; aside = rw passes refl; shows = refl; asks = refl; allowed = tt; disk = λ a b e. e; possible = λ a. (a, refl) };
+      holds = stands.holds;
+    }
+
+pub looks_goes : (config : Options) (w : World) (g : Flow) (d : Pipeline) → Stands config w g d → Goes config (lines_at w Looks) w d
+looks_goes config w g d stands = look_goes config w g d lines.Busy refl stands
+
+pub settles_goes : (config : Options) (w : World) (g : Flow) (d : Pipeline) → Stands config w g d → Goes config (lines_at w Settles) w d
+settles_goes config w g d stands = look_goes config w g d lines.Unsettled refl stands

@@ -1,0 +1,181 @@
+-- The front's loop where no request waits: it sleeps, takes its event, looks for responses, or takes one up.
+use Rattle.std.proofs.Common.{◌≡◌, ◌≢◌, ℕ, ◌+◌, ◌<◌, ◌==◌, if◌then◌else◌, Bool, true, false, List, [], ◌∷◌, refl, ap, sym, ◌∙◌, subst, arith, true≢false}
+use Rattle.std.specs.Prelude.{Option, Some, None, slice_get}
+use Rattle.std.proofs.lemmas.Bool.Decides.{nat_tests}
+use Rattle.blk_base.specs.Options.{Options}
+use Rattle.blk_base.specs.declared.ask.FrontAsk.{FrontAsk}
+use Rattle.blk_base.specs.declared.ask.FrontAsk.TheVariants as ask
+use Rattle.blk_base.specs.declared.ask.FrontAnswer.TheVariants as answer
+use Rattle.blk_base.specs.declared.moves.Move.TheVariants as moves
+use Rattle.blk_base.specs.declared.moves.Mover.TheVariants as mover
+use Rattle.blk_base.specs.declared.parts.End.TheVariants as end
+use Rattle.schedule_text.specs.declared.line.Line.{Line}
+use Rattle.schedule_text.specs.declared.line.Line.TheVariants as lines
+use Rattle.event_channel.specs.Channels.{ChannelState, taken}
+use Rattle.hypervisor.specs.Act.{FrontAct, front_act}
+use Rattle.pipeline_laws.specs.Pipeline.{Pipeline}
+use Rattle.ring_words.specs.Ring.{responses_of}
+use Rattle.xen_pages.specs.Pages.{word_of}
+use Rattle.blk_front.specs.declared.request.Request.{Request}
+use Rattle.blk_front.specs.declared.stage.Stage.{Stage as FrontStage}
+use Rattle.blk_front.specs.declared.stage.Stage.TheVariants as front
+use Rattle.blk_front.specs.View.{View, next_request, ring_frame, slot_frame, slot_word}
+use Rattle.blk_front.specs.Ask.{loop_ask}
+use Rattle.blk_front.specs.Step.{at, looked, loop_step}
+use Rattle.blk_back.specs.declared.stage.Reply.{Reply}
+use Rattle.blk_back.specs.Ask.{response_word}
+use Rattle.split_model.specs.World.{World}
+use Rattle.split_model.specs.Shown.{front_lines}
+use Rattle.machine_pipeline.proofs.Flow.{Flow, wrapped}
+use Rattle.machine_pipeline.proofs.Holds.{Holds, IsTaken}
+use Rattle.machine_pipeline.proofs.Turns.{Goes, FrontGoes, said_nothing}
+use Rattle.machine_pipeline.proofs.Lists.{get_within}
+use Rattle.machine_pipeline.proofs.Wrapped.{distance_at}
+use Rattle.machine_pipeline.proofs.Resting.{at_loop, at_high, at_last, at_store, rested, rest_kept}
+use Rattle.machine_pipeline.proofs.Looking.{looked_goes, at_stage_goes}
+use Rattle.machine_pipeline.proofs.JobMoves.{stays}
+use Rattle.machine_pipeline.specs.Step.{IsSame}
+
+-- the loop's move, by the request that is issued next
+abbrev loop_next : World → Option Request → Option FrontAct → World
+loop_next w n None = w
+loop_next w n (Some a) = record { front = record (loop_step w.front n a.answer) { told = None }; back = w.back; under = a.under }
+
+abbrev loop_says : World → Option Request → Option FrontAct → List Line
+loop_says w n None = []
+loop_says w n (Some a) = lines.Move a.shown ∷ front_lines (let f : View = loop_step w.front n a.answer in f.told)
+
+abbrev LoopGoes : Options → World → Pipeline → Option Request → FrontAsk → Type 0
+LoopGoes config w d n a = Goes config (loop_says w n (front_act w.under a)) (loop_next w n (front_act w.under a)) d
+
+-- asleep, it takes its event, if one is pending
+wait_goes : (config : Options) (w : World) (g : Flow) (d : Pipeline)
+    → w.front.told ≡ None
+    → w.front.stage ≡ front.Loop
+    → Holds config w g d front.Loop w.back.stage
+    → LoopGoes config w d None ask.Wait
+wait_goes config w g d told e h = by_pending w.under.channels.front_pending refl
+  where
+    channels : ChannelState
+    channels = taken w.under.channels end.Front
+
+    here : Holds config w g d w.front.stage w.back.stage
+    here = subst (λ (s : FrontStage). Holds config w g d s w.back.stage) (sym e) h
+
+    by_pending : (b : Bool) → w.under.channels.front_pending ≡ b → (let act : Option FrontAct = (if b then Some (record { answer = answer.Event; under = record w.under { channels = channels }; shown = moves.Event mover.Front }) else None) in Goes config (loop_says w None act) (loop_next w None act) d)
+    by_pending false t = stays IsSame config w g d (λ a b same. same) here
+    by_pending true t = record {
+      flow = g;
+      step = None;
+      does = said_nothing d (moves.Event mover.Front) w.front.told told;
+      holds = subst (λ (s : FrontStage). Holds config (rested w s w.front.seen false w.under.pages channels) g d s w.back.stage) (sym e)
+          (let indices = h.indices in rest_kept config w g d front.Loop front.Loop w.front.seen g.front_seen false w.under.pages channels at_loop at_loop refl refl refl refl h tt indices.front_saw indices.front_from indices.front_to h.memory (λ f apart x lt. refl) (λ x apart lt. refl) refl refl refl
+          (record { arming = λ t. absurd (true≢false (sym t)); armed = λ t. absurd (true≢false (sym t)); may = λ t. refl; woken = λ t. absurd (true≢false (sym t)) }));
+    }
+
+-- awake, with no response left that it saw, it reads the producer
+look_goes : (config : Options) (w : World) (g : Flow) (d : Pipeline)
+    → w.front.told ≡ None
+    → w.front.asleep ≡ false
+    → (responses_of w.front.ring w.front.seen == 0) ≡ true
+    → Holds config w g d front.Loop w.back.stage
+    → LoopGoes config w d None (ask.Read ring_frame 2)
+look_goes config w g d told awake none h = by_new
+  where
+    word : ℕ
+    word = word_of w.under.pages 2 2
+
+    read : word ≡ wrapped g.start g.replied
+    read = let ring = h.ring in ring.responses refl
+
+    store : View
+    store = let v : View = w.front in record v { seen = word; stage = front.StoreEvent }
+
+    stored : Goes config (lines.Move (moves.FrontRead 2 2 word) ∷ front_lines store.told) (record { front = record store { told = None }; back = w.back; under = w.under }) d
+    stored =
+        let indices = h.indices in
+        let sleep = h.front_sleep in
+        record {
+          flow = record g { front_seen = g.replied };
+          step = None;
+          does = said_nothing d (moves.FrontRead 2 2 word) w.front.told told;
+          holds = rest_kept config w g d front.Loop front.StoreEvent word g.replied w.front.asleep w.under.pages w.under.channels at_loop at_store refl refl refl refl h tt read indices.taken_replied (omega arith) h.memory (λ f apart x lt. refl) (λ x apart lt. refl) refl refl refl
+              (record { arming = λ t. absurd (true≢false (sym t)); armed = sleep.armed; may = λ t. awake; woken = sleep.woken });
+        }
+
+    by_new : LoopGoes config w d None (ask.Read ring_frame 2)
+    by_new = subst (λ (b : Bool). let x : View = (if b then looked w.front word store else at (front.ResponseHigh word) w.front) in Goes config (lines.Move (moves.FrontRead 2 2 word) ∷ front_lines x.told) (record { front = record x { told = None }; back = w.back; under = w.under }) d) (sym none)
+        (looked_goes config w g d front.Loop (moves.FrontRead 2 2 word) word store at_loop refl refl h told awake read (λ same. stored))
+
+-- the words of the oldest response, as the front reads them
+pub response_read : (config : Options) (w : World) (g : Flow) (d : Pipeline) (s : FrontStage) (rep : Reply) (k : ℕ)
+    → Holds config w g d s w.back.stage
+    → slice_get g.replies 0 ≡ Some rep
+    → k < 3
+    → word_of w.under.pages (slot_frame w.front.ring.cons k) (slot_word w.front.ring.cons k) ≡ response_word rep k
+response_read config w g d s rep k h oldest lt =
+    let indices = h.indices in
+    let slots = h.slots in
+    let frame : slot_frame w.front.ring.cons k ≡ 2 = omega arith in
+    let index : w.front.ring.cons ≡ wrapped g.start (g.taken + 0) = indices.taken ∙ ap (wrapped g.start) (omega arith) in
+    ap (λ (f : ℕ). word_of w.under.pages f (slot_word w.front.ring.cons k)) frame ∙ (ap (λ (n : ℕ). word_of w.under.pages 2 (slot_word n k)) index ∙ slots.responses 0 rep oldest k lt)
+
+-- a response is there: its first word is read
+take_up_goes : (config : Options) (w : World) (g : Flow) (d : Pipeline)
+    → w.front.told ≡ None
+    → (responses_of w.front.ring w.front.seen == 0) ≡ false
+    → Holds config w g d front.Loop w.back.stage
+    → w.front.asleep ≡ false
+    → LoopGoes config w d None (ask.Read (slot_frame w.front.ring.cons 0) (slot_word w.front.ring.cons 0))
+take_up_goes config w g d told some h awake = subst (λ (b : Bool). let x : View = (if b then looked w.front word (record w.front { seen = word; stage = front.StoreEvent }) else at (front.ResponseHigh word) w.front) in Goes config (lines.Move (moves.FrontRead (slot_frame w.front.ring.cons 0) (slot_word w.front.ring.cons 0) word) ∷ front_lines x.told) (record { front = record x { told = None }; back = w.back; under = w.under }) d) (sym some)
+    (at_stage_goes config w g d front.Loop (front.ResponseHigh word) (moves.FrontRead (slot_frame w.front.ring.cons 0) (slot_word w.front.ring.cons 0) word) w.under.pages at_loop (at_high word) refl refl refl refl told h (taken_up, response_read config w g d front.Loop rep.0 0 h rep.1 (omega arith)) h.memory (λ f apart x lt. refl) (λ x apart lt. refl)
+    (let sleep = h.front_sleep in record { arming = λ t. absurd (true≢false (sym t)); armed = sleep.armed; may = λ t. awake; woken = sleep.woken }))
+  where
+    word : ℕ
+    word = word_of w.under.pages (slot_frame w.front.ring.cons 0) (slot_word w.front.ring.cons 0)
+
+    seen : g.taken < g.front_seen
+    seen =
+        let indices = h.indices in
+        let far = distance_at g.start g.taken g.front_seen w.front.ring.cons w.front.seen indices.taken indices.front_saw indices.front_from (omega arith) in
+        let apart : responses_of w.front.ring w.front.seen ≢ 0 = grind (arith, nat_tests) in
+        omega arith
+
+    rep : (x : Reply) × (slice_get g.replies 0 ≡ Some x)
+    rep = let indices = h.indices in let replies = h.replies in let counted = replies.counted in let more = seen in get_within g.replies 0 (omega arith)
+
+    taken_up : IsTaken g.taken g.front_seen g.replies
+    taken_up = record { rep = rep.0; oldest = rep.1; seen = seen }
+
+-- its second word
+pub high_goes : (config : Options) (w : World) (g : Flow) (d : Pipeline) (low : ℕ)
+    → w.front.told ≡ None
+    → Holds config w g d (front.ResponseHigh low) w.back.stage
+    → FrontGoes config w d (front.ResponseHigh low)
+high_goes config w g d low told h =
+    at_stage_goes config w g d (front.ResponseHigh low) (front.ResponseLast low word) (moves.FrontRead (slot_frame w.front.ring.cons 1) (slot_word w.front.ring.cons 1) word) w.under.pages (at_high low) (at_last low word) refl refl refl refl told h (place.0, place.1, response_read config w g d (front.ResponseHigh low) place.0.rep 1 h place.0.oldest (omega arith)) h.memory (λ f apart x lt. refl) (λ x apart lt. refl)
+    (let sleep = h.front_sleep in record { arming = λ t. absurd (true≢false (sym t)); armed = sleep.armed; may = λ t. sleep.may refl; woken = sleep.woken })
+  where
+    word : ℕ
+    word = word_of w.under.pages (slot_frame w.front.ring.cons 1) (slot_word w.front.ring.cons 1)
+
+    place : (t : IsTaken g.taken g.front_seen g.replies) × (low ≡ response_word t.rep 0)
+    place = h.front_at
+
+-- the loop where no request waits
+pub loop_resumes : (config : Options) (w : World) (g : Flow) (d : Pipeline)
+    → w.front.told ≡ None
+    → w.front.stage ≡ front.Loop
+    → next_request w.front ≡ None
+    → Holds config w g d front.Loop w.back.stage
+    → FrontGoes config w d front.Loop
+loop_resumes config w g d told e none h =
+    subst (λ (n : Option Request). LoopGoes config w d n (loop_ask w.front n)) (sym none) (by_sleep w.front.asleep refl)
+  where
+    by_more : w.front.asleep ≡ false → (b : Bool) → (responses_of w.front.ring w.front.seen == 0) ≡ b → LoopGoes config w d None (if b then ask.Read ring_frame 2 else ask.Read (slot_frame w.front.ring.cons 0) (slot_word w.front.ring.cons 0))
+    by_more awake true t = look_goes config w g d told awake t h
+    by_more awake false t = take_up_goes config w g d told t h awake
+
+    by_sleep : (a : Bool) → w.front.asleep ≡ a → LoopGoes config w d None (if a then ask.Wait else (if responses_of w.front.ring w.front.seen == 0 then ask.Read ring_frame 2 else ask.Read (slot_frame w.front.ring.cons 0) (slot_word w.front.ring.cons 0)))
+    by_sleep true t = wait_goes config w g d told e h
+    by_sleep false t = by_more t (responses_of w.front.ring w.front.seen == 0) refl

@@ -1,0 +1,144 @@
+-- While the front makes its ring and its port, nothing was submitted and nothing passes through the ring.
+use Rattle.std.proofs.Common.{◌≡◌, ℕ, ◌<◌, ◌≤◌, Bool, true, false, List, length, refl, sym, ◌∙◌, subst, arith, true≢false}
+use Rattle.std.specs.Prelude.{Some, None, slice_get}
+use Rattle.std.proofs.lemmas.Option.{none-some, slice_get_within}
+use Rattle.blk_base.specs.Options.{Options}
+use Rattle.xen_pages.specs.Pages.{word_of}
+use Rattle.event_channel.specs.Channels.{ChannelState}
+use Rattle.pipeline_laws.specs.Pipeline.{Pipeline}
+use Rattle.blk_front.specs.declared.request.Request.{Request}
+use Rattle.blk_front.specs.declared.stage.Stage.{Stage as FrontStage}
+use Rattle.blk_front.specs.declared.stage.Stage.TheVariants as front
+use Rattle.blk_front.specs.View.{next_request}
+use Rattle.blk_front.specs.Submit.{is_connected, ending_of}
+use Rattle.blk_back.specs.declared.stage.Stage.{Stage as BackStage}
+use Rattle.blk_back.specs.declared.stage.Stage.TheVariants as back
+use Rattle.split_model.specs.World.{World}
+use Rattle.machine_pipeline.proofs.Flow.{Flow, filled, entered, ending_at, is_front_arming, may_front_sleep, is_back_arming, may_back_sleep, is_bound_back, is_issuing, is_fetching, reply_at}
+use Rattle.machine_pipeline.proofs.Holds.{FrontAt, AreRingWords, AreSlots, IsFilled, IsGranted, ArePooled, IsUnused, PortsAt, Holds}
+use Rattle.machine_pipeline.proofs.Kept.{slots_kept}
+use Rattle.machine_pipeline.proofs.Lists.{all_from}
+use Rattle.machine_pipeline.proofs.Resting.{rested}
+use Rattle.machine_pipeline.proofs.Stations.{AreStations}
+use Rattle.machine_pipeline.proofs.Indices.{indices_room}
+
+-- a stage at which no request is in the front's hands
+pub record IsBare (s : FrontStage) : Type 0 where
+  pub no_ending : ending_at s ≡ None
+  pub none_ends : ending_of s ≡ 0
+  pub filled_none : filled s ≡ 0
+  pub entered_none : entered s ≡ 0
+  pub unarmed : is_front_arming s ≡ false
+  pub unissued : is_issuing s ≡ false
+
+pub bare_word : (k : ℕ) → IsBare (front.RingWord k)
+bare_word k = record { no_ending = refl; none_ends = refl; filled_none = refl; entered_none = refl; unarmed = refl; unissued = refl }
+
+pub bare_frame : IsBare front.RingFrame
+bare_frame = record { no_ending = refl; none_ends = refl; filled_none = refl; entered_none = refl; unarmed = refl; unissued = refl }
+
+pub bare_fence : IsBare front.RingFence
+bare_fence = record { no_ending = refl; none_ends = refl; filled_none = refl; entered_none = refl; unarmed = refl; unissued = refl }
+
+pub bare_flags : IsBare front.RingFlags
+bare_flags = record { no_ending = refl; none_ends = refl; filled_none = refl; entered_none = refl; unarmed = refl; unissued = refl }
+
+pub bare_port : IsBare front.NewPort
+bare_port = record { no_ending = refl; none_ends = refl; filled_none = refl; entered_none = refl; unarmed = refl; unissued = refl }
+
+pub bare_loop : IsBare front.Loop
+bare_loop = record { no_ending = refl; none_ends = refl; filled_none = refl; entered_none = refl; unarmed = refl; unissued = refl }
+
+-- what was submitted and pushed before the front is connected
+pub record AreNone (pushed last : ℕ) : Type 0 where
+  pub unpushed : pushed ≡ 0
+  pub unsubmitted : last ≡ 0
+
+none_of : (connected : Bool) (pushed last : ℕ) → connected ≡ false → IsUnused connected pushed last → AreNone pushed last
+none_of false pushed last e h = record { unpushed = h.0; unsubmitted = h.1 }
+none_of true pushed last e h = absurd (true≢false e)
+
+unused_of : (connected : Bool) (pushed last : ℕ) → AreNone pushed last → IsUnused connected pushed last
+unused_of false pushed last h = (h.unpushed, h.unsubmitted)
+unused_of true pushed last h = tt
+
+pub unbound_of : (connected bound : Bool) (made : ℕ) (ports : _) → connected ≡ false → PortsAt connected bound made ports → (made ≡ 0) × (ports ≡ List.[]) × (bound ≡ false)
+unbound_of false bound made ports e h = h
+unbound_of true bound made ports e h = absurd (true≢false e)
+
+-- a back that isn't bound doesn't sleep yet
+back_awake : (b : BackStage) → is_bound_back b ≡ false → (is_back_arming b ≡ false) × (may_back_sleep b ≡ false)
+back_awake back.MapRing e = (refl, refl)
+back_awake back.Bind e = (refl, refl)
+back_awake b e = absurd (true≢false e)
+
+pub none_yet : (config : Options) (w : World) (g : Flow) (d : Pipeline) (s : FrontStage) → is_connected s ≡ false → Holds config w g d s w.back.stage → AreNone g.pushed w.front.last
+none_yet config w g d s starting h = none_of (is_connected s) g.pushed w.front.last starting h.unused
+
+pub starts_on : (config : Options) (w : World) (g : Flow) (d d' : Pipeline) (s s' : FrontStage) (pages : List ℕ) (channels : ChannelState)
+    → is_connected s ≡ false → may_front_sleep s ≡ false → IsBare s → IsBare s'
+    → Holds config w g d s w.back.stage
+    → AreStations config g d' (is_connected s') (is_issuing s') (is_fetching w.back.stage) (ending_at s') (reply_at w.back.stage) w.front.requests w.back.jobs.works
+    → FrontAt g.start g.pushed g.taken g.front_seen g.submitted g.replies (next_request w.front) w.front.entry s'
+    → length pages ≡ 1114112
+    → ((x : ℕ) → 16 ≤ x → x < 1024 → word_of pages 2 x ≡ word_of w.under.pages 2 x)
+    → AreRingWords g.start g.pushed g.replied pages s' w.back.stage
+    → PortsAt (is_connected s') (is_bound_back w.back.stage) channels.made channels.ports
+    → Holds config (rested w s' w.front.seen w.front.asleep pages channels) g d' s' w.back.stage
+starts_on config w g d d' s s' pages channels starting restless i i' h stations at sized words ring ports = record {
+  started = h.started;
+  sized = h.sized;
+  indices = indices_room g w.front.ring w.back.ring w.front.seen w.back.seen w.back.fetched w.front.last w.front.waiting (length w.front.requests) (ending_of s) (ending_of s') (let was = h.indices in let room = was.room in let e = i'.none_ends in omega arith) h.indices;
+  queue = h.queue;
+  submitted = h.submitted;
+  pool = subst (ArePooled w.front.pool w.front.requests) (i.no_ending ∙ sym i'.no_ending) h.pool;
+  stations = stations;
+  works = h.works;
+  counted = h.counted;
+  info = h.info;
+  replies = h.replies;
+  front_at = at;
+  unused = unused_of (is_connected s') g.pushed w.front.last none;
+  back_at = h.back_at;
+  unhalted = h.unhalted;
+  memory = sized;
+  ring = ring;
+  slots = (let was = slots in record { entries = was.entries; entry = λ r e k lt. let zero = i'.entered_none in absurd (omega arith); responses = was.responses; response = was.response });
+  frames = all_from (IsFilled g.pushed pages s') w.front.requests (λ j r e. absurd (empty j r e));
+  entries = record {
+    each = all_from (IsGranted g.pushed pages w.under.grants.live s') w.front.requests (λ j r e. absurd (empty j r e));
+    ending = λ e same. absurd (none-some e (sym i'.no_ending ∙ same));
+  };
+  mapped = h.mapped;
+  page = h.page;
+  front_sleep = (let was = h.front_sleep in record {
+    arming = λ t. absurd (true≢false (sym t ∙ i'.unarmed));
+    armed = λ t. absurd (true≢false (sym t ∙ was.may restless));
+    may = λ t. was.may restless;
+    woken = λ t. absurd (true≢false (sym t ∙ was.may restless));
+  });
+  back_sleep = (let was = h.back_sleep in record {
+    arming = λ t. absurd (true≢false (sym t ∙ awake.0));
+    armed = λ t. absurd (true≢false (sym t ∙ was.may awake.1));
+    may = was.may;
+    woken = λ t. absurd (true≢false (sym t ∙ was.may awake.1));
+  });
+  ports = ports;
+}
+  where
+    none : AreNone g.pushed w.front.last
+    none = none_yet config w g d s starting h
+
+    empty : (j : ℕ) (r : Request) → slice_get w.front.requests j ≡ Some r → ⊥
+    empty j r e =
+        let within = slice_get_within w.front.requests j r e in
+        let indices = h.indices in
+        let held = indices.held in
+        let last = none.unsubmitted in
+        omega arith
+
+    awake : (is_back_arming w.back.stage ≡ false) × (may_back_sleep w.back.stage ≡ false)
+    awake = back_awake w.back.stage ((unbound_of (is_connected s) (is_bound_back w.back.stage) w.under.channels.made w.under.channels.ports starting h.ports).2)
+
+    slots : AreSlots g.start g.fetched g.pushed g.taken g.replied g.submitted g.replies pages s w.back.stage
+    slots = slots_kept g.start g.fetched g.pushed g.taken g.replied g.submitted g.replies w.under.pages pages s w.back.stage words (let few = i.entered_none in omega arith) h.slots

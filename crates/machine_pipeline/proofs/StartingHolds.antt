@@ -1,0 +1,103 @@
+-- The machine at the start, and the pipeline of which nothing was asked.
+use Rattle.std.proofs.Common.{◌≡◌, ℕ, zero, suc, ◌^◌, ◌<◌, Bool, false, cond, List, [], refl, ap, sym, arith, true≢false}
+use Rattle.std.specs.Prelude.{None, count_by, replicate, slice_index_or}
+use Rattle.std.proofs.Math.ListN.{length-replicate}
+use Rattle.std.proofs.lemmas.Option.{none-some}
+use Rattle.std.proofs.lemmas.List.Folds.{sum_by-replicate}
+use Rattle.xen_pages.proofs.Words.{length-zero_words}
+use Rattle.blk_base.specs.Options.{Options}
+use Rattle.pipeline_laws.specs.Pipeline.{pipeline_of}
+use Rattle.blk_front.specs.Pool.{empty_pool}
+use Rattle.split_model.specs.World.{start_of}
+use Rattle.split_model.proofs.Safe.{safe_start}
+use Rattle.machine_pipeline.specs.Plain.{IsPlain}
+use Rattle.machine_pipeline.proofs.Flow.{start_flow, wrapped}
+use Rattle.machine_pipeline.proofs.Holds.{ArePooled, Stands}
+use Rattle.machine_pipeline.proofs.Indices.{indices_first}
+
+-- a frame of a pool in which none is in use
+free_at : (n f : ℕ) → slice_index_or (replicate n false) f false ≡ false
+free_at zero f = refl
+free_at (suc n) zero = refl
+free_at (suc n) (suc f) = free_at n f
+
+none_used : (n : ℕ) → count_by (λ (b : Bool). b) (replicate n false) ≡ 0
+none_used n = omega (arith, sum_by-replicate (λ (b : Bool). cond b 1 0) n false)
+
+empty_pooled : ArePooled empty_pool [] None
+empty_pooled = record {
+  size = length-replicate 1000 false;
+  each = λ f lt. sym (ap (λ (b : Bool). cond b 1 0) (free_at 1000 f));
+  used = none_used 1000;
+}
+
+pub start_holds : (config : Options) → IsPlain config → Stands config (start_of config) (start_flow config.start) (pipeline_of config)
+start_holds config plain = record {
+  safe = safe_start config;
+  holds = record {
+    started = record { whole = refl; known = refl };
+    sized = refl;
+    indices = indices_first config plain;
+    queue = record {
+      known = λ k d lt. absurd (omega arith);
+      ascending = λ i j d lt within. absurd (omega arith);
+      issued = λ k d lt. absurd (omega arith);
+      next = λ j r lt e. absurd (omega arith);
+    };
+    submitted = record { counted = refl; each = λ k r e. absurd (none-some r e); sized = plain.sectors };
+    pool = empty_pooled;
+    stations = record {
+      options = refl;
+      front = refl;
+      ring = record { pushed = refl; entries = λ i lt. absurd (omega arith); fetched = refl; replied = refl; responses = λ i rep e. absurd (none-some rep e); taken = refl };
+      known = record { as_many = refl; each = λ k r q e f. absurd (none-some r e) };
+      opened = record { unfinished = refl; held = λ k q e f. absurd (none-some q e) };
+      issued = λ k q lt e. absurd (none-some q e);
+      waiting = record { issued = λ t. absurd (true≢false (sym t)); rest = λ k le lt other. absurd (omega arith) };
+      pushed = record { copied = λ t. absurd (true≢false (sym t)); rest = λ k le lt other. absurd (omega arith) };
+      works = λ i t e. absurd (none-some t e);
+      replying = λ rep e. absurd (none-some rep e);
+      replied = λ i rep e. absurd (none-some rep e);
+      taking = λ e same. absurd (none-some e same);
+    };
+    works = record { each = λ k d lt. absurd (omega arith); ascending = λ i j d lt within. absurd (omega arith) };
+    counted = refl;
+    info = refl;
+    replies = record { counted = refl; each = λ k d lt. absurd (omega arith); distinct = λ i j d lt within. absurd (omega arith) };
+    front_at = omega arith;
+    unused = (refl, refl);
+    back_at = refl;
+    unhalted = refl;
+    memory = length-zero_words 1114112;
+    ring = record {
+      begun = λ j lt. absurd (omega arith);
+      requests = λ t. absurd (true≢false (sym t));
+      responses = λ t. absurd (true≢false (sym t));
+      named = λ t u. absurd (true≢false (sym t));
+      granted = λ t u. absurd (true≢false (sym t));
+    };
+    slots = record {
+      entries = λ k r from to. absurd (omega arith);
+      entry = λ r e. absurd (none-some r e);
+      responses = λ k rep e. absurd (none-some rep e);
+      response = λ rep e. absurd (none-some rep e);
+    };
+    frames = λ k d lt. absurd (omega arith);
+    entries = record { each = λ k d lt. absurd (omega arith); ending = λ e same. absurd (none-some e same) };
+    mapped = record { counted = λ test. refl; framed = λ k d lt. absurd (omega arith) };
+    page = record { gref = λ t. absurd (true≢false (sym t)); mode = λ t. absurd (true≢false (sym t)) };
+    front_sleep = record {
+      arming = λ t. absurd (true≢false (sym t));
+      armed = λ t. absurd (true≢false (sym t));
+      may = λ t. refl;
+      woken = λ t. absurd (true≢false (sym t));
+    };
+    back_sleep = record {
+      arming = λ t. absurd (true≢false (sym t));
+      armed = λ t. absurd (true≢false (sym t));
+      may = λ t. refl;
+      woken = λ t. absurd (true≢false (sym t));
+    };
+    ports = (refl, refl, refl);
+  };
+}

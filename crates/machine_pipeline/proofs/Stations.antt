@@ -1,0 +1,254 @@
+-- Where the machine has each request: at the front, on the ring, at the back or one of its jobs. A request is named by its place among all, from 0; its number, which is its id on the ring, is one more.
+use Rattle.std.proofs.Common.{◌≡◌, ◌≢◌, ℕ, ◌+◌, ◌-◌, ◌<◌, ◌≤◌, ◌==◌, ◌⊎◌, inl, inr, Bool, true, false, not, cond, List, [], ◌∷◌, ◌++◌, length, refl, ap, sym, ◌∙◌, subst, arith, length-set}
+use Rattle.std.specs.Prelude.{Option, Some, None, slice_get, slice_set, count_by}
+use Rattle.std.specs.List.{list_any}
+use Rattle.std.proofs.lemmas.Option.{none-some, same_Some}
+use Rattle.std.proofs.lemmas.Bool.{cases_eq}
+use Rattle.blk_base.specs.Options.{Options}
+use Rattle.blk_base.specs.declared.config.Job.{Job}
+use Rattle.blk_base.specs.declared.config.Job.TheVariants.{Write}
+use Rattle.blk_front.specs.declared.request.Request.{Request}
+use Rattle.blk_front.specs.declared.stage.Ending.{Ending}
+use Rattle.back_jobs.specs.declared.stage.Stage.{Stage as JobStage}
+use Rattle.back_jobs.specs.declared.stage.Stage.TheVariants as job
+use Rattle.back_jobs.specs.Task.{Work}
+use Rattle.blk_back.specs.declared.stage.Reply.{Reply}
+use Rattle.pipeline_laws.specs.Station.{Station, Waiting, Issuing, Pushed, Fetching, Working, Failed, Ended, Replying, Replied, Taking, Telling, Finished, Request as Asked, is_finished}
+use Rattle.pipeline_laws.specs.Ring.{Ring}
+use Rattle.pipeline_laws.specs.Pipeline.{Pipeline, Front}
+use Rattle.pipeline_laws.specs.Allowed.{is_unissued}
+use Rattle.machine_pipeline.proofs.Flow.{Flow, count_of, worked}
+use Rattle.machine_pipeline.proofs.Lists.{get_set_here, get_set_other, set_was, count_set}
+
+-- the request at this place is at that station
+pub record StandsAt (asked : List Asked) (k : ℕ) (station : Station) : Type 0 where
+  pub q : Asked
+  pub at : slice_get asked k ≡ Some q
+  pub there : q.station ≡ station
+
+-- the pipeline has each submitted request, as it was asked
+pub record AreKnown (submitted : List Request) (asked : List Asked) : Type 0 where
+  pub as_many : length asked ≡ length submitted
+  pub each : (k : ℕ) (r : Request) (q : Asked) → slice_get submitted k ≡ Some r → slice_get asked k ≡ Some q → q.job ≡ Write r.sector 1 r.tag
+
+-- it has as many unfinished requests as the front, and each of those is one of the front's
+pub record AreOpen (asked : List Asked) (requests : List Request) (ending : Option Ending) : Type 0 where
+  pub unfinished : count_by (λ (q : Asked). not (is_finished q.station)) asked ≡ length requests + count_of ending
+  pub held : (k : ℕ) (q : Asked) → slice_get asked k ≡ Some q → is_finished q.station ≡ false → (list_any (λ (r : Request). r.number == k + 1) requests ≡ true) ⊎ ((e : Ending) × (ending ≡ Some e) × (e.number ≡ k + 1))
+
+-- its ring is what passed between the ends: each request in turn, and the responses as they came
+pub record IsRing (g : Flow) (ring : Ring) : Type 0 where
+  pub pushed : length ring.pushed ≡ g.pushed
+  pub entries : (i : ℕ) → i < g.pushed → slice_get ring.pushed i ≡ Some i
+  pub fetched : ring.fetched ≡ g.fetched
+  pub replied : length ring.replied ≡ g.replied
+  pub responses : (i : ℕ) (rep : Reply) → slice_get g.replies i ≡ Some rep → slice_get ring.replied (g.taken + i) ≡ Some (rep.id - 1)
+  pub taken : ring.taken ≡ g.taken
+
+-- what wasn't pushed waits at the front, but the request that is being issued
+pub record AreWaiting (pushed : ℕ) (issuing : Bool) (asked : List Asked) : Type 0 where
+  pub issued : issuing ≡ true → StandsAt asked pushed Issuing
+  pub rest : (k : ℕ) → pushed ≤ k → k < length asked → (issuing ≡ true → k ≢ pushed) → StandsAt asked k Waiting
+
+-- what was pushed and not fetched waits on the ring, but the request whose entry is being copied
+pub record ArePushed (fetched pushed : ℕ) (fetching : Bool) (asked : List Asked) : Type 0 where
+  pub copied : fetching ≡ true → StandsAt asked fetched Fetching
+  pub rest : (k : ℕ) → fetched ≤ k → k < pushed → (fetching ≡ true → k ≢ fetched) → StandsAt asked k Pushed
+
+abbrev pub AreIssued : ℕ → List Asked → Type 0
+AreIssued pushed asked = (k : ℕ) (q : Asked) → k < pushed → slice_get asked k ≡ Some q → is_unissued q.station ≡ false
+
+abbrev pub AreWorking : List Work → List Asked → Type 0
+AreWorking works asked = (i : ℕ) (t : Work) → slice_get works i ≡ Some t → StandsAt asked (t.number - 1) (worked t.stage)
+
+abbrev pub IsResponding : Option Reply → List Asked → Type 0
+IsResponding replying asked = (rep : Reply) → replying ≡ Some rep → StandsAt asked (rep.id - 1) (Replying rep.status)
+
+abbrev pub AreReplied : List Reply → List Asked → Type 0
+AreReplied replies asked = (i : ℕ) (rep : Reply) → slice_get replies i ≡ Some rep → StandsAt asked (rep.id - 1) (Replied rep.status)
+
+abbrev pub IsTaking : Option Ending → List Asked → Type 0
+IsTaking ending asked = (e : Ending) → ending ≡ Some e → StandsAt asked (e.number - 1) (Taking e.status)
+
+-- the front of the pipeline: connected or not, and never closing
+abbrev pub open_front : Bool → Front
+open_front connected = record { connected = connected; closing = false; closed = false }
+
+-- the pipeline, with the front connected or not, issuing a request or not, ending the grant of one, the back copying an entry or not, writing a response, with these requests and jobs
+pub record AreStations (config : Options) (g : Flow) (d : Pipeline) (connected issuing fetching : Bool) (ending : Option Ending) (response : Option Reply) (requests : List Request) (jobs : List Work) : Type 0 where
+  pub options : d.options ≡ config
+  pub front : d.front ≡ open_front connected
+  pub ring : IsRing g d.ring
+  pub known : AreKnown g.submitted d.requests
+  pub opened : AreOpen d.requests requests ending
+  pub issued : AreIssued g.pushed d.requests
+  pub waiting : AreWaiting g.pushed issuing d.requests
+  pub pushed : ArePushed g.fetched g.pushed fetching d.requests
+  pub works : AreWorking jobs d.requests
+  pub replying : IsResponding response d.requests
+  pub replied : AreReplied g.replies d.requests
+  pub taking : IsTaking ending d.requests
+
+-- stations of one kind have one number
+abbrev pub kind_of : Station → ℕ
+kind_of Waiting = 0
+kind_of Issuing = 1
+kind_of Pushed = 2
+kind_of Fetching = 3
+kind_of (Working moved) = 4
+kind_of Failed = 4
+kind_of (Ended status) = 4
+kind_of (Replying status) = 5
+kind_of (Replied status) = 6
+kind_of (Taking status) = 7
+kind_of (Telling next) = 8
+kind_of (Finished status) = 9
+
+-- a job's request
+pub worked_kind : (s : JobStage) → kind_of (worked s) ≡ 4
+worked_kind (job.Unmap m) = refl
+worked_kind (job.GiveUp m) = refl
+worked_kind (job.Done status) = refl
+worked_kind s = refl
+
+-- requests at stations of two kinds are two
+pub apart : (asked : List Asked) (j k : ℕ) (a b : Station) → StandsAt asked j a → StandsAt asked k b → kind_of a ≢ kind_of b → j ≢ k
+apart asked j k a b x y differ same =
+    let one : x.q ≡ y.q = same_Some x.q y.q (sym x.at ∙ (ap (slice_get asked) same ∙ y.at)) in
+    differ (ap kind_of (sym x.there ∙ (ap (λ (q : Asked). q.station) one ∙ y.there)))
+
+-- the request at this place went from one station to another, and all others are as they were
+pub record IsMoved (asked moved : List Asked) (k : ℕ) (from to : Station) : Type 0 where
+  pub was : StandsAt asked k from
+  pub now : Asked
+  pub here : slice_get moved k ≡ Some now
+  pub there : now.station ≡ to
+  pub job : now.job ≡ (let q : Asked = was.q in q.job)
+  pub others : (j : ℕ) → j ≢ k → slice_get moved j ≡ slice_get asked j
+  pub as_many : length moved ≡ length asked
+  pub counted : count_by (λ (q : Asked). not (is_finished q.station)) moved + cond (not (is_finished from)) 1 0 ≡ count_by (λ (q : Asked). not (is_finished q.station)) asked + cond (not (is_finished to)) 1 0
+
+pub is_moved : (asked : List Asked) (k : ℕ) (from to : Station) (q now : Asked) → slice_get asked k ≡ Some q → q.station ≡ from → now.station ≡ to → now.job ≡ q.job → IsMoved asked (slice_set asked k now) k from to
+is_moved asked k from to q now at before after job =
+    let sum = count_set (λ (x : Asked). not (is_finished x.station)) asked k q now at in
+    let first : ◌≡◌ {A = ℕ} (cond (not (is_finished q.station)) 1 0) (cond (not (is_finished from)) 1 0) = ap (λ (s : Station). cond (not (is_finished s)) 1 0) before in
+    let second : ◌≡◌ {A = ℕ} (cond (not (is_finished now.station)) 1 0) (cond (not (is_finished to)) 1 0) = ap (λ (s : Station). cond (not (is_finished s)) 1 0) after in
+    record {
+      was = record { q = q; at = at; there = before };
+      now = now;
+      here = get_set_here asked k q now at;
+      there = after;
+      job = job;
+      others = λ j other. get_set_other asked k j now (λ same. other (sym same));
+      as_many = length-set asked k now;
+      counted = omega (arith, sum, first, second);
+    }
+
+pub stands_now : (asked moved : List Asked) (k : ℕ) (from to : Station) → IsMoved asked moved k from to → StandsAt moved k to
+stands_now asked moved k from to m = record { q = m.now; at = m.here; there = m.there }
+
+-- another request stays, as one of another kind is
+pub other_stays : (asked moved : List Asked) (j k : ℕ) (a from to : Station) → IsMoved asked moved k from to → j ≢ k → StandsAt asked j a → StandsAt moved j a
+other_stays asked moved j k a from to m other x = record { q = x.q; at = m.others j other ∙ x.at; there = x.there }
+
+pub kind_stays : (asked moved : List Asked) (j k : ℕ) (a from to : Station) → IsMoved asked moved k from to → kind_of a ≢ kind_of from → StandsAt asked j a → StandsAt moved j a
+kind_stays asked moved j k a from to m differ x = other_stays asked moved j k a from to m (apart asked j k a from x m.was differ) x
+
+pub known_moved : (submitted : List Request) (asked moved : List Asked) (k : ℕ) (from to : Station) → IsMoved asked moved k from to → AreKnown submitted asked → AreKnown submitted moved
+known_moved submitted asked moved k from to m h = record {
+  as_many = m.as_many ∙ h.as_many;
+  each = λ j r q e f. elim (cases_eq j k) [
+    | inl same ↦
+        let one : m.now ≡ q = same_Some m.now q (sym m.here ∙ ap (slice_get moved) (sym same) ∙ f) in
+        ap (λ (x : Asked). x.job) (sym one) ∙ (m.job ∙ h.each j r m.was.q e (ap (slice_get asked) same ∙ m.was.at))
+    | inr other ↦ h.each j r q e (sym (m.others j other) ∙ f)
+  ];
+}
+
+pub open_moved : (asked moved : List Asked) (k : ℕ) (from to : Station) (requests : List Request) (ending : Option Ending) → IsMoved asked moved k from to → is_finished from ≡ false → is_finished to ≡ false → AreOpen asked requests ending → AreOpen moved requests ending
+open_moved asked moved k from to requests ending m before after h =
+    let first : ◌≡◌ {A = ℕ} (cond (not (is_finished from)) 1 0) 1 = rw before refl in
+    let second : ◌≡◌ {A = ℕ} (cond (not (is_finished to)) 1 0) 1 = rw after refl in
+    record {
+      unfinished = omega (arith, m.counted, h.unfinished, first, second);
+      held = λ j q e going. elim (cases_eq j k) [
+        | inl same ↦ h.held j m.was.q (ap (slice_get asked) same ∙ m.was.at) (ap is_finished m.was.there ∙ before)
+        | inr other ↦ h.held j q (sym (m.others j other) ∙ e) going
+      ];
+    }
+
+pub issued_moved : (pushed : ℕ) (asked moved : List Asked) (k : ℕ) (from to : Station) → IsMoved asked moved k from to → (k < pushed → is_unissued to ≡ false) → AreIssued pushed asked → AreIssued pushed moved
+issued_moved pushed asked moved k from to m later h j q lt e = elim (cases_eq j k) [
+  | inl same ↦
+      let one : m.now ≡ q = same_Some m.now q (sym m.here ∙ ap (slice_get moved) (sym same) ∙ e) in
+      ap (λ (x : Asked). is_unissued x.station) (sym one) ∙ (ap is_unissued m.there ∙ later (omega arith))
+  | inr other ↦ h j q lt (sym (m.others j other) ∙ e)
+]
+
+pub waiting_moved : (pushed : ℕ) (issuing : Bool) (asked moved : List Asked) (k : ℕ) (from to : Station) → IsMoved asked moved k from to → 2 ≤ kind_of from → AreWaiting pushed issuing asked → AreWaiting pushed issuing moved
+waiting_moved pushed issuing asked moved k from to m later h = record {
+  issued = λ t. kind_stays asked moved pushed k Issuing from to m (omega arith) (h.issued t);
+  rest = λ j le lt other. kind_stays asked moved j k Waiting from to m (omega arith) (h.rest j le (omega (arith, m.as_many)) other);
+}
+
+pub pushed_moved : (fetched pushed : ℕ) (fetching : Bool) (asked moved : List Asked) (k : ℕ) (from to : Station) → IsMoved asked moved k from to → (kind_of from ≢ 2) → (kind_of from ≢ 3) → ArePushed fetched pushed fetching asked → ArePushed fetched pushed fetching moved
+pushed_moved fetched pushed fetching asked moved k from to m one two h = record {
+  copied = λ t. kind_stays asked moved fetched k Fetching from to m (omega (arith, two)) (h.copied t);
+  rest = λ j le lt other. kind_stays asked moved j k Pushed from to m (omega (arith, one)) (h.rest j le lt other);
+}
+
+pub works_moved : (works : List Work) (asked moved : List Asked) (k : ℕ) (from to : Station) → IsMoved asked moved k from to → kind_of from ≢ 4 → AreWorking works asked → AreWorking works moved
+works_moved works asked moved k from to m other h i t e = kind_stays asked moved (t.number - 1) k (worked t.stage) from to m (omega (arith, worked_kind t.stage, other)) (h i t e)
+
+pub replying_moved : (replying : Option Reply) (asked moved : List Asked) (k : ℕ) (from to : Station) → IsMoved asked moved k from to → kind_of from ≢ 5 → IsResponding replying asked → IsResponding replying moved
+replying_moved replying asked moved k from to m other h rep e = kind_stays asked moved (rep.id - 1) k (Replying rep.status) from to m (omega (arith, other)) (h rep e)
+
+pub replied_moved : (replies : List Reply) (asked moved : List Asked) (k : ℕ) (from to : Station) → IsMoved asked moved k from to → kind_of from ≢ 6 → AreReplied replies asked → AreReplied replies moved
+replied_moved replies asked moved k from to m other h i rep e = kind_stays asked moved (rep.id - 1) k (Replied rep.status) from to m (omega (arith, other)) (h i rep e)
+
+pub taking_moved : (ending : Option Ending) (asked moved : List Asked) (k : ℕ) (from to : Station) → IsMoved asked moved k from to → kind_of from ≢ 7 → IsTaking ending asked → IsTaking ending moved
+taking_moved ending asked moved k from to m other h e same = kind_stays asked moved (e.number - 1) k (Taking e.status) from to m (omega (arith, other)) (h e same)
+
+-- a job's request is unfinished, and was pushed
+pub worked_open : (s : JobStage) → is_finished (worked s) ≡ false
+worked_open (job.Unmap m) = refl
+worked_open (job.GiveUp m) = refl
+worked_open (job.Done status) = refl
+worked_open s = refl
+
+pub worked_issued : (s : JobStage) → is_unissued (worked s) ≡ false
+worked_issued (job.Unmap m) = refl
+worked_issued (job.GiveUp m) = refl
+worked_issued (job.Done status) = refl
+worked_issued s = refl
+
+-- before it is answered, or its data told, a request is unfinished
+pub early_open : (s : Station) → kind_of s < 9 → is_finished s ≡ false
+early_open (Finished status) early = absurd (omega arith)
+early_open s early = refl
+
+-- what an end saw of the other's producer is nothing to the pipeline
+pub saw_more : (config : Options) (g : Flow) (front_seen back_seen : ℕ) (d : Pipeline) (connected issuing fetching : Bool) (ending : Option Ending) (replying : Option Reply) (requests : List Request) (works : List Work)
+    → AreStations config g d connected issuing fetching ending replying requests works
+    → AreStations config (record g { front_seen = front_seen; back_seen = back_seen }) d connected issuing fetching ending replying requests works
+saw_more config g front_seen back_seen d connected issuing fetching ending replying requests works h = record {
+  options = h.options;
+  front = h.front;
+  ring = record { pushed = h.ring.pushed; entries = h.ring.entries; fetched = h.ring.fetched; replied = h.ring.replied; responses = h.ring.responses; taken = h.ring.taken };
+  known = h.known;
+  opened = h.opened;
+  issued = h.issued;
+  waiting = h.waiting;
+  pushed = h.pushed;
+  works = h.works;
+  replying = h.replying;
+  replied = h.replied;
+  taking = h.taking;
+}
+
+-- the front at another stage that is as far
+pub turned : (config : Options) (g : Flow) (d : Pipeline) (connected connected' issuing issuing' fetching : Bool) (ending ending' : Option Ending) (replying : Option Reply) (requests : List Request) (works : List Work)
+    → connected' ≡ connected → issuing' ≡ issuing → ending' ≡ ending
+    → AreStations config g d connected issuing fetching ending replying requests works
+    → AreStations config g d connected' issuing' fetching ending' replying requests works
+turned config g d connected connected' issuing issuing' fetching ending ending' replying requests works c i e h = rw (c, i, e) h

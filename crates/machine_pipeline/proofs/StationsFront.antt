@@ -1,0 +1,345 @@
+-- The steps of the pipeline that the front makes: it connects, begins an entry, pushes it, takes a response and answers.
+use Rattle.std.proofs.Common.{◌≡◌, ◌≢◌, ℕ, zero, suc, ◌+◌, ◌-◌, ◌<◌, ◌≤◌, ◌==◌, ◌⊎◌, inl, inr, Bool, true, false, not, cond, List, [], ◌∷◌, ◌++◌, length, drop, refl, ap, sym, ◌∙◌, subst, arith, length-append}
+use Rattle.std.specs.Prelude.{Option, Some, None, slice_get, slice_set, remove}
+use Rattle.std.specs.List.{list_any}
+use Rattle.std.proofs.lemmas.Option.{none-some, same_Some, slice_get_within}
+use Rattle.std.proofs.lemmas.Bool.{false≢true, true≢false, cases_eq, cases_lt}
+use Rattle.blk_base.specs.Options.{Options}
+use Rattle.blk_base.specs.declared.config.Job.{Job}
+use Rattle.blk_base.specs.declared.config.Job.TheVariants.{Write}
+use Rattle.blk_base.specs.declared.operation.Status.{Status}
+use Rattle.schedule_text.specs.declared.line.Line.TheVariants as lines
+use Rattle.blk_front.specs.declared.request.Request.{Request}
+use Rattle.blk_front.specs.declared.stage.Ending.{Ending}
+use Rattle.back_jobs.specs.Task.{Work}
+use Rattle.blk_back.specs.declared.stage.Reply.{Reply}
+use Rattle.pipeline_laws.specs.Station.{Station, Waiting, Issuing, Pushed, Fetching, Replying, Replied, Taking, Finished, Request as Asked, is_finished, submitted}
+use Rattle.pipeline_laws.specs.Move.{BeginsEntry, Pushes, Takes, Answers, moved, station_after}
+use Rattle.pipeline_laws.specs.Ring.{Ring}
+use Rattle.pipeline_laws.specs.Pipeline.{Pipeline, Submits, Moves, Connects}
+use Rattle.pipeline_laws.specs.Allowed.{is_unissued, refusal_now}
+use Rattle.machine_pipeline.specs.Step.{IsSame}
+use Rattle.machine_pipeline.proofs.Flow.{Flow, worked}
+use Rattle.machine_pipeline.proofs.Lists.{all_at, pair_at, get_append, get_last}
+use Rattle.machine_pipeline.proofs.Holds.{AreReplies, IsReply}
+use Rattle.machine_pipeline.proofs.Taking.{dropped, opened_without}
+use Rattle.machine_pipeline.proofs.Growing.{longer, push_was, known_more, opened_more}
+use Rattle.machine_pipeline.proofs.Turns.{Stepped}
+use Rattle.machine_pipeline.proofs.Stations.{StandsAt, AreStations, AreOpen, AreIssued, AreReplied, IsRing, IsMoved, is_moved, stands_now, other_stays, known_moved, open_moved, issued_moved, waiting_moved, pushed_moved, works_moved, replying_moved, replied_moved, taking_moved}
+
+-- the front is connected
+pub connects : (config : Options) (g : Flow) (d : Pipeline) (issuing fetching : Bool) (ending : Option Ending) (replying : Option Reply) (requests : List Request) (works : List Work)
+    → AreStations config g d false issuing fetching ending replying requests works
+    → Stepped None IsSame d (lines.Ready ∷ []) (λ p. AreStations config g p true issuing fetching ending replying requests works)
+connects config g d issuing fetching ending replying requests works h = record {
+  step = Connects;
+  allowed = rw h.front (refl, refl);
+  shows = refl;
+  asks = refl;
+  disk = λ a b e. e;
+  possible = λ a. (a, refl);
+  now = record {
+    options = h.options;
+    front = rw h.front refl;
+    ring = h.ring;
+    known = h.known;
+    opened = h.opened;
+    issued = h.issued;
+    waiting = h.waiting;
+    pushed = h.pushed;
+    works = h.works;
+    replying = h.replying;
+    replied = h.replied;
+    taking = h.taking;
+  };
+}
+
+-- the next request's entry is begun
+pub begins_entry : (config : Options) (g : Flow) (d : Pipeline) (connected fetching : Bool) (ending : Option Ending) (replying : Option Reply) (requests : List Request) (works : List Work)
+    → g.pushed < length d.requests
+    → AreStations config g d connected false fetching ending replying requests works
+    → Stepped None IsSame d [] (λ p. AreStations config g p connected true fetching ending replying requests works)
+begins_entry config g d connected fetching ending replying requests works within h = record {
+  step = Moves g.pushed x.q BeginsEntry;
+  allowed = (record { here = x.at; there = x.there }, tt);
+  shows = refl;
+  asks = refl;
+  disk = λ a b e. e;
+  possible = λ a. (a, refl);
+  now = record {
+    options = h.options;
+    front = h.front;
+    ring = h.ring;
+    known = known_moved g.submitted d.requests new g.pushed Waiting Issuing m h.known;
+    opened = open_moved d.requests new g.pushed Waiting Issuing requests ending m refl refl h.opened;
+    issued = issued_moved g.pushed d.requests new g.pushed Waiting Issuing m (λ lt. absurd (omega arith)) h.issued;
+    waiting = record {
+      issued = λ t. stands_now d.requests new g.pushed Waiting Issuing m;
+      rest = λ j le lt other. other_stays d.requests new j g.pushed Waiting Waiting Issuing m (other refl) (h.waiting.rest j le (omega (arith, m.as_many)) (λ t. absurd (false≢true t)));
+    };
+    pushed = pushed_moved g.fetched g.pushed fetching d.requests new g.pushed Waiting Issuing m (omega arith) (omega arith) h.pushed;
+    works = works_moved works d.requests new g.pushed Waiting Issuing m (omega arith) h.works;
+    replying = replying_moved replying d.requests new g.pushed Waiting Issuing m (omega arith) h.replying;
+    replied = replied_moved g.replies d.requests new g.pushed Waiting Issuing m (omega arith) h.replied;
+    taking = taking_moved ending d.requests new g.pushed Waiting Issuing m (omega arith) h.taking;
+  };
+}
+  where
+    x : StandsAt d.requests g.pushed Waiting
+    x = h.waiting.rest g.pushed (omega arith) within (λ t. absurd (false≢true t))
+
+    new : List Asked
+    new = slice_set d.requests g.pushed (moved x.q BeginsEntry)
+
+    m : IsMoved d.requests new g.pushed Waiting Issuing
+    m = is_moved d.requests g.pushed Waiting Issuing x.q (moved x.q BeginsEntry) x.at x.there refl refl
+
+-- one entry more on the ring
+ring_pushed : (g : Flow) (ring : Ring) → IsRing g ring → IsRing (record g { pushed = g.pushed + 1 }) (record ring { pushed = ring.pushed ++ g.pushed ∷ [] })
+ring_pushed g ring h = record {
+  pushed = omega (arith, length-append ring.pushed (g.pushed ∷ []), h.pushed);
+  entries = λ i lt. elim (cases_lt i g.pushed) [
+    | inl before ↦ get_append ring.pushed (g.pushed ∷ []) i i (h.entries i before)
+    | inr after ↦ (let at : length ring.pushed ≡ i = omega (arith, h.pushed) in let same : g.pushed ≡ i = omega (arith, h.pushed) in ap (slice_get (ring.pushed ++ g.pushed ∷ [])) (sym at) ∙ (get_last ring.pushed g.pushed ∙ ap Some same))
+  ];
+  fetched = h.fetched;
+  replied = h.replied;
+  responses = h.responses;
+  taken = h.taken;
+}
+
+-- the entry is pushed
+pub pushes : (config : Options) (g : Flow) (d : Pipeline) (connected fetching : Bool) (ending : Option Ending) (replying : Option Reply) (requests : List Request) (works : List Work)
+    → g.fetched ≤ g.pushed
+    → AreStations config g d connected true fetching ending replying requests works
+    → (fetching ≡ true → g.fetched < g.pushed)
+    → Stepped None IsSame d [] (λ p. AreStations config (record g { pushed = g.pushed + 1 }) p connected false fetching ending replying requests works)
+pushes config g d connected fetching ending replying requests works order h before = record {
+  step = Moves g.pushed x.q Pushes;
+  allowed = (record { here = x.at; there = x.there }, record { none = λ j y lt e. h.issued j y lt e });
+  shows = refl;
+  asks = refl;
+  disk = λ a b e. e;
+  possible = λ a. (a, refl);
+  now = record {
+    options = h.options;
+    front = h.front;
+    ring = ring_pushed g d.ring h.ring;
+    known = known_moved g.submitted d.requests new g.pushed Issuing Pushed m h.known;
+    opened = open_moved d.requests new g.pushed Issuing Pushed requests ending m refl refl h.opened;
+    issued = issued_more;
+    waiting = record {
+      issued = λ t. absurd (false≢true t);
+      rest = λ j le lt other. other_stays d.requests new j g.pushed Waiting Issuing Pushed m (omega arith) (h.waiting.rest j (omega arith) (omega (arith, m.as_many)) (λ t. omega arith));
+    };
+    pushed = record {
+      copied = λ t. other_stays d.requests new g.fetched g.pushed Fetching Issuing Pushed m (let lt = before t in omega arith) (h.pushed.copied t);
+      rest = λ j le lt other. elim (cases_eq j g.pushed) [
+        | inl same ↦ subst (λ (k : ℕ). StandsAt new k Pushed) (sym same) (stands_now d.requests new g.pushed Issuing Pushed m)
+        | inr apart ↦ other_stays d.requests new j g.pushed Pushed Issuing Pushed m apart (h.pushed.rest j le (omega arith) other)
+      ];
+    };
+    works = works_moved works d.requests new g.pushed Issuing Pushed m (omega arith) h.works;
+    replying = replying_moved replying d.requests new g.pushed Issuing Pushed m (omega arith) h.replying;
+    replied = replied_moved g.replies d.requests new g.pushed Issuing Pushed m (omega arith) h.replied;
+    taking = taking_moved ending d.requests new g.pushed Issuing Pushed m (omega arith) h.taking;
+  };
+}
+  where
+    x : StandsAt d.requests g.pushed Issuing
+    x = h.waiting.issued refl
+
+    new : List Asked
+    new = slice_set d.requests g.pushed (moved x.q Pushes)
+
+    m : IsMoved d.requests new g.pushed Issuing Pushed
+    m = is_moved d.requests g.pushed Issuing Pushed x.q (moved x.q Pushes) x.at x.there refl refl
+
+    issued_more : AreIssued (g.pushed + 1) new
+    issued_more j q lt e = elim (cases_eq j g.pushed) [
+      | inl same ↦
+          let one : m.now ≡ q = same_Some m.now q (sym m.here ∙ ap (slice_get new) (sym same) ∙ e) in
+          ap (λ (y : Asked). is_unissued y.station) (sym one) ∙ ap is_unissued m.there
+      | inr apart ↦ h.issued j q (omega arith) (sym (m.others j apart) ∙ e)
+    ]
+
+-- the oldest response is taken
+ring_taken : (g : Flow) (ring : Ring) → IsRing g ring → IsRing (record g { taken = g.taken + 1; replies = drop 1 g.replies }) (record ring { taken = ring.taken + 1 })
+ring_taken g ring h = record {
+  pushed = h.pushed;
+  entries = h.entries;
+  fetched = h.fetched;
+  replied = h.replied;
+  responses = λ i rep e. ap (slice_get ring.replied) (omega arith) ∙ h.responses (suc i) rep (sym (dropped g.replies i) ∙ e);
+  taken = omega (arith, h.taken);
+}
+
+pub takes : (config : Options) (g : Flow) (d : Pipeline) (connected issuing fetching : Bool) (replying : Option Reply) (requests : List Request) (works : List Work) (place : ℕ) (r : Request) (rep : Reply) (e : Ending)
+    → slice_get g.replies 0 ≡ Some rep
+    → slice_get requests place ≡ Some r
+    → rep.id ≡ r.number
+    → e ≡ record { number = r.number; frame = r.frame; status = rep.status }
+    → AreReplies g.fetched g.taken g.replied g.replies
+    → AreStations config g d connected issuing fetching None replying requests works
+    → Stepped None IsSame d [] (λ p. AreStations config (record g { taken = g.taken + 1; replies = drop 1 g.replies }) p connected issuing fetching (Some e) replying (remove requests place) works)
+takes config g d connected issuing fetching replying requests works place r rep e oldest found number made replies h = record {
+  step = Moves k x.q (Takes rep.status);
+  allowed = (record { here = x.at; there = x.there }, ap (slice_get (let ring : Ring = d.ring in ring.replied)) (omega (arith, h.ring.taken)) ∙ h.ring.responses 0 rep oldest);
+  shows = refl;
+  asks = refl;
+  disk = λ a b e. e;
+  possible = λ a. (a, refl);
+  now = record {
+    options = h.options;
+    front = h.front;
+    ring = ring_taken g d.ring h.ring;
+    known = known_moved g.submitted d.requests new k (Replied rep.status) (Taking rep.status) m h.known;
+    opened = opened_without new requests place r e found (ap (λ (y : Ending). y.number) made) (open_moved d.requests new k (Replied rep.status) (Taking rep.status) requests None m refl refl h.opened);
+    issued = issued_moved g.pushed d.requests new k (Replied rep.status) (Taking rep.status) m (λ lt. refl) h.issued;
+    waiting = waiting_moved g.pushed issuing d.requests new k (Replied rep.status) (Taking rep.status) m (omega arith) h.waiting;
+    pushed = pushed_moved g.fetched g.pushed fetching d.requests new k (Replied rep.status) (Taking rep.status) m (omega arith) (omega arith) h.pushed;
+    works = works_moved works d.requests new k (Replied rep.status) (Taking rep.status) m (omega arith) h.works;
+    replying = replying_moved replying d.requests new k (Replied rep.status) (Taking rep.status) m (omega arith) h.replying;
+    replied = others_replied;
+    taking = λ f same.
+        let it : f ≡ record { number = r.number; frame = r.frame; status = rep.status } = sym (same_Some e f same) ∙ made in
+        subst (λ (y : Ending). StandsAt new (y.number - 1) (Taking y.status)) (sym it) (subst (λ (n : ℕ). StandsAt new (n - 1) (Taking rep.status)) number (stands_now d.requests new k (Replied rep.status) (Taking rep.status) m));
+  };
+}
+  where
+    k : ℕ
+    k = rep.id - 1
+
+    x : StandsAt d.requests k (Replied rep.status)
+    x = h.replied 0 rep oldest
+
+    new : List Asked
+    new = slice_set d.requests k (moved x.q (Takes rep.status))
+
+    m : IsMoved d.requests new k (Replied rep.status) (Taking rep.status)
+    m = is_moved d.requests k (Replied rep.status) (Taking rep.status) x.q (moved x.q (Takes rep.status)) x.at x.there refl refl
+
+    others_replied : AreReplied (drop 1 g.replies) new
+    others_replied i other at =
+        let before = sym (dropped g.replies i) ∙ at in
+        let first = all_at (IsReply g.fetched) g.replies 0 rep replies.each oldest in
+        let second = all_at (IsReply g.fetched) g.replies (suc i) other replies.each before in
+        let differ = pair_at (λ (a b : Reply). a.id ≢ b.id) g.replies 0 (suc i) rep other replies.distinct (omega arith) oldest before in
+        other_stays d.requests new (other.id - 1) k (Replied other.status) (Replied rep.status) (Taking rep.status) m (λ same. differ (omega (arith, first.positive, second.positive))) (h.replied (suc i) other before)
+
+-- the request whose grant was ended is finished
+opened_finished : (asked finished : List Asked) (k : ℕ) (status : Status) (requests : List Request) (e : Ending)
+    → IsMoved asked finished k (Taking status) (Finished status)
+    → e.number ≡ k + 1
+    → AreOpen asked requests (Some e)
+    → AreOpen finished requests None
+opened_finished asked finished k status requests e m number h = record {
+  unfinished = omega (arith, m.counted, h.unfinished);
+  held = λ j q at going. elim (cases_eq j k) [
+    | inl same ↦
+        let one : m.now ≡ q = same_Some m.now q (sym m.here ∙ ap (slice_get finished) (sym same) ∙ at) in
+        absurd (true≢false (sym (ap is_finished m.there) ∙ (ap (λ (x : Asked). is_finished x.station) one ∙ going)))
+    | inr other ↦ left j other (h.held j q (sym (m.others j other) ∙ at) going)
+  ];
+}
+  where
+    left : (j : ℕ) → j ≢ k → (list_any (λ (r : Request). r.number == j + 1) requests ≡ true) ⊎ ((f : Ending) × (Some e ≡ Some f) × (f.number ≡ j + 1)) → (list_any (λ (r : Request). r.number == j + 1) requests ≡ true) ⊎ ((f : Ending) × (None ≡ Some f) × (f.number ≡ j + 1))
+    left j other (inl any) = inl any
+    left j other (inr it) =
+        let same : e.number ≡ j + 1 = ap (λ (x : Ending). x.number) (same_Some e it.0 it.1) ∙ it.2 in
+        absurd (other (omega arith))
+
+-- its answer is told
+pub answers : (config : Options) (g : Flow) (d : Pipeline) (connected issuing fetching : Bool) (replying : Option Reply) (requests : List Request) (works : List Work) (r : Request) (e : Ending)
+    → slice_get g.submitted (e.number - 1) ≡ Some r
+    → 1 ≤ e.number
+    → AreStations config g d connected issuing fetching (Some e) replying requests works
+    → Stepped None IsSame d (lines.Answer e.number e.status ∷ []) (λ p. AreStations config g p connected issuing fetching None replying requests works)
+answers config g d connected issuing fetching replying requests works r e asked positive h = record {
+  step = Moves k x.q (Answers e.status);
+  allowed = (record { here = x.at; there = x.there }, tt);
+  shows = ap (λ (n : ℕ). lines.Answer n e.status ∷ []) (omega arith);
+  asks = refl;
+  disk = λ a b e. e;
+  possible = λ a. (a, refl);
+  now = record {
+    options = h.options;
+    front = h.front;
+    ring = h.ring;
+    known = known_moved g.submitted d.requests new k (Taking e.status) (Finished e.status) m h.known;
+    opened = opened_finished d.requests new k e.status requests e m (omega arith) h.opened;
+    issued = issued_moved g.pushed d.requests new k (Taking e.status) (Finished e.status) m (λ lt. refl) h.issued;
+    waiting = waiting_moved g.pushed issuing d.requests new k (Taking e.status) (Finished e.status) m (omega arith) h.waiting;
+    pushed = pushed_moved g.fetched g.pushed fetching d.requests new k (Taking e.status) (Finished e.status) m (omega arith) (omega arith) h.pushed;
+    works = works_moved works d.requests new k (Taking e.status) (Finished e.status) m (omega arith) h.works;
+    replying = replying_moved replying d.requests new k (Taking e.status) (Finished e.status) m (omega arith) h.replying;
+    replied = replied_moved g.replies d.requests new k (Taking e.status) (Finished e.status) m (omega arith) h.replied;
+    taking = λ f same. absurd (none-some f same);
+  };
+}
+  where
+    k : ℕ
+    k = e.number - 1
+
+    x : StandsAt d.requests k (Taking e.status)
+    x = h.taking e refl
+
+    new : List Asked
+    new = slice_set d.requests k (moved x.q (Answers e.status))
+
+    job : (let q : Asked = x.q in q.job) ≡ Write r.sector 1 r.tag
+    job = h.known.each k r x.q asked x.at
+
+    after : (let q : Asked = x.q in station_after q.job (Answers e.status)) ≡ Finished e.status
+    after = rw job refl
+
+    m : IsMoved d.requests new k (Taking e.status) (Finished e.status)
+    m = is_moved d.requests k (Taking e.status) (Finished e.status) x.q (moved x.q (Answers e.status)) x.at x.there after refl
+
+-- a request more is submitted
+stands_more : (asked : List Asked) (q : Asked) (k : ℕ) (station : Station) → StandsAt asked k station → StandsAt (asked ++ q ∷ []) k station
+stands_more asked q k station x = record { q = x.q; at = get_append asked (q ∷ []) k x.q x.at; there = x.there }
+
+pub submits : (config : Options) (g : Flow) (d : Pipeline) (connected issuing fetching : Bool) (ending : Option Ending) (replying : Option Reply) (requests : List Request) (works : List Work) (x : Request)
+    → x.number ≡ length d.requests + 1
+    → g.pushed ≤ length d.requests
+    → refusal_now d (Write x.sector 1 x.tag) ≡ None
+    → AreStations config g d connected issuing fetching ending replying requests works
+    → Stepped (Some (Write x.sector 1 x.tag)) IsSame d (lines.Submit x.number (Write x.sector 1 x.tag) ∷ []) (λ p. AreStations config (record g { submitted = g.submitted ++ x ∷ [] }) p connected issuing fetching ending replying (requests ++ x ∷ []) works)
+submits config g d connected issuing fetching ending replying requests works x number few accepted h = record {
+  step = Submits job;
+  allowed = accepted;
+  shows = ap (λ (n : ℕ). lines.Submit n job ∷ []) (sym number);
+  asks = refl;
+  disk = λ a b e. e;
+  possible = λ a. (a, refl);
+  now = record {
+    options = h.options;
+    front = h.front;
+    ring = record { pushed = h.ring.pushed; entries = h.ring.entries; fetched = h.ring.fetched; replied = h.ring.replied; responses = h.ring.responses; taken = h.ring.taken };
+    known = known_more g.submitted d.requests x (submitted job) refl h.known;
+    opened = opened_more d.requests requests ending x (submitted job) refl number h.opened;
+    issued = λ j q lt e. elim (push_was d.requests (submitted job) j q e) [ inl was ↦ h.issued j q lt was | inr new ↦ absurd (let at = new.0 in omega arith) ];
+    waiting = record {
+      issued = λ t. stands_more d.requests (submitted job) g.pushed Issuing (h.waiting.issued t);
+      rest = λ j le lt other. elim (cases_lt j (length d.requests)) [
+        | inl before ↦ stands_more d.requests (submitted job) j Waiting (h.waiting.rest j le before other)
+        | inr last ↦
+            let long = longer d.requests (submitted job) in
+            let at : length d.requests ≡ j = omega arith in
+            record { q = submitted job; at = ap (slice_get (d.requests ++ submitted job ∷ [])) (sym at) ∙ get_last d.requests (submitted job); there = refl }
+      ];
+    };
+    pushed = record {
+      copied = λ t. stands_more d.requests (submitted job) g.fetched Fetching (h.pushed.copied t);
+      rest = λ j le lt other. stands_more d.requests (submitted job) j Pushed (h.pushed.rest j le lt other);
+    };
+    works = λ i t e. stands_more d.requests (submitted job) (t.number - 1) (worked t.stage) (h.works i t e);
+    replying = λ rep e. stands_more d.requests (submitted job) (rep.id - 1) (Replying rep.status) (h.replying rep e);
+    replied = λ i rep e. stands_more d.requests (submitted job) (rep.id - 1) (Replied rep.status) (h.replied i rep e);
+    taking = λ e same. stands_more d.requests (submitted job) (e.number - 1) (Taking e.status) (h.taking e same);
+  };
+}
+  where
+    job : Job
+    job = Write x.sector 1 x.tag

@@ -1,0 +1,162 @@
+-- An accepted submission: the front has one request more, and so has the pipeline.
+use Rattle.std.proofs.Common.{◌≡◌, ◌≢◌, ℕ, ◌+◌, ◌-◌, ◌<◌, ◌≤◌, ◌==◌, Bool, true, false, List, [], ◌∷◌, ◌++◌, length, refl, sym, ◌∙◌, inl, inr, arith}
+use Rattle.std.specs.Prelude.{All, Option, Some, None, slice_get, if◌then◌else◌}
+use Rattle.std.proofs.lemmas.Bool.Decides.{nat_tests}
+use Rattle.std.proofs.lemmas.Option.{none-some}
+use Rattle.std.proofs.lemmas.List.Elements.{All-push}
+use Rattle.ring_words.specs.Ring.{Ring}
+use Rattle.grant_table.specs.declared.held.Held.{Held}
+use Rattle.blk_front.specs.declared.request.Request.{Request}
+use Rattle.blk_front.specs.declared.stage.Stage.{Stage as FrontStage}
+use Rattle.blk_front.specs.declared.stage.Stage.TheVariants as front
+use Rattle.blk_back.specs.declared.stage.Reply.{Reply}
+use Rattle.blk_back.specs.declared.stage.Stage.{Stage as BackStage}
+use Rattle.blk_back.specs.declared.stage.Stage.TheVariants as back
+use Rattle.machine_pipeline.proofs.Flow.{Flow, filled, is_named, is_granted, entered}
+use Rattle.machine_pipeline.proofs.Holds.{AreIndices, FrontAt, AreSlots, IsFilled, IsGranted, AreEntries, AreWorks, IsEnding, BackAt}
+use Rattle.machine_pipeline.proofs.Lists.{get_append}
+use Rattle.machine_pipeline.proofs.Growing.{longer, push_was}
+use Rattle.back_jobs.specs.Task.{Work}
+use Rattle.blk_front.specs.declared.stage.Ending.{Ending}
+
+-- one more was submitted
+abbrev pub submitted_flow : Flow → Request → Flow
+submitted_flow g x = record g { submitted = g.submitted ++ x ∷ [] }
+
+pub indices_more : (g : Flow) (x : Request) (front_ring back_ring : Ring) (front_seen back_seen number last waiting unfinished unfinished' ending : ℕ)
+    → unfinished' ≡ unfinished + 1 → last ≢ 4294967295 → unfinished + ending < 32
+    → AreIndices g front_ring back_ring front_seen back_seen number last waiting unfinished ending
+    → AreIndices (submitted_flow g x) front_ring back_ring front_seen back_seen number (last + 1) (waiting + 1) unfinished' ending
+indices_more g x front_ring back_ring front_seen back_seen number last waiting unfinished unfinished' ending more unspent free h =
+    let all = h.all in
+    let few = h.few in
+    let held = h.held in
+    record {
+      front_entries = h.front_entries;
+      back_entries = h.back_entries;
+      pushed = h.pushed;
+      taken = h.taken;
+      replied = h.replied;
+      fetched = h.fetched;
+      front_saw = h.front_saw;
+      back_saw = h.back_saw;
+      count = h.count;
+      taken_replied = h.taken_replied;
+      replied_fetched = h.replied_fetched;
+      fetched_pushed = h.fetched_pushed;
+      front_from = h.front_from;
+      front_to = h.front_to;
+      back_from = h.back_from;
+      back_to = h.back_to;
+      all = omega arith;
+      few = omega arith;
+      held = omega arith;
+      room = omega arith;
+    }
+
+-- the request that is issued next stays that one
+pub next_more : (requests : List Request) (waiting : ℕ) (x r : Request)
+    → (if waiting == 0 then None else slice_get requests (length requests - waiting)) ≡ Some r
+    → (if waiting + 1 == 0 then None else slice_get (requests ++ x ∷ []) (length (requests ++ x ∷ []) - (waiting + 1))) ≡ Some r
+next_more requests waiting x r e = by_test (waiting == 0) e
+  where
+    by_test : (b : Bool) → (if b then None else slice_get requests (length requests - waiting)) ≡ Some r → (if waiting + 1 == 0 then None else slice_get (requests ++ x ∷ []) (length (requests ++ x ∷ []) - (waiting + 1))) ≡ Some r
+    by_test true f = absurd (none-some r f)
+    by_test false f =
+        let long = longer requests x in
+        let some : (waiting + 1 == 0) ≡ false = grind (arith, nat_tests) in
+        let place : length (requests ++ x ∷ []) - (waiting + 1) ≡ length requests - waiting = omega arith in
+        rw (some, place) (get_append requests (x ∷ []) (length requests - waiting) r f)
+
+pub front_at_more : (start pushed taken front_seen : ℕ) (submitted : List Request) (replies : List Reply) (next next' : Option Request) (entry : List ℕ) (s : FrontStage)
+    → ((r : Request) → next ≡ Some r → next' ≡ Some r)
+    → FrontAt start pushed taken front_seen submitted replies next entry s
+    → FrontAt start pushed taken front_seen submitted replies next' entry s
+front_at_more start pushed taken front_seen submitted replies next next' entry (front.Data r k) stays h = (stays r h.0, h.1, h.2)
+front_at_more start pushed taken front_seen submitted replies next next' entry (front.GrantFrame r) stays h = stays r h
+front_at_more start pushed taken front_seen submitted replies next next' entry (front.GrantFence r) stays h = stays r h
+front_at_more start pushed taken front_seen submitted replies next next' entry (front.GrantFlags r) stays h = stays r h
+front_at_more start pushed taken front_seen submitted replies next next' entry (front.Slot k) stays h = (h.0, (h.1.0, stays h.1.0 h.1.1, h.1.2))
+front_at_more start pushed taken front_seen submitted replies next next' entry front.Producer stays h = (h.0, stays h.0 h.1)
+front_at_more start pushed taken front_seen submitted replies next next' entry s stays h = h
+
+-- nothing of a request is begun
+pub record IsIdle (s : FrontStage) : Type 0 where
+  pub unfilled : filled s ≡ 0
+  pub unnamed : is_named s ≡ false
+  pub ungranted : is_granted s ≡ false
+  pub unentered : entered s ≡ 0
+
+-- so it is where none waits
+pub idle_at : (start pushed taken front_seen : ℕ) (submitted : List Request) (replies : List Reply) (next : Option Request) (entry : List ℕ) (s : FrontStage)
+    → next ≡ None → FrontAt start pushed taken front_seen submitted replies next entry s → IsIdle s
+idle_at start pushed taken front_seen submitted replies next entry (front.Data r k) none h = absurd (none-some r (sym none ∙ h.0))
+idle_at start pushed taken front_seen submitted replies next entry (front.GrantFrame r) none h = absurd (none-some r (sym none ∙ h))
+idle_at start pushed taken front_seen submitted replies next entry (front.GrantFence r) none h = absurd (none-some r (sym none ∙ h))
+idle_at start pushed taken front_seen submitted replies next entry (front.GrantFlags r) none h = absurd (none-some r (sym none ∙ h))
+idle_at start pushed taken front_seen submitted replies next entry (front.Slot k) none h = absurd (none-some h.1.0 (sym none ∙ h.1.1))
+idle_at start pushed taken front_seen submitted replies next entry front.Producer none h = absurd (none-some h.0 (sym none ∙ h.1))
+idle_at start pushed taken front_seen submitted replies next entry s none h = record { unfilled = refl; unnamed = refl; ungranted = refl; unentered = refl }
+
+pub slots_more : (start fetched pushed taken replied : ℕ) (submitted : List Request) (replies : List Reply) (pages : List ℕ) (s : FrontStage) (b : BackStage) (x : Request)
+    → pushed ≤ length submitted → (pushed ≡ length submitted → IsIdle s)
+    → AreSlots start fetched pushed taken replied submitted replies pages s b
+    → AreSlots start fetched pushed taken replied (submitted ++ x ∷ []) replies pages s b
+slots_more start fetched pushed taken replied submitted replies pages s b x few idle h = record {
+  entries = λ k r from to e i lt. elim (push_was submitted x k r e) [
+    | inl was ↦ h.entries k r from to was i lt
+    | inr new ↦ absurd (let at = new.0 in omega arith)
+  ];
+  entry = λ r e i lt. elim (push_was submitted x pushed r e) [
+    | inl was ↦ h.entry r was i lt
+    | inr new ↦ absurd (let rest = idle new.0 in let none = rest.unentered in omega arith)
+  ];
+  responses = h.responses;
+  response = h.response;
+}
+
+pub frames_more : (pushed last : ℕ) (pages : List ℕ) (s : FrontStage) (requests : List Request) (x : Request)
+    → x.number ≡ last + 1 → pushed ≤ last → (pushed ≡ last → IsIdle s)
+    → All (IsFilled pushed pages s) requests
+    → All (IsFilled pushed pages s) (requests ++ x ∷ [])
+frames_more pushed last pages s requests x number few idle h = All-push (IsFilled pushed pages s) requests x h (record {
+  whole = λ le i l. absurd (omega arith);
+  begun = λ e i l. absurd (let rest = idle (omega arith) in let none = rest.unfilled in omega arith);
+})
+
+pub entries_more : (pushed last : ℕ) (pages : List ℕ) (live : List Held) (s : FrontStage) (requests : List Request) (x : Request)
+    → x.number ≡ last + 1 → pushed ≤ last → (pushed ≡ last → IsIdle s)
+    → AreEntries pushed pages live s requests
+    → AreEntries pushed pages live s (requests ++ x ∷ [])
+entries_more pushed last pages live s requests x number few idle h = record {
+  each = All-push (IsGranted pushed pages live s) requests x h.each (record {
+    named = λ le. absurd (omega arith);
+    named_next = λ e t. let rest : IsIdle s = idle (omega arith) in let no = rest.unnamed in absurd (cc);
+    flags = λ le. absurd (omega arith);
+    flags_next = λ e t. let rest : IsIdle s = idle (omega arith) in let no = rest.ungranted in absurd (cc);
+  });
+  ending = h.ending;
+}
+
+-- what is known of the requests that were there stays known
+pub works_more : (submitted : List Request) (fetched : ℕ) (works : List Work) (x : Request) → AreWorks submitted fetched works → AreWorks (submitted ++ x ∷ []) fetched works
+works_more submitted fetched works x h = record {
+  each = λ k d lt. let was = h.each k d lt in record { r = was.r; known = get_append submitted (x ∷ []) _ was.r was.known; positive = was.positive; reached = was.reached; id = was.id; op = was.op; at = was.at };
+  ascending = h.ascending;
+}
+
+ending_more : (submitted : List Request) (replies : List Reply) (x : Request) (e : Ending) → IsEnding submitted replies e → IsEnding (submitted ++ x ∷ []) replies e
+ending_more submitted replies x e h = record { r = h.r; known = get_append submitted (x ∷ []) (e.number - 1) h.r h.known; positive = h.positive; frame = h.frame; alone = h.alone }
+
+pub front_at_grown : (start pushed taken front_seen : ℕ) (submitted : List Request) (replies : List Reply) (next : Option Request) (entry : List ℕ) (x : Request) (s : FrontStage)
+    → FrontAt start pushed taken front_seen submitted replies next entry s
+    → FrontAt start pushed taken front_seen (submitted ++ x ∷ []) replies next entry s
+front_at_grown start pushed taken front_seen submitted replies next entry x (front.GrantRead e) h = ending_more submitted replies x e h
+front_at_grown start pushed taken front_seen submitted replies next entry x (front.GrantEnd e before) h = (ending_more submitted replies x e h.0, h.1)
+front_at_grown start pushed taken front_seen submitted replies next entry x s h = h
+
+pub back_at_grown : (start fetched back_seen replied : ℕ) (submitted : List Request) (works : List Work) (entry : List ℕ) (x : Request) (b : BackStage)
+    → BackAt start fetched back_seen replied submitted works entry b
+    → BackAt start fetched back_seen replied (submitted ++ x ∷ []) works entry b
+back_at_grown start fetched back_seen replied submitted works entry x (back.Fetch k) h = (h.0, h.1, h.2, (h.3.0, get_append submitted (x ∷ []) fetched h.3.0 h.3.1, h.3.2))
+back_at_grown start fetched back_seen replied submitted works entry x b h = h

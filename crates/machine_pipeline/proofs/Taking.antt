@@ -1,0 +1,110 @@
+-- The front takes a response: its request is unfinished still, and its grant is ended next.
+use Rattle.std.proofs.Common.{◌≡◌, ◌≢◌, ℕ, suc, ◌+◌, ◌-◌, ◌<◌, ◌≤◌, ◌==◌, ◌⊎◌, inl, inr, if◌then◌else◌, Bool, true, false, cond, List, [], ◌∷◌, length, take, drop, refl, ap, sym, ◌∙◌, arith}
+use Rattle.std.specs.Prelude.{Some, None, slice_get, remove}
+use Rattle.std.specs.List.{list_any}
+use Rattle.std.proofs.lemmas.Option.{none-some, same_Some, slice_get_within, get_or_from_slice_get}
+use Rattle.std.proofs.lemmas.List.Edits.{length-remove}
+use Rattle.std.proofs.lemmas.List.Quantifiers.{all_pairs_remove}
+use Rattle.std.proofs.lemmas.List.Folds.{list_any_at}
+use Rattle.std.proofs.lemmas.Bool.Decides.{nat_tests}
+use Rattle.pipeline_laws.specs.Station.{Request as Asked}
+use Rattle.blk_front.specs.declared.request.Request.{Request}
+use Rattle.blk_front.specs.declared.stage.Ending.{Ending}
+use Rattle.blk_front.specs.Step.{taken}
+use Rattle.blk_back.specs.declared.stage.Reply.{Reply}
+use Rattle.machine_pipeline.proofs.Flow.{frame_count}
+use Rattle.machine_pipeline.proofs.Holds.{AreQueued, ArePooled, AreReplies, IsReply}
+use Rattle.machine_pipeline.proofs.Stations.{AreOpen}
+use Rattle.machine_pipeline.proofs.Lists.{all_at, all_from, pair_at, pairs_from, place_of_any}
+use Rattle.machine_pipeline.proofs.Removals.{removed_was, removed_has, removed_behind, count_removed, taken_was, taken_has}
+
+-- the responses after the oldest
+pub dropped : {X : Type 0} (xs : List X) (k : ℕ) → slice_get (drop 1 xs) k ≡ slice_get xs (suc k)
+dropped [] k = refl
+dropped (x ∷ xs) k = refl
+
+dropped_long : {X : Type 0} (xs : List X) (x : X) → slice_get xs 0 ≡ Some x → length (drop 1 xs) + 1 ≡ length xs
+dropped_long [] x e = absurd (none-some x e)
+dropped_long (y ∷ xs) x e = omega arith
+
+-- the front's requests without the one that was answered
+pub queued_without : (submitted requests : List Request) (pushed waiting place : ℕ) (r : Request)
+    → slice_get requests place ≡ Some r
+    → place < length requests - waiting
+    → AreQueued submitted pushed requests waiting
+    → AreQueued submitted pushed (remove requests place) waiting
+queued_without submitted requests pushed waiting place r here early h = record {
+  known = all_from (λ (x : Request). slice_get submitted (x.number - 1) ≡ Some x) (remove requests place) (λ i x e.
+      let was = removed_was requests place i x e in
+      all_at (λ (y : Request). slice_get submitted (y.number - 1) ≡ Some y) requests was.0 x h.known was.2);
+  ascending = all_pairs_remove (λ (x y : Request). x.number < y.number) requests place (slice_get_within requests place r here) h.ascending;
+  issued = all_from (λ (x : Request). x.number ≤ pushed) (take (length (remove requests place) - waiting) (remove requests place)) (λ i x e.
+      let first = taken_was (length (remove requests place) - waiting) (remove requests place) i x e in
+      let was = removed_was requests place i x first.1 in
+      let within = slice_get_within requests place r here in
+      let less = length-remove requests place within in
+      let at = taken_has (length requests - waiting) requests was.0 x was.2 (before i was.0 was.3 (omega (arith, first.0))) in
+      all_at (λ (y : Request). y.number ≤ pushed) (take (length requests - waiting) requests) was.0 x h.issued at);
+  next = λ j x lt e.
+      let within = slice_get_within requests place r here in
+      let less = length-remove requests place within in
+      let behind = removed_behind requests place (length (remove requests place) - waiting + j) (omega arith) in
+      h.next j x lt (ap (slice_get requests) (omega arith) ∙ (sym behind ∙ e));
+}
+  where
+    before : (i j : ℕ) → ((i < place) × (j ≡ i)) ⊎ ((place ≤ i) × (j ≡ i + 1)) → i + 1 < length requests - waiting → j < length requests - waiting
+    before i j (inl at) lt = omega (arith, at.1)
+    before i j (inr at) lt = omega (arith, at.1)
+
+same_count : (a b : ℕ) → ◌≡◌ {A = ℕ} (if a == b then 1 else 0) (cond (a == b) 1 0)
+same_count a b = refl
+
+pub pooled_without : (pool : List Bool) (requests : List Request) (place : ℕ) (r : Request) (e : Ending)
+    → slice_get requests place ≡ Some r
+    → e.frame ≡ r.frame
+    → ArePooled pool requests None
+    → ArePooled pool (remove requests place) (Some e)
+pooled_without pool requests place r e here frame h = record {
+  size = h.size;
+  each = λ f lt.
+      let all = h.each f lt in
+      let less = count_removed (λ (x : Request). x.frame == 18 + f) requests place r here in
+      let counted : ◌≡◌ {A = ℕ} (frame_count (Some e) (18 + f)) (cond (r.frame == 18 + f) 1 0) = ap (λ (n : ℕ). if n == 18 + f then 1 else 0) frame in
+      omega arith;
+  used = (let less = length-remove requests place (slice_get_within requests place r here) in let used = h.used in omega arith);
+}
+
+pub opened_without : (asked : List Asked) (requests : List Request) (place : ℕ) (r : Request) (e : Ending)
+    → slice_get requests place ≡ Some r
+    → e.number ≡ r.number
+    → AreOpen asked requests None
+    → AreOpen asked (remove requests place) (Some e)
+opened_without asked requests place r e here number h = record {
+  unfinished = (let less = length-remove requests place (slice_get_within requests place r here) in let all = h.unfinished in omega arith);
+  held = λ k q at unfinished. by_place k (h.held k q at unfinished);
+}
+  where
+    by_place : (k : ℕ) → (list_any (λ (x : Request). x.number == k + 1) requests ≡ true) ⊎ ((f : Ending) × (None ≡ Some f) × (f.number ≡ k + 1)) → (list_any (λ (x : Request). x.number == k + 1) (remove requests place) ≡ true) ⊎ ((f : Ending) × (Some e ≡ Some f) × (f.number ≡ k + 1))
+    by_place k (inr other) = absurd (none-some other.0 other.1)
+    by_place k (inl any) =
+        let found = place_of_any (λ (x : Request). x.number == k + 1) requests any in
+        by_test found.0 found.1 found.2 found.3 (found.0 == place) refl
+      where
+        by_test : (i : ℕ) (x : Request) → slice_get requests i ≡ Some x → (x.number == k + 1) ≡ true → (b : Bool) → (i == place) ≡ b → (list_any (λ (y : Request). y.number == k + 1) (remove requests place) ≡ true) ⊎ ((f : Ending) × (Some e ≡ Some f) × (f.number ≡ k + 1))
+        by_test i x at passes true t =
+            let same : i ≡ place = grind (arith, nat_tests) in
+            let it : x ≡ r = same_Some x r (sym at ∙ (ap (slice_get requests) same ∙ here)) in
+            let numbered : x.number ≡ k + 1 = grind (arith, nat_tests) in
+            inr (e, refl, number ∙ (sym (ap (λ (y : Request). y.number) it) ∙ numbered))
+        by_test i x at passes false t =
+            let apart : i ≢ place = grind (arith, nat_tests) in
+            let left = removed_has requests place i x at apart in
+            let within = slice_get_within (remove requests place) left.0 x left.1 in
+            inl (list_any_at (λ (y : Request). y.number == k + 1) (remove requests place) left.0 x within (ap (λ (y : Request). y.number == k + 1) (get_or_from_slice_get (remove requests place) left.0 x x left.1) ∙ passes))
+
+pub replies_without : (fetched taken replied : ℕ) (replies : List Reply) (rep : Reply) → slice_get replies 0 ≡ Some rep → AreReplies fetched taken replied replies → AreReplies fetched (taken + 1) replied (drop 1 replies)
+replies_without fetched taken replied replies rep oldest h = record {
+  counted = (let counted = h.counted in let less = dropped_long replies rep oldest in omega arith);
+  each = all_from (IsReply fetched) (drop 1 replies) (λ i x e. all_at (IsReply fetched) replies (suc i) x h.each (sym (dropped replies i) ∙ e));
+  distinct = pairs_from (λ (a b : Reply). a.id ≢ b.id) (drop 1 replies) (λ i j x y lt e f. pair_at (λ (a b : Reply). a.id ≢ b.id) replies (suc i) (suc j) x y h.distinct (omega arith) (sym (dropped replies i) ∙ e) (sym (dropped replies j) ∙ f));
+}

@@ -1,0 +1,110 @@
+-- A move of each mover from a given stage, and what has to be shown of it: it is nothing to the pipeline or one step, and what holds goes on holding.
+use Rattle.std.proofs.Common.{◌≡◌, ℕ, List, [], ◌∷◌, ◌++◌, refl, ap, sym, ◌∙◌}
+use Rattle.std.specs.Prelude.{Option, Some, None}
+use Rattle.blk_base.specs.Options.{Options}
+use Rattle.blk_base.specs.declared.ask.BackAsk.{BackAsk}
+use Rattle.blk_base.specs.declared.ask.BackAnswer.{BackAnswer}
+use Rattle.blk_base.specs.declared.moves.BackMover.TheVariants as back_mover
+use Rattle.blk_base.specs.declared.moves.Move.{Move as Shown}
+use Rattle.schedule_text.specs.declared.line.Line.{Line}
+use Rattle.schedule_text.specs.declared.line.Line.TheVariants.{Move}
+use Rattle.pipeline_laws.specs.Pipeline.{Pipeline, Step, next, step_lines}
+use Rattle.pipeline_laws.specs.Allowed.{IsAllowed}
+use Rattle.pipeline_laws.specs.Disk.{DiskGoes}
+use Rattle.hypervisor.specs.Act.{FrontAct, BackAct, Outcome, Took, front_act, back_act}
+use Rattle.blk_front.specs.declared.stage.Stage.{Stage as FrontStage}
+use Rattle.blk_front.specs.declared.told.Told.{Told}
+use Rattle.blk_front.specs.View as front
+use Rattle.blk_front.specs.Ask as front_ask
+use Rattle.blk_front.specs.Step as front_step
+use Rattle.blk_back.specs.declared.stage.Stage.{Stage as BackStage}
+use Rattle.blk_back.specs.declared.told.BackTold.{BackTold}
+use Rattle.blk_back.specs.declared.told.Halt.{Halt}
+use Rattle.blk_back.specs.View as back
+use Rattle.blk_back.specs.Ask as back_ask
+use Rattle.blk_back.specs.Step as back_step
+use Rattle.split_model.specs.World.{World}
+use Rattle.split_model.specs.Shown.{front_lines, back_lines, halt_lines}
+use Rattle.split_model.specs.Happening.{job_turn, job_after, job_shows}
+use Rattle.machine_pipeline.specs.Step.{Does, IsSame, after_step, CallOf}
+use Rattle.machine_pipeline.proofs.Flow.{Flow}
+use Rattle.machine_pipeline.proofs.Holds.{Holds}
+use Rattle.blk_base.specs.declared.config.Job.{Job}
+use Rattle.pipeline_laws.specs.Submissions.{submitted_at}
+
+abbrev pub front_turn_at : FrontStage → World → Option FrontAct
+front_turn_at s w = front_act w.under (front_ask.ask_at s w.front)
+
+abbrev pub front_next : FrontStage → World → Option FrontAct → World
+front_next s w None = w
+front_next s w (Some a) = record { front = record (front_step.step_at s w.front a.answer) { told = None }; back = w.back; under = a.under }
+
+abbrev pub front_says : FrontStage → World → Option FrontAct → List Line
+front_says s w None = []
+front_says s w (Some a) = Move a.shown ∷ front_lines (let f : front.View = front_step.step_at s w.front a.answer in f.told)
+
+abbrev pub back_turn_at : BackStage → World → Option BackAct
+back_turn_at b w = back_act w.under back_mover.Back (back_ask.ask_at b w.back) Took
+
+abbrev pub back_next : BackStage → World → Option BackAct → World
+back_next b w None = w
+back_next b w (Some a) = record { front = w.front; back = record (back_step.step_at b w.back a.answer) { told = None }; under = a.under }
+
+abbrev pub back_says : BackStage → World → Option BackAct → List Line
+back_says b w None = []
+back_says b w (Some a) =
+    let v : back.View = back_step.step_at b w.back a.answer in
+    Move a.shown ∷ back_lines v.told a.answer ++ halt_lines w.back.halted v.halted
+
+-- the next machine, and the pipeline that it stands for: after one step, or as it was
+pub record GoesBy (asked : Option Job) (call : (before after : List (List ℕ)) → Type 0) (config : Options) (said : List Line) (w : World) (d : Pipeline) : Type 0 where
+  pub flow : Flow
+  pub step : Option Step
+  pub does : Does asked call said d step
+  pub holds : Holds config w flow (after_step d step) w.front.stage w.back.stage
+
+-- where no call of the disk is made
+abbrev pub Goes : Options → List Line → World → Pipeline → Type 0
+Goes = GoesBy None IsSame
+
+-- a move of the front at that stage, of the back at that stage, and of the job of a number
+abbrev pub FrontGoes : Options → World → Pipeline → FrontStage → Type 0
+FrontGoes config w d s = Goes config (front_says s w (front_turn_at s w)) (front_next s w (front_turn_at s w)) d
+
+abbrev pub BackGoes : Options → World → Pipeline → BackStage → Type 0
+BackGoes config w d b = Goes config (back_says b w (back_turn_at b w)) (back_next b w (back_turn_at b w)) d
+
+abbrev pub JobGoes : Options → World → Pipeline → ℕ → Outcome → Type 0
+JobGoes config w d number outcome = GoesBy None (CallOf (back_step.job_ask_of w.back number) outcome) config (job_shows w number (job_turn w number outcome)) (job_after w number (job_turn w number outcome)) d
+
+-- a move by itself is nothing to the pipeline
+pub nothing : (call : (before after : List (List ℕ)) → Type 0) (shown : Shown) (d : Pipeline) → ((a b : List (List ℕ)) → call a b → b ≡ a) → Does None call (Move shown ∷ []) d None
+nothing call shown d same = record { asides = Move shown ∷ []; aside = refl; shows = refl; asks = refl; allowed = tt; disk = same; possible = λ a. (a, refl) }
+
+-- and where there is no move nothing is
+pub no_move : (call : (before after : List (List ℕ)) → Type 0) (d : Pipeline) → ((a b : List (List ℕ)) → call a b → b ≡ a) → Does None call [] d None
+no_move call d same = record { asides = []; aside = refl; shows = refl; asks = refl; allowed = tt; disk = same; possible = λ a. (a, refl) }
+
+-- so is a move of an end that tells nothing
+pub said_nothing : (d : Pipeline) (shown : Shown) (told : Option Told) → told ≡ None → Does None IsSame (Move shown ∷ front_lines told) d None
+said_nothing d shown told e = rw e (nothing IsSame shown d (λ a b same. same))
+
+pub silent : (shown : Shown) (told : Option BackTold) (halted : Option Halt) (answer : BackAnswer) (d : Pipeline) → told ≡ None → halted ≡ None → Does None IsSame (Move shown ∷ back_lines told answer ++ halt_lines halted halted) d None
+silent shown told halted answer d untold unhalted = rw (untold, unhalted) (nothing IsSame shown d (λ a b same. same))
+
+-- one step, with its lines, and what stands after it
+pub record Stepped (asked : Option Job) (call : (before after : List (List ℕ)) → Type 0) (d : Pipeline) (lines : List Line) (After : Pipeline → Type 0) : Type 0 where
+  pub step : Step
+  pub allowed : IsAllowed d step
+  pub shows : step_lines d step ≡ lines
+  pub asks : submitted_at step ≡ asked
+  pub disk : (before after : List (List ℕ)) → call before after → DiskGoes step before after
+  pub possible : (before : List (List ℕ)) → (after : List (List ℕ)) × DiskGoes step before after
+  pub now : After (next d step)
+
+pub does_step : {asked : Option Job} {call : (before after : List (List ℕ)) → Type 0} {d : Pipeline} {lines : List Line} {After : Pipeline → Type 0} (shown : Shown) (said : List Line) → said ≡ lines → (s : Stepped asked call d lines After) → Does asked call (Move shown ∷ said) d (Some s.step)
+does_step shown said e s = record { asides = Move shown ∷ []; aside = refl; shows = ap (λ (ls : List Line). Move shown ∷ ls) (e ∙ sym s.shows); asks = s.asks; allowed = s.allowed; disk = s.disk; possible = s.possible }
+
+-- a step that shows its lines alone
+pub does_alone : {asked : Option Job} {call : (before after : List (List ℕ)) → Type 0} {d : Pipeline} {lines : List Line} {After : Pipeline → Type 0} (s : Stepped asked call d lines After) → Does asked call lines d (Some s.step)
+does_alone s = record { asides = []; aside = refl; shows = sym s.shows; asks = s.asks; allowed = s.allowed; disk = s.disk; possible = s.possible }
