@@ -1,5 +1,5 @@
 -- A machine just made, with its first line told, carried out no events.
-use Rattle.std.proofs.Common.{◌≡◌, ◌<◌, ◌^◌, Bool, true, false, not, ◌==◌, ◌&&◌, List, [], ◌∷◌, refl, arith, true≢false}
+use Rattle.std.proofs.Common.{◌<◌, ◌^◌, [], ◌∷◌, refl, arith}
 use Rattle.std.proofs.lemmas.Bool.Decides.{nat_tests}
 use Rattle.blk_base.specs.Options.{Options}
 use Rattle.blk_io.specs.Disk.{DiskSeen}
@@ -7,10 +7,10 @@ use Rattle.schedule_text.specs.declared.line.Detail.{Detail}
 use Rattle.schedule_text.specs.declared.line.Line.TheVariants.{Begin}
 use Rattle.schedule_text.specs.Recorder.{RecorderSeen, Gained}
 use Rattle.split_model.specs.World.{start_of}
-use Rattle.split_model.specs.Kind.{is_x64, AreOfAll}
+use Rattle.split_model.specs.Kind.{AreOfAll}
 use Rattle.split_model.specs.Leads.{moment}
 use Rattle.split_model.proofs.Running.{leads_nowhere}
-use Rattle.disk_laws.specs.Plain.{IsPlain}
+use Rattle.machine_pipeline.specs.Plain.{IsPlain}
 use Rattle.schedule_run.specs.Outcome.{IsServed, HasCarried, outside}
 
 -- options that are served: a ring of one page, and a disk that may be written

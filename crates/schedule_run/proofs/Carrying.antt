@@ -1,5 +1,5 @@
 -- What was carried out, and then more.
-use Rattle.std.proofs.Common.{◌≡◌, ◌≢◌, ℕ, ◌+◌, ◌*◌, ◌<◌, ◌≤◌, ◌^◌, List, [], ◌∷◌, ◌++◌, length, get_or, take, drop, Option, Some, None, option_to_list, Result, Ok, Err, refl, sym, ap, ◌∙◌, subst, arith, append_assoc, append-nil, length-append}
+use Rattle.std.proofs.Common.{◌≡◌, ◌≢◌, ℕ, ◌+◌, ◌*◌, ◌<◌, ◌≤◌, List, [], ◌∷◌, ◌++◌, length, get_or, take, drop, Option, Some, None, option_to_list, Result, Ok, Err, refl, sym, ap, ◌∙◌, subst, arith, append_assoc, append-nil, length-append}
 use Rattle.std.proofs.lemmas.List.Elements.{All-push, All-nil}
 use Rattle.std.proofs.lemmas.List.{take_more, take_all, take-append-drop, length-take}
 use Rattle.blk_io.specs.Disk.{attached_of, sectors_of}
@@ -12,8 +12,8 @@ use Rattle.split_model.specs.Kind.{AreOf, AreOfAll, AreOfSoFar}
 use Rattle.split_model.specs.Leads.{Leads, LeadsToStop, Goes, Moment}
 use Rattle.split_model.proofs.Running.{after-append, runs_attachment, leads_nowhere, leads_on, leads_as}
 use Rattle.schedule_run.specs.Outcome.{stop_of}
-use Rattle.schedule_run.specs.Reading.{text_of, IsUnbroken, first_line, IsLineOf, IsBadLine, AreLinesOf, last_line}
-use Rattle.schedule_run.specs.Carrying.{Standing, IsReadyToTake, EventsLead, CarriesLine, StopsInLine, StopsAtLine, Feeds, Finishes, CarriesLast, Carries, IsSurelyBad, MeetsBad, MeetsStop, Halts, Takes}
+use Rattle.schedule_run.specs.Reading.{text_of, HasNoLineFeed, first_line, IsLineOf, IsBadLine, AreLinesOf, last_line}
+use Rattle.schedule_run.specs.Carrying.{ReadSoFar, IsReadyToTake, EventsLead, CarriesLine, StopsInLine, StopsAtLine, Feeds, Finishes, CarriesLast, Carries, IsSurelyBad, MeetsBad, MeetsStop, Halts, Takes}
 use Rattle.schedule_run.specs.declared.schedule.RunStop.{RunStop}
 use Rattle.schedule_run.specs.declared.schedule.RunStop.TheVariants as stop
 use Rattle.schedule_run.proofs.Attached.{sectors_after}
@@ -89,7 +89,7 @@ joined_lines part p q mid rest a b e f =
     behind part p q (text_of a) mid (text_of b) rest e f ∙ ap (λ (t : List ℕ). t ++ rest) (sym (text_on a b))
 
 -- nothing was taken
-pub carries_nothing : (s : Standing) → IsUnbroken s.part → length s.part ≤ 128 → Carries [] s s
+pub carries_nothing : (s : ReadSoFar) → HasNoLineFeed s.part → length s.part ≤ 128 → Carries [] s s
 carries_nothing s u fits = record {
   whole = [];
   asked = [];
@@ -103,7 +103,7 @@ carries_nothing s u fits = record {
 }
 
 -- a piece, and then one more
-pub carries_on : (p q : List ℕ) (s t u : Standing) → Carries p s t → Carries q t u → Carries (p ++ q) s u
+pub carries_on : (p q : List ℕ) (s t u : ReadSoFar) → Carries p s t → Carries q t u → Carries (p ++ q) s u
 carries_on p q s t u a b = record {
   whole = a.whole ++ b.whole;
   asked = a.asked ++ b.asked;
@@ -117,14 +117,14 @@ carries_on p q s t u a b = record {
 }
 
 -- how many lines and events there are at most
-pub carries_few : (p : List ℕ) (s t : Standing) → Carries p s t → 5 * t.events + length t.part ≤ 5 * s.events + length s.part + length p
+pub carries_few : (p : List ℕ) (s t : ReadSoFar) → Carries p s t → 5 * t.events + length t.part ≤ 5 * s.events + length s.part + length p
 carries_few p s t a =
     let few = events_few a.whole a.asked a.are_lines in
     let long : length s.part + length p ≡ length (text_of a.whole) + length t.part = sym (length-append s.part p) ∙ (ap length a.all ∙ length-append (text_of a.whole) t.part) in
     let e = a.events in
     omega arith
 
-pub carries_few_lines : (p : List ℕ) (s t : Standing) → Carries p s t → t.lines + length t.part ≤ s.lines + length s.part + length p
+pub carries_few_lines : (p : List ℕ) (s t : ReadSoFar) → Carries p s t → t.lines + length t.part ≤ s.lines + length s.part + length p
 carries_few_lines p s t a =
     let few = lines_few a.whole in
     let long : length s.part + length p ≡ length (text_of a.whole) + length t.part = sym (length-append s.part p) ∙ (ap length a.all ∙ length-append (text_of a.whole) t.part) in
@@ -132,7 +132,7 @@ carries_few_lines p s t a =
     omega arith
 
 -- a stop behind what was carried out
-bad_on : (p q : List ℕ) (s t : Standing) (n : ℕ) (new : Moment) → Carries p s t → MeetsBad q t n new → MeetsBad (p ++ q) s n new
+bad_on : (p q : List ℕ) (s t : ReadSoFar) (n : ℕ) (new : Moment) → Carries p s t → MeetsBad q t n new → MeetsBad (p ++ q) s n new
 bad_on p q s t n new a b = record {
   whole = a.whole ++ b.whole;
   asked = a.asked ++ b.asked;
@@ -144,7 +144,7 @@ bad_on p q s t n new a b = record {
   leads = events_lead_on a.asked b.asked s.at t.at new a.leads b.leads;
 }
 
-stop_on : (p q : List ℕ) (s t : Standing) (why : RecordStop) (new : Moment) → Carries p s t → MeetsStop q why t new → MeetsStop (p ++ q) why s new
+stop_on : (p q : List ℕ) (s t : ReadSoFar) (why : RecordStop) (new : Moment) → Carries p s t → MeetsStop q why t new → MeetsStop (p ++ q) why s new
 stop_on p q s t why new a b = record {
   whole = a.whole ++ b.whole;
   asked = a.asked ++ b.asked;
@@ -157,7 +157,7 @@ stop_on p q s t why new a b = record {
   stops = b.stops;
 }
 
-pub halts_on : (p q : List ℕ) (s t : Standing) (why : RunStop) (new : Moment) → Carries p s t → Halts q t why new → Halts (p ++ q) s why new
+pub halts_on : (p q : List ℕ) (s t : ReadSoFar) (why : RunStop) (new : Moment) → Carries p s t → Halts q t why new → Halts (p ++ q) s why new
 halts_on p q s t (stop.BadLine n) new carried halts = bad_on p q s t n new carried halts
 halts_on p q s t stop.Source new carried halts = halts
 halts_on p q s t stop.TooLong new carried halts = halts
@@ -178,7 +178,7 @@ surely_more rest q bad = record {
       omega arith;
 }
 
-bad_more : (p q : List ℕ) (s : Standing) (n : ℕ) (new : Moment) → MeetsBad p s n new → MeetsBad (p ++ q) s n new
+bad_more : (p q : List ℕ) (s : ReadSoFar) (n : ℕ) (new : Moment) → MeetsBad p s n new → MeetsBad (p ++ q) s n new
 bad_more p q s n new h = record {
   whole = h.whole;
   asked = h.asked;
@@ -190,7 +190,7 @@ bad_more p q s n new h = record {
   leads = h.leads;
 }
 
-stop_more : (p q : List ℕ) (s : Standing) (why : RecordStop) (new : Moment) → MeetsStop p why s new → MeetsStop (p ++ q) why s new
+stop_more : (p q : List ℕ) (s : ReadSoFar) (why : RecordStop) (new : Moment) → MeetsStop p why s new → MeetsStop (p ++ q) why s new
 stop_more p q s why new h = record {
   whole = h.whole;
   asked = h.asked;
@@ -203,7 +203,7 @@ stop_more p q s why new h = record {
   stops = h.stops;
 }
 
-pub halts_more : (p q : List ℕ) (s : Standing) (why : RunStop) (new : Moment) → Halts p s why new → Halts (p ++ q) s why new
+pub halts_more : (p q : List ℕ) (s : ReadSoFar) (why : RunStop) (new : Moment) → Halts p s why new → Halts (p ++ q) s why new
 halts_more p q s (stop.BadLine n) new h = bad_more p q s n new h
 halts_more p q s stop.Source new h = h
 halts_more p q s stop.TooLong new h = h
@@ -217,25 +217,25 @@ feed_text line part byte feed e =
     ∙ (sym (append-nil (line ++ 10 ∷ []))
     ∙ (sym (append-nil ((line ++ 10 ∷ []) ++ [])) ∙ ap (λ (b : List ℕ). ((line ++ 10 ∷ []) ++ []) ++ b) (sym e)))
 
-pub feed_carried : (byte : ℕ) (s t : Standing) → byte ≡ 10 → IsUnbroken s.part → t.part ≡ [] → t.lines ≡ s.lines + 1 → CarriesLine s.part s.events t.events s.at t.at → Carries (byte ∷ []) s t
+pub feed_carried : (byte : ℕ) (s t : ReadSoFar) → byte ≡ 10 → HasNoLineFeed s.part → t.part ≡ [] → t.lines ≡ s.lines + 1 → CarriesLine s.part s.events t.events s.at t.at → Carries (byte ∷ []) s t
 feed_carried byte s t feed u none lines a = record {
   whole = s.part ∷ [];
   asked = option_to_list a.read;
   all = feed_text s.part t.part byte feed none;
   are_lines = lines_one s.part a.read u a.is_line;
-  unbroken = subst IsUnbroken (sym none) (All-nil (λ (b : ℕ). b ≢ 10));
+  unbroken = subst HasNoLineFeed (sym none) (All-nil (λ (b : ℕ). b ≢ 10));
   fits = let e : length t.part ≡ 0 = ap length none in omega arith;
   lines = lines;
   events = a.counted;
   leads = a.leads;
 }
 
-feed_bad : (part further : List ℕ) (byte : ℕ) → byte ≡ 10 → IsUnbroken part → first_line ((part ++ byte ∷ []) ++ further) ≡ part
+feed_bad : (part further : List ℕ) (byte : ℕ) → byte ≡ 10 → HasNoLineFeed part → first_line ((part ++ byte ∷ []) ++ further) ≡ part
 feed_bad part further byte feed u =
     ap first_line (append_assoc part (byte ∷ []) further)
     ∙ (ap (λ b. first_line (part ++ b ∷ further)) feed ∙ first_line_whole part further u)
 
-surely_fed : (part : List ℕ) (byte : ℕ) → byte ≡ 10 → IsUnbroken part → IsBadLine part → IsSurelyBad (part ++ byte ∷ [])
+surely_fed : (part : List ℕ) (byte : ℕ) → byte ≡ 10 → HasNoLineFeed part → IsBadLine part → IsSurelyBad (part ++ byte ∷ [])
 surely_fed part byte feed u bad = record {
   bad = λ further. subst IsBadLine (sym (feed_bad part further byte feed u)) bad;
   seen = λ further.
@@ -244,7 +244,7 @@ surely_fed part byte feed u bad = record {
       omega arith;
 }
 
-bad_here : (p : List ℕ) (s : Standing) (n : ℕ) (new : Moment) → n ≡ s.lines + 1 → IsSurelyBad (s.part ++ p) → new ≡ s.at → MeetsBad p s n new
+bad_here : (p : List ℕ) (s : ReadSoFar) (n : ℕ) (new : Moment) → n ≡ s.lines + 1 → IsSurelyBad (s.part ++ p) → new ≡ s.at → MeetsBad p s n new
 bad_here p s n new number bad same = record {
   whole = [];
   asked = [];
@@ -256,7 +256,7 @@ bad_here p s n new number bad same = record {
   leads = events_lead_nowhere s.at new same;
 }
 
-stop_here : (p : List ℕ) (s : Standing) (why : RecordStop) (new : Moment) → StopsInLine s.part why s.at new → MeetsStop p why s new
+stop_here : (p : List ℕ) (s : ReadSoFar) (why : RecordStop) (new : Moment) → StopsInLine s.part why s.at new → MeetsStop p why s new
 stop_here p s why new stops = record {
   whole = [];
   asked = [];
@@ -269,7 +269,7 @@ stop_here p s why new stops = record {
   stops = stops;
 }
 
-feed_stopped : (byte : ℕ) (s : Standing) (why : RunStop) (new : Moment) → byte ≡ 10 → IsUnbroken s.part → StopsAtLine s.part (s.lines + 1) why s.at new → Halts (byte ∷ []) s why new
+feed_stopped : (byte : ℕ) (s : ReadSoFar) (why : RunStop) (new : Moment) → byte ≡ 10 → HasNoLineFeed s.part → StopsAtLine s.part (s.lines + 1) why s.at new → Halts (byte ∷ []) s why new
 feed_stopped byte s (stop.BadLine n) new feed u h = bad_here (byte ∷ []) s n new h.0 (surely_fed s.part byte feed u h.1) h.2
 feed_stopped byte s stop.Source new feed u h = h
 feed_stopped byte s stop.TooLong new feed u h = h
@@ -277,13 +277,13 @@ feed_stopped byte s stop.Sink new feed u h = stop_here (byte ∷ []) s record_st
 feed_stopped byte s stop.OutOfMemory new feed u h = stop_here (byte ∷ []) s record_stop.OutOfMemory new h
 
 -- another byte came
-pub byte_taken : (byte : ℕ) (s t : Standing) → byte ≢ 10 → IsUnbroken s.part → length s.part < 128 → t.part ≡ s.part ++ byte ∷ [] → t.lines ≡ s.lines → t.events ≡ s.events → t.at ≡ s.at → Carries (byte ∷ []) s t
+pub byte_taken : (byte : ℕ) (s t : ReadSoFar) → byte ≢ 10 → HasNoLineFeed s.part → length s.part < 128 → t.part ≡ s.part ++ byte ∷ [] → t.lines ≡ s.lines → t.events ≡ s.events → t.at ≡ s.at → Carries (byte ∷ []) s t
 byte_taken byte s t other u room part lines events at = record {
   whole = [];
   asked = [];
   all = sym part;
   are_lines = refl;
-  unbroken = subst IsUnbroken (sym part) (All-push (λ (b : ℕ). b ≢ 10) s.part byte u other);
+  unbroken = subst HasNoLineFeed (sym part) (All-push (λ (b : ℕ). b ≢ 10) s.part byte u other);
   fits = let e : length t.part ≡ length (s.part ++ byte ∷ []) = ap length part in let f = length-append s.part (byte ∷ []) in omega arith;
   lines = omega arith;
   events = omega arith;
@@ -291,9 +291,9 @@ byte_taken byte s t other u room part lines events at = record {
 }
 
 -- a line's 129th byte came
-pub byte_refused : (byte : ℕ) (s : Standing) (n : ℕ) → byte ≢ 10 → IsUnbroken s.part → length s.part ≡ 128 → n ≡ s.lines + 1 → MeetsBad (byte ∷ []) s n s.at
+pub byte_refused : (byte : ℕ) (s : ReadSoFar) (n : ℕ) → byte ≢ 10 → HasNoLineFeed s.part → length s.part ≡ 128 → n ≡ s.lines + 1 → MeetsBad (byte ∷ []) s n s.at
 byte_refused byte s n other u full number =
-    let whole : IsUnbroken (s.part ++ byte ∷ []) = All-push (λ (b : ℕ). b ≢ 10) s.part byte u other in
+    let whole : HasNoLineFeed (s.part ++ byte ∷ []) = All-push (λ (b : ℕ). b ≢ 10) s.part byte u other in
     let long = length-append s.part (byte ∷ []) in
     bad_here (byte ∷ []) s n s.at number
     (record {
@@ -303,18 +303,18 @@ byte_refused byte s n other u full number =
     refl
 
 -- by what the call answered
-pub fed : (byte : ℕ) (s t : Standing) (result : Result (Unit {0}) RunStop) → byte ≡ 10 → IsUnbroken s.part → Feeds result s t → Takes (byte ∷ []) result s t
+pub fed : (byte : ℕ) (s t : ReadSoFar) (result : Result (Unit {0}) RunStop) → byte ≡ 10 → HasNoLineFeed s.part → Feeds result s t → Takes (byte ∷ []) result s t
 fed byte s t (Ok done) feed u h = feed_carried byte s t feed u h.part h.lines h.carried
 fed byte s t (Err why) feed u h = feed_stopped byte s why t.at feed u h
 
 -- a piece, byte by byte
-pub carries_more : (piece : List ℕ) (i : ℕ) (s t u : Standing) → i < length piece → Carries (take i piece) s t → Carries (get_or piece i 0 ∷ []) t u → Carries (take (i + 1) piece) s u
+pub carries_more : (piece : List ℕ) (i : ℕ) (s t u : ReadSoFar) → i < length piece → Carries (take i piece) s t → Carries (get_or piece i 0 ∷ []) t u → Carries (take (i + 1) piece) s u
 carries_more piece i s t u lt a b = subst (λ (p : List ℕ). Carries p s u) (sym (take_more piece i 0 lt)) (carries_on (take i piece) (get_or piece i 0 ∷ []) s t u a b)
 
-pub carries_whole : (piece : List ℕ) (i : ℕ) (s t : Standing) → length piece ≤ i → Carries (take i piece) s t → Carries piece s t
+pub carries_whole : (piece : List ℕ) (i : ℕ) (s t : ReadSoFar) → length piece ≤ i → Carries (take i piece) s t → Carries piece s t
 carries_whole piece i s t le h = subst (λ (p : List ℕ). Carries p s t) (take_all i piece le) h
 
-pub halts_in : (piece : List ℕ) (i : ℕ) (s t : Standing) (why : RunStop) (new : Moment) → i < length piece → Carries (take i piece) s t → Halts (get_or piece i 0 ∷ []) t why new → Halts piece s why new
+pub halts_in : (piece : List ℕ) (i : ℕ) (s t : ReadSoFar) (why : RunStop) (new : Moment) → i < length piece → Carries (take i piece) s t → Halts (get_or piece i 0 ∷ []) t why new → Halts piece s why new
 halts_in piece i s t why new lt carried h =
     let so_far : Halts (take i piece ++ get_or piece i 0 ∷ []) s why new = halts_on (take i piece) (get_or piece i 0 ∷ []) s t why new carried h in
     let whole : (take i piece ++ get_or piece i 0 ∷ []) ++ drop (i + 1) piece ≡ piece =
@@ -328,7 +328,7 @@ leads_attached kind a b p attached =
     ∙ (attached ∙ ap Some (sym (ap (λ (w : World). w.front.sectors) p.world ∙ sectors_after p.history a.world)))
 
 -- the reader is ready for more bytes where it was ready for all
-pub ready_after : (p : List ℕ) (n m : ℕ) (s t : Standing) → length p + n ≤ m → IsReadyToTake m s → Carries p s t → IsReadyToTake n t
+pub ready_after : (p : List ℕ) (n m : ℕ) (s t : ReadSoFar) → length p + n ≤ m → IsReadyToTake m s → Carries p s t → IsReadyToTake n t
 ready_after p n m s t le ready a =
     let events = carries_few p s t a in
     let lines = carries_few_lines p s t a in
@@ -336,12 +336,12 @@ ready_after p n m s t le ready a =
     let room = ready.lines in
     record { unbroken = a.unbroken; fits = a.fits; few = omega arith; lines = omega arith; attached = leads_attached _ s.at t.at a.leads ready.attached }
 
-pub ready_in : (piece : List ℕ) (i : ℕ) (s t : Standing) → i < length piece → IsReadyToTake (length piece) s → Carries (take i piece) s t → IsReadyToTake 1 t
+pub ready_in : (piece : List ℕ) (i : ℕ) (s t : ReadSoFar) → i < length piece → IsReadyToTake (length piece) s → Carries (take i piece) s t → IsReadyToTake 1 t
 ready_in piece i s t lt ready a =
     let long = length-take i piece in
     ready_after (take i piece) 1 (length piece) s t (omega arith) ready a
 
-pub ready_less : (n m : ℕ) (s : Standing) → n ≤ m → IsReadyToTake m s → IsReadyToTake n s
+pub ready_less : (n m : ℕ) (s : ReadSoFar) → n ≤ m → IsReadyToTake m s → IsReadyToTake n s
 ready_less n m s le ready =
     let few = ready.few in
     let lines = ready.lines in
@@ -359,14 +359,14 @@ last_of : (line : List ℕ) (asked : List Event) → 1 ≤ length line → AreLi
 last_of [] asked some are = absurd (omega arith)
 last_of (b ∷ line) asked some are = are
 
-pub last_some : (line : List ℕ) (events events' : ℕ) (old new : Moment) → IsUnbroken line → 1 ≤ length line → CarriesLine line events events' old new → CarriesLast line old new
+pub last_some : (line : List ℕ) (events events' : ℕ) (old new : Moment) → HasNoLineFeed line → 1 ≤ length line → CarriesLine line events events' old new → CarriesLast line old new
 last_some line events events' old new u some a = record {
   asked = option_to_list a.read;
   are_lines = last_of line (option_to_list a.read) some (lines_one line a.read u a.is_line);
   leads = a.leads;
 }
 
-pub last_fed : (s t : Standing) (result : Result (Unit {0}) RunStop) → IsUnbroken s.part → 1 ≤ length s.part → Feeds result s t → Finishes result s t
+pub last_fed : (s t : ReadSoFar) (result : Result (Unit {0}) RunStop) → HasNoLineFeed s.part → 1 ≤ length s.part → Feeds result s t → Finishes result s t
 last_fed s t (Ok done) u some h = last_some s.part s.events t.events s.at t.at u some h.carried
 last_fed s t (Err why) u some h = (some, h)
 

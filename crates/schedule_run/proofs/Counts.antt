@@ -1,5 +1,5 @@
 -- How many happenings an event makes at most, in a machine that events alone led to.
-use Rattle.std.proofs.Common.{◌≡◌, ℕ, zero, suc, ◌+◌, ◌*◌, ◌^◌, ◌<◌, ◌≤◌, inl, inr, Bool, true, false, if◌then◌else◌, List, [], ◌∷◌, ◌++◌, length, refl, ap, sym, ◌∙◌, subst, arith, length-append}
+use Rattle.std.proofs.Common.{◌≡◌, ℕ, zero, suc, ◌+◌, ◌*◌, ◌^◌, ◌≤◌, inl, inr, Bool, true, false, if◌then◌else◌, List, [], ◌∷◌, ◌++◌, length, refl, ap, sym, ◌∙◌, subst, arith, length-append}
 use Rattle.std.specs.Prelude.{replicate}
 use Rattle.std.proofs.lemmas.Bool.Decides.{nat_tests}
 use Rattle.blk_base.specs.Options.{Options}
@@ -8,17 +8,17 @@ use Rattle.schedule_text.specs.declared.event.Event.{Event}
 use Rattle.schedule_text.specs.declared.event.Event.TheVariants as events
 use Rattle.blk_front.specs.Submit.{unfinished, is_connected}
 use Rattle.split_model.specs.World.{World, start_of, is_quiet}
-use Rattle.split_model.specs.Happening.{Happening, FrontMoves, BackMoves, JobMoves, Settles, happens, after, job_turn}
-use Rattle.split_model.specs.Kind.{is_carried, connecting, front_move, front_moves, back_moves, AreEachJobs, round_start, IsBeginning, IsRoundSoFar, IsRound, AreRounds, never, settle_bound, AreRoundsSoFar, IsSettling, IsSettlingSoFar, Makes, MakesSoFar, AreOf, AreOfSoFar, AreOfAll}
+use Rattle.split_model.specs.Happening.{Happening, FrontMoves, BackMoves, Settles, happens, after, job_turn}
+use Rattle.split_model.specs.Kind.{is_carried, connecting, front_move, front_moves, back_moves, AreEachJobs, round_start, IsBeginning, IsRoundSoFar, AreRounds, never, settle_bound, AreRoundsSoFar, IsSettling, IsSettlingSoFar, Makes, MakesSoFar, AreOf, AreOfSoFar, AreOfAll}
 use Rattle.split_model.specs.Safe.{above}
 use Rattle.split_model.proofs.Running.{after-append}
 use Rattle.split_model.proofs.Joining.{job_above, next_above}
 use Rattle.split_model.proofs.SafeGrowth.{above_few}
-use Rattle.disk_laws.specs.Plain.{IsPlain}
-use Rattle.disk_laws.specs.Allowed.{AreAllowed}
-use Rattle.disk_laws.proofs.Together.{always_runs}
-use Rattle.disk_laws.proofs.KindsFront.{start_connects, connects_after}
-use Rattle.disk_laws.proofs.KindsEvents.{allowed_append, allowed_first, event_allowed, event_so_far_allowed}
+use Rattle.machine_pipeline.specs.Plain.{IsPlain}
+use Rattle.machine_pipeline.specs.Allowed.{AreAllowed}
+use Rattle.machine_pipeline.proofs.Together.{always_stands}
+use Rattle.machine_pipeline.proofs.KindsFront.{start_connects, connects_after}
+use Rattle.machine_pipeline.proofs.KindsEvents.{allowed_append, allowed_first, event_allowed, event_so_far_allowed}
 
 -- events led to this machine, or other happenings that are allowed
 pub record IsReached (w : World) : Type 0 where
@@ -51,7 +51,7 @@ record IsFew (w : World) : Type 0 where
 
 few_after : (config : Options) (history : List Happening) → IsPlain config → AreAllowed history (start_of config) → IsFew (after history (start_of config))
 few_after config history plain may =
-    let gone = always_runs config history [] plain may in
+    let gone = always_stands config history plain may in
     let holds = (let stands = gone.stands in stands.holds) in
     let counted = holds.counted in
     let indices = holds.indices in

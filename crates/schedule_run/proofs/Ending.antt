@@ -1,5 +1,5 @@
 -- How a run ends, by how reading its schedule ends.
-use Rattle.std.proofs.Common.{◌≡◌, ◌⊎◌, ℕ, ◌≤◌, ◌<◌, ◌^◌, List, [], ◌∷◌, length, Option, Result, Ok, Err, inl, inr, refl, sym, ap, ◌∙◌, subst, arith}
+use Rattle.std.proofs.Common.{◌≡◌, ◌⊎◌, ℕ, ◌≤◌, ◌^◌, List, [], ◌∷◌, length, Option, Result, Ok, Err, inl, inr, refl, ap, ◌∙◌, arith}
 use Rattle.blk_base.specs.Options.{Options}
 use Rattle.blk_io.specs.Outside.{SourceSeen}
 use Rattle.blk_io.specs.Disk.{DiskSeen}
@@ -11,9 +11,8 @@ use Rattle.schedule_text.specs.declared.recorder.RecordStop.TheVariants as recor
 use Rattle.schedule_text.specs.Recorder.{RecorderSeen, Gained, StopsAmong, HandsOnLines, FailsHandingOn}
 use Rattle.split_model.specs.World.{World, start_of}
 use Rattle.split_model.specs.Leads.{Moment, moment}
-use Rattle.schedule_run.specs.Reading.{Tells}
 use Rattle.schedule_run.specs.Carrying.{EventsLead, Reads, ReadsToStop, ReadsUnsent, ReadStops, ReadsAll}
-use Rattle.schedule_run.specs.Outcome.{Outside, outside, IsServed, HasCarried, HasCarriedOut, HasRead, HasEnded, IsDone, IsCut, IsUnsent, IsAllTold, RunsTo, Stands, TriesToHandOn, HasStopped, IsDoneUnsent, IsStopped, Runs, StopsAtBegin, StopsInEvent, StopsAtEnd, stop_of}
+use Rattle.schedule_run.specs.Outcome.{Outside, outside, IsServed, HasCarried, HasRead, EndsWhole, IsCut, IsUnsent, IsAllTold, RunsTo, StandsAtStop, TriesToHandOn, FailsWith, Runs, StopsInEvent, StopsAtEnd, stop_of}
 use Rattle.schedule_run.specs.declared.schedule.RunStop.{RunStop}
 use Rattle.schedule_run.specs.declared.schedule.RunStop.TheVariants as stop
 
@@ -60,7 +59,7 @@ cut_or_unsent config limit left old new began w begun (inl h) = inl (inr (inl (i
 cut_or_unsent config limit left old new began w begun (inr h) = inr (unsent config left old new began w begun h)
 
 -- reading the schedule stopped
-pub reading_stopped : (config : Options) (limit : ℕ) (a b : SourceSeen) (why : RunStop) (old new : Outside) (began : RecorderSeen) (w : World) → HasFirst config old began → ReadStops limit a b why (at_first config old began) (moment w new.disk new.recorder) → Stands config limit a b why old new
+pub reading_stopped : (config : Options) (limit : ℕ) (a b : SourceSeen) (why : RunStop) (old new : Outside) (began : RecorderSeen) (w : World) → HasFirst config old began → ReadStops limit a b why (at_first config old began) (moment w new.disk new.recorder) → StandsAtStop config limit a b why old new
 reading_stopped config limit a b (stop.BadLine n) old new began w begun h = (h.0, has_read config _ old new began w begun h.1)
 reading_stopped config limit a b stop.Source old new began w begun h = (h.0, has_read config _ old new began w begun h.1)
 reading_stopped config limit a b stop.TooLong old new began w begun h = (h.0, has_read config _ old new began w begun h.1)
@@ -68,12 +67,12 @@ reading_stopped config limit a b stop.Sink old new began w begun h = (h.0, cut_o
 reading_stopped config limit a b stop.OutOfMemory old new began w begun h = (h.0, inr (inr (inl (in_event config a.left record_stop.OutOfMemory old new began w begun h.1))))
 
 -- the recorder stopped at the first line
-pub begin_stopped : (config : Options) (limit : ℕ) (a : SourceSeen) (word : Detail) (why : RecordStop) (disk : DiskSeen) (r s : RecorderSeen) → StopsAmong [] (Begin config word ∷ []) why r s → Stands config limit a a (stop_of why) (outside disk r) (outside disk s)
+pub begin_stopped : (config : Options) (limit : ℕ) (a : SourceSeen) (word : Detail) (why : RecordStop) (disk : DiskSeen) (r s : RecorderSeen) → StopsAmong [] (Begin config word ∷ []) why r s → StandsAtStop config limit a a (stop_of why) (outside disk r) (outside disk s)
 begin_stopped config limit a word record_stop.Failed disk r s h = (refl, inl (inl (record { word = word; told = h; disk = refl })))
 begin_stopped config limit a word record_stop.OutOfMemory disk r s h = (refl, inr (inl (record { word = word; told = h; disk = refl })))
 
 -- or at the last one
-pub end_stopped : (config : Options) (limit : ℕ) (a b : SourceSeen) (why : RecordStop) (old : Outside) (disk : DiskSeen) (began before after : RecorderSeen) (w : World) → HasFirst config old began → ReadsAll limit (Ok tt) a b (at_first config old began) (moment w disk before) → StopsAmong [] (End ∷ []) why before after → Stands config limit a b (stop_of why) old (outside disk after)
+pub end_stopped : (config : Options) (limit : ℕ) (a b : SourceSeen) (why : RecordStop) (old : Outside) (disk : DiskSeen) (began before after : RecorderSeen) (w : World) → HasFirst config old began → ReadsAll limit (Ok tt) a b (at_first config old began) (moment w disk before) → StopsAmong [] (End ∷ []) why before after → StandsAtStop config limit a b (stop_of why) old (outside disk after)
 end_stopped config limit a b why old disk began before after w begun h stopped = by why stopped
   where
     ends : (why : RecordStop) → StopsAmong [] (End ∷ []) why before after → StopsAtEnd config limit a.left why old (outside disk after)
@@ -85,7 +84,7 @@ end_stopped config limit a b why old disk began before after w begun h stopped =
       told = s;
     }
 
-    by : (why : RecordStop) → StopsAmong [] (End ∷ []) why before after → Stands config limit a b (stop_of why) old (outside disk after)
+    by : (why : RecordStop) → StopsAmong [] (End ∷ []) why before after → StandsAtStop config limit a b (stop_of why) old (outside disk after)
     by record_stop.Failed s = (h.0, inl (inr (inr (ends record_stop.Failed s))))
     by record_stop.OutOfMemory s = (h.0, inr (inr (inr (ends record_stop.OutOfMemory s))))
 
@@ -101,7 +100,7 @@ all_told config limit a b old disk began before after w begun h ended = record {
 }
 
 -- The recorder handed on what it kept back, or failed to.
-done_as : (config : Options) (limit : ℕ) (a b : SourceSeen) (old : Outside) (disk : DiskSeen) (r s : RecorderSeen) → IsAllTold config limit a b old (outside disk r) → s ≡ record r { kept_back = 0 } → IsDone config limit a b old (outside disk s)
+done_as : (config : Options) (limit : ℕ) (a b : SourceSeen) (old : Outside) (disk : DiskSeen) (r s : RecorderSeen) → IsAllTold config limit a b old (outside disk r) → s ≡ record r { kept_back = 0 } → EndsWhole config limit a b old (outside disk s)
 done_as config limit a b old disk r s h same = record {
   events = h.events;
   schedule = h.schedule;
@@ -127,14 +126,14 @@ tries (Ok done) r s same = record {
 tries (Err why) r s h = record { told = h.told; detail = h.detail; lender = h.lender; outcome = inr h.rose }
 
 -- the first reason stands
-pub stopped_then : (config : Options) (limit : ℕ) (a b : SourceSeen) (why : RunStop) (old : Outside) (disk : DiskSeen) (r s : RecorderSeen) → Stands config limit a b why old (outside disk r) → TriesToHandOn r s → IsStopped config limit a b why old (outside disk s)
+pub stopped_then : (config : Options) (limit : ℕ) (a b : SourceSeen) (why : RunStop) (old : Outside) (disk : DiskSeen) (r s : RecorderSeen) → StandsAtStop config limit a b why old (outside disk r) → TriesToHandOn r s → FailsWith config limit a b why old (outside disk s)
 stopped_then config limit a b (stop.BadLine n) old disk r s h t = record { before = r; stands = h; handed_on = t }
 stopped_then config limit a b stop.Source old disk r s h t = record { before = r; stands = h; handed_on = t }
 stopped_then config limit a b stop.TooLong old disk r s h t = record { before = r; stands = h; handed_on = t }
 stopped_then config limit a b stop.Sink old disk r s h t = inl (record { before = r; stands = h; handed_on = t })
 stopped_then config limit a b stop.OutOfMemory old disk r s h t = record { before = r; stands = h; handed_on = t }
 
-pub stopped_unsent : (config : Options) (limit : ℕ) (a b : SourceSeen) (why : RunStop) (old : Outside) (disk : DiskSeen) (r s : RecorderSeen) → Stands config limit a b why old (outside disk r) → FailsHandingOn r s → IsStopped config limit a b why old (outside disk s)
+pub stopped_unsent : (config : Options) (limit : ℕ) (a b : SourceSeen) (why : RunStop) (old : Outside) (disk : DiskSeen) (r s : RecorderSeen) → StandsAtStop config limit a b why old (outside disk r) → FailsHandingOn r s → FailsWith config limit a b why old (outside disk s)
 stopped_unsent config limit a b why old disk r s h failed = stopped_then config limit a b why old disk r s h (tries {E = Unit {0}} (Err tt) r s failed)
 
 -- a run was done, and then all was handed on
@@ -143,7 +142,7 @@ handed_done config limit (Ok done) a b old disk r s h same = done_as config limi
 handed_done config limit (Err why) a b old disk r s h same = stopped_then config limit a b why old disk r s h (tries {E = Unit {0}} (Ok tt) r s same)
 
 -- a run was done, and then not all could be handed on
-pub done_unsent : (config : Options) (limit : ℕ) (a b : SourceSeen) (old : Outside) (disk : DiskSeen) (r s : RecorderSeen) → IsAllTold config limit a b old (outside disk r) → FailsHandingOn r s → IsStopped config limit a b stop.Sink old (outside disk s)
+pub done_unsent : (config : Options) (limit : ℕ) (a b : SourceSeen) (old : Outside) (disk : DiskSeen) (r s : RecorderSeen) → IsAllTold config limit a b old (outside disk r) → FailsHandingOn r s → FailsWith config limit a b stop.Sink old (outside disk s)
 done_unsent config limit a b old disk r s h failed = inr (record {
   before = record r { kept_back = 0 };
   done = done_as config limit a b old disk r (record r { kept_back = 0 }) h refl;

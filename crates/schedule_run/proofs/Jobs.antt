@@ -1,12 +1,11 @@
 -- A move of each job, by number.
-use Rattle.std.proofs.Common.{◌≡◌, ℕ, ◌+◌, ◌<◌, ◌≤◌, List, [], ◌++◌, length, Some, None, Result, Ok, Err, refl, sym, ap, ◌∙◌, arith}
+use Rattle.std.proofs.Common.{◌≡◌, ℕ, ◌+◌, ◌≤◌, length, Some, None, Ok, Err, refl, sym, ap, ◌∙◌, arith}
 use Rattle.blk_io.specs.Disk.{sectors_of}
 use Rattle.schedule_text.specs.declared.recorder.RecordStop.{RecordStop}
 use Rattle.blk_back.specs.Step.{next_job_of}
 use Rattle.split_model.specs.World.{World}
-use Rattle.split_model.specs.Happening.{Happening, after}
 use Rattle.split_model.specs.Kind.{AreEachJobs, AreAllJobs, HasEachJobs, IsJobMove}
-use Rattle.split_model.specs.Leads.{Moment, Leads, Goes, Keeps, IsReadyFor}
+use Rattle.split_model.specs.Leads.{Moment, Leads, Goes, IsReadyFor}
 use Rattle.split_model.specs.Safe.{above}
 use Rattle.split_model.proofs.Running.{leads_nowhere, leads_on, leads_into, stops_on}
 use Rattle.split_model.proofs.Joining.{each_more, moved_above, fewer_above, job_left, job_made}

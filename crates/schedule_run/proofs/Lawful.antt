@@ -15,22 +15,25 @@ use Rattle.ring_laws.proofs.JobRuns.{report_rules, ended_rules, steps_of, data_o
 use Rattle.ring_laws.proofs.MakerRuns.{report_unmaps, ended_unmaps, report_own, ended_own}
 use Rattle.ring_laws.proofs.ReplyRuns.{report_replies, ended_replies}
 use Rattle.ring_laws.proofs.Runs.{report_overruns, ended_overruns, report_stretches, ended_stretches}
-use Rattle.disk_laws.specs.Run.{IsRun, IsRunSoFar}
+use Rattle.pipeline_laws.specs.Run.{IsRun}
+use Rattle.disk_laws.specs.Run.{IsRunSoFar}
 use Rattle.pipeline_laws.specs.Answered.{AreAnsweredOnce, IsQuietAnswered}
 use Rattle.pipeline_laws.proofs.AnsweredRuns.{run_answers_once, run_answers_at_quiet}
-use Rattle.disk_laws.proofs.SubmissionsAlways.{unbroken_before}
+use Rattle.disk_laws.proofs.Before.{unbroken_before, states_before}
 use Rattle.split_model.specs.World.{start_of}
 use Rattle.split_model.specs.Happening.{Happening, DiskRuns}
 use Rattle.schedule_text.specs.Recorder.{kept_of, line_bytes, report_text}
 use Rattle.split_model.specs.Report.{report_of, ended_report_of}
 use Rattle.split_model.proofs.Running.{kept_of-append}
-use Rattle.disk_laws.specs.Plain.{IsPlain}
-use Rattle.disk_laws.specs.Allowed.{AreAllowed}
-use Rattle.disk_laws.specs.Submissions.{submitted_of}
+use Rattle.machine_pipeline.specs.Plain.{IsPlain}
+use Rattle.machine_pipeline.specs.Allowed.{AreAllowed}
+use Rattle.machine_pipeline.specs.Submissions.{submitted_of}
 use Rattle.pipeline_laws.specs.Submissions.{IsAnswerAt}
 use Rattle.pipeline_laws.specs.Unbroken.{is_breach, IsUnbroken}
-use Rattle.disk_laws.proofs.Runs.{reports_run, ended_reports_run, begun_run}
-use Rattle.disk_laws.proofs.Reports.{reports_answered, ended_answered, reports_unbroken, ended_unbroken}
+use Rattle.pipeline_laws.specs.States.{IsStateAt, AreStates}
+use Rattle.disk_laws.proofs.Reports.{reports_run, ended_reports_run}
+use Rattle.disk_laws.proofs.Before.{begun_run}
+use Rattle.disk_laws.proofs.Reports.{reports_answered, ended_answered, reports_unbroken, ended_unbroken, reports_states, ended_states}
 use Rattle.schedule_text.specs.Range.{AreOptions, IsInRange}
 use Rattle.schedule_text.specs.Plain.{plain}
 use Rattle.schedule_text.specs.Line.{text_of}
@@ -153,6 +156,7 @@ report_lawful config detail history before now h long runs =
       quiet = quiet_of config.sectors before.content now.content report run;
       ready = report_ready config detail history;
       unbroken = reports_unbroken config detail history h.plain h.allowed;
+      states = reports_states config detail history h.plain h.allowed;
       ring = λ same. report_quiet config detail history h.plain h.allowed same;
       moves = shown detail config history h.plain;
       work = λ same. worked detail config history same h.short;
@@ -172,19 +176,20 @@ ended_lawful config detail history before now h long runs =
       quiet = quiet_of config.sectors before.content now.content report run;
       ready = ended_ready config detail history;
       unbroken = ended_unbroken config detail history h.plain h.allowed;
+      states = ended_states config detail history h.plain h.allowed;
       ring = λ same. ended_quiet config detail history h.plain h.allowed same;
       moves = ended_shown detail config history h.plain;
       work = λ same. ended_worked detail config history same h.short;
     }
 
 -- and the beginning of one
-pub begun_lawful : (config : Options) (detail : Detail) (history : List Happening) (before : Option (List (List ℕ))) (said rest : List Line) → IsTold config detail history → said ++ rest ≡ ended_report_of config detail history → IsLawfulSoFar config detail (submitted_of history) before (kept_of detail said)
-begun_lawful config detail history before said rest h all =
+pub begun_lawful : (config : Options) (detail : Detail) (history : List Happening) (before : Option (List (List ℕ))) (said rest : List Line) → IsTold config detail history → HasLength before config.sectors → said ++ rest ≡ ended_report_of config detail history → IsLawfulSoFar config detail (submitted_of history) before (kept_of detail said)
+begun_lawful config detail history before said rest h long all =
     let one = kept_of detail said in
     let other = kept_of detail rest in
     let split : one ++ other ≡ kept_of detail (ended_report_of config detail history) = sym (kept_of-append detail said rest) ∙ ap (kept_of detail) all in
     let answered = ended_answered config detail history h.plain h.allowed in
-    let run = begun_run config detail history before said rest h.plain h.allowed all in
+    let run = begun_run config detail history before said rest h.plain h.allowed long all in
     record {
       begun = begun_before config detail one other (subst (IsBegun config detail) (sym split) (ended_begun config detail history));
       grammar = grammar_before one other (subst IsInGrammar (sym split) (ended_grammar config detail history h.plain h.allowed h.options));
@@ -194,6 +199,7 @@ begun_lawful config detail history before said rest h all =
       quiet = run_answers_at_quiet one run.first run.disk run.run;
       ready = obeys_before IsReadyAt one other (subst (Obeys IsReadyAt) (sym split) (ended_ready config detail history));
       unbroken = unbroken_before one other (subst IsUnbroken (sym split) (ended_unbroken config detail history h.plain h.allowed));
+      states = states_before one other (subst AreStates (sym split) (ended_states config detail history h.plain h.allowed));
       ring = λ same. obeys_before IsQuietRingAt one other (subst (Obeys IsQuietRingAt) (sym split) (ended_quiet config detail history h.plain h.allowed same));
       moves = λ same. moves_before one other (subst ObeysMoves (sym split) (ended_shown detail config history h.plain same));
       work = λ same. work_before one other (subst ShowsWork (sym split) (ended_worked detail config history same h.short));
@@ -220,6 +226,7 @@ nothing_lawful config detail jobs before =
       quiet = run_answers_at_quiet [] run.first run.disk run.run;
       ready = obeys_none IsReadyAt;
       unbroken = All-nil (λ (line : Line). is_breach line ≡ false);
+      states = obeys_none IsStateAt;
       ring = λ same. obeys_none IsQuietRingAt;
       moves = λ same. record { coherent = obeys_none _; answered = obeys_none _; touched = obeys_none _; grantable = obeys_none _; overruns = obeys_none _; stretches = obeys_none _ };
       work = λ same. record { steps = obeys_none _; data_given = obeys_none _; effects = obeys_none _; unmaps = obeys_none _; own = obeys_none _; replies = obeys_none _ };

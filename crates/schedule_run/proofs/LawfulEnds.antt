@@ -6,22 +6,20 @@ use Rattle.blk_io.specs.Outside.{SourceSeen}
 use Rattle.blk_io.specs.Disk.{HasLength}
 use Rattle.schedule_text.specs.declared.event.Event.{Event}
 use Rattle.schedule_text.specs.declared.line.Detail.{Detail}
-use Rattle.schedule_text.specs.declared.line.Line.{Line}
-use Rattle.schedule_text.specs.declared.line.Line.TheVariants.{Begin, End}
+use Rattle.schedule_text.specs.declared.line.Line.TheVariants.{End}
 use Rattle.schedule_text.specs.declared.recorder.RecordStop.{RecordStop}
 use Rattle.schedule_text.specs.declared.recorder.RecordStop.TheVariants as record_stop
-use Rattle.schedule_text.specs.Recorder.{Told, RecorderSeen, gained, kept_of, recorded, StopsWithin}
+use Rattle.schedule_text.specs.Recorder.{Told, RecorderSeen, gained, kept_of}
 use Rattle.schedule_text.proofs.Gaining.{gained_none, gained_twice}
 use Rattle.plain_disk.specs.Echo.{AnswersAll, Echoes}
-use Rattle.split_model.specs.World.{World, start_of}
+use Rattle.split_model.specs.World.{start_of}
 use Rattle.split_model.specs.Happening.{lines_of}
 use Rattle.split_model.specs.Leads.{moment}
 use Rattle.split_model.specs.Report.{report_of, ended_report_of}
 use Rattle.split_model.proofs.Running.{kept_of-append}
 use Rattle.split_model.proofs.Echo.{echo_of, schedule_echo, kept_echo}
-use Rattle.disk_laws.specs.Submissions.{jobs_of}
 use Rattle.disk_laws.proofs.SubmissionsOf.{events_submit}
-use Rattle.schedule_run.specs.Outcome.{Outside, outside, HasCarriedOut, IsDone, StopsAtBegin, StopsInEvent, StopsAtEnd, IsCut, IsUnsent, HasRead, Stands, HasStopped, IsDoneUnsent, Runs}
+use Rattle.schedule_run.specs.Outcome.{Outside, outside, HasCarriedOut, EndsWhole, IsCut, IsUnsent, HasRead, StandsAtStop, StopsWith, EndsUnsent, Runs}
 use Rattle.schedule_run.specs.Reading.{IsWholeSchedule, HasBegun, HasComeTo, IsReadSoFar, Tells}
 use Rattle.schedule_run.specs.Lawful.{IsLawful, IsLawfulSoFar, HasLawfulReport, IsToldSoFar, HasLawfulBeginning, IsLawfulRun, ToldOf, IsLawfulStop, RunsLawfully}
 use Rattle.schedule_run.specs.declared.schedule.RunStop.{RunStop}
@@ -88,7 +86,7 @@ echoes config events old new before h =
     subst (AnswersAll config.order events) (sym (kept_echo detail lines)) (schedule_echo config.order events (start_of config) leads.history leads.is_kind) in
     (kept_of detail (report_of config detail leads.history), kept_of-append detail (report_of config detail leads.history) (End ∷ []), (kept_of detail lines, refl, answers))
 
-done_lawful : (config : Options) (limit : ℕ) (a b : SourceSeen) (old new : Outside) → HasLength old.disk.content config.sectors → IsDone config limit a b old new → IsLawfulRun config limit a.left old new
+done_lawful : (config : Options) (limit : ℕ) (a b : SourceSeen) (old new : Outside) → HasLength old.disk.content config.sectors → EndsWhole config limit a b old new → IsLawfulRun config limit a.left old new
 done_lawful config limit a b old new long done =
     let carried = (let h = done.carried in h.1) in
     let leads = carried.leads in
@@ -105,8 +103,8 @@ done_lawful config limit a b old new long done =
     }
 
 -- it was told whole, but not handed on
-unsent_lawful : (config : Options) (limit : ℕ) (a b : SourceSeen) (old new : Outside) → IsDoneUnsent config limit a b old new → BeginsLawfully config limit a old new
-unsent_lawful config limit a b old new h =
+unsent_lawful : (config : Options) (limit : ℕ) (a b : SourceSeen) (old new : Outside) → HasLength old.disk.content config.sectors → EndsUnsent config limit a b old new → BeginsLawfully config limit a old new
+unsent_lawful config limit a b old new long h =
     let done = h.done in
     let ended = done.ended in
     let carried = (let c = done.carried in c.1) in
@@ -119,25 +117,25 @@ unsent_lawful config limit a b old new h =
         report = kept_of detail report;
         told = inl (h.told ∙ done_told config done.events old (outside new.disk h.before) done.before done.carried ended.told);
         lawful = subst (λ (jobs : List Job). IsLawfulSoFar config detail jobs old.disk.content (kept_of detail report)) (events_submit done.events (start_of config) leads.history leads.is_kind)
-            (begun_lawful config detail leads.history old.disk.content report [] (is_told config done.events old (moment (let c = done.carried in c.0) new.disk done.before) carried) (append-nil report));
+            (begun_lawful config detail leads.history old.disk.content report [] (is_told config done.events old (moment (let c = done.carried in c.0) new.disk done.before) carried) long (append-nil report));
       },
     )
 
 -- the recorder stopped at the first line, in an event, or at the last line
-cut_lawful : (config : Options) (limit : ℕ) (a : SourceSeen) (why : RecordStop) (old new : Outside) → IsCut config limit a.left why old new → BeginsLawfully config limit a old new
-cut_lawful config limit a why old new (inl h) = ([], read_none limit a.left, stopped_at_first config h.word why old new h.told)
-cut_lawful config limit a why old new (inr (inl h)) =
-    (h.events ++ h.event ∷ [], read_come limit h.events h.event a.left h.schedule, stopped_in_event config h.events h.event why old h.middle (moment h.last new.disk new.recorder) h.carried h.stopped)
-cut_lawful config limit a why old new (inr (inr h)) =
+cut_lawful : (config : Options) (limit : ℕ) (a : SourceSeen) (why : RecordStop) (old new : Outside) → HasLength old.disk.content config.sectors → IsCut config limit a.left why old new → BeginsLawfully config limit a old new
+cut_lawful config limit a why old new long (inl h) = ([], read_none limit a.left, stopped_at_first config h.word why old new h.told)
+cut_lawful config limit a why old new long (inr (inl h)) =
+    (h.events ++ h.event ∷ [], read_come limit h.events h.event a.left h.schedule, stopped_in_event config h.events h.event why old h.middle (moment h.last new.disk new.recorder) long h.carried h.stopped)
+cut_lawful config limit a why old new long (inr (inr h)) =
     let carried = h.carried in
-    (h.events, read_whole limit h.events a.left h.schedule, stopped_at_end config h.events why old (moment carried.0 new.disk h.before) new carried.1 h.told)
+    (h.events, read_whole limit h.events a.left h.schedule, stopped_at_end config h.events why old (moment carried.0 new.disk h.before) new long carried.1 h.told)
 
 -- it failed to hand on what was told of whole events
-kept_lawful : (config : Options) (limit : ℕ) (a : SourceSeen) (old new : Outside) → IsUnsent config a.left old new → BeginsLawfully config limit a old new
-kept_lawful config limit a old new h =
+kept_lawful : (config : Options) (limit : ℕ) (a : SourceSeen) (old new : Outside) → HasLength old.disk.content config.sectors → IsUnsent config a.left old new → BeginsLawfully config limit a old new
+kept_lawful config limit a old new long h =
     let carried = h.carried in
     let failed = h.failed in
-    (h.events, read_begun limit h.events a.left h.schedule, beginning_same config h.events old new h.before (carried_so_far config h.events old (moment carried.0 new.disk h.before) carried.1) failed.told)
+    (h.events, read_begun limit h.events a.left h.schedule, beginning_same config h.events old new h.before (carried_so_far config h.events old (moment carried.0 new.disk h.before) long carried.1) failed.told)
 
 -- nothing was told
 none_lawful : (config : Options) (limit : ℕ) (a : SourceSeen) (old new : Outside) → new ≡ old → BeginsLawfully config limit a old new
@@ -157,20 +155,20 @@ read_lawful config claim old new long h =
     let carried = h.2 in
     (h.0, h.1, carried_lawful config h.0 old (moment carried.0 new.disk new.recorder) long carried.1)
 
-stands_lawful : (config : Options) (limit : ℕ) (a b : SourceSeen) (why : RunStop) (old new : Outside) → HasLength old.disk.content config.sectors → Stands config limit a b why old new → IsLawfulStop config limit a b why old new
+stands_lawful : (config : Options) (limit : ℕ) (a b : SourceSeen) (why : RunStop) (old new : Outside) → HasLength old.disk.content config.sectors → StandsAtStop config limit a b why old new → IsLawfulStop config limit a b why old new
 stands_lawful config limit a b (stop.BadLine n) old new long h = read_lawful config _ old new long h.1
 stands_lawful config limit a b stop.Source old new long h = read_lawful config _ old new long h.1
 stands_lawful config limit a b stop.TooLong old new long h = read_lawful config _ old new long h.1
 stands_lawful config limit a b stop.Sink old new long h = by_end h.1
   where
     by_end : IsCut config limit a.left record_stop.Failed old new ⊎ IsUnsent config a.left old new → BeginsLawfully config limit a old new
-    by_end (inl cut) = cut_lawful config limit a record_stop.Failed old new cut
-    by_end (inr kept) = kept_lawful config limit a old new kept
+    by_end (inl cut) = cut_lawful config limit a record_stop.Failed old new long cut
+    by_end (inr kept) = kept_lawful config limit a old new long kept
 stands_lawful config limit a b stop.OutOfMemory old new long h = by_end h.1
   where
     by_end : (new ≡ old) ⊎ IsCut config limit a.left record_stop.OutOfMemory old new → BeginsLawfully config limit a old new
     by_end (inl same) = none_lawful config limit a old new same
-    by_end (inr cut) = cut_lawful config limit a record_stop.OutOfMemory old new cut
+    by_end (inr cut) = cut_lawful config limit a record_stop.OutOfMemory old new long cut
 
 told_same : (config : Options) (claim : List Event → Type 0) (old new : Outside) (before : RecorderSeen) → ToldOf config claim old (outside new.disk before) → new.recorder.told ≡ before.told → ToldOf config claim old new
 told_same config claim old new before h same = (h.0, h.1, report_same config h.0 old new before h.2 same)
@@ -182,7 +180,7 @@ stop_same config limit a b stop.TooLong old new before h same = told_same config
 stop_same config limit a b stop.Sink old new before h same = begins_same config limit a old new before h same
 stop_same config limit a b stop.OutOfMemory old new before h same = begins_same config limit a old new before h same
 
-stopped_lawful : (config : Options) (limit : ℕ) (a b : SourceSeen) (why : RunStop) (old new : Outside) → HasLength old.disk.content config.sectors → HasStopped config limit a b why old new → IsLawfulStop config limit a b why old new
+stopped_lawful : (config : Options) (limit : ℕ) (a b : SourceSeen) (why : RunStop) (old new : Outside) → HasLength old.disk.content config.sectors → StopsWith config limit a b why old new → IsLawfulStop config limit a b why old new
 stopped_lawful config limit a b why old new long h =
     let handed = h.handed_on in
     stop_same config limit a b why old new h.before (stands_lawful config limit a b why old (outside new.disk h.before) long h.stands) handed.told
@@ -194,5 +192,5 @@ run_lawful config limit (Err (stop.BadLine n)) a b old new long h = stopped_lawf
 run_lawful config limit (Err stop.Source) a b old new long h = stopped_lawful config limit a b stop.Source old new long h
 run_lawful config limit (Err stop.TooLong) a b old new long h = stopped_lawful config limit a b stop.TooLong old new long h
 run_lawful config limit (Err stop.Sink) a b old new long (inl h) = stopped_lawful config limit a b stop.Sink old new long h
-run_lawful config limit (Err stop.Sink) a b old new long (inr h) = unsent_lawful config limit a b old new h
+run_lawful config limit (Err stop.Sink) a b old new long (inr h) = unsent_lawful config limit a b old new long h
 run_lawful config limit (Err stop.OutOfMemory) a b old new long h = stopped_lawful config limit a b stop.OutOfMemory old new long h

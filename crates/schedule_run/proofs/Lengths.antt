@@ -1,10 +1,9 @@
 -- How many lines a happening shows, and how long a report is at most.
-use Rattle.std.proofs.Common.{◌≡◌, ℕ, ◌+◌, ◌*◌, ◌^◌, ◌<◌, ◌≤◌, List, [], ◌∷◌, ◌++◌, length, Option, Some, None, refl, arith, length-append}
+use Rattle.std.proofs.Common.{ℕ, ◌+◌, ◌*◌, ◌^◌, ◌<◌, ◌≤◌, List, [], ◌∷◌, ◌++◌, length, Option, Some, None, arith, length-append}
 use Rattle.blk_base.specs.Options.{Options}
 use Rattle.blk_base.specs.declared.ask.BackAnswer.{BackAnswer}
 use Rattle.schedule_text.specs.declared.event.Event.{Event}
 use Rattle.schedule_text.specs.declared.line.Detail.{Detail}
-use Rattle.schedule_text.specs.declared.line.Line.{Line}
 use Rattle.hypervisor.specs.Act.{FrontAct, BackAct, Took}
 use Rattle.blk_front.specs.declared.told.Told.{Told}
 use Rattle.blk_front.specs.declared.told.Told.TheVariants as front_told
@@ -20,9 +19,9 @@ use Rattle.split_model.specs.Shown.{front_lines, back_lines, halt_lines}
 use Rattle.split_model.specs.Happening.{Happening, FrontMoves, BackMoves, JobMoves, Submits, Notifies, Looks, Settles, happens, lines_at, after, lines_of, front_shows, back_shows, job_shows, front_turn, back_turn, job_turn}
 use Rattle.split_model.specs.Kind.{AreOfAll, AreOfSoFar}
 use Rattle.split_model.specs.Report.{report_of}
-use Rattle.disk_laws.specs.Plain.{IsPlain}
-use Rattle.disk_laws.proofs.KindsFront.{start_connects}
-use Rattle.disk_laws.proofs.KindsEvents.{events_allowed}
+use Rattle.machine_pipeline.specs.Plain.{IsPlain}
+use Rattle.machine_pipeline.proofs.KindsFront.{start_connects}
+use Rattle.machine_pipeline.proofs.KindsEvents.{events_allowed}
 use Rattle.schedule_run.proofs.Counts.{event_so_far_few, events_few}
 
 front_few : (told : Option Told) → length (front_lines told) ≤ 1

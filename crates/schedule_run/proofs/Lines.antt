@@ -15,7 +15,7 @@ use Rattle.schedule_text.specs.declared.event.Event.TheVariants as events
 use Rattle.schedule_text.specs.Line.{job_words}
 use Rattle.schedule_text.specs.Event.{event_text, end_word, EventHasWidths}
 use Rattle.split_model.specs.Kind.{is_carried}
-use Rattle.schedule_run.specs.Reading.{text_of, IsUnbroken, first_line, IsLineOf, IsBadLine, AreLinesOf}
+use Rattle.schedule_run.specs.Reading.{text_of, HasNoLineFeed, first_line, IsLineOf, IsBadLine, AreLinesOf}
 
 is_no_feed : (b : ℕ) → b ≢ 10 → not (b == 10) ≡ true
 is_no_feed b h = grind (arith, nat_tests)
@@ -24,20 +24,20 @@ first_line-more : (b : ℕ) (bytes : List ℕ) → b ≢ 10 → first_line (b �
 first_line-more b bytes h = take_while-cons (λ b. not (b == 10)) b bytes ∙ ap (λ t. cond t (b ∷ first_line bytes) []) (is_no_feed b h)
 
 -- the first line of a line with its line feed, and more
-pub first_line_whole : (line more : List ℕ) → IsUnbroken line → first_line (line ++ 10 ∷ more) ≡ line
+pub first_line_whole : (line more : List ℕ) → HasNoLineFeed line → first_line (line ++ 10 ∷ more) ≡ line
 first_line_whole [] more u = take_while-cons (λ b. not (b == 10)) 10 more
 first_line_whole (b ∷ line) more u =
     first_line-more b (line ++ 10 ∷ more) (All-head (λ (b : ℕ). b ≢ 10) b line u)
     ∙ ap (λ l. b ∷ l) (first_line_whole line more (All-tail (λ (b : ℕ). b ≢ 10) b line u))
 
-pub first_line_all : (line : List ℕ) → IsUnbroken line → first_line line ≡ line
+pub first_line_all : (line : List ℕ) → HasNoLineFeed line → first_line line ≡ line
 first_line_all [] u = refl
 first_line_all (b ∷ line) u =
     first_line-more b line (All-head (λ (b : ℕ). b ≢ 10) b line u)
     ∙ ap (λ l. b ∷ l) (first_line_all line (All-tail (λ (b : ℕ). b ≢ 10) b line u))
 
 -- bytes without a line feed are in the first line
-pub first_line_long : (part more : List ℕ) → IsUnbroken part → length part ≤ length (first_line (part ++ more))
+pub first_line_long : (part more : List ℕ) → HasNoLineFeed part → length part ≤ length (first_line (part ++ more))
 first_line_long [] more u = omega arith
 first_line_long (b ∷ part) more u =
     let e : length (first_line (b ∷ (part ++ more))) ≡ length (b ∷ first_line (part ++ more)) =
@@ -145,5 +145,5 @@ pub text_on : (a b : List (List ℕ)) → text_of (a ++ b) ≡ text_of a ++ text
 text_on a b = flat_map-append (λ line. line ++ 10 ∷ []) a b
 
 -- one line
-pub lines_one : (line : List ℕ) (read : Option Event) → IsUnbroken line → IsLineOf line read → AreLinesOf (line ∷ []) (option_to_list read)
+pub lines_one : (line : List ℕ) (read : Option Event) → HasNoLineFeed line → IsLineOf line read → AreLinesOf (line ∷ []) (option_to_list read)
 lines_one line read u is = (read, [], u, is, sym (append-nil (option_to_list read)), refl)

@@ -1,5 +1,5 @@
 -- What was read of a source, and what of it was carried out.
-use Rattle.std.proofs.Common.{◌≡◌, ◌≢◌, ℕ, ◌+◌, ◌*◌, ◌^◌, ◌<◌, ◌≤◌, List, [], ◌∷◌, ◌++◌, length, take, drop, Option, Some, None, inl, inr, Result, Ok, Err, refl, sym, ap, ◌∙◌, subst, arith, append_assoc, append-nil, length-append}
+use Rattle.std.proofs.Common.{◌≡◌, ◌≢◌, ℕ, ◌+◌, ◌*◌, ◌<◌, ◌≤◌, List, [], ◌∷◌, ◌++◌, length, take, drop, Option, Some, None, inl, inr, Result, Ok, Err, refl, sym, ap, ◌∙◌, subst, arith, append_assoc, append-nil, length-append}
 use Rattle.std.proofs.lemmas.List.{take-append-drop, length-take, take-append-le, take_all}
 use Rattle.std.proofs.lemmas.List.Elements.{All-nil}
 use Rattle.blk_io.specs.Outside.{IsRead, SourceSeen}
@@ -12,8 +12,8 @@ use Rattle.schedule_text.specs.Recorder.{RecorderSeen, Gained, HandsOnLines, Fai
 use Rattle.split_model.specs.Happening.{lines_of, DiskRuns}
 use Rattle.split_model.specs.Leads.{Moment, moment}
 use Rattle.schedule_run.specs.Machine.{Run}
-use Rattle.schedule_run.specs.Reading.{text_of, IsUnbroken, IsBadLine, AreLinesOf, last_line, IsWholeSchedule, HasBadLine, IsTooLong, HasBegun, HasComeTo, HasReadTo, Tells, TellsRest}
-use Rattle.schedule_run.specs.Carrying.{Standing, standing, IsFresh, IsReadyToTake, EventsLead, StopsInLine, StopsAtLine, CarriesLast, Finishes, Carries, MeetsBad, MeetsStop, Halts, Reads, ReadsToStop, ReadsUnsent, ReadStops, ReadsAll}
+use Rattle.schedule_run.specs.Reading.{text_of, HasNoLineFeed, IsBadLine, AreLinesOf, last_line, IsWholeSchedule, HasBadLine, IsTooLong, HasBegun, HasComeTo, HasReadTo, Tells, TellsRest}
+use Rattle.schedule_run.specs.Carrying.{ReadSoFar, read_so_far, IsFresh, IsReadyToTake, EventsLead, StopsInLine, StopsAtLine, CarriesLast, Finishes, Carries, MeetsBad, MeetsStop, Halts, Reads, ReadsToStop, ReadsUnsent, ReadStops, ReadsAll}
 use Rattle.schedule_run.specs.declared.schedule.RunStop.{RunStop}
 use Rattle.schedule_run.specs.declared.schedule.RunStop.TheVariants as stop
 use Rattle.schedule_run.proofs.Lines.{lines_on, first_line_all, events_few, text-cons}
@@ -50,16 +50,16 @@ tells_all claim (Some all) now after done buffer n e some s r f =
     subst claim (sym (s.1 ∙ (ap (λ b. done ++ b) (t.3 e some) ∙ append-nil done))) f
 
 -- the reader began with nothing, and took these bytes
-pub record HasTaken (left now : Option (List ℕ)) (limit room : ℕ) (old new : Standing) : Type 0 where
+pub record HasTaken (left now : Option (List ℕ)) (limit room : ℕ) (old new : ReadSoFar) : Type 0 where
   pub done : List ℕ
   pub so_far : SoFar left now done
   pub size : length done + room ≡ limit
   pub carried : Carries done old new
 
-unbroken_none : (part : List ℕ) → part ≡ [] → IsUnbroken part
-unbroken_none part none = subst IsUnbroken (sym none) (All-nil (λ (b : ℕ). b ≢ 10))
+unbroken_none : (part : List ℕ) → part ≡ [] → HasNoLineFeed part
+unbroken_none part none = subst HasNoLineFeed (sym none) (All-nil (λ (b : ℕ). b ≢ 10))
 
-pub taken_none : (left : Option (List ℕ)) (limit : ℕ) (s : Standing) → s.part ≡ [] → HasTaken left left limit limit s s
+pub taken_none : (left : Option (List ℕ)) (limit : ℕ) (s : ReadSoFar) → s.part ≡ [] → HasTaken left left limit limit s s
 taken_none left limit s none = record {
   done = [];
   so_far = so_far_none left;
@@ -67,7 +67,7 @@ taken_none left limit s none = record {
   carried = carries_nothing s (unbroken_none s.part none) (let e : length s.part ≡ 0 = ap length none in omega arith);
 }
 
-pub taken_more : (left now after : Option (List ℕ)) (limit room room' n : ℕ) (buffer : List ℕ) (s t u : Standing) → n ≤ length buffer → room' + n ≡ room → IsRead n now after buffer → HasTaken left now limit room s t → Carries (take n buffer) t u → HasTaken left after limit room' s u
+pub taken_more : (left now after : Option (List ℕ)) (limit room room' n : ℕ) (buffer : List ℕ) (s t u : ReadSoFar) → n ≤ length buffer → room' + n ≡ room → IsRead n now after buffer → HasTaken left now limit room s t → Carries (take n buffer) t u → HasTaken left after limit room' s u
 taken_more left now after limit room room' n buffer s t u fits less read h more = record {
   done = h.done ++ take n buffer;
   so_far = so_far_more left now after h.done buffer n h.so_far read;
@@ -93,7 +93,7 @@ handed_at a b c events handed world disk p = record {
       lender = ap (λ (x : RecorderSeen). x.lender) same ∙ p.lender;
     }
 
-pub taken_handed : (left now : Option (List ℕ)) (limit room : ℕ) (s : Standing) (run : Run) (part : List ℕ) (lines : ℕ) (disk : DiskSeen) (r t : RecorderSeen) → HandsOnLines {E = Unit {0}} (Ok tt) r t → HasTaken left now limit room s (standing run part lines disk r) → HasTaken left now limit room s (standing run part lines disk t)
+pub taken_handed : (left now : Option (List ℕ)) (limit room : ℕ) (s : ReadSoFar) (run : Run) (part : List ℕ) (lines : ℕ) (disk : DiskSeen) (r t : RecorderSeen) → HandsOnLines {E = Unit {0}} (Ok tt) r t → HasTaken left now limit room s (read_so_far run part lines disk r) → HasTaken left now limit room s (read_so_far run part lines disk t)
 taken_handed left now limit room s run part lines disk r t handed h = record {
   done = h.done;
   so_far = h.so_far;
@@ -119,11 +119,11 @@ few_asked part p rest whole asked all are =
     omega arith
 
 -- the reader began with nothing, and the limit is small
-pub record IsFirst (limit : ℕ) (s : Standing) : Type 0 where
+pub record IsFirst (limit : ℕ) (s : ReadSoFar) : Type 0 where
   pub fresh : IsFresh s
   pub small : limit ≤ 4294967296
 
-few_taken : (left now : Option (List ℕ)) (limit room : ℕ) (s t : Standing) → IsFirst limit s → (h : HasTaken left now limit room s t) → 5 * length h.carried.asked + length t.part ≤ 4294967296
+few_taken : (left now : Option (List ℕ)) (limit room : ℕ) (s t : ReadSoFar) → IsFirst limit s → (h : HasTaken left now limit room s t) → 5 * length h.carried.asked + length t.part ≤ 4294967296
 few_taken left now limit room s t first h =
     let few = few_asked s.part h.done t.part h.carried.whole h.carried.asked h.carried.all h.carried.are_lines in
     let none : length s.part ≡ 0 = ap length first.fresh.part in
@@ -132,11 +132,11 @@ few_taken left now limit room s t first h =
     omega arith
 
 -- the beginning has no part
-whole_of : (done : List ℕ) (s t : Standing) → s.part ≡ [] → (c : Carries done s t) → done ≡ text_of c.whole ++ t.part
+whole_of : (done : List ℕ) (s t : ReadSoFar) → s.part ≡ [] → (c : Carries done s t) → done ≡ text_of c.whole ++ t.part
 whole_of done s t none c = ap (λ (p : List ℕ). p ++ done) (sym none) ∙ c.all
 
 -- what was begun to be read
-begun_by : (left now : Option (List ℕ)) (limit room : ℕ) (s t : Standing) → s.part ≡ [] → (h : HasTaken left now limit room s t) → Tells (λ bytes. HasBegun bytes h.carried.asked) left
+begun_by : (left now : Option (List ℕ)) (limit room : ℕ) (s t : ReadSoFar) → s.part ≡ [] → (h : HasTaken left now limit room s t) → Tells (λ bytes. HasBegun bytes h.carried.asked) left
 begun_by left now limit room s t none h = tells (λ bytes. HasBegun bytes h.carried.asked) left now h.done h.so_far (λ rest. record {
   lines = h.carried.whole;
   rest = t.part ++ rest;
@@ -145,10 +145,10 @@ begun_by left now limit room s t none h = tells (λ bytes. HasBegun bytes h.carr
 })
 
 -- the recorder failed to hand on what it kept back
-pub read_unsent : (left now : Option (List ℕ)) (limit room : ℕ) (s : Standing) (run : Run) (part : List ℕ) (lines : ℕ) (disk : DiskSeen) (r t : RecorderSeen) → IsFirst limit s → FailsHandingOn r t → HasTaken left now limit room s (standing run part lines disk r) → ReadsUnsent left s.at (moment run.world disk t)
+pub read_unsent : (left now : Option (List ℕ)) (limit room : ℕ) (s : ReadSoFar) (run : Run) (part : List ℕ) (lines : ℕ) (disk : DiskSeen) (r t : RecorderSeen) → IsFirst limit s → FailsHandingOn r t → HasTaken left now limit room s (read_so_far run part lines disk r) → ReadsUnsent left s.at (moment run.world disk t)
 read_unsent left now limit room s run part lines disk r t first failed h = record {
   before = r;
-  carried = record { events = h.carried.asked; few = let few = few_taken left now limit room s (standing run part lines disk r) first h in omega arith; schedule = begun_by left now limit room s (standing run part lines disk r) first.fresh.part h; leads = h.carried.leads };
+  carried = record { events = h.carried.asked; few = let few = few_taken left now limit room s (read_so_far run part lines disk r) first h in omega arith; schedule = begun_by left now limit room s (read_so_far run part lines disk r) first.fresh.part h; leads = h.carried.leads };
   failed = failed;
 }
 
@@ -159,7 +159,7 @@ read_to (Some all) now done events s f =
     subst (λ (x : Option (List ℕ)). TellsRest (λ bytes rest. HasReadTo bytes rest events) (Some all) x) (sym s.2)
     (subst (λ (b : List ℕ). HasReadTo b s.0 events) (sym s.1) (f s.0))
 
-pub read_failed : (left now after : Option (List ℕ)) (limit room : ℕ) (s t : Standing) → IsFirst limit s → after ≡ now → HasTaken left now limit room s t → Reads (λ events. TellsRest (λ bytes rest. HasReadTo bytes rest events) left after) s.at t.at
+pub read_failed : (left now after : Option (List ℕ)) (limit room : ℕ) (s t : ReadSoFar) → IsFirst limit s → after ≡ now → HasTaken left now limit room s t → Reads (λ events. TellsRest (λ bytes rest. HasReadTo bytes rest events) left after) s.at t.at
 read_failed left now after limit room s t first same h = record {
   events = h.carried.asked;
   few = let few = few_taken left now limit room s t first h in omega arith;
@@ -174,7 +174,7 @@ read_failed left now after limit room s t first same h = record {
 }
 
 -- no room is left
-pub read_too_long : (left now : Option (List ℕ)) (limit room : ℕ) (s t : Standing) → IsFirst limit s → room ≡ 0 → HasTaken left now limit room s t → Reads (λ events. Tells (λ bytes. IsTooLong limit bytes events) left) s.at t.at
+pub read_too_long : (left now : Option (List ℕ)) (limit room : ℕ) (s t : ReadSoFar) → IsFirst limit s → room ≡ 0 → HasTaken left now limit room s t → Reads (λ events. Tells (λ bytes. IsTooLong limit bytes events) left) s.at t.at
 read_too_long left now limit room s t first full h = record {
   events = h.carried.asked;
   few = let few = few_taken left now limit room s t first h in omega arith;
@@ -203,7 +203,7 @@ few_last (b ∷ part) asked are =
     omega arith
 
 -- nothing is left to read
-pub read_done : (left now after : Option (List ℕ)) (limit room n : ℕ) (buffer : List ℕ) (s t : Standing) (new : Moment) → IsFirst limit s → n ≡ 0 → 0 < length buffer → 0 < room → IsRead n now after buffer → HasTaken left now limit room s t → CarriesLast t.part t.at new → Reads (λ events. Tells (λ bytes. IsWholeSchedule limit bytes events) left) s.at new
+pub read_done : (left now after : Option (List ℕ)) (limit room n : ℕ) (buffer : List ℕ) (s t : ReadSoFar) (new : Moment) → IsFirst limit s → n ≡ 0 → 0 < length buffer → 0 < room → IsRead n now after buffer → HasTaken left now limit room s t → CarriesLast t.part t.at new → Reads (λ events. Tells (λ bytes. IsWholeSchedule limit bytes events) left) s.at new
 read_done left now after limit room n buffer s t new first zero some room_left read h last = record {
   events = h.carried.asked ++ last.asked;
   few =
@@ -222,7 +222,7 @@ read_done left now after limit room n buffer s t new first zero some room_left r
 }
 
 -- the last line is bad
-last_bad : (left now after : Option (List ℕ)) (limit room n number : ℕ) (buffer : List ℕ) (s t : Standing) (new : Moment) → IsFirst limit s → n ≡ 0 → 0 < length buffer → 0 < room → 1 ≤ length t.part → IsRead n now after buffer → HasTaken left now limit room s t → number ≡ t.lines + 1 → IsBadLine t.part → new ≡ t.at → Reads (λ events. Tells (λ bytes. HasBadLine limit bytes events number) left) s.at new
+last_bad : (left now after : Option (List ℕ)) (limit room n number : ℕ) (buffer : List ℕ) (s t : ReadSoFar) (new : Moment) → IsFirst limit s → n ≡ 0 → 0 < length buffer → 0 < room → 1 ≤ length t.part → IsRead n now after buffer → HasTaken left now limit room s t → number ≡ t.lines + 1 → IsBadLine t.part → new ≡ t.at → Reads (λ events. Tells (λ bytes. HasBadLine limit bytes events number) left) s.at new
 last_bad left now after limit room n number buffer s t new first zero some room_left some_part read h is_number bad same = record {
   events = h.carried.asked;
   few = let few = few_taken left now limit room s t first h in omega arith;
@@ -240,7 +240,7 @@ last_bad left now after limit room n number buffer s t new first zero some room_
 }
 
 -- the recorder stopped in a line
-stopped_in : (left : Option (List ℕ)) (limit : ℕ) (p : List ℕ) (s : Standing) (why : RecordStop) (new : Moment) (now : Option (List ℕ)) → IsFirst limit s → length p ≤ limit → SoFar left now p → MeetsStop p why s new → ReadsToStop left why s.at new
+stopped_in : (left : Option (List ℕ)) (limit : ℕ) (p : List ℕ) (s : ReadSoFar) (why : RecordStop) (new : Moment) (now : Option (List ℕ)) → IsFirst limit s → length p ≤ limit → SoFar left now p → MeetsStop p why s new → ReadsToStop left why s.at new
 stopped_in left limit p s why new now first fits so_far h =
     let event = h.stops.event in
     record {
@@ -268,7 +268,7 @@ stopped_in left limit p s why new now first fits so_far h =
       stopped = h.stops.stopped;
     }
 
-last_stopped : (left now : Option (List ℕ)) (limit room : ℕ) (s t : Standing) (why : RecordStop) (new : Moment) → IsFirst limit s → HasTaken left now limit room s t → StopsInLine t.part why t.at new → ReadsToStop left why s.at new
+last_stopped : (left now : Option (List ℕ)) (limit room : ℕ) (s t : ReadSoFar) (why : RecordStop) (new : Moment) → IsFirst limit s → HasTaken left now limit room s t → StopsInLine t.part why t.at new → ReadsToStop left why s.at new
 last_stopped left now limit room s t why new first h stops =
     stopped_in left limit h.done s why new now first (let size = h.size in omega arith) h.so_far (record {
       whole = h.carried.whole;
@@ -283,7 +283,7 @@ last_stopped left now limit room s t why new first h stops =
     })
 
 -- the last line stopped the run
-read_stopped_last : (left now : Option (List ℕ)) (limit room n : ℕ) (buffer : List ℕ) (s t : Standing) (a b : SourceSeen) (why : RunStop) (new : Moment) → a.left ≡ left → IsFirst limit s → n ≡ 0 → 0 < length buffer → 0 < room → 1 ≤ length t.part → b.faults ≡ a.faults → IsRead n now b.left buffer → HasTaken left now limit room s t → StopsAtLine t.part (t.lines + 1) why t.at new → ReadStops limit a b why s.at new
+read_stopped_last : (left now : Option (List ℕ)) (limit room n : ℕ) (buffer : List ℕ) (s t : ReadSoFar) (a b : SourceSeen) (why : RunStop) (new : Moment) → a.left ≡ left → IsFirst limit s → n ≡ 0 → 0 < length buffer → 0 < room → 1 ≤ length t.part → b.faults ≡ a.faults → IsRead n now b.left buffer → HasTaken left now limit room s t → StopsAtLine t.part (t.lines + 1) why t.at new → ReadStops limit a b why s.at new
 read_stopped_last left now limit room n buffer s t a b (stop.BadLine number) new same first zero some room_left some_part unfailed read h stops =
     (unfailed, subst (λ (l : Option (List ℕ)). Reads (λ events. Tells (λ bytes. HasBadLine limit bytes events number) l) s.at new) (sym same) (last_bad left now b.left limit room n number buffer s t new first zero some room_left some_part read h stops.0 stops.1 stops.2))
 read_stopped_last left now limit room n buffer s t a b stop.Source new same first zero some room_left some_part unfailed read h stops = absurd stops
@@ -294,7 +294,7 @@ read_stopped_last left now limit room n buffer s t a b stop.OutOfMemory new same
     (unfailed, subst (λ (l : Option (List ℕ)). ReadsToStop l record_stop.OutOfMemory s.at new) (sym same) (last_stopped left now limit room s t record_stop.OutOfMemory new first h stops))
 
 -- a line in a piece is bad
-piece_bad : (left now : Option (List ℕ)) (limit number : ℕ) (p : List ℕ) (s : Standing) (new : Moment) → IsFirst limit s → length p ≤ limit → SoFar left now p → MeetsBad p s number new → Reads (λ events. Tells (λ bytes. HasBadLine limit bytes events number) left) s.at new
+piece_bad : (left now : Option (List ℕ)) (limit number : ℕ) (p : List ℕ) (s : ReadSoFar) (new : Moment) → IsFirst limit s → length p ≤ limit → SoFar left now p → MeetsBad p s number new → Reads (λ events. Tells (λ bytes. HasBadLine limit bytes events number) left) s.at new
 piece_bad left now limit number p s new first fits so_far h = record {
   events = h.asked;
   few =
@@ -320,7 +320,7 @@ piece_bad left now limit number p s new first fits so_far h = record {
 }
 
 -- a line in a piece stopped the run
-read_stopped : (left now : Option (List ℕ)) (limit room n : ℕ) (buffer : List ℕ) (s t : Standing) (a b : SourceSeen) (why : RunStop) (new : Moment) → a.left ≡ left → IsFirst limit s → n ≤ room → b.faults ≡ a.faults → IsRead n now b.left buffer → HasTaken left now limit room s t → Halts (take n buffer) t why new → ReadStops limit a b why s.at new
+read_stopped : (left now : Option (List ℕ)) (limit room n : ℕ) (buffer : List ℕ) (s t : ReadSoFar) (a b : SourceSeen) (why : RunStop) (new : Moment) → a.left ≡ left → IsFirst limit s → n ≤ room → b.faults ≡ a.faults → IsRead n now b.left buffer → HasTaken left now limit room s t → Halts (take n buffer) t why new → ReadStops limit a b why s.at new
 read_stopped left now limit room n buffer s t a b why new same first fits unfailed read h halts =
     by why (halts_on h.done (take n buffer) s t why new h.carried halts)
   where
@@ -339,25 +339,25 @@ read_stopped left now limit room n buffer s t a b why new same first fits unfail
     by stop.OutOfMemory whole = (unfailed, subst (λ (l : Option (List ℕ)). ReadsToStop l record_stop.OutOfMemory s.at new) (sym same) (stopped_in left limit (h.done ++ take n buffer) s record_stop.OutOfMemory new b.left first size so_far whole))
 
 -- the bytes that were read stand at the beginning of the buffer
-pub taken_front : (left now after : Option (List ℕ)) (limit room room' n : ℕ) (buffer tail : List ℕ) (s t u : Standing) → n ≤ length buffer → room' + n ≡ room → IsRead n now after buffer → HasTaken left now limit room s t → Carries (take n (buffer ++ tail)) t u → HasTaken left after limit room' s u
+pub taken_front : (left now after : Option (List ℕ)) (limit room room' n : ℕ) (buffer tail : List ℕ) (s t u : ReadSoFar) → n ≤ length buffer → room' + n ≡ room → IsRead n now after buffer → HasTaken left now limit room s t → Carries (take n (buffer ++ tail)) t u → HasTaken left after limit room' s u
 taken_front left now after limit room room' n buffer tail s t u fits less read h more =
     taken_more left now after limit room room' n buffer s t u fits less read h
     (subst (λ (p : List ℕ). Carries p t u) (take-append-le n buffer tail fits) more)
 
-pub stopped_front : (now : Option (List ℕ)) (limit room n : ℕ) (buffer tail : List ℕ) (s t : Standing) (a b : SourceSeen) (why : RunStop) (new : Moment) → IsFirst limit s → n ≤ length buffer → n ≤ room → b.faults ≡ a.faults → IsRead n now b.left buffer → HasTaken a.left now limit room s t → Halts (take n (buffer ++ tail)) t why new → ReadStops limit a b why s.at new
+pub stopped_front : (now : Option (List ℕ)) (limit room n : ℕ) (buffer tail : List ℕ) (s t : ReadSoFar) (a b : SourceSeen) (why : RunStop) (new : Moment) → IsFirst limit s → n ≤ length buffer → n ≤ room → b.faults ≡ a.faults → IsRead n now b.left buffer → HasTaken a.left now limit room s t → Halts (take n (buffer ++ tail)) t why new → ReadStops limit a b why s.at new
 stopped_front now limit room n buffer tail s t a b why new first in_buffer fits unfailed read h halts =
     read_stopped a.left now limit room n buffer s t a b why new refl first fits unfailed read h
     (subst (λ (p : List ℕ). Halts p t why new) (take-append-le n buffer tail in_buffer) halts)
 
 -- by what the call answered at the end
-pub at_end : (now : Option (List ℕ)) (limit room n : ℕ) (buffer : List ℕ) (s t u : Standing) (a b : SourceSeen) (result : Result (Unit {0}) RunStop) → IsFirst limit s → n ≡ 0 → 0 < length buffer → 0 < room → b.faults ≡ a.faults → IsRead n now b.left buffer → HasTaken a.left now limit room s t → Finishes result t u → ReadsAll limit result a b s.at u.at
+pub at_end : (now : Option (List ℕ)) (limit room n : ℕ) (buffer : List ℕ) (s t u : ReadSoFar) (a b : SourceSeen) (result : Result (Unit {0}) RunStop) → IsFirst limit s → n ≡ 0 → 0 < length buffer → 0 < room → b.faults ≡ a.faults → IsRead n now b.left buffer → HasTaken a.left now limit room s t → Finishes result t u → ReadsAll limit result a b s.at u.at
 at_end now limit room n buffer s t u a b (Ok done) first zero some room_left unfailed read h last =
     (unfailed, read_done a.left now b.left limit room n buffer s t u.at first zero some room_left read h last)
 at_end now limit room n buffer s t u a b (Err why) first zero some room_left unfailed read h last =
     read_stopped_last a.left now limit room n buffer s t a b why u.at refl first zero some room_left last.0 unfailed read h last.1
 
 -- the reader is ready for what is left of the limit
-pub ready_taken : (left now : Option (List ℕ)) (limit room n : ℕ) (s t : Standing) → IsFirst limit s → n ≤ room → attached_of s.at.disk ≡ Some s.at.world.front.sectors → HasTaken left now limit room s t → IsReadyToTake n t
+pub ready_taken : (left now : Option (List ℕ)) (limit room n : ℕ) (s t : ReadSoFar) → IsFirst limit s → n ≤ room → attached_of s.at.disk ≡ Some s.at.world.front.sectors → HasTaken left now limit room s t → IsReadyToTake n t
 ready_taken left now limit room n s t first le attached h =
     let size = h.size in
     let small = first.small in

@@ -1,14 +1,14 @@
 -- What was told of events that were carried out is lawful; so is what was told until the recorder stopped.
-use Rattle.std.proofs.Common.{◌≡◌, ℕ, ◌+◌, ◌^◌, ◌<◌, ◌≤◌, List, [], ◌∷◌, ◌++◌, length, Option, Result, Ok, Err, inl, inr, refl, ap, sym, ◌∙◌, subst, append_assoc, append-nil, length-append, arith}
+use Rattle.std.proofs.Common.{◌≡◌, ℕ, ◌+◌, ◌^◌, ◌<◌, ◌≤◌, List, [], ◌∷◌, ◌++◌, length, Result, Ok, Err, inl, inr, refl, ap, sym, ◌∙◌, subst, append_assoc, append-nil, length-append, arith}
 use Rattle.blk_base.specs.Options.{Options}
 use Rattle.blk_base.specs.declared.config.Job.{Job}
-use Rattle.blk_io.specs.Disk.{DiskSeen, HasLength}
+use Rattle.blk_io.specs.Disk.{HasLength}
 use Rattle.schedule_text.specs.declared.event.Event.{Event}
 use Rattle.schedule_text.specs.declared.line.Detail.{Detail}
 use Rattle.schedule_text.specs.declared.line.Line.{Line}
 use Rattle.schedule_text.specs.declared.line.Line.TheVariants.{Begin, End}
 use Rattle.schedule_text.specs.declared.recorder.RecordStop.{RecordStop}
-use Rattle.schedule_text.specs.Recorder.{kept_of, recorded, gained, RecorderSeen, Gained, StopsWithin, StopsAmong}
+use Rattle.schedule_text.specs.Recorder.{kept_of, recorded, gained, Gained, StopsWithin, StopsAmong}
 use Rattle.schedule_text.proofs.Adding.{gained_twice, stopped_later}
 use Rattle.plain_disk.specs.Echo.{AnswersAll}
 use Rattle.split_model.specs.World.{World, start_of}
@@ -17,14 +17,13 @@ use Rattle.split_model.specs.Kind.{AreOf, AreOfAll, AreOfSoFar}
 use Rattle.split_model.specs.Leads.{Moment, moment, Leads, LeadsToStop, Goes}
 use Rattle.split_model.specs.Report.{report_of, ended_report_of}
 use Rattle.split_model.proofs.Running.{lines_of-append, leads_as, stops_on}
-use Rattle.split_model.proofs.Echo.{echo_of, schedule_echo, kept_echo}
-use Rattle.disk_laws.specs.Allowed.{AreAllowed}
-use Rattle.disk_laws.specs.Submissions.{submitted_of}
-use Rattle.disk_laws.proofs.KindsFront.{start_connects, connects_after}
-use Rattle.disk_laws.proofs.KindsEvents.{allowed_append, event_so_far_allowed, events_allowed}
+use Rattle.split_model.proofs.Echo.{schedule_echo, kept_echo}
+use Rattle.machine_pipeline.specs.Submissions.{submitted_of}
+use Rattle.machine_pipeline.proofs.KindsFront.{start_connects, connects_after}
+use Rattle.machine_pipeline.proofs.KindsEvents.{allowed_append, event_so_far_allowed, events_allowed}
 use Rattle.disk_laws.proofs.SubmissionsOf.{events_submit, events_so_far_submit}
 use Rattle.schedule_run.specs.Outcome.{Outside, outside, IsServed, HasCarried}
-use Rattle.schedule_run.specs.Lawful.{IsLawful, IsLawfulSoFar, HasLawfulReport, HasLawfulBeginning, LeavesLawful, EventLeaves}
+use Rattle.schedule_run.specs.Lawful.{IsLawful, IsLawfulSoFar, HasLawfulReport, HasLawfulBeginning, EventLeaves}
 use Rattle.schedule_run.proofs.Lengths.{report_short, report_so_far_short}
 use Rattle.schedule_run.proofs.Lawful.{IsTold, report_lawful, begun_lawful, nothing_lawful}
 use Rattle.schedule_run.proofs.Begins.{plain_of}
@@ -63,8 +62,8 @@ carried_lawful config events old now long h =
     }
 
 -- as the beginning of one
-pub carried_so_far : (config : Options) (events : List Event) (old : Outside) (now : Moment) → HasCarried config events old now → HasLawfulBeginning config events old (outside now.disk now.recorder)
-carried_so_far config events old now h =
+pub carried_so_far : (config : Options) (events : List Event) (old : Outside) (now : Moment) → HasLength old.disk.content config.sectors → HasCarried config events old now → HasLawfulBeginning config events old (outside now.disk now.recorder)
+carried_so_far config events old now long h =
     let leads = h.leads in
     let detail = old.recorder.detail in
     let report = report_of config detail leads.history in
@@ -73,7 +72,7 @@ carried_so_far config events old now h =
       report = kept_of detail report;
       told = inl told.told;
       lawful = subst (λ (jobs : List Job). IsLawfulSoFar config detail jobs old.disk.content (kept_of detail report)) (events_submit events (start_of config) leads.history leads.is_kind)
-          (begun_lawful config detail leads.history old.disk.content report (End ∷ []) (is_told config events old now h) refl);
+          (begun_lawful config detail leads.history old.disk.content report (End ∷ []) (is_told config events old now h) long refl);
     }
 
 -- nothing was told whole: the recorder stopped at the first line
@@ -121,8 +120,8 @@ both_told config detail events event hs served few k =
     })
 
 -- the recorder stopped in an event
-pub stopped_in_event : (config : Options) (events : List Event) (event : Event) (why : RecordStop) (old : Outside) (middle new : Moment) → HasCarried config events old middle → LeadsToStop (AreOfSoFar event middle.world) why middle new → HasLawfulBeginning config (events ++ event ∷ []) old (outside new.disk new.recorder)
-stopped_in_event config events event why old middle new h stopped =
+pub stopped_in_event : (config : Options) (events : List Event) (event : Event) (why : RecordStop) (old : Outside) (middle new : Moment) → HasLength old.disk.content config.sectors → HasCarried config events old middle → LeadsToStop (AreOfSoFar event middle.world) why middle new → HasLawfulBeginning config (events ++ event ∷ []) old (outside new.disk new.recorder)
+stopped_in_event config events event why old middle new long h stopped =
     let start = start_of config in
     let detail = old.recorder.detail in
     let whole = stops_on (AreOfAll events start) (AreOfSoFar event middle.world) (AreOfBoth events event start) why (moment start old.disk h.began) middle new (λ xs ys k here f. (xs, ys, refl, k, subst (λ (w : World). AreOfSoFar event w ys) here f)) h.leads stopped in
@@ -134,13 +133,13 @@ stopped_in_event config events event why old middle new h stopped =
       report = kept_of detail said;
       told = inr (told.cut, told.stops);
       lawful = subst (λ (jobs : List Job). IsLawfulSoFar config detail jobs old.disk.content (kept_of detail said)) (ap submitted_of k.2 ∙ events_so_far_submit events event start k.0 k.1 k.3 k.4)
-          (begun_lawful config detail all old.disk.content said ((told.cut ∷ told.rest) ++ End ∷ []) (both_told config detail events event all h.served h.few k)
+          (begun_lawful config detail all old.disk.content said ((told.cut ∷ told.rest) ++ End ∷ []) (both_told config detail events event all h.served h.few k) long
           (cut_report config detail whole.history whole.last told.said told.rest told.cut told.all));
     }
 
 -- or at the last line
-pub stopped_at_end : (config : Options) (events : List Event) (why : RecordStop) (old : Outside) (before : Moment) (new : Outside) → HasCarried config events old before → StopsAmong [] (End ∷ []) why before.recorder new.recorder → HasLawfulBeginning config events old new
-stopped_at_end config events why old before new h s =
+pub stopped_at_end : (config : Options) (events : List Event) (why : RecordStop) (old : Outside) (before : Moment) (new : Outside) → HasLength old.disk.content config.sectors → HasCarried config events old before → StopsAmong [] (End ∷ []) why before.recorder new.recorder → HasLawfulBeginning config events old new
+stopped_at_end config events why old before new long h s =
     let leads = h.leads in
     let detail = old.recorder.detail in
     let report = report_of config detail leads.history in
@@ -154,7 +153,7 @@ stopped_at_end config events why old before new h s =
       report = kept_of detail said;
       told = inr (told.cut, told.stops);
       lawful = subst (λ (jobs : List Job). IsLawfulSoFar config detail jobs old.disk.content (kept_of detail said)) (events_submit events (start_of config) leads.history leads.is_kind)
-          (begun_lawful config detail leads.history old.disk.content said (told.cut ∷ told.rest) (is_told config events old before h) all);
+          (begun_lawful config detail leads.history old.disk.content said (told.cut ∷ told.rest) (is_told config events old before h) long all);
     }
 
 -- one event more
@@ -173,4 +172,4 @@ pub event_lawful : (config : Options) (events : List Event) (event : Event) (old
 event_lawful config events event old n (Ok done) a b few long h goes =
     let carried = carried_on config events event old a b few h goes.ends in
     record { carried = carried; told = carried_lawful config (events ++ event ∷ []) old b long carried }
-event_lawful config events event old n (Err why) a b few long h goes = stopped_in_event config events event why old a b h goes.ends
+event_lawful config events event old n (Err why) a b few long h goes = stopped_in_event config events event why old a b long h goes.ends

@@ -6,33 +6,32 @@ use Rattle.schedule_text.specs.declared.event.Event.{Event}
 use Rattle.schedule_text.specs.declared.recorder.RecordStop.{RecordStop}
 use Rattle.schedule_text.specs.declared.recorder.RecordStop.TheVariants as record_stop
 use Rattle.schedule_text.specs.Recorder.{RecorderSeen, FailsHandingOn}
-use Rattle.split_model.specs.World.{World}
 use Rattle.split_model.specs.Kind.{AreOfAll, AreOfSoFar}
 use Rattle.split_model.specs.Leads.{Leads, LeadsToStop, Moment, moment}
 use Rattle.schedule_run.specs.Machine.{Run}
-use Rattle.schedule_run.specs.Reading.{text_of, IsUnbroken, first_line, IsLineOf, IsBadLine, AreLinesOf, last_line, IsWholeSchedule, HasBadLine, IsTooLong, HasBegun, HasComeTo, HasReadTo, Tells, TellsRest}
+use Rattle.schedule_run.specs.Reading.{text_of, HasNoLineFeed, first_line, IsLineOf, IsBadLine, AreLinesOf, last_line, IsWholeSchedule, HasBadLine, IsTooLong, HasBegun, HasComeTo, HasReadTo, Tells, TellsRest}
 use Rattle.schedule_run.specs.declared.schedule.RunStop.{RunStop}
 use Rattle.schedule_run.specs.declared.schedule.RunStop.TheVariants as stop
 
--- where the reader stands: the line that was begun, the numbers of whole lines and of events, and the moment
-pub record Standing : Type 0 where
+-- what was read so far: the line that was begun, the numbers of whole lines and of events, and the moment
+pub record ReadSoFar : Type 0 where
   pub part : List ℕ
   pub lines : ℕ
   pub events : ℕ
   pub at : Moment
 
-abbrev pub standing : Run → List ℕ → ℕ → DiskSeen → RecorderSeen → Standing
-standing run part lines disk recorder = record { part = part; lines = lines; events = run.events; at = moment run.world disk recorder }
+abbrev pub read_so_far : Run → List ℕ → ℕ → DiskSeen → RecorderSeen → ReadSoFar
+read_so_far run part lines disk recorder = record { part = part; lines = lines; events = run.events; at = moment run.world disk recorder }
 
 -- nothing was read yet
-pub record IsFresh (s : Standing) : Type 0 where
+pub record IsFresh (s : ReadSoFar) : Type 0 where
   pub part : s.part ≡ []
   pub lines : s.lines ≡ 0
   pub events : s.events ≡ 0
 
 -- the reader has room for so many bytes more: numbers of lines and events that don't overflow; the disk is attached with the front's sectors
-pub record IsReadyToTake (n : ℕ) (s : Standing) : Type 0 where
-  pub unbroken : IsUnbroken s.part
+pub record IsReadyToTake (n : ℕ) (s : ReadSoFar) : Type 0 where
+  pub unbroken : HasNoLineFeed s.part
   pub fits : length s.part ≤ 128
   pub few : 5 * s.events + length s.part + n ≤ 4294967296
   pub lines : s.lines + length s.part + n ≤ 4294967296
@@ -64,12 +63,12 @@ StopsAtLine line number stop.Sink old new = StopsInLine line record_stop.Failed 
 StopsAtLine line number stop.OutOfMemory old new = StopsInLine line record_stop.OutOfMemory old new
 
 -- the line that was begun is whole: it was carried out, or stopped the run
-pub record HasFed (old new : Standing) : Type 0 where
+pub record HasFed (old new : ReadSoFar) : Type 0 where
   pub carried : CarriesLine old.part old.events new.events old.at new.at
   pub part : new.part ≡ []
   pub lines : new.lines ≡ old.lines + 1
 
-abbrev pub Feeds : Result (Unit {0}) RunStop → Standing → Standing → Type 0
+abbrev pub Feeds : Result (Unit {0}) RunStop → ReadSoFar → ReadSoFar → Type 0
 Feeds (Ok done) old new = HasFed old new
 Feeds (Err why) old new = StopsAtLine old.part (old.lines + 1) why old.at new.at
 
@@ -79,17 +78,17 @@ pub record CarriesLast (line : List ℕ) (old new : Moment) : Type 0 where
   pub are_lines : AreLinesOf (last_line line) asked
   pub leads : EventsLead asked old new
 
-abbrev pub Finishes : Result (Unit {0}) RunStop → Standing → Standing → Type 0
+abbrev pub Finishes : Result (Unit {0}) RunStop → ReadSoFar → ReadSoFar → Type 0
 Finishes (Ok done) old new = CarriesLast old.part old.at new.at
 Finishes (Err why) old new = (1 ≤ length old.part) × StopsAtLine old.part (old.lines + 1) why old.at new.at
 
 -- the whole lines of the part and this piece were carried out, and what is after them is the part now
-pub record Carries (piece : List ℕ) (old new : Standing) : Type 0 where
+pub record Carries (piece : List ℕ) (old new : ReadSoFar) : Type 0 where
   pub whole : List (List ℕ)
   pub asked : List Event
   pub all : old.part ++ piece ≡ text_of whole ++ new.part
   pub are_lines : AreLinesOf whole asked
-  pub unbroken : IsUnbroken new.part
+  pub unbroken : HasNoLineFeed new.part
   pub fits : length new.part ≤ 128
   pub lines : new.lines ≡ old.lines + length whole
   pub events : new.events ≡ old.events + length asked
@@ -101,7 +100,7 @@ pub record IsSurelyBad (bytes : List ℕ) : Type 0 where
   pub seen : (further : List ℕ) → min (length (first_line (bytes ++ further)) + 1) 129 ≤ length bytes
 
 -- whole lines of the part and this piece were carried out, and the next one, of this number, is bad
-pub record MeetsBad (piece : List ℕ) (old : Standing) (number : ℕ) (new : Moment) : Type 0 where
+pub record MeetsBad (piece : List ℕ) (old : ReadSoFar) (number : ℕ) (new : Moment) : Type 0 where
   pub whole : List (List ℕ)
   pub asked : List Event
   pub rest : List ℕ
@@ -112,7 +111,7 @@ pub record MeetsBad (piece : List ℕ) (old : Standing) (number : ℕ) (new : Mo
   pub leads : EventsLead asked old.at new
 
 -- whole lines of the part and this piece were carried out, and in the next one the recorder stopped
-pub record MeetsStop (piece : List ℕ) (why : RecordStop) (old : Standing) (new : Moment) : Type 0 where
+pub record MeetsStop (piece : List ℕ) (why : RecordStop) (old : ReadSoFar) (new : Moment) : Type 0 where
   pub whole : List (List ℕ)
   pub asked : List Event
   pub line : List ℕ
@@ -124,14 +123,14 @@ pub record MeetsStop (piece : List ℕ) (why : RecordStop) (old : Standing) (new
   pub stops : StopsInLine line why middle new
 
 -- how carrying out the lines of the part and this piece stopped
-abbrev pub Halts : List ℕ → Standing → RunStop → Moment → Type 0
+abbrev pub Halts : List ℕ → ReadSoFar → RunStop → Moment → Type 0
 Halts piece old (stop.BadLine n) new = MeetsBad piece old n new
 Halts piece old stop.Source new = ⊥
 Halts piece old stop.TooLong new = ⊥
 Halts piece old stop.Sink new = MeetsStop piece record_stop.Failed old new
 Halts piece old stop.OutOfMemory new = MeetsStop piece record_stop.OutOfMemory old new
 
-abbrev pub Takes : List ℕ → Result (Unit {0}) RunStop → Standing → Standing → Type 0
+abbrev pub Takes : List ℕ → Result (Unit {0}) RunStop → ReadSoFar → ReadSoFar → Type 0
 Takes piece (Ok done) old new = Carries piece old new
 Takes piece (Err why) old new = Halts piece old why new.at
 

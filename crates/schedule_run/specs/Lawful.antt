@@ -1,9 +1,8 @@
--- What every report of a run tells, whatever its schedule: `report_rules`, `plain_disk`, `disk_laws` and `report_laws` have the rules.
-use Rattle.std.specs.Prelude.{◌≡◌, ℕ, ◌+◌, ◌^◌, ◌<◌, ◌⊎◌, List, [], ◌∷◌, ◌++◌, filter, Option, Result, Ok, Err}
+-- What every report of a run tells, whatever its schedule: `report_rules`, `plain_disk`, `pipeline_laws` and `report_laws` have the rules.
+use Rattle.std.specs.Prelude.{◌≡◌, ℕ, ◌⊎◌, List, filter, Option, Result, Ok, Err}
 use Rattle.blk_base.specs.Options.{Options}
 use Rattle.blk_base.specs.declared.config.Job.{Job}
 use Rattle.blk_io.specs.Outside.{SourceSeen}
-use Rattle.blk_io.specs.Disk.{HasLength}
 use Rattle.schedule_text.specs.declared.event.Event.{Event}
 use Rattle.schedule_text.specs.declared.line.Detail.{Detail}
 use Rattle.schedule_text.specs.declared.line.Detail.TheVariants.{Moves}
@@ -24,16 +23,18 @@ use Rattle.ring_laws.specs.Own.{AreOwn}
 use Rattle.report_rules.specs.Reply.{AreReplies}
 use Rattle.move_laws.specs.Grantable.{AreGrantable}
 use Rattle.plain_disk.specs.Echo.{is_echo, AnswersAll, Echoes}
-use Rattle.disk_laws.specs.Run.{IsRun, IsRunSoFar}
-use Rattle.disk_laws.specs.Submissions.{jobs_of}
+use Rattle.pipeline_laws.specs.Run.{IsRun}
+use Rattle.disk_laws.specs.Run.{IsRunSoFar}
+use Rattle.machine_pipeline.specs.Submissions.{jobs_of}
 use Rattle.pipeline_laws.specs.Submissions.{IsAnswerAt, AreAnswered}
 use Rattle.pipeline_laws.specs.Answered.{AreAnsweredOnce, IsQuietAnswered}
 use Rattle.pipeline_laws.specs.Unbroken.{IsUnbroken}
+use Rattle.pipeline_laws.specs.States.{AreStates}
 use Rattle.report_laws.specs.Begun.{IsBegun, IsBegunSoFar}
 use Rattle.report_laws.specs.Grammar.{IsInGrammar}
 use Rattle.report_laws.specs.Ready.{IsReadyFirst}
 use Rattle.report_laws.specs.QuietRing.{IsQuietRing}
-use Rattle.split_model.specs.Leads.{Moment, moment}
+use Rattle.split_model.specs.Leads.{Moment}
 use Rattle.schedule_run.specs.Reading.{IsWholeSchedule, HasBadLine, IsTooLong, HasReadTo, IsReadSoFar, Tells, TellsRest}
 use Rattle.schedule_run.specs.Outcome.{Outside, HasCarried}
 use Rattle.schedule_run.specs.declared.schedule.RunStop.{RunStop}
@@ -57,7 +58,7 @@ pub record ShowsWork (report : List Line) : Type 0 where
   pub own : AreOwn report
   pub replies : AreReplies report
 
--- a report begins with the options, is lines of the grammar that its text gives back, and is a run of the plain disk, from what the disk held to what it holds; it answers these submissions, one line each, as the lines before say; each request has at most one answer; at each `quiet` line all have theirs, and the front was connected; no line of it is a breach of the protocol; and where it shows the moves, they obey the rules, and at each `quiet` line the ring is served and read
+-- a report begins with the options, is lines of the grammar that its text gives back, and is a run of the plain disk, from what the disk held to what it holds; it answers these submissions, one line each, as the lines before say; each request has at most one answer; at each `quiet` line all have theirs, and the front was connected; no line of it is a breach of the protocol, and the front connects and closes in order; and where it shows the moves, they obey the rules, and at each `quiet` line the ring is served and read
 pub record IsLawful (config : Options) (detail : Detail) (jobs : List Job) (before now : Option (List (List ℕ))) (report : List Line) : Type 0 where
   pub begun : IsBegun config detail report
   pub grammar : IsInGrammar report
@@ -67,6 +68,7 @@ pub record IsLawful (config : Options) (detail : Detail) (jobs : List Job) (befo
   pub quiet : IsQuietAnswered report
   pub ready : IsReadyFirst report
   pub unbroken : IsUnbroken report
+  pub states : AreStates report
   pub ring : detail ≡ Moves → IsQuietRing report
   pub moves : detail ≡ Moves → ObeysMoves report
   pub work : detail ≡ Moves → ShowsWork report
@@ -81,6 +83,7 @@ pub record IsLawfulSoFar (config : Options) (detail : Detail) (jobs : List Job) 
   pub quiet : IsQuietAnswered report
   pub ready : IsReadyFirst report
   pub unbroken : IsUnbroken report
+  pub states : AreStates report
   pub ring : detail ≡ Moves → IsQuietRing report
   pub moves : detail ≡ Moves → ObeysMoves report
   pub work : detail ≡ Moves → ShowsWork report

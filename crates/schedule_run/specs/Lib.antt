@@ -4,3 +4,4 @@ pub mod Outcome
 pub mod Carrying
 pub mod Lawful
 pub mod Following
+pub mod Going

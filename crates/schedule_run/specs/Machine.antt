@@ -8,5 +8,5 @@ pub record Run : Type 0 where
   pub events : ℕ
 
 -- each event so far made fewer maps than that, and there are fewer events than make a number overflow
-abbrev pub IsWithin : World → ℕ → Type 0
-IsWithin w events = (w.under.grants.made ≤ events * 10 ^ 10) × (events ≤ 10 ^ 9)
+abbrev pub HasSmallCounts : World → ℕ → Type 0
+HasSmallCounts w events = (w.under.grants.made ≤ events * 10 ^ 10) × (events ≤ 10 ^ 9)

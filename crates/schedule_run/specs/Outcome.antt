@@ -1,8 +1,8 @@
 -- How a run may end, and what then stands.
-use Rattle.std.specs.Prelude.{◌≡◌, ◌≤◌, ◌^◌, ◌⊎◌, true, List, [], ◌∷◌, length, ℕ, Option, Result, Ok, Err}
+use Rattle.std.specs.Prelude.{◌≡◌, ◌≤◌, ◌^◌, ◌⊎◌, true, List, [], ◌∷◌, length, ℕ, Option, Some, Result, Ok, Err}
 use Rattle.blk_base.specs.Options.{Options}
 use Rattle.blk_io.specs.Outside.{Rose, SourceSeen}
-use Rattle.blk_io.specs.Disk.{DiskSeen}
+use Rattle.blk_io.specs.Disk.{DiskSeen, attached_of}
 use Rattle.schedule_text.specs.declared.event.Event.{Event}
 use Rattle.schedule_text.specs.declared.line.Detail.{Detail}
 use Rattle.schedule_text.specs.declared.line.Line.TheVariants.{Begin, End}
@@ -33,6 +33,12 @@ pub record IsServed (config : Options) : Type 0 where
   pub carried : are_carried config ≡ true
   pub options : AreOptions config
 
+-- options that the machine serves, a limit of bytes, and a disk that is attached with the options' sectors
+pub record MayRun (config : Options) (limit : ℕ) (disk : DiskSeen) : Type 0 where
+  pub carried : are_carried config ≡ true
+  pub few : limit ≤ 4294967296
+  pub attached : attached_of disk ≡ Some config.sectors
+
 -- the recorder took the first line, and then the happenings of these events lead to this moment
 pub record HasCarried (config : Options) (events : List Event) (old : Outside) (now : Moment) : Type 0 where
   pub served : IsServed config
@@ -54,7 +60,7 @@ pub record HasEnded (before after : RecorderSeen) : Type 0 where
   pub kept_back : after.kept_back ≡ 0
 
 -- the whole schedule was carried out, and the report ends
-pub record IsDone (config : Options) (limit : ℕ) (source source' : SourceSeen) (old new : Outside) : Type 0 where
+pub record EndsWhole (config : Options) (limit : ℕ) (source source' : SourceSeen) (old new : Outside) : Type 0 where
   pub events : List Event
   pub schedule : Tells (λ bytes. IsWholeSchedule limit bytes events) source.left
   pub unfailed : source'.faults ≡ source.faults
@@ -101,12 +107,12 @@ abbrev pub HasRead : Options → (List Event → Type 0) → Outside → Outside
 HasRead config claim old new = (events : List Event) × claim events × HasCarriedOut config events old new
 
 -- what stands at a stop, before the recorder hands on what it kept back; the source failed exactly where that is the reason
-abbrev pub Stands : Options → ℕ → SourceSeen → SourceSeen → RunStop → Outside → Outside → Type 0
-Stands config limit a b (stop.BadLine n) old new = (b.faults ≡ a.faults) × HasRead config (λ events. Tells (λ bytes. HasBadLine limit bytes events n) a.left) old new
-Stands config limit a b stop.Source old new = Rose a.faults b.faults × HasRead config (λ events. TellsRest (λ bytes rest. HasReadTo bytes rest events) a.left b.left) old new
-Stands config limit a b stop.TooLong old new = (b.faults ≡ a.faults) × HasRead config (λ events. Tells (λ bytes. IsTooLong limit bytes events) a.left) old new
-Stands config limit a b stop.Sink old new = (b.faults ≡ a.faults) × (IsCut config limit a.left record_stop.Failed old new ⊎ IsUnsent config a.left old new)
-Stands config limit a b stop.OutOfMemory old new = (b.faults ≡ a.faults) × ((new ≡ old) ⊎ IsCut config limit a.left record_stop.OutOfMemory old new)
+abbrev pub StandsAtStop : Options → ℕ → SourceSeen → SourceSeen → RunStop → Outside → Outside → Type 0
+StandsAtStop config limit a b (stop.BadLine n) old new = (b.faults ≡ a.faults) × HasRead config (λ events. Tells (λ bytes. HasBadLine limit bytes events n) a.left) old new
+StandsAtStop config limit a b stop.Source old new = Rose a.faults b.faults × HasRead config (λ events. TellsRest (λ bytes rest. HasReadTo bytes rest events) a.left b.left) old new
+StandsAtStop config limit a b stop.TooLong old new = (b.faults ≡ a.faults) × HasRead config (λ events. Tells (λ bytes. IsTooLong limit bytes events) a.left) old new
+StandsAtStop config limit a b stop.Sink old new = (b.faults ≡ a.faults) × (IsCut config limit a.left record_stop.Failed old new ⊎ IsUnsent config a.left old new)
+StandsAtStop config limit a b stop.OutOfMemory old new = (b.faults ≡ a.faults) × ((new ≡ old) ⊎ IsCut config limit a.left record_stop.OutOfMemory old new)
 
 -- a recorder handed on what it kept back, or failed to; it tells the same
 pub record TriesToHandOn (a b : RecorderSeen) : Type 0 where
@@ -116,23 +122,24 @@ pub record TriesToHandOn (a b : RecorderSeen) : Type 0 where
   pub outcome : ((b.kept_back ≡ 0) × (b.faults ≡ a.faults)) ⊎ Rose a.faults b.faults
 
 -- a run stopped, and then the recorder handed on what it kept back, or failed to, which changes no reason
-pub record HasStopped (config : Options) (limit : ℕ) (a b : SourceSeen) (why : RunStop) (old new : Outside) : Type 0 where
+pub record StopsWith (config : Options) (limit : ℕ) (a b : SourceSeen) (why : RunStop) (old new : Outside) : Type 0 where
   pub before : RecorderSeen
-  pub stands : Stands config limit a b why old (outside new.disk before)
+  pub stands : StandsAtStop config limit a b why old (outside new.disk before)
   pub handed_on : TriesToHandOn before new.recorder
 
 -- the whole schedule was carried out and the last line taken, and then the recorder failed to hand on what it kept back
-pub record IsDoneUnsent (config : Options) (limit : ℕ) (a b : SourceSeen) (old new : Outside) : Type 0 where
+pub record EndsUnsent (config : Options) (limit : ℕ) (a b : SourceSeen) (old new : Outside) : Type 0 where
   pub before : RecorderSeen
-  pub done : IsDone config limit a b old (outside new.disk before)
+  pub done : EndsWhole config limit a b old (outside new.disk before)
   pub told : new.recorder.told ≡ before.told
   pub detail : new.recorder.detail ≡ before.detail
   pub lender : new.recorder.lender ≡ before.lender
   pub rose : Rose before.faults new.recorder.faults
 
-abbrev pub IsStopped : Options → ℕ → SourceSeen → SourceSeen → RunStop → Outside → Outside → Type 0
-IsStopped config limit a b stop.Sink old new = HasStopped config limit a b stop.Sink old new ⊎ IsDoneUnsent config limit a b old new
-IsStopped config limit a b why old new = HasStopped config limit a b why old new
+-- how a run that isn't done ends: it stopped, or was done but for what is kept back, of which the sink is the reason
+abbrev pub FailsWith : Options → ℕ → SourceSeen → SourceSeen → RunStop → Outside → Outside → Type 0
+FailsWith config limit a b stop.Sink old new = StopsWith config limit a b stop.Sink old new ⊎ EndsUnsent config limit a b old new
+FailsWith config limit a b why old new = StopsWith config limit a b why old new
 
 -- the whole schedule was carried out and the last line taken
 pub record IsAllTold (config : Options) (limit : ℕ) (a b : SourceSeen) (old new : Outside) : Type 0 where
@@ -146,12 +153,12 @@ pub record IsAllTold (config : Options) (limit : ℕ) (a b : SourceSeen) (old ne
 -- a run, before the recorder hands on what it kept back
 abbrev pub RunsTo : Options → ℕ → Result (Unit {0}) RunStop → SourceSeen → SourceSeen → Outside → Outside → Type 0
 RunsTo config limit (Ok done) a b old new = IsAllTold config limit a b old new
-RunsTo config limit (Err why) a b old new = Stands config limit a b why old new
+RunsTo config limit (Err why) a b old new = StandsAtStop config limit a b why old new
 
 -- a run with these options and this limit of bytes
 abbrev pub Runs : Options → ℕ → Result (Unit {0}) RunStop → SourceSeen → SourceSeen → Outside → Outside → Type 0
-Runs config limit (Ok done) a b old new = IsDone config limit a b old new
-Runs config limit (Err why) a b old new = IsStopped config limit a b why old new
+Runs config limit (Ok done) a b old new = EndsWhole config limit a b old new
+Runs config limit (Err why) a b old new = FailsWith config limit a b why old new
 
 -- why the run stops where the recorder does
 abbrev pub stop_of : RecordStop → RunStop

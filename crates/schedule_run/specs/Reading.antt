@@ -13,8 +13,8 @@ abbrev pub text_of : List (List ℕ) → List ℕ
 text_of lines = flat_map with_feed lines
 
 -- no line feed is among these bytes
-abbrev pub IsUnbroken : List ℕ → Type 0
-IsUnbroken bytes = All (λ (b : ℕ). b ≢ 10) bytes
+abbrev pub HasNoLineFeed : List ℕ → Type 0
+HasNoLineFeed bytes = All (λ (b : ℕ). b ≢ 10) bytes
 
 -- the bytes up to the first line feed, or all of them
 abbrev pub first_line : List ℕ → List ℕ
@@ -33,7 +33,7 @@ IsBadLine line = (read : Option Event) → IsLineOf line read → ⊥
 abbrev pub AreLinesOf : List (List ℕ) → List Event → Type 0
 AreLinesOf [] events = events ≡ []
 AreLinesOf (line ∷ lines) events =
-    (read : Option Event) × (rest : List Event) × IsUnbroken line × IsLineOf line read × (events ≡ option_to_list read ++ rest) × AreLinesOf lines rest
+    (read : Option Event) × (rest : List Event) × HasNoLineFeed line × IsLineOf line read × (events ≡ option_to_list read ++ rest) × AreLinesOf lines rest
 
 -- the last line may lack its line feed; where nothing stands behind the last one, there is no further line
 abbrev pub last_line : List ℕ → List (List ℕ)
@@ -66,7 +66,7 @@ pub record IsTooLong (limit : ℕ) (bytes : List ℕ) (events : List Event) : Ty
   pub reached : limit ≤ length bytes
   pub all : take limit bytes ≡ text_of lines ++ part
   pub are_lines : AreLinesOf lines events
-  pub unbroken : IsUnbroken part
+  pub unbroken : HasNoLineFeed part
   pub fits : length part ≤ 128
 
 -- whole lines from the beginning on ask for these events
@@ -98,7 +98,7 @@ pub record HasReadTo (bytes rest : List ℕ) (events : List Event) : Type 0 wher
   pub part : List ℕ
   pub all : bytes ≡ (text_of lines ++ part) ++ rest
   pub are_lines : AreLinesOf lines events
-  pub unbroken : IsUnbroken part
+  pub unbroken : HasNoLineFeed part
 
 -- what is so of the bytes and of those that are left, where the source exposes them
 abbrev pub TellsRest : (List ℕ → List ℕ → Type 0) → Option (List ℕ) → Option (List ℕ) → Type 0

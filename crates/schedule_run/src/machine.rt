@@ -26,13 +26,13 @@ pub struct Machine {
 
 impl Model for Machine {
     ghost use Rattle.std.specs.Prelude.{◌≤◌, ◌*◌, ◌^◌};
-    ghost use Rattle.schedule_run.specs.Machine.{Run, IsWithin};
+    ghost use Rattle.schedule_run.specs.Machine.{Run, HasSmallCounts};
 
     ghost Value = { Run };
 
     ghost view = { λ m. record { world = m.split; events = m.events } };
 
-    ghost invariant = { λ m. IsWithin m.split m.events };
+    ghost invariant = { λ m. HasSmallCounts m.split m.events };
 }
 
 impl Machine {

@@ -2,7 +2,7 @@
 ghost use Rattle.std.specs.Prelude.{◌≡◌, ◌≤◌, Some, true};
 ghost use Rattle.blk_io.specs.Disk.{HasLength, attached_of};
 ghost use Rattle.split_model.specs.Kind.{are_carried};
-ghost use Rattle.schedule_run.specs.Outcome.{Runs, RunsTo, outside, content_of, stop_of};
+ghost use Rattle.schedule_run.specs.Outcome.{MayRun, Runs, RunsTo, outside, content_of, stop_of};
 ghost use Rattle.schedule_run.specs.Lawful.{RunsLawfully};
 
 mod reading;
@@ -81,9 +81,7 @@ fn carry_out<S: Source, D: SectorDisk, R: Recorder>(
     disk: &mut D,
     recorder: &mut R,
 ) -> Result<(), RunStop>
-    requires carried { are_carried config ≡ true }
-    requires limit { bytes_limit ≤ 4294967296 }
-    requires attached { attached_of (D.seen disk.old) ≡ Some config.sectors }
+    requires { MayRun config bytes_limit (D.seen disk.old) }
     ensures { Runs config bytes_limit result (S.seen source.old) (S.seen source.new)
         (outside (D.seen disk.old) (R.seen recorder.old)) (outside (D.seen disk.new) (R.seen recorder.new)) }
 {
@@ -104,9 +102,7 @@ fn tell<S: Source, D: SectorDisk, R: Recorder>(
     disk: &mut D,
     recorder: &mut R,
 ) -> Result<(), RunStop>
-    requires carried { are_carried config ≡ true }
-    requires limit { bytes_limit ≤ 4294967296 }
-    requires attached { attached_of (D.seen disk.old) ≡ Some config.sectors }
+    requires { MayRun config bytes_limit (D.seen disk.old) }
     ensures { RunsTo config bytes_limit result (S.seen source.old) (S.seen source.new)
         (outside (D.seen disk.old) (R.seen recorder.old)) (outside (D.seen disk.new) (R.seen recorder.new)) }
 {

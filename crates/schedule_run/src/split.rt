@@ -1,5 +1,5 @@
 // Both ends in their machine, and the moves of each.
-ghost use Rattle.std.specs.Prelude.{◌≡◌, ◌<◌, ◌∷◌, [], true, IfOk};
+ghost use Rattle.std.specs.Prelude.{◌≡◌, ◌<◌, ◌∷◌, [], IfOk};
 ghost use Rattle.blk_io.specs.Disk.{DiskSeen};
 ghost use Rattle.schedule_text.specs.Range.{JobHasWidths};
 ghost use Rattle.grant_table.specs.Table.{IsLive};
@@ -7,9 +7,10 @@ ghost use Rattle.hypervisor.specs.May.{IsPlace};
 ghost use Rattle.blk_front.specs.Ask.{ask_of as front_asks};
 ghost use Rattle.blk_back.specs.Step.{job_ask_of};
 ghost use Rattle.split_model.specs.World.{start_of, is_quiet};
-ghost use Rattle.split_model.specs.Happening.{FrontMoves, BackMoves, Submits, Notifies, happens};
-ghost use Rattle.split_model.specs.Kind.{IsJobMove, are_carried};
+ghost use Rattle.split_model.specs.Happening.{Submits, Notifies, happens};
+ghost use Rattle.split_model.specs.Kind.{IsJobMove};
 ghost use Rattle.split_model.specs.Leads.{Goes, Is, IsReadyFor, moment};
+ghost use Rattle.schedule_run.specs.Going.{FrontGoes, BackGoes, JobGoes};
 
 use crate::showing::{follow_back, follow_front, follow_job, show_back, show_front, submit_line};
 use blk_back::Back;
@@ -63,9 +64,7 @@ impl Split {
     /// A move of the front, if it has one.
     #[inline(always)]
     pub fn front_move<R: Recorder>(&mut self, recorder: &mut R) -> Result<(), RecordStop>
-        ensures { (disk : DiskSeen) → Goes (Is (FrontMoves ∷ [])) (Is (FrontMoves ∷ [])) 0 result
-            (moment self.old disk (R.seen recorder.old))
-            (moment self.new disk (R.seen recorder.new)) }
+        ensures { FrontGoes result self.old self.new (R.seen recorder.old) (R.seen recorder.new) }
     {
         if let FrontAsk::Write { frame, word, value } = self.front.ask() {
             return self.front_writes(frame, word, value, recorder);
@@ -84,9 +83,7 @@ impl Split {
     ) -> Result<(), RecordStop>
         requires asked { FrontAsk.Write frame word value ≡ front_asks self.old.front }
         requires place { IsPlace frame word }
-        ensures { (disk : DiskSeen) → Goes (Is (FrontMoves ∷ [])) (Is (FrontMoves ∷ [])) 0 result
-            (moment self.old disk (R.seen recorder.old))
-            (moment self.new disk (R.seen recorder.new)) }
+        ensures { FrontGoes result self.old self.new (R.seen recorder.old) (R.seen recorder.new) }
     {
         let answer = FrontAnswer::Done;
         // A front takes no memory once it is made.
@@ -100,9 +97,7 @@ impl Split {
     // The front's move, whatever it asks.
     #[inline(never)]
     fn front_acts<R: Recorder>(&mut self, recorder: &mut R) -> Result<(), RecordStop>
-        ensures { (disk : DiskSeen) → Goes (Is (FrontMoves ∷ [])) (Is (FrontMoves ∷ [])) 0 result
-            (moment self.old disk (R.seen recorder.old))
-            (moment self.new disk (R.seen recorder.new)) }
+        ensures { FrontGoes result self.old self.new (R.seen recorder.old) (R.seen recorder.new) }
     {
         let ask = self.front.ask();
         let Some(answer) = self.under.front(&ask) else {
@@ -123,7 +118,7 @@ impl Split {
         recorder: &mut R,
     ) -> Result<(), RecordStop>
         requires { IsReadyFor 1 self.old (D.seen disk.old) }
-        ensures { Goes (Is (BackMoves ∷ [])) (Is (BackMoves ∷ [])) 1 result
+        ensures { BackGoes result
             (moment self.old (D.seen disk.old) (R.seen recorder.old))
             (moment self.new (D.seen disk.new) (R.seen recorder.new)) }
     {
@@ -141,7 +136,7 @@ impl Split {
         recorder: &mut R,
     ) -> Result<(), RecordStop>
         requires { IsReadyFor 1 self.old (D.seen disk.old) }
-        ensures { Goes (Is (BackMoves ∷ [])) (Is (BackMoves ∷ [])) 1 result
+        ensures { BackGoes result
             (moment self.old (D.seen disk.old) (R.seen recorder.old))
             (moment self.new (D.seen disk.new) (R.seen recorder.new)) }
     {
@@ -165,7 +160,7 @@ impl Split {
         recorder: &mut R,
     ) -> Result<(), RecordStop>
         requires { IsReadyFor 1 self.old (D.seen disk.old) }
-        ensures { Goes (IsJobMove number) (IsJobMove number) 1 result
+        ensures { JobGoes number result
             (moment self.old (D.seen disk.old) (R.seen recorder.old))
             (moment self.new (D.seen disk.new) (R.seen recorder.new)) }
     {
@@ -209,7 +204,7 @@ impl Split {
         recorder: &mut R,
     ) -> Result<(), RecordStop>
         requires { IsReadyFor 1 self.old (D.seen disk.old) }
-        ensures { Goes (IsJobMove number) (IsJobMove number) 1 result
+        ensures { JobGoes number result
             (moment self.old (D.seen disk.old) (R.seen recorder.old))
             (moment self.new (D.seen disk.new) (R.seen recorder.new)) }
     {

@@ -3,7 +3,7 @@ ghost use Rattle.std.specs.Prelude.{◌≡◌, ◌≤◌, ◌∷◌, [], OnErr, 
 ghost use Rattle.blk_io.specs.Disk.{attached_of};
 ghost use Rattle.split_model.specs.Leads.{moment};
 ghost use Rattle.schedule_run.specs.Reading.{IsLineOf, IsBadLine};
-ghost use Rattle.schedule_run.specs.Carrying.{standing, IsFresh, IsReadyToTake, Feeds, Finishes, Takes, ReadsAll};
+ghost use Rattle.schedule_run.specs.Carrying.{read_so_far, IsFresh, IsReadyToTake, Feeds, Finishes, Takes, ReadsAll};
 
 use super::{RunStop, stop_of};
 use crate::machine::{Machine, can_carry_out};
@@ -32,7 +32,7 @@ impl Reader {
         recorder: &mut R,
     ) -> Result<(), RunStop>
         requires limit { bytes_limit ≤ 4294967296 }
-        requires fresh { IsFresh (standing self.old.machine self.old.part.items self.old.lines (D.seen disk.old) (R.seen recorder.old)) }
+        requires fresh { IsFresh (read_so_far self.old.machine self.old.part.items self.old.lines (D.seen disk.old) (R.seen recorder.old)) }
         requires attached { attached_of (D.seen disk.old) ≡ Some self.old.machine.world.front.sectors }
         ensures { ReadsAll bytes_limit result (S.seen source.old) (S.seen source.new)
             (moment self.old.machine.world (D.seen disk.old) (R.seen recorder.old))
@@ -65,10 +65,10 @@ impl Reader {
         disk: &mut D,
         recorder: &mut R,
     ) -> Result<(), RunStop>
-        requires { IsReadyToTake 0 (standing self.old.machine self.old.part.items self.old.lines (D.seen disk.old) (R.seen recorder.old)) }
+        requires { IsReadyToTake 0 (read_so_far self.old.machine self.old.part.items self.old.lines (D.seen disk.old) (R.seen recorder.old)) }
         ensures { Finishes result
-            (standing self.old.machine self.old.part.items self.old.lines (D.seen disk.old) (R.seen recorder.old))
-            (standing self.new.machine self.new.part.items self.new.lines (D.seen disk.new) (R.seen recorder.new)) }
+            (read_so_far self.old.machine self.old.part.items self.old.lines (D.seen disk.old) (R.seen recorder.old))
+            (read_so_far self.new.machine self.new.part.items self.new.lines (D.seen disk.new) (R.seen recorder.new)) }
     {
         if self.part.is_empty() {
             return Ok(());
@@ -83,10 +83,10 @@ impl Reader {
         disk: &mut D,
         recorder: &mut R,
     ) -> Result<(), RunStop>
-        requires { IsReadyToTake (length piece.now) (standing self.old.machine self.old.part.items self.old.lines (D.seen disk.old) (R.seen recorder.old)) }
+        requires { IsReadyToTake (length piece.now) (read_so_far self.old.machine self.old.part.items self.old.lines (D.seen disk.old) (R.seen recorder.old)) }
         ensures { Takes piece.now result
-            (standing self.old.machine self.old.part.items self.old.lines (D.seen disk.old) (R.seen recorder.old))
-            (standing self.new.machine self.new.part.items self.new.lines (D.seen disk.new) (R.seen recorder.new)) }
+            (read_so_far self.old.machine self.old.part.items self.old.lines (D.seen disk.old) (R.seen recorder.old))
+            (read_so_far self.new.machine self.new.part.items self.new.lines (D.seen disk.new) (R.seen recorder.new)) }
     {
         for byte in piece {
             self.take_byte(*byte, disk, recorder)?;
@@ -101,10 +101,10 @@ impl Reader {
         disk: &mut D,
         recorder: &mut R,
     ) -> Result<(), RunStop>
-        requires { IsReadyToTake 1 (standing self.old.machine self.old.part.items self.old.lines (D.seen disk.old) (R.seen recorder.old)) }
+        requires { IsReadyToTake 1 (read_so_far self.old.machine self.old.part.items self.old.lines (D.seen disk.old) (R.seen recorder.old)) }
         ensures { Takes (byte ∷ []) result
-            (standing self.old.machine self.old.part.items self.old.lines (D.seen disk.old) (R.seen recorder.old))
-            (standing self.new.machine self.new.part.items self.new.lines (D.seen disk.new) (R.seen recorder.new)) }
+            (read_so_far self.old.machine self.old.part.items self.old.lines (D.seen disk.old) (R.seen recorder.old))
+            (read_so_far self.new.machine self.new.part.items self.new.lines (D.seen disk.new) (R.seen recorder.new)) }
     {
         if byte == b'\n' {
             return self.carry_out(disk, recorder);
@@ -122,10 +122,10 @@ impl Reader {
         disk: &mut D,
         recorder: &mut R,
     ) -> Result<(), RunStop>
-        requires { IsReadyToTake 0 (standing self.old.machine self.old.part.items self.old.lines (D.seen disk.old) (R.seen recorder.old)) }
+        requires { IsReadyToTake 0 (read_so_far self.old.machine self.old.part.items self.old.lines (D.seen disk.old) (R.seen recorder.old)) }
         ensures { Feeds result
-            (standing self.old.machine self.old.part.items self.old.lines (D.seen disk.old) (R.seen recorder.old))
-            (standing self.new.machine self.new.part.items self.new.lines (D.seen disk.new) (R.seen recorder.new)) }
+            (read_so_far self.old.machine self.old.part.items self.old.lines (D.seen disk.old) (R.seen recorder.old))
+            (read_so_far self.new.machine self.new.part.items self.new.lines (D.seen disk.new) (R.seen recorder.new)) }
     {
         let number = self.lines + 1;
         let event = match line_event(self.part.as_slice()) {

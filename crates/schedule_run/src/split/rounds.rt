@@ -3,9 +3,10 @@ ghost use Rattle.std.specs.Prelude.{◌*◌, ◌∷◌, [], replicate};
 ghost use Rattle.blk_io.specs.Disk.{DiskSeen};
 ghost use Rattle.split_model.specs.World.{is_quiet};
 ghost use Rattle.split_model.specs.Happening.{FrontMoves, BackMoves, Looks};
-ghost use Rattle.split_model.specs.Kind.{connecting, front_move, front_moves, back_moves, IsBeginning, AreSomeJobMoves, AreFewJobMoves, AreAllJobs, HasEachJobs};
+ghost use Rattle.split_model.specs.Kind.{connecting, front_move, front_moves, back_moves, AreSomeJobMoves, AreFewJobMoves, AreAllJobs, HasEachJobs};
 ghost use Rattle.split_model.specs.Kind.{IsRound, IsRoundSoFar, AreRounds, never, AreRoundsSoFar, AreRoundsUntilQuiet, IsSettling, IsSettlingSoFar};
 ghost use Rattle.split_model.specs.Leads.{Goes, Is, IsReadyFor, moment};
+ghost use Rattle.schedule_run.specs.Going.{GoesThrough};
 
 use super::Split;
 use blk_io::SectorDisk;
@@ -14,7 +15,7 @@ use schedule_text::{Line, RecordStop, Recorder};
 impl Split {
     // That many moves of the front, where it has them.
     fn repeat_front<R: Recorder>(&mut self, count: u32, recorder: &mut R) -> Result<(), RecordStop>
-        ensures { (disk : DiskSeen) → Goes (Is (replicate count FrontMoves)) (λ hs. IsBeginning hs (replicate count FrontMoves)) 0 result
+        ensures { (disk : DiskSeen) → GoesThrough (replicate count FrontMoves) 0 result
             (moment self.old disk (R.seen recorder.old))
             (moment self.new disk (R.seen recorder.new)) }
     {
@@ -32,7 +33,7 @@ impl Split {
         recorder: &mut R,
     ) -> Result<(), RecordStop>
         requires { IsReadyFor count self.old (D.seen disk.old) }
-        ensures { Goes (Is (replicate count BackMoves)) (λ hs. IsBeginning hs (replicate count BackMoves)) count result
+        ensures { GoesThrough (replicate count BackMoves) count result
             (moment self.old (D.seen disk.old) (R.seen recorder.old))
             (moment self.new (D.seen disk.new) (R.seen recorder.new)) }
     {
@@ -49,7 +50,7 @@ impl Split {
         recorder: &mut R,
     ) -> Result<(), RecordStop>
         requires { IsReadyFor 2 self.old (D.seen disk.old) }
-        ensures { Goes (Is connecting) (λ hs. IsBeginning hs connecting) 2 result
+        ensures { GoesThrough connecting 2 result
             (moment self.old (D.seen disk.old) (R.seen recorder.old))
             (moment self.new (D.seen disk.new) (R.seen recorder.new)) }
     {
@@ -65,7 +66,7 @@ impl Split {
         recorder: &mut R,
     ) -> Result<(), RecordStop>
         requires { IsReadyFor 2 self.old (D.seen disk.old) }
-        ensures { Goes (Is (front_move self.old)) (λ hs. IsBeginning hs (front_move self.old)) 2 result
+        ensures { GoesThrough (front_move self.old) 2 result
             (moment self.old (D.seen disk.old) (R.seen recorder.old))
             (moment self.new (D.seen disk.new) (R.seen recorder.new)) }
     {
@@ -84,7 +85,7 @@ impl Split {
         recorder: &mut R,
     ) -> Result<(), RecordStop>
         requires { IsReadyFor 2 self.old (D.seen disk.old) }
-        ensures { Goes (Is (front_moves self.old count)) (λ hs. IsBeginning hs (front_moves self.old count)) 2 result
+        ensures { GoesThrough (front_moves self.old count) 2 result
             (moment self.old (D.seen disk.old) (R.seen recorder.old))
             (moment self.new (D.seen disk.new) (R.seen recorder.new)) }
     {
@@ -103,7 +104,7 @@ impl Split {
         recorder: &mut R,
     ) -> Result<(), RecordStop>
         requires { IsReadyFor count self.old (D.seen disk.old) }
-        ensures { Goes (Is (back_moves self.old count)) (λ hs. IsBeginning hs (back_moves self.old count)) count result
+        ensures { GoesThrough (back_moves self.old count) count result
             (moment self.old (D.seen disk.old) (R.seen recorder.old))
             (moment self.new (D.seen disk.new) (R.seen recorder.new)) }
     {

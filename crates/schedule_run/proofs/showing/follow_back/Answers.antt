@@ -1,7 +1,6 @@
-use Rattle.std.proofs.Common.{◌++◌, subst, append_assoc, sym}
+use Rattle.std.proofs.Common.{◌++◌, append_assoc}
 use Rattle.std.specs.Prelude.{Some, None}
 use Rattle.std.proofs.lemmas.Result.{err_from_is_err_and}
-use Rattle.schedule_text.specs.Recorder.{Adds}
 use Rattle.schedule_text.proofs.Adding.{stopped_first, adds_then}
 use Rattle.split_model.specs.Shown.{back_lines, halt_lines}
 use Rattle.schedule_run.proofs.showing.follow_back.Goals as goal

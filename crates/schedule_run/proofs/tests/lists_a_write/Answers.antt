@@ -1,4 +1,4 @@
-use Rattle.std.proofs.Common.{◌≡◌, [], ◌∷◌, List, ◌++◌, Option, Some, ap, sym, ◌∙◌, subst}
+use Rattle.std.proofs.Common.{◌≡◌, [], ◌∷◌, List, ◌++◌, Some, ap, sym, ◌∙◌, subst}
 use Rattle.std.proofs.lemmas.Option.{same_Some}
 use Rattle.blk_base.specs.Options.{Options}
 use Rattle.blk_io.specs.Disk.{DiskSeen}
@@ -9,7 +9,7 @@ use Rattle.schedule_text.specs.Recorder.{Told}
 use Rattle.schedule_text.specs.Recorders.{listing}
 use Rattle.schedule_text.specs.declared.event.Event.TheVariants.{Settle, Submit, Look}
 use Rattle.image_disk.specs.Image.{image_seen}
-use Rattle.disk_laws.specs.Submissions.{jobs_of}
+use Rattle.machine_pipeline.specs.Submissions.{jobs_of}
 use Rattle.schedule_run.specs.Outcome.{outside}
 use Rattle.schedule_run.specs.Lawful.{HasLawfulReport, IsLawful}
 use Rattle.schedule_run.proofs.tests.lists_a_write.Goals as goal

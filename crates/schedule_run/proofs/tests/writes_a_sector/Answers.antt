@@ -1,4 +1,4 @@
-use Rattle.std.proofs.Common.{◌≡◌, ◌∷◌, [], List, Result, Ok, Err, OnOk, arith, sym, subst}
+use Rattle.std.proofs.Common.{◌∷◌, [], List, Result, Ok, Err, OnOk, arith, sym, subst}
 use Rattle.blk_base.specs.Options.{Options}
 use Rattle.schedule_text.specs.declared.event.Event.{Event}
 use Rattle.schedule_text.specs.declared.event.Event.TheVariants.{Settle, Submit}

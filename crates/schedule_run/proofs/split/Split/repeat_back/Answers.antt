@@ -1,8 +1,8 @@
-use Rattle.std.proofs.Common.{◌≡◌, ◌<◌, ◌≤◌, replicate, ap, ◌∙◌, arith}
+use Rattle.std.proofs.Common.{◌≡◌, ◌<◌, replicate, ap, ◌∙◌, arith}
 use Rattle.std.proofs.lemmas.Result.{err_from_is_err_and}
 use Rattle.std.proofs.Math.Nat.{one-mul}
 use Rattle.split_model.specs.Happening.{BackMoves}
-use Rattle.split_model.proofs.Running.{ready_again, not_gone, gone_on, gone_to_stop, gone}
+use Rattle.split_model.proofs.Running.{ready_again, gone_on, gone_to_stop, gone}
 use Rattle.split_model.proofs.Joining.{once_more, once_more_begins}
 use Rattle.schedule_run.proofs.split.Split.repeat_back.Goals as goal
 

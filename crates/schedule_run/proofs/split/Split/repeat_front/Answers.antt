@@ -1,7 +1,7 @@
-use Rattle.std.proofs.Common.{◌≡◌, ◌<◌, ◌≤◌, replicate, ap, ◌∙◌, arith}
+use Rattle.std.proofs.Common.{◌≡◌, ◌<◌, replicate, ap, ◌∙◌, arith}
 use Rattle.std.proofs.lemmas.Result.{err_from_is_err_and}
 use Rattle.split_model.specs.Happening.{FrontMoves}
-use Rattle.split_model.proofs.Running.{not_gone, gone_on, gone_to_stop, gone}
+use Rattle.split_model.proofs.Running.{gone_on, gone_to_stop, gone}
 use Rattle.split_model.proofs.Joining.{once_more, once_more_begins}
 use Rattle.schedule_run.proofs.split.Split.repeat_front.Goals as goal
 

@@ -1,7 +1,7 @@
 use Rattle.std.proofs.Common.{◌≡◌, ◌<◌, ◌≤◌, ◌*◌, true, false, sym, ◌∙◌, arith}
 use Rattle.std.proofs.lemmas.Result.{err_from_is_err_and}
 use Rattle.split_model.specs.World.{is_quiet}
-use Rattle.split_model.proofs.Running.{ready_again, not_gone, gone_on, gone_to_stop, gone}
+use Rattle.split_model.proofs.Running.{ready_again, gone_on, gone_to_stop, gone}
 use Rattle.split_model.proofs.Joining.{rounds_more, rounds_begun, rounds_quiet, rounds_spent}
 use Rattle.schedule_run.proofs.split.Split.rounds_until_quiet.Goals as goal
 

@@ -1,7 +1,7 @@
-use Rattle.std.proofs.Common.{◌≡◌, ◌<◌, ◌≤◌, ◌*◌, refl, subst, arith}
+use Rattle.std.proofs.Common.{◌≡◌, ◌<◌, ◌*◌, refl, subst, arith}
 use Rattle.std.proofs.lemmas.Result.{err_from_is_err_and}
 use Rattle.split_model.specs.Kind.{AreRounds, never}
-use Rattle.split_model.proofs.Running.{ready_again, not_gone, gone_on, gone_to_stop, gone}
+use Rattle.split_model.proofs.Running.{ready_again, gone_on, gone_to_stop, gone}
 use Rattle.split_model.proofs.Joining.{rounds_more, rounds_begun}
 use Rattle.schedule_run.proofs.split.Split.turn.Goals as goal
 

@@ -1,5 +1,5 @@
 use Rattle.std.proofs.Common.{◌^◌, refl}
-use Rattle.schedule_run.proofs.Carrying.{line_goes, line_silent, line_stops}
+use Rattle.schedule_run.proofs.Carrying.{line_goes, line_silent}
 use Rattle.schedule_run.proofs.schedule.reading.Reader.carry_out.Goals.{in-Some+in_default-event, in_default}
 use Rattle.schedule_run.proofs.schedule.reading.Reader.carry_out.Goals as goal
 

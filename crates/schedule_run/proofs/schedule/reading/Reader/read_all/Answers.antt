@@ -5,7 +5,7 @@ use Rattle.std.proofs.lemmas.Bool.{false≢true}
 use Rattle.std.specs.Result.{is_err}
 use Rattle.blk_io.specs.Outside.{Rose}
 use Rattle.schedule_text.specs.Recorder.{RecorderSeen, HandsOnLines, FailsHandingOn}
-use Rattle.schedule_run.proofs.Taking.{IsFirst, taken_none, taken_front, taken_handed, stopped_front, at_end, read_failed, read_unsent, read_too_long, ready_taken}
+use Rattle.schedule_run.proofs.Taking.{taken_none, taken_front, taken_handed, stopped_front, at_end, read_failed, read_unsent, read_too_long, ready_taken}
 use Rattle.schedule_run.proofs.schedule.reading.Reader.read_all.Goals as goal
 
 -- how much was asked for, and how much came

@@ -1,5 +1,5 @@
 use Rattle.std.proofs.Common.{◌≡◌, length}
-use Rattle.schedule_run.specs.Carrying.{standing}
+use Rattle.schedule_run.specs.Carrying.{read_so_far}
 use Rattle.schedule_run.proofs.Taking.{HasTaken}
 use Rattle.schedule_run.proofs.schedule.reading.Reader.read_all.Given as goal
 
@@ -7,8 +7,8 @@ use Rattle.schedule_run.proofs.schedule.reading.Reader.read_all.Given as goal
 abbrev pub invariant-loop-room : goal.invariant-loop-room
 invariant-loop-room g l = record {
   taken : HasTaken (g.S.Source.seen l.fn.source).left (g.S.Source.seen l.source).left l.bytes_limit l.room
-      (standing l.fn.self.machine l.fn.self.part.items l.fn.self.lines (g.D.SectorDisk.seen l.fn.disk) (g.R.Recorder.seen l.fn.recorder))
-      (standing l.self.machine l.self.part.items l.self.lines (g.D.SectorDisk.seen l.disk) (g.R.Recorder.seen l.recorder));
+      (read_so_far l.fn.self.machine l.fn.self.part.items l.fn.self.lines (g.D.SectorDisk.seen l.fn.disk) (g.R.Recorder.seen l.fn.recorder))
+      (read_so_far l.self.machine l.self.part.items l.self.lines (g.D.SectorDisk.seen l.disk) (g.R.Recorder.seen l.recorder));
   size : length l.piece ≡ 4096;
   unfailed : (g.S.Source.seen l.source).faults ≡ (g.S.Source.seen l.fn.source).faults;
 }

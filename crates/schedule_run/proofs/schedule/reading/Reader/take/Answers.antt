@@ -1,6 +1,5 @@
-use Rattle.std.proofs.Common.{subst}
 use Rattle.std.proofs.lemmas.Result.{err_from_is_err_and}
-use Rattle.schedule_run.proofs.Carrying.{carries_nothing, carries_more, carries_whole, halts_in, ready_in}
+use Rattle.schedule_run.proofs.Carrying.{carries_nothing, carries_more, halts_in, ready_in}
 use Rattle.schedule_run.proofs.schedule.reading.Reader.take.Goals as goal
 
 pub loop-byte-init : goal.loop-byte-init
