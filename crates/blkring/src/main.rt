@@ -3,7 +3,7 @@
 #![tactic(auto)]
 
 use blk_io::{BufferedSink, ReaderSource, WriterSink};
-use commands::{Stop, blkring, give_up};
+use commands::{Stop, blkring, stop_with};
 use image_disk::FileDisk;
 use std::fs::{OpenFile, OpenOptions};
 use std::process::ExitCode;
@@ -17,10 +17,10 @@ fn main(rt: HostRuntime) -> ExitCode {
     let mut err = WriterSink::new(rt.stderr());
     let words = match words(&rt) {
         Ok(words) => words,
-        Err(stop) => return ExitCode::from(give_up(&mut err, stop)),
+        Err(stop) => return ExitCode::from(stop_with(&mut err, stop)),
     };
     let Ok(files) = rt.clone() else {
-        return ExitCode::from(give_up(&mut err, Stop::OutOfMemory));
+        return ExitCode::from(stop_with(&mut err, Stop::OutOfMemory));
     };
     let status = blkring(
         rt.alloc(),
@@ -37,7 +37,7 @@ fn folder<R: Files>(files: &R) -> Option<R::File> {
     OpenOptions::new().read(true).open(files, "/").ok()
 }
 
-// The words after the program's name. Where one of them isn't text they give no command.
+// The words after the program's name. Where one of them isn't text they ask for nothing.
 fn words(rt: &HostRuntime) -> Result<Vec<String>, Stop> {
     let mut args = match env::args(rt) {
         Ok(args) => args,

@@ -1,14 +1,14 @@
 -- At each status, which count of faults rose, and what the report of a run is worth.
-use Rattle.std.proofs.Common.{◌≡◌, ◌≢◌, ◌⊎◌, ℕ, List, Result, Ok, Err, inl, inr, refl, ap, ◌∙◌, subst, arith}
+use Rattle.std.proofs.Common.{◌≡◌, ◌≢◌, ◌⊎◌, ℕ, List, Some, Result, Ok, Err, inl, inr, refl, ap, ◌∙◌, subst, arith}
 use Rattle.blk_io.specs.Outside.{Rose, SinkSeen}
+use Rattle.blk_base.specs.declared.operation.Abi.{Abi}
 use Rattle.ring_words.specs.Shape.{Shape}
 use Rattle.schedule_text.specs.declared.line.Detail.{Detail}
 use Rattle.schedule_run.specs.declared.schedule.RunStop.{RunStop}
 use Rattle.schedule_run.specs.declared.schedule.RunStop.TheVariants as run
-use Rattle.commands.specs.declared.words.Command.{Command}
-use Rattle.commands.specs.declared.words.Command.TheVariants.{Inspect, Run}
 use Rattle.commands.specs.declared.status.Stop.{Stop}
 use Rattle.commands.specs.declared.status.Stop.TheVariants.{Length, Words, BadLine, Source, Sink, OutOfMemory, Image, TooLong}
+use Rattle.commands.specs.Words.{Wish, a_run, a_ring, wish_of, AsksRing, AsksNothing}
 use Rattle.commands.specs.Status.{status_of}
 use Rattle.commands.specs.Scene.{Scene, options_of, bytes_limit, with_image, reporting}
 use Rattle.commands.specs.Ending.{RunsOn, RunEnds, RingEnds, CommandEnds, CarriesOut}
@@ -122,14 +122,21 @@ run_settles image detail (Err Image) old new h =
 run_settles image detail (Err (Length count expected)) old new h = absurd h
 run_settles image detail (Err Words) old new h = absurd h
 
-command_settles : (command : Command) (image : List ℕ) (result : Result (Unit {0}) Stop) (old new : Scene) → CommandEnds command image result old new → Settles (status_at result) old new
-command_settles (Inspect abi order) image result old new h = ring_settles (record { abi = abi; order = order }) result old new h.0
-command_settles (Run detail) image result old new h = run_settles image detail result old new h
+pub wish_settles : (wish : Wish) (result : Result (Unit {0}) Stop) (old new : Scene) → CommandEnds wish result old new → Settles (status_at result) old new
+wish_settles (a_ring abi order) result old new h = ring_settles (record { abi = abi; order = order }) result old new h.0
+wish_settles (a_run image detail) result old new h = run_settles image detail result old new h
+
+-- where nothing was done, at a status that says of no failure
+untouched_settles : (n : ℕ) (old new : Scene) → n ≢ 0 → n ≢ 4 → n ≢ 5 → n ≢ 7 → new ≡ old → Settles n old new
+untouched_settles n old new n0 n4 n5 n7 same =
+    settles_other n old new n0 n4 n5 n7 (ap (λ s. s.source.faults) same) (same_output old.output new.output (ap (λ s. s.output) same))
 
 pub settles : (words : List (List ℕ)) (result : Result (Unit {0}) Stop) (status : ℕ) (old new : Scene) → status ≡ status_at result → CarriesOut words result old new → Settles status old new
-settles words result status old new same (inl (none, given, untouched)) =
-    rw (same, none) (settles_other 2 old new (omega arith) (omega arith) (omega arith) (omega arith) (ap (λ s. s.source.faults) untouched) (same_output old.output new.output (ap (λ s. s.output) untouched)))
-settles words result status old new same (inr (command, given, ends)) = rw same (command_settles command _ result old new ends)
+settles words result status old new same (inl h) =
+    rw (same, h.0) (untouched_settles 2 old new (omega arith) (omega arith) (omega arith) (omega arith) h.2)
+settles words result status old new same (inr (inl starved)) =
+    rw (same, starved.0) (untouched_settles 6 old new (omega arith) (omega arith) (omega arith) (omega arith) starved.1)
+settles words result status old new same (inr (inr h)) = rw same (wish_settles h.0 result old new h.2)
 
 reports_at : (image : List ℕ) (detail : Detail) (result : Result (Unit {0}) Stop) (old new : Scene) → RunReports image detail result old new → ReportsAt (status_at result) image detail old new
 reports_at image detail (Ok done) old new h = grind arith
@@ -144,3 +151,40 @@ reports_at image detail (Err Words) old new h = absurd h
 
 pub reports : (image : List ℕ) (detail : Detail) (result : Result (Unit {0}) Stop) (status : ℕ) (old new : Scene) → status ≡ status_at result → RunReports image detail result old new → ReportsAt status image detail old new
 reports image detail result status old new same h = rw same (reports_at image detail result old new h)
+
+-- what a wish leads to isn't the status of bad words
+not_bad : (wish : Wish) (result : Result (Unit {0}) Stop) (old new : Scene) → CommandEnds wish result old new → status_at result ≡ 2 → ⊥
+not_bad wish (Ok done) old new h e = let no : 0 ≡ 2 = e in omega arith
+not_bad wish (Err (Length count expected)) old new h e = let no : 1 ≡ 2 = e in omega arith
+not_bad (a_run image detail) (Err Words) old new h e = h
+not_bad (a_ring abi order) (Err Words) old new h e = h.0
+not_bad wish (Err (BadLine number)) old new h e = let no : 3 ≡ 2 = e in omega arith
+not_bad wish (Err Source) old new h e = let no : 4 ≡ 2 = e in omega arith
+not_bad wish (Err Sink) old new h e = let no : 5 ≡ 2 = e in omega arith
+not_bad wish (Err OutOfMemory) old new h e = let no : 6 ≡ 2 = e in omega arith
+not_bad wish (Err Image) old new h e = let no : 7 ≡ 2 = e in omega arith
+not_bad wish (Err TooLong) old new h e = let no : 8 ≡ 2 = e in omega arith
+
+pub bad_words : (words : List (List ℕ)) (result : Result (Unit {0}) Stop) (status : ℕ) (old new : Scene) → status ≡ status_at result → CarriesOut words result old new → status ≡ 2 → AsksNothing words
+bad_words words result status old new same (inl h) two = h.1
+bad_words words result status old new same (inr (inl starved)) two = let six : status ≡ 6 = same ∙ ap status_at starved.0 in absurd (omega arith)
+bad_words words result status old new same (inr (inr h)) two = absurd (not_bad h.0 result old new h.2 (omega arith))
+
+pub no_wish : (words : List (List ℕ)) (wish : Wish) → AsksNothing words → wish_of words ≡ Some wish → ⊥
+no_wish words wish none asks = cc
+
+pub refused : (words : List (List ℕ)) (result : Result (Unit {0}) Stop) (status : ℕ) (old new : Scene) → status ≡ status_at result → CarriesOut words result old new → AsksNothing words → (status ≡ 2) ⊎ (status ≡ 6)
+refused words result status old new same (inl h) none = inl (same ∙ ap status_at h.0)
+refused words result status old new same (inr (inl starved)) none = inr (same ∙ ap status_at starved.0)
+refused words result status old new same (inr (inr h)) none = absurd (no_wish words h.0 none h.1)
+
+pub same_wish : (a b : Wish) (words : List (List ℕ)) → wish_of words ≡ Some a → wish_of words ≡ Some b → a ≡ b
+same_wish a b words is also = cc
+
+-- the showing of a ring leaves the disk as it was
+pub untouched : (words : List (List ℕ)) (result : Result (Unit {0}) Stop) (old new : Scene) (abi : Abi) (order : ℕ) → CarriesOut words result old new → AsksRing words abi order → new.disk ≡ old.disk
+untouched words result old new abi order (inl h) asks = ap (λ s. s.disk) h.2
+untouched words result old new abi order (inr (inl starved)) asks = ap (λ s. s.disk) starved.1
+untouched words result old new abi order (inr (inr h)) asks =
+    let ends : CommandEnds (a_ring abi order) result old new = subst (λ wish. CommandEnds wish result old new) (same_wish h.0 (a_ring abi order) words h.1 asks) h.2 in
+    ends.1

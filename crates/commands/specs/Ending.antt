@@ -1,5 +1,5 @@
 -- What the program leaves, and what it says, at each of its statuses.
-use Rattle.std.specs.Prelude.{◌≡◌, ℕ, ◌⊎◌, List, Result, Ok, Err}
+use Rattle.std.specs.Prelude.{◌≡◌, ℕ, ◌⊎◌, List, Some, Result, Ok, Err}
 use Rattle.std.specs.Borrow.{GName}
 use Rattle.blk_io.specs.Outside.{SourceSeen, SinkSeen, WritesBytes, HandsOn, FailsHandingOn}
 use Rattle.blk_io.specs.Disk.{HasLength, Fails}
@@ -12,12 +12,10 @@ use Rattle.schedule_text.specs.declared.line.Detail.{Detail}
 use Rattle.schedule_run.specs.Outcome.{Runs}
 use Rattle.schedule_run.specs.declared.schedule.RunStop.{RunStop}
 use Rattle.schedule_run.specs.declared.schedule.RunStop.TheVariants as run
-use Rattle.commands.specs.declared.words.Command.{Command}
-use Rattle.commands.specs.declared.words.Command.TheVariants.{Inspect, Run}
 use Rattle.commands.specs.declared.status.Stop.{Stop}
 use Rattle.commands.specs.declared.status.Stop.TheVariants.{Length, Words, BadLine, Source, Sink, OutOfMemory, Image, TooLong}
 use Rattle.commands.specs.Scene.{Scene, options_of, bytes_limit, with_image, reporting}
-use Rattle.commands.specs.Words.{Gives, GivesNone, image_of}
+use Rattle.commands.specs.Words.{Wish, a_run, a_ring, wish_of, AsksNothing}
 use Rattle.commands.specs.Status.{status_of, line_of}
 
 -- the image of that name was attached for writing, and the schedule was run on it
@@ -80,16 +78,21 @@ abbrev pub RingEnds : Shape → Result (Unit {0}) Stop → (a b : SourceSeen) �
 RingEnds shape (Ok done) a b before after = ShowsRing shape a b before after
 RingEnds shape (Err stop) a b before after = RingStops shape stop a b before after
 
--- what this command, whose image has that name, made of the outside; the showing of a ring leaves the disk as it was
-abbrev pub CommandEnds : Command → List ℕ → Result (Unit {0}) Stop → Scene → Scene → Type 0
-CommandEnds (Inspect abi order) image result old new = RingEnds (record { abi = abi; order = order }) result old.source new.source old.output new.output × (new.disk ≡ old.disk)
-CommandEnds (Run detail) image result old new = RunEnds image detail result old new
+-- what the carrying out of this wish made of the outside; the showing of a ring leaves the disk as it was
+abbrev pub CommandEnds : Wish → Result (Unit {0}) Stop → Scene → Scene → Type 0
+CommandEnds (a_ring abi order) result old new = RingEnds (record { abi = abi; order = order }) result old.source new.source old.output new.output × (new.disk ≡ old.disk)
+CommandEnds (a_run image detail) result old new = RunEnds image detail result old new
 
--- the words give no command, and nothing was done; or they give one, which made this of the outside
+-- the words ask for nothing, and nothing was done
+abbrev pub IsRefused : List (List ℕ) → Result (Unit {0}) Stop → Scene → Scene → Type 0
+IsRefused words result old new = (result ≡ Err Words) × AsksNothing words × (new ≡ old)
+
+-- so it is; or there was no memory to read the words, and nothing was done; or they ask for what made this of the outside
 abbrev pub CarriesOut : List (List ℕ) → Result (Unit {0}) Stop → Scene → Scene → Type 0
 CarriesOut words result old new =
-    ((result ≡ Err Words) × GivesNone words × (new ≡ old))
-    ⊎ ((command : Command) × Gives words command × CommandEnds command (image_of words) result old new)
+    IsRefused words result old new
+    ⊎ ((result ≡ Err OutOfMemory) × (new ≡ old))
+    ⊎ ((wish : Wish) × (wish_of words ≡ Some wish) × CommandEnds wish result old new)
 
 -- the error output was given this line, and then handed on what it keeps back, whatever came of it
 pub record IsSaid (line : List ℕ) (before after : SinkSeen) : Type 0 where

@@ -5,3 +5,4 @@ pub mod Scene
 pub mod Ending
 pub mod Reported
 pub mod Settled
+pub mod Complete

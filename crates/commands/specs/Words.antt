@@ -1,50 +1,118 @@
--- Which words of the command line give which command.
-use Rattle.std.specs.Prelude.{◌≡◌, ℕ, ◌≤◌, ◌⊎◌, List, [], ◌∷◌, ◌++◌, ◌+◌, codes, Bool, true, not, ◌==◌}
-use Rattle.schedule_text.specs.declared.line.Detail.{Detail}
-use Rattle.schedule_text.specs.declared.line.Detail.TheVariants.{Lines, Moves}
+-- What the words of the command line ask for. Which words are taken, and the text that each option then has, are functions of the crate `clap`.
+use Rattle.std.specs.Prelude.{◌≡◌, ℕ, List, [], ◌∷◌, codes, Bool, true, false, ◌==◌, nat_le, Option, Some, None, option_map, option_and_then, if◌then◌else◌}
+use Rattle.std.specs.Str.{bytes_eq}
+use Rattle.std.specs.Str.Parse.{digits_value, without_leading_plus}
+use Rattle.clap.specs.Words.{App, Rule, Row, Text, Kinds, new_app, new_rule, with_rule, with_subcommand, fault_of, subcommand_of, first_of, one_of}
+use Rattle.clap.specs.Simple.{on_top}
+use Rattle.clap.specs.ValueTests.{is_unsigned_in}
+use Rattle.clap.specs.declared.builder.action.ArgAction.TheVariants.{SetTrue}
+use Rattle.clap.specs.declared.builder.value_parser.ValueParser.TheVariants as parser
 use Rattle.blk_base.specs.declared.operation.Abi.{Abi}
 use Rattle.blk_base.specs.declared.operation.Abi.TheVariants.{X64, X32}
+use Rattle.schedule_text.specs.declared.line.Detail.{Detail}
+use Rattle.schedule_text.specs.declared.line.Detail.TheVariants.{Lines, Moves}
 use Rattle.commands.specs.declared.words.Command.{Command}
 use Rattle.commands.specs.declared.words.Command.TheVariants.{Inspect, Run}
 
--- the words that ask for a layout
-abbrev pub abi_words : Abi → List (List ℕ)
-abi_words X64 = codes "--abi" ∷ codes "64" ∷ []
-abi_words X32 = codes "--abi" ∷ codes "32" ∷ []
+-- ---- the command set
 
--- the words that ask for an order, which has one digit
-abbrev pub order_words : ℕ → List (List ℕ)
-order_words order = codes "--order" ∷ ((48 + order) ∷ []) ∷ []
+-- IMAGE, which a run has to have
+abbrev pub image_rule : Rule
+image_rule = record (new_rule (codes "image")) { required = true }
 
--- the options of `inspect`, each at most once, in either order; without them the layout is that of x86_64 and the order 0
-abbrev pub AreOptions : List (List ℕ) → Abi → ℕ → Type 0
-AreOptions words abi order =
-    ((words ≡ []) × (abi ≡ X64) × (order ≡ 0))
-    ⊎ ((words ≡ abi_words abi) × (order ≡ 0))
-    ⊎ ((words ≡ order_words order) × (abi ≡ X64))
-    ⊎ (words ≡ abi_words abi ++ order_words order)
-    ⊎ (words ≡ order_words order ++ abi_words abi)
+-- `--moves`
+abbrev pub moves_rule : Rule
+moves_rule = record (new_rule (codes "moves")) { long = Some (codes "moves"); action = Some SetTrue }
 
--- a word that may name an image: it doesn't begin with `-`, which is 45
-abbrev pub is_name : List ℕ → Bool
-is_name [] = true
-is_name (b ∷ word) = not (b == 45)
+-- `--abi`, a number from 32 to 64, and 64 where there is none
+abbrev pub abi_rule : Rule
+abi_rule = record (new_rule (codes "abi")) { long = Some (codes "abi"); defaults = codes "64" ∷ []; parser = Some (parser.Unsigned 32 64) }
 
--- the words that ask for a report with each move
-abbrev pub detail_words : Detail → List (List ℕ)
-detail_words Lines = []
-detail_words Moves = codes "--moves" ∷ []
+-- `--order`, a number from 0 to 4, and 0 where there is none
+abbrev pub order_rule : Rule
+order_rule = record (new_rule (codes "order")) { long = Some (codes "order"); defaults = codes "0" ∷ []; parser = Some (parser.Unsigned 0 4) }
 
--- the word after the command's, which names an image
-abbrev pub image_of : List (List ℕ) → List ℕ
-image_of (first ∷ image ∷ options) = image
-image_of words = []
+-- `run`
+abbrev pub run_set : App
+run_set = with_rule (with_rule (new_app (codes "run")) image_rule) moves_rule
 
--- the words give this command
-abbrev pub Gives : List (List ℕ) → Command → Type 0
-Gives words (Inspect abi order) = (options : List (List ℕ)) × (words ≡ codes "inspect" ∷ options) × AreOptions options abi order × (order ≤ 4)
-Gives words (Run detail) = (image : List ℕ) × (words ≡ codes "run" ∷ image ∷ detail_words detail) × (is_name image ≡ true)
+-- `inspect`
+abbrev pub inspect_set : App
+inspect_set = with_rule (with_rule (new_app (codes "inspect")) abi_rule) order_rule
 
--- the words give no command
-abbrev pub GivesNone : List (List ℕ) → Type 0
-GivesNone words = (command : Command) → Gives words command → ⊥
+-- a program that wants a subcommand, and whose words don't begin with its own name
+abbrev pub bare_set : App
+bare_set = on_top (λ s. record s { no_binary_name = true; subcommand_required = true }) (new_app (codes "blkring"))
+
+-- what the program may be told
+abbrev pub command_set : App
+command_set = with_subcommand (with_subcommand bare_set run_set.top) inspect_set.top
+
+-- ---- what the words ask for
+
+-- the number of 64 bits that a text is, maybe with a plus and zeros before it
+abbrev pub number_of : Text → Option ℕ
+number_of text = if is_unsigned_in 0 18446744073709551615 text then Some (digits_value 10 (without_leading_plus text)) else None
+
+-- the number that an option has
+abbrev pub number_in : Text → List Row → Option ℕ
+number_in id rows = option_and_then number_of (one_of id rows)
+
+abbrev pub layout_of : ℕ → Option Abi
+layout_of n = if n == 64 then Some X64 else (if n == 32 then Some X32 else None)
+
+abbrev pub order_of : ℕ → Option ℕ
+order_of n = if nat_le n 4 then Some n else None
+
+-- a flag that was used has the text `true`
+abbrev pub is_yes : Option Text → Bool
+is_yes None = false
+is_yes (Some text) = bytes_eq text (codes "true")
+
+abbrev pub detail_in : List Row → Detail
+detail_in rows = if is_yes (first_of (codes "moves") rows) then Moves else Lines
+
+-- a run on the image of that name, or the showing of a ring of that layout and order
+pub data Wish : Type 0 where
+  a_run : Text → Detail → Wish
+  a_ring : Abi → ℕ → Wish
+
+abbrev pub run_in : List Row → Option Wish
+run_in rows = option_map (λ image. a_run image (detail_in rows)) (first_of (codes "image") rows)
+
+abbrev pub ring_with : Option Abi → Option ℕ → Option Wish
+ring_with None order = None
+ring_with (Some abi) order = option_map (a_ring abi) order
+
+abbrev pub ring_in : List Row → Option Wish
+ring_in rows = ring_with (option_and_then layout_of (number_in (codes "abi") rows)) (option_and_then order_of (number_in (codes "order") rows))
+
+-- what the matches of a subcommand ask for
+abbrev pub wish_in : Text → List Row → Option Wish
+wish_in name rows =
+    if bytes_eq name (codes "run") then run_in rows
+    else (if bytes_eq name (codes "inspect") then ring_in rows
+    else None)
+
+abbrev pub wish_where : Kinds → Option (Text × List Row) → Option Wish
+wish_where [] entered = option_and_then (λ s. wish_in s.0 s.1) entered
+wish_where (fault ∷ faults) entered = None
+
+-- the words ask for nothing where `clap` finds a fault in them; else for what the subcommand that they name asks for
+abbrev pub wish_of : List Text → Option Wish
+wish_of words = wish_where (fault_of command_set words) (subcommand_of command_set words)
+
+-- the words ask for a run, for a ring, or for nothing
+abbrev pub AsksRun : List Text → Text → Detail → Type 0
+AsksRun words image detail = wish_of words ≡ Some (a_run image detail)
+
+abbrev pub AsksRing : List Text → Abi → ℕ → Type 0
+AsksRing words abi order = wish_of words ≡ Some (a_ring abi order)
+
+abbrev pub AsksNothing : List Text → Type 0
+AsksNothing words = wish_of words ≡ None
+
+-- the command that carries a wish out
+abbrev pub wish_by : Command → Wish
+wish_by (Inspect abi order) = a_ring abi order
+wish_by (Run image detail) = a_run image.now detail

@@ -8,7 +8,7 @@ mod top;
 mod words;
 
 pub use status::{ErrorLine, Stop};
-pub use top::{blkring, give_up};
+pub use top::{blkring, stop_with};
 pub use words::{Command, read_command};
 
 #[cfg(test)]

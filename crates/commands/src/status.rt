@@ -4,6 +4,7 @@ ghost use Rattle.arrayvec.specs.ArrayString.{array_string_len};
 ghost use Rattle.commands.specs.Status.{status_of, error_line, line_of};
 
 use arrayvec::ArrayString;
+use blk_base::OutOfMemory;
 use itoa::Buffer;
 use std::alloc::AllocError;
 
@@ -15,7 +16,7 @@ pub type ErrorLine = ArrayString<96>;
 pub enum Stop {
     /// The input has `count` bytes and not the `expected` ones, where one too many stand for more.
     Length { count: u64, expected: u64 },
-    /// The words of the command line give no command.
+    /// The words of the command line ask for nothing, or for help.
     Words,
     /// The schedule's line of this number isn't one that is carried out.
     BadLine(u64),
@@ -37,6 +38,16 @@ impl From<AllocError> for Stop {
     ghost from_gives = { λ _ stop. stop ≡ OutOfMemory };
 
     fn from(_e: AllocError) -> Stop {
+        Stop::OutOfMemory
+    }
+}
+
+impl From<OutOfMemory> for Stop {
+    ghost use Rattle.commands.specs.declared.status.Stop.TheVariants.{OutOfMemory};
+
+    ghost from_gives = { λ _ stop. stop ≡ OutOfMemory };
+
+    fn from(_e: OutOfMemory) -> Stop {
         Stop::OutOfMemory
     }
 }

@@ -8,67 +8,132 @@ use schedule_text::Detail;
 use std::alloc::{AllocError, Global};
 use std::test::Fail;
 
+// The words of a line with single spaces between them; a space at its end leaves an empty one.
 fn words(alloc: Global, line: &str) -> Result<Vec<String>, AllocError> {
     let mut words = Vec::new(alloc);
-    for word in line.split_whitespace() {
+    if line.is_empty() {
+        return Ok(words);
+    }
+    for word in line.split(' ') {
         let word = String::from_str(alloc, word)?;
         words.push(word)?;
     }
     Ok(words)
 }
 
-// Reads the words of a line.
-fn read(alloc: Global, line: &str) -> Result<Option<Command>, AllocError> {
+// Whether the words of a line ask for this.
+fn ask_for(alloc: Global, line: &str, command: Option<Command<'_>>) -> Result<bool, Fail> {
     let words = words(alloc, line)?;
-    Ok(read_command(words.as_slice()))
+    Ok(read_command(alloc, words.as_slice())? == command)
 }
 
 #[test]
-fn the_options_of_inspect_come_once_each_in_either_order(rt: HostRuntime) -> Result<(), Fail> {
+fn words_that_ask_for_a_run(rt: HostRuntime) -> Result<(), Fail> {
     let alloc = rt.alloc();
-    for (line, abi, order) in [
-        ("inspect", Abi::X64, 0),
-        ("inspect --abi 32", Abi::X32, 0),
-        ("inspect --order 4", Abi::X64, 4),
-        ("inspect --abi 64 --order 1", Abi::X64, 1),
-        ("inspect --order 3 --abi 32", Abi::X32, 3),
+    for (line, image, detail) in [
+        ("run disk", "disk", Detail::Lines),
+        ("run disk --moves", "disk", Detail::Moves),
+        ("run --moves disk", "disk", Detail::Moves),
+        ("run -", "-", Detail::Lines),
+        ("run ", "", Detail::Lines),
+        ("run disk --", "disk", Detail::Lines),
+        ("run -- --moves", "--moves", Detail::Lines),
+        ("run --moves -- -h", "-h", Detail::Moves),
+        ("run help", "help", Detail::Lines),
+        ("run run", "run", Detail::Lines),
     ] {
-        assert_eq!(rt; read(alloc, line)?, Some(Command::Inspect { abi, order }));
-    }
-    for line in [
-        "",
-        "fly",
-        "inspect x",
-        "inspect --abi",
-        "inspect --abi 16",
-        "inspect --order 5",
-        "inspect --order 04",
-        "inspect --abi 64 --abi 64",
-        "inspect --abi 32 --order 1 --order 1",
-    ] {
-        assert_eq!(rt; read(alloc, line)?, None);
+        assert!(rt; ask_for(alloc, line, Some(Command::Run { image, detail }))?);
     }
     Ok(())
 }
 
 #[test]
-fn run_takes_an_image_and_moves(rt: HostRuntime) -> Result<(), Fail> {
+fn words_that_ask_for_a_ring(rt: HostRuntime) -> Result<(), Fail> {
     let alloc = rt.alloc();
-    let detail = Detail::Lines;
-    assert_eq!(rt; read(alloc, "run disk")?, Some(Command::Run { detail }));
-    let detail = Detail::Moves;
-    assert_eq!(rt;
-        read(alloc, "run disk --moves")?,
-        Some(Command::Run { detail })
-    );
+    for (line, abi, order) in [
+        ("inspect", Abi::X64, 0),
+        ("inspect --abi 32", Abi::X32, 0),
+        ("inspect --abi=32", Abi::X32, 0),
+        ("inspect --abi +64", Abi::X64, 0),
+        ("inspect --abi 0032", Abi::X32, 0),
+        ("inspect --order 4", Abi::X64, 4),
+        ("inspect --order +004", Abi::X64, 4),
+        ("inspect --order=0", Abi::X64, 0),
+        ("inspect --abi 64 --order 1", Abi::X64, 1),
+        ("inspect --order 3 --abi 32", Abi::X32, 3),
+    ] {
+        assert!(rt; ask_for(alloc, line, Some(Command::Inspect { abi, order }))?);
+    }
+    Ok(())
+}
+
+#[test]
+fn words_that_ask_for_no_ring(rt: HostRuntime) -> Result<(), Fail> {
+    let alloc = rt.alloc();
+    for line in [
+        "",
+        " ",
+        "fly",
+        "-",
+        "--",
+        "inspect x",
+        "inspect --abi",
+        "inspect --abi 16",
+        "inspect --abi 48",
+        "inspect --order 5",
+        "inspect --order -1",
+        "inspect --order=",
+        "inspect --order 0x1",
+        "inspect --order 18446744073709551616",
+        "inspect --abi 64 --abi 64",
+        "inspect --abi 32 --order 1 --order 1",
+        "inspect --moves",
+        "--order 1 inspect",
+    ] {
+        assert!(rt; ask_for(alloc, line, None)?);
+    }
+    Ok(())
+}
+
+#[test]
+fn words_that_ask_for_no_run(rt: HostRuntime) -> Result<(), Fail> {
+    let alloc = rt.alloc();
     for line in [
         "run",
-        "run -",
         "run --moves",
+        "run --",
         "run disk moves",
         "run disk --moves --moves",
+        "run disk --moves=true",
+        "run disk --abi 32",
+        "run disk --move",
+        "run -x",
+        "--moves run disk",
     ] {
-        assert_eq!(rt; read(alloc, line)?, None);
+        assert!(rt; ask_for(alloc, line, None)?);
+    }
+    Ok(())
+}
+
+#[test]
+fn a_wish_for_help_or_the_version_asks_for_nothing(rt: HostRuntime) -> Result<(), Fail> {
+    let alloc = rt.alloc();
+    for line in [
+        "-h",
+        "--help",
+        "help",
+        "help run",
+        "run -h",
+        "run --help",
+        "run disk --help",
+        "run --help disk",
+        "inspect -h",
+        "inspect --help",
+        "--version",
+        "-V",
+        "run --version",
+    ] {
+        assert!(rt; ask_for(alloc, line, None)?);
     }
     Ok(())
 }

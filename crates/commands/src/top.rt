@@ -1,13 +1,14 @@
 // The program over its outside.
-ghost use Rattle.std.specs.Prelude.{◌≡◌, ◌≢◌, ◌≤◌, ◌↔◌, ℕ, Err, map, IfErr};
+ghost use Rattle.std.specs.Prelude.{◌≡◌, ◌≢◌, ◌≤◌, ◌⊎◌, ℕ, List, Some, map, IfErr};
 ghost use Rattle.std.specs.String.{string_bytes};
 ghost use Rattle.blk_io.specs.Outside.{HandsOn};
-ghost use Rattle.commands.specs.Words.{Gives, GivesNone, image_of};
+ghost use Rattle.commands.specs.Words.{Wish, wish_of, AsksRun, AsksRing, AsksNothing};
 ghost use Rattle.commands.specs.Status.{status_of, line_of};
 ghost use Rattle.commands.specs.Scene.{scene};
 ghost use Rattle.commands.specs.Ending.{RunEnds, RingEnds, CarriesOut, EndsSilently, StopsWithReason, IsSaid, run_stop};
 ghost use Rattle.commands.specs.Reported.{RunReports, ReportsAt};
 ghost use Rattle.commands.specs.Settled.{Settles};
+ghost use Rattle.commands.specs.Complete.{MayBeDone};
 
 use crate::status::Stop;
 use crate::words::{Command, read_command};
@@ -18,7 +19,7 @@ use schedule_run::{RunStop, run};
 use schedule_text::{Detail, LineSink};
 use std::alloc::Global;
 
-/// Carries out the command that the words after the program's name give, and answers the exit
+/// Carries out the command that the words after the program's name ask for, and answers the exit
 /// status; whatever isn't 0 is also said in a line on `err`, whose failing changes no status.
 ///
 /// - 0: it is done, and nothing was said. For `run` the output gained the text of a report that
@@ -26,19 +27,20 @@ use std::alloc::Global;
 ///   holds; with `--moves` each move in it obeys the rules of the ring, of grants and of the work
 ///   (`io/ring.h`, `io/blkif.h`, `grant_table.h`).
 /// - 1: `inspect` found another number of bytes than the ring's. Nothing was written.
-/// - 2: the words give no command. Nothing was read or written.
+/// - 2: the words ask for nothing, or for help. Nothing was read or written.
 /// - 3: a line of the schedule isn't carried out. Those before it were, and are reported.
 /// - 4: the source failed. The whole lines that were read were carried out, and are reported.
 /// - 5: the output failed. A beginning of the text may have been written, lawful as far as its whole
 ///   lines go.
-/// - 6: there was no memory; likewise.
+/// - 6: there was no memory; likewise. Reading the words takes memory too.
 /// - 7: the image failed where it was attached. Nothing was read or written.
 /// - 8: 4294967296 bytes of the schedule were taken, and the source didn't end before. Their whole
 ///   lines were carried out, and are reported.
 ///
 /// The first reason ends the run: an output that fails after it to hand on what it kept back changes
 /// no status. The image of a run is the one that the words name, attached for writing; `inspect`
-/// attaches none.
+/// attaches none. Where the image is attached, neither source nor output fails, and the source exposes
+/// a whole schedule of lines that are carried out, or a ring's bytes, the status is 0 or 6.
 ///
 /// What a report promises rests on this: source, output and disk expose what they hold, and nobody
 /// else writes the image meanwhile; shared words are sequentially consistent, and a hypercall is one
@@ -60,30 +62,40 @@ pub fn blkring<S: Source, D: SectorDisk, O: Sink, E: Sink>(
         (scene (S.seen src.old) (D.seen disk.old) (O.seen out.old))
         (scene (S.seen src.new) (D.seen disk.new) (O.seen out.new)) (E.seen err.old) (E.seen err.new) }
     // A run's image is the one named, and its report is lawful: whole, or as far as it was written.
-    ensures reported { (detail : Detail) → Gives (map string_bytes words.now) (Command.Run detail)
-        → ReportsAt result (image_of (map string_bytes words.now)) detail
+    ensures reported { (image : List ℕ) → (detail : Detail) → AsksRun (map string_bytes words.now) image detail
+        → ReportsAt result image detail
         (scene (S.seen src.old) (D.seen disk.old) (O.seen out.old))
         (scene (S.seen src.new) (D.seen disk.new) (O.seen out.new)) }
     // A ring's showing leaves the disk as it was.
-    ensures untouched { (abi : Abi) → (order : ℕ) → Gives (map string_bytes words.now) (Command.Inspect abi order)
+    ensures untouched { (abi : Abi) → (order : ℕ) → AsksRing (map string_bytes words.now) abi order
         → D.seen disk.new ≡ D.seen disk.old }
     // The first reason stands, and each count of faults rose only where it says so; what was written
     // was handed on, or the output failed.
     ensures settled { Settles result
         (scene (S.seen src.old) (D.seen disk.old) (O.seen out.old))
         (scene (S.seen src.new) (D.seen disk.new) (O.seen out.new)) }
-    ensures bad_words { (result ≡ 2) ↔ GivesNone (map string_bytes words.now) }
-    ensures nothing_done { result ≡ 2 → (src.new ≡ src.old) × (out.new ≡ out.old) × (disk.new ≡ disk.old) }
+    // Words that ask for nothing are status 2, or 6 where there was no memory to read them; and then
+    // nothing was done.
+    ensures bad_words { result ≡ 2 → AsksNothing (map string_bytes words.now) }
+    ensures refused { AsksNothing (map string_bytes words.now) → (result ≡ 2) ⊎ (result ≡ 6) }
+    ensures nothing_done { AsksNothing (map string_bytes words.now)
+        → (src.new ≡ src.old) × (out.new ≡ out.old) × (disk.new ≡ disk.old) }
+    // What can be done is done, but for want of memory.
+    ensures completes { (wish : Wish) → wish_of (map string_bytes words.now) ≡ Some wish
+        → MayBeDone wish
+        (scene (S.seen src.old) (D.seen disk.old) (O.seen out.old))
+        (scene (S.seen src.new) (D.seen disk.new) (O.seen out.new))
+        → (result ≡ 0) ⊎ (result ≡ 6) }
 {
-    match carry_out(alloc, words, src, disk, out) {
+    match do_command(alloc, words, src, disk, out) {
         Ok(()) => 0,
-        Err(stop) => give_up(err, stop),
+        Err(stop) => stop_with(err, stop),
     }
 }
 
 /// Says why the program stops, and answers its exit status. The line isn't left in a buffer; where
 /// saying it fails there is nobody left to tell.
-pub fn give_up<E: Sink>(err: &mut E, stop: Stop) -> u8
+pub fn stop_with<E: Sink>(err: &mut E, stop: Stop) -> u8
     ensures status { result ≡ status_of stop }
     ensures said { IsSaid (line_of stop) (E.seen err.old) (E.seen err.new) }
 {
@@ -92,8 +104,8 @@ pub fn give_up<E: Sink>(err: &mut E, stop: Stop) -> u8
     stop.status()
 }
 
-// Does what the words say.
-fn carry_out<S: Source, D: SectorDisk, O: Sink>(
+// Does what the words ask for.
+fn do_command<S: Source, D: SectorDisk, O: Sink>(
     alloc: Global,
     words: &[String],
     src: &mut S,
@@ -103,28 +115,17 @@ fn carry_out<S: Source, D: SectorDisk, O: Sink>(
     ensures carried_out { CarriesOut (map string_bytes words.now) result
         (scene (S.seen src.old) (D.seen disk.old) (O.seen out.old))
         (scene (S.seen src.new) (D.seen disk.new) (O.seen out.new)) }
-    ensures reported { (detail : Detail) → Gives (map string_bytes words.now) (Command.Run detail)
-        → RunReports (image_of (map string_bytes words.now)) detail result
+    ensures reported { (image : List ℕ) → (detail : Detail) → AsksRun (map string_bytes words.now) image detail
+        → RunReports image detail result
         (scene (S.seen src.old) (D.seen disk.old) (O.seen out.old))
         (scene (S.seen src.new) (D.seen disk.new) (O.seen out.new)) }
-    ensures unread { result ≡ Err Stop.Words → (src.new ≡ src.old) × (out.new ≡ out.old) × (disk.new ≡ disk.old) }
+    ensures nothing_done { AsksNothing (map string_bytes words.now)
+        → (src.new ≡ src.old) × (out.new ≡ out.old) × (disk.new ≡ disk.old) }
 {
-    match read_command(words) {
+    match read_command(alloc, words)? {
         Some(Command::Inspect { abi, order }) => show_ring(alloc, src, abi, order, out),
-        Some(Command::Run { detail }) => {
-            run_schedule(alloc, image_name(words), detail, src, disk, out)
-        }
+        Some(Command::Run { image, detail }) => run_schedule(alloc, image, detail, src, disk, out),
         None => Err(Stop::Words),
-    }
-}
-
-// The word after the command's, which names an image.
-fn image_name(words: &[String]) -> &str
-    ensures { result.now ≡ image_of (map string_bytes words.now) }
-{
-    match words {
-        [_, image, ..] => image.as_str(),
-        _ => "",
     }
 }
 

@@ -1,148 +1,181 @@
-// The command that the words of the command line give.
-ghost use Rattle.std.specs.Prelude.{◌≡◌, ℕ, ◌≤◌, ◌∷◌, List, [], IfSome, IfNone, codes, decimal, map};
+// The command that the words of the command line ask for, as the crate `clap` reads them.
+ghost use Rattle.std.specs.Prelude.{◌≡◌, ℕ, IfOk, codes, map, option_map, option_and_then};
 ghost use Rattle.std.specs.String.{string_bytes};
-ghost use Rattle.commands.specs.Words.{Gives, GivesNone, is_name};
-ghost use Rattle.commands.specs.Reading.{layout_in, order_in, option_in, with_one, with_two, options_in, run_in, command_in};
+ghost use Rattle.clap.specs.Words.{first_of, found_of, rows_of, subcommand_rows_of, rule_of};
+ghost use Rattle.commands.specs.Words.{wish_of, wish_by, wish_in, run_in, ring_in, detail_in, number_in, layout_of, order_of};
+ghost use Rattle.commands.specs.Words.{command_set, run_set, inspect_set, image_rule, moves_rule, abi_rule, order_rule};
+ghost use Rattle.commands.specs.Reading.{IsArgument, IsSet};
 
-use blk_base::Abi;
+use blk_base::{Abi, OutOfMemory};
+use clap::error::ErrorKind;
+use clap::{Arg, ArgAction, ArgMatches, value_parser};
 use schedule_text::Detail;
+use std::alloc::{AllocError, Global};
 
 /// What the program is told to do.
 #[derive(Clone, Copy, Debug, PartialEq, Eq)]
-pub enum Command {
+pub enum Command<'a> {
     /// Show a ring of that layout and of `2^order` pages (0 to 4) as text.
     Inspect { abi: Abi, order: u32 },
-    /// Run the schedule that the input holds on the image that the second word names, and report
-    /// with or without each move.
-    Run { detail: Detail },
+    /// Run the schedule that the input holds on the image of that name, and report with or without
+    /// each move.
+    Run { image: &'a str, detail: Detail },
 }
 
-/// The command that the words after the program's name give. `inspect`, then `--abi 64` or
-/// `--abi 32`, and `--order` with a number from 0 to 4, each at most once, in either order: without
-/// them the layout is that of x86_64 and the order 0. Or `run`, then a word that doesn't begin with
-/// `-`, the image's name, then at most once `--moves`. `None` where the words aren't such a command.
-pub fn read_command(words: &[String]) -> Option<Command>
-    ensures given { IfSome result (λ command. Gives (map string_bytes words.now) command) }
-    ensures refused { IfNone result (GivesNone (map string_bytes words.now)) }
+/// The command that the words after the program's name ask for, as `clap` reads them: `run` with an
+/// image's name, and `--moves` before or after it; or `inspect`, with `--abi` 64 or 32 and `--order`
+/// from 0 to 4. Each option comes at most once, and its number may have a plus and zeros before it.
+/// Without them the layout is that of x86_64 and the order 0.
+///
+/// `None` where `clap` finds a fault in the words, of which a wish for help is one, and at an `--abi`
+/// between 32 and 64. The error comes where there was no memory.
+pub fn read_command<'a>(
+    alloc: Global,
+    words: &'a [String],
+) -> Result<Option<Command<'a>>, OutOfMemory>
+    ensures asked { IfOk result (λ command. option_map wish_by command ≡ wish_of (map string_bytes words.now)) }
 {
-    first_word(words)
-}
-
-fn first_word(words: &[String]) -> Option<Command>
-    ensures { result ≡ command_in (map string_bytes words.now) }
-{
-    match words {
-        [first, options @ ..] if first.as_str() == "inspect" => inspect(options),
-        [first, options @ ..] if first.as_str() == "run" => run(options),
-        _ => None,
-    }
-}
-
-fn run(options: &[String]) -> Option<Command>
-    ensures { result ≡ run_in (map string_bytes options.now) }
-{
-    match options {
-        [image] if is_name(image.as_str().as_bytes()) => Some(Command::Run {
-            detail: Detail::Lines,
-        }),
-        [image, moves] if is_name(image.as_str().as_bytes()) && moves.as_str() == "--moves" => {
-            Some(Command::Run {
-                detail: Detail::Moves,
-            })
-        }
-        _ => None,
-    }
-}
-
-// Whether a word may name an image: it doesn't begin with `-`.
-fn is_name(word: &[u8]) -> bool
-    ensures { result ≡ is_name word.now }
-{
-    match word {
-        [b'-', ..] => false,
-        _ => true,
-    }
-}
-
-// An option of `inspect`, with its value.
-#[derive(Clone, Copy, PartialEq, Eq)]
-enum InspectOption {
-    Layout(Abi),
-    Order(u32),
-}
-
-fn inspect(options: &[String]) -> Option<Command>
-    ensures { result ≡ options_in (map string_bytes options.now) }
-{
-    match options {
-        [] => Some(Command::Inspect {
-            abi: Abi::X64,
-            order: 0,
-        }),
-        [name, value] => Some(one(option(name.as_str(), value.as_str())?)),
-        [name, value, other, its] => two(
-            option(name.as_str(), value.as_str())?,
-            option(other.as_str(), its.as_str())?,
-        ),
-        _ => None,
-    }
-}
-
-fn one(option: InspectOption) -> Command
-    ensures { result ≡ with_one option }
-{
-    match option {
-        InspectOption::Layout(abi) => Command::Inspect { abi, order: 0 },
-        InspectOption::Order(order) => Command::Inspect {
-            abi: Abi::X64,
-            order,
+    match command_set(alloc)?.try_get_matches_from(words) {
+        Ok(matches) => Ok(asked(&matches)),
+        Err(error) => match error.kind() {
+            ErrorKind::OutOfMemory => Err(OutOfMemory),
+            _ => Ok(None),
         },
     }
 }
 
-fn two(first: InspectOption, second: InspectOption) -> Option<Command>
-    ensures { result ≡ with_two first second }
+// What the program may be told.
+fn command_set<'a>(alloc: Global) -> Result<clap::Command<'a>, AllocError>
+    ensures { IfOk result (IsSet command_set) }
 {
-    match (first, second) {
-        (InspectOption::Layout(abi), InspectOption::Order(order)) => {
-            Some(Command::Inspect { abi, order })
-        }
-        (InspectOption::Order(order), InspectOption::Layout(abi)) => {
-            Some(Command::Inspect { abi, order })
-        }
-        _ => None,
-    }
+    clap::Command::new(alloc, "blkring")
+        .no_binary_name(true)
+        .subcommand_required(true)
+        .subcommand(run_command(alloc)?)?
+        .subcommand(inspect_command(alloc)?)
 }
 
-fn option(name: &str, value: &str) -> Option<InspectOption>
-    ensures { result ≡ option_in name.now value.now }
+// `run IMAGE [--moves]`.
+fn run_command<'a>(alloc: Global) -> Result<clap::Command<'a>, AllocError>
+    ensures { IfOk result (IsSet run_set) }
 {
+    clap::Command::new(alloc, "run")
+        .arg(image_argument(alloc))?
+        .arg(moves_flag(alloc))
+}
+
+// `inspect [--abi N] [--order N]`.
+fn inspect_command<'a>(alloc: Global) -> Result<clap::Command<'a>, AllocError>
+    ensures { IfOk result (IsSet inspect_set) }
+{
+    clap::Command::new(alloc, "inspect")
+        .arg(abi_option(alloc))?
+        .arg(order_option(alloc))
+}
+
+fn image_argument<'a>(alloc: Global) -> Arg<'a>
+    ensures { IsArgument image_rule result }
+{
+    Arg::new(alloc, "image").required(true)
+}
+
+fn moves_flag<'a>(alloc: Global) -> Arg<'a>
+    ensures { IsArgument moves_rule result }
+{
+    Arg::new(alloc, "moves")
+        .long("moves")
+        .action(ArgAction::SetTrue)
+}
+
+fn abi_option<'a>(alloc: Global) -> Arg<'a>
+    ensures { IsArgument abi_rule result }
+{
+    Arg::new(alloc, "abi")
+        .long("abi")
+        .value_parser(value_parser!(u64).range(32..=64))
+        .default_value("64")
+}
+
+fn order_option<'a>(alloc: Global) -> Arg<'a>
+    ensures { IsArgument order_rule result }
+{
+    Arg::new(alloc, "order")
+        .long("order")
+        .value_parser(value_parser!(u64).range(0..=4))
+        .default_value("0")
+}
+
+// The command that the matches of a parse ask for.
+fn asked<'a>(matches: &ArgMatches<'a>) -> Option<Command<'a>>
+    ensures { option_map wish_by result ≡ option_and_then (λ s. wish_in s.0 s.1) (subcommand_rows_of matches.now) }
+{
+    let (name, found) = matches.subcommand()?;
     match name {
-        "--abi" => Some(InspectOption::Layout(layout(value)?)),
-        "--order" => Some(InspectOption::Order(order(value)?)),
+        "run" => run(found),
+        "inspect" => inspect(found),
         _ => None,
     }
 }
 
-fn layout(word: &str) -> Option<Abi>
-    ensures { result ≡ layout_in word.now }
+fn run<'a>(found: &ArgMatches<'a>) -> Option<Command<'a>>
+    ensures { option_map wish_by result ≡ run_in (rows_of (found_of found.now)) }
 {
-    match word {
-        "64" => Some(Abi::X64),
-        "32" => Some(Abi::X32),
+    let image = text(found, "image")?;
+    Some(Command::Run {
+        image,
+        detail: detail(found),
+    })
+}
+
+fn inspect<'a>(found: &ArgMatches<'a>) -> Option<Command<'a>>
+    ensures { option_map wish_by result ≡ ring_in (rows_of (found_of found.now)) }
+{
+    let abi = layout(number(found, "abi")?)?;
+    let order = order(number(found, "order")?)?;
+    Some(Command::Inspect { abi, order })
+}
+
+// A flag that was used has the text `true`.
+fn detail(found: &ArgMatches<'_>) -> Detail
+    ensures { result ≡ detail_in (rows_of (found_of found.now)) }
+{
+    match text(found, "moves") {
+        Some("true") => Detail::Moves,
+        _ => Detail::Lines,
+    }
+}
+
+// The layout whose words have that many bits.
+fn layout(number: u64) -> Option<Abi>
+    ensures { result ≡ layout_of number }
+{
+    match number {
+        64 => Some(Abi::X64),
+        32 => Some(Abi::X32),
         _ => None,
     }
 }
 
-fn order(word: &str) -> Option<u32>
-    ensures { result ≡ order_in word.now }
+fn order(number: u64) -> Option<u32>
+    ensures { result ≡ order_of number }
 {
-    match word {
-        "0" => Some(0),
-        "1" => Some(1),
-        "2" => Some(2),
-        "3" => Some(3),
-        "4" => Some(4),
-        _ => None,
+    if number <= 4 {
+        Some(number as u32)
+    } else {
+        None
     }
+}
+
+// The text of an argument.
+fn text<'a>(found: &ArgMatches<'a>, id: &str) -> Option<&'a str>
+    ensures { option_map (λ s. s.now) result ≡ first_of id.now (rows_of (found_of found.now)) }
+{
+    found.get_str(id)
+}
+
+// The number that an option has.
+fn number(found: &ArgMatches<'_>, id: &str) -> Option<u64>
+    ensures { result ≡ number_in id.now (rows_of (found_of found.now)) }
+{
+    found.get_one::<u64>(id)
 }

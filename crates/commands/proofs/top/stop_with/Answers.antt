@@ -1,7 +1,7 @@
 use Rattle.std.proofs.Common.{◌≡◌, ◌∙◌, subst}
 use Rattle.blk_io.specs.Outside.{WritesBytes}
 use Rattle.commands.specs.Status.{line_of}
-use Rattle.commands.proofs.top.give_up.Goals as goal
+use Rattle.commands.proofs.top.stop_with.Goals as goal
 
 pub returns-clause-said : goal.returns-clause-said
 returns-clause-said g c =

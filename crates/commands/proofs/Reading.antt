@@ -1,0 +1,66 @@
+-- What the matches of a parse give is what the words ask for.
+use Rattle.std.proofs.Common.{◌≡◌, ℕ, ◌≤◌, List, [], ◌∷◌, Bool, true, false, Option, Some, None, refl, ◌∙◌, sym, ap, inl, inr, codes}
+use Rattle.std.specs.Prelude.{option_map, option_and_then, nat_le, if◌then◌else◌}
+use Rattle.std.specs.Str.{bytes_eq}
+use Rattle.std.proofs.lemmas.Bool.{leb-true}
+use Rattle.blk_base.specs.declared.operation.Abi.{Abi}
+use Rattle.schedule_text.specs.declared.line.Detail.{Detail}
+use Rattle.clap.specs.Words.{Kinds, Row, Text, fault_of, subcommand_of, is_simple, is_simple_and_free, HasKind, kind_of}
+use Rattle.clap.specs.declared.error.Error.{Error}
+use Rattle.clap.specs.declared.error.kind.ErrorKind.TheVariants as kind
+use Rattle.commands.specs.declared.words.Command.{Command}
+use Rattle.commands.specs.declared.words.Command.TheVariants.{Inspect}
+use Rattle.commands.specs.Words.{Wish, a_run, a_ring, number_in, order_of, run_in, ring_with, ring_in, wish_in, wish_where, wish_of, wish_by, command_set}
+
+-- where `clap` finds no fault, the words ask for what the subcommand asks for
+pub taken : (faults : Kinds) (entered entered' : Option (Text × List Row)) (wish : Option Wish) → faults ≡ [] → entered ≡ entered' → wish ≡ option_and_then (λ s. wish_in s.0 s.1) entered → wish ≡ wish_where faults entered'
+taken [] entered entered' wish none same is = is ∙ ap (option_and_then (λ s. wish_in s.0 s.1)) same
+taken (fault ∷ faults) entered entered' wish none same is = cc
+
+-- where it finds one that isn't want of memory, they ask for nothing
+pub refused : (faults : Kinds) (entered : Option (Text × List Row)) (e : Error) → HasKind faults e → (kind_of e ≡ kind.OutOfMemory → ⊥) → None ≡ wish_where faults entered
+refused [] entered e (inl starved) other = absurd (other starved)
+refused [] entered e (inr among) other = absurd among
+refused (fault ∷ faults) entered e h other = refl
+
+-- the command set is one of which `clap` says both
+pub is_said : is_simple_and_free command_set ≡ true
+is_said = refl
+
+pub is_plain : is_simple command_set ≡ true
+is_plain = refl
+
+-- ---- the order of a ring that is asked for
+
+order_few : (number : Option ℕ) (order : ℕ) → option_and_then order_of number ≡ Some order → order ≤ 4
+order_few None order is = cc
+order_few (Some n) order is = at (nat_le n 4) refl is
+  where
+    at : (b : Bool) → nat_le n 4 ≡ b → (if b then Some n else None) ≡ Some order → order ≤ 4
+    at true le is =
+        let same : n ≡ order = cc in
+        let few : n ≤ 4 = leb-true n 4 le in
+        rw (← same) few
+    at false le is = cc
+
+ring_few : (layout : Option Abi) (given : Option ℕ) (abi : Abi) (order : ℕ) → (given ≡ Some order → order ≤ 4) → ring_with layout given ≡ Some (a_ring abi order) → order ≤ 4
+ring_few None given abi order few is = cc
+ring_few (Some layout) None abi order few is = cc
+ring_few (Some layout) (Some n) abi order few is = few (cc)
+
+no_ring : (image : Option Text) (detail : Detail) (abi : Abi) (order : ℕ) → option_map (λ image. a_run image detail) image ≡ Some (a_ring abi order) → ⊥
+no_ring None detail abi order is = cc
+no_ring (Some image) detail abi order is = cc
+
+wish_few : (name : Text) (rows : List Row) (run inspect : Bool) (abi : Abi) (order : ℕ) → (if run then run_in rows else (if inspect then ring_in rows else None)) ≡ Some (a_ring abi order) → order ≤ 4
+wish_few name rows true inspect abi order is = absurd (no_ring _ _ abi order is)
+wish_few name rows false true abi order is = ring_few _ _ abi order (order_few (number_in (codes "order") rows) order) is
+wish_few name rows false false abi order is = cc
+
+where_few : (faults : Kinds) (entered : Option (Text × List Row)) (abi : Abi) (order : ℕ) → wish_where faults entered ≡ Some (a_ring abi order) → order ≤ 4
+where_few [] None abi order is = cc
+where_few [] (Some s) abi order is = wish_few s.0 s.1 (bytes_eq s.0 (codes "run")) (bytes_eq s.0 (codes "inspect")) abi order is
+where_few (fault ∷ faults) entered abi order is = cc
+
+pub asked_few : (words : List Text) (command : Option Command) (abi : Abi) (order : ℕ) → command ≡ Some (Inspect abi order) → option_map wish_by command ≡ wish_of words → order ≤ 4
+asked_few words command abi order is asks = where_few (fault_of command_set words) (subcommand_of command_set words) abi order (sym asks ∙ ap (option_map wish_by) is)
