@@ -14,11 +14,12 @@ use Rattle.std.proofs.lemmas.List.Elements.{All-push}
 use Rattle.std.proofs.lemmas.List.Quantifiers.{all_pairs_push, all_pairs_remove}
 use Rattle.std.proofs.lemmas.List.Sums.{position_or_len_is}
 use Rattle.blk_front.specs.declared.request.Request.{Request}
+use Rattle.blk_front.specs.declared.request.Transfer.TheVariants.{Read}
 use Rattle.blk_front.specs.Sound.{AreAscending}
 
 -- some request
 blank : Request
-blank = record { number = 0; sector = 0; tag = 0; frame = 18 }
+blank = record { number = 0; sector = 0; transfer = Read; frame = 18 }
 
 -- the request of the number stands there
 stands : (l : List Request) (id place : ℕ) → AreAscending l → place < length l → (get_or l place blank).number ≡ id → Some place ≡ position (λ (r : Request). r.number == id) l

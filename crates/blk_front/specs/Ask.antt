@@ -8,11 +8,19 @@ use Rattle.ring_words.specs.Ring.{next_of, responses_of}
 use Rattle.blk_front.specs.declared.stage.Stage.{Stage}
 use Rattle.blk_front.specs.declared.stage.Stage.TheVariants as stage
 use Rattle.blk_front.specs.declared.request.Request.{Request}
+use Rattle.blk_front.specs.declared.request.Transfer.{Transfer}
+use Rattle.blk_front.specs.declared.request.Transfer.TheVariants as transfer
+use Rattle.blk_front.specs.Request.{tag_of, grant_flags}
 use Rattle.blk_front.specs.View.{View, ring_frame, entry_frame, entry_word, slot_frame, slot_word, fresh_word, next_request}
+
+-- a request is begun: a write with its data, a read with its grant
+abbrev pub issue_ask : Request → Transfer → FrontAsk
+issue_ask r (transfer.Write tag) = Write r.frame 0 tag
+issue_ask r transfer.Read = Write (entry_frame r.frame) (entry_word r.frame + 1) r.frame
 
 -- in the loop: a request that waits is issued; else sleep; else the next response; else the responses' producer
 abbrev pub loop_ask : View → Option Request → FrontAsk
-loop_ask v (Some r) = Write r.frame 0 r.tag
+loop_ask v (Some r) = issue_ask r r.transfer
 loop_ask v None =
     if v.asleep then Wait
     else (if responses_of v.ring v.seen == 0 then Read ring_frame 2
@@ -25,10 +33,10 @@ ask_at stage.RingFence v = Fence
 ask_at stage.RingFlags v = Write (entry_frame ring_frame) (entry_word ring_frame) 1
 ask_at stage.NewPort v = NewPort
 ask_at stage.Loop v = loop_ask v (next_request v)
-ask_at (stage.Data r k) v = Write r.frame k r.tag
+ask_at (stage.Data r k) v = Write r.frame k (tag_of r.transfer)
 ask_at (stage.GrantFrame r) v = Write (entry_frame r.frame) (entry_word r.frame + 1) r.frame
 ask_at (stage.GrantFence r) v = Fence
-ask_at (stage.GrantFlags r) v = Write (entry_frame r.frame) (entry_word r.frame) 5
+ask_at (stage.GrantFlags r) v = Write (entry_frame r.frame) (entry_word r.frame) (grant_flags r.transfer)
 ask_at (stage.Slot k) v = Write (slot_frame v.ring.prod k) (slot_word v.ring.prod k) (slice_index v.entry k)
 ask_at stage.Producer v = Write ring_frame 0 (next_of v.ring.prod)
 ask_at (stage.ProducerFence old) v = Fence
@@ -38,6 +46,7 @@ ask_at (stage.ResponseHigh low) v = Read (slot_frame v.ring.cons 1) (slot_word v
 ask_at (stage.ResponseLast low high) v = Read (slot_frame v.ring.cons 2) (slot_word v.ring.cons 2)
 ask_at (stage.GrantRead e) v = Read (entry_frame e.frame) (entry_word e.frame)
 ask_at (stage.GrantEnd e seen) v = Cas (entry_frame e.frame) (entry_word e.frame) seen 0
+ask_at (stage.ReadData e k) v = Read e.frame k
 ask_at stage.StoreEvent v = Write ring_frame 3 (next_of v.ring.cons)
 ask_at stage.EventFence v = Fence
 ask_at stage.LookAgain v = Read ring_frame 2

@@ -15,5 +15,6 @@ view_of f = record {
   requests = f.requests.items;
   pool = f.pool;
   entry = f.entry.items;
+  words = f.words;
   told = f.told;
 }

@@ -1,4 +1,5 @@
 pub mod Pool
+pub mod Request
 pub mod View
 pub mod Inside
 pub mod Ask

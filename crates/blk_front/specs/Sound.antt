@@ -12,6 +12,7 @@ abbrev pub IsPlaced : Stage → Type 0
 IsPlaced (stage.RingWord k) = k < 16
 IsPlaced (stage.Data r k) = k < 128
 IsPlaced (stage.Slot k) = k < 28
+IsPlaced (stage.ReadData e k) = k < 128
 IsPlaced s = Unit {0}
 
 -- while a request is issued, one waits

@@ -1,5 +1,5 @@
 -- What an answer makes of the front.
-use Rattle.std.specs.Prelude.{ℕ, ◌+◌, ◌-◌, ◌*◌, ◌/◌, ◌%◌, ◌^◌, Bool, true, false, List, [], ◌∷◌, length, take, remove, position, replicate, Option, Some, None, slice_get, Result, Ok, Err, if◌then◌else◌, ◌==◌, nat_lt}
+use Rattle.std.specs.Prelude.{ℕ, ◌+◌, ◌-◌, ◌*◌, ◌/◌, ◌%◌, ◌^◌, Bool, true, false, List, [], ◌∷◌, length, take, remove, position, replicate, Option, Some, None, slice_get, slice_set, Result, Ok, Err, if◌then◌else◌, ◌==◌, nat_lt}
 use Rattle.std.specs.Option.{option_map}
 use Rattle.blk_base.specs.Distance.{distance_of}
 use Rattle.blk_base.specs.declared.operation.Abi.TheVariants.{X64}
@@ -17,6 +17,9 @@ use Rattle.blk_front.specs.declared.stage.Stage.{Stage}
 use Rattle.blk_front.specs.declared.stage.Stage.TheVariants as stage
 use Rattle.blk_front.specs.declared.stage.Ending.{Ending}
 use Rattle.blk_front.specs.declared.request.Request.{Request}
+use Rattle.blk_front.specs.declared.request.Transfer.{Transfer}
+use Rattle.blk_front.specs.declared.request.Transfer.TheVariants as transfer
+use Rattle.blk_front.specs.Request.{operation_of, has_data}
 use Rattle.blk_front.specs.declared.told.Told.TheVariants as told
 use Rattle.blk_front.specs.Pool.{with_free}
 use Rattle.blk_front.specs.View.{View, reference_of, next_request}
@@ -31,13 +34,13 @@ broken word v = record v { stage = stage.Broken word; told = Some (told.Broken w
 abbrev pub no_segment : Segment
 no_segment = record { gref = 0; first = 0; last = 0 }
 
--- the one segment of a write of one sector: the first sector of its frame
+-- the one segment of a request of one sector: the first sector of its frame
 abbrev pub segments_of : Request → List Segment
 segments_of r = record { gref = reference_of r.frame; first = 0; last = 0 } ∷ replicate 10 no_segment
 
--- the request as its entry has it: a WRITE (1) of one segment to device 51712
+-- the request as its entry has it: a READ (0) or a WRITE (1) of one segment, of device 51712
 abbrev pub entry_request : Request → RawRequest
-entry_request r = Direct 1 1 51712 r.number r.sector (segments_of r)
+entry_request r = Direct (operation_of r.transfer) 1 51712 r.number r.sector (segments_of r)
 
 -- the words of the request's entry
 abbrev pub entry_of : Request → List ℕ
@@ -55,9 +58,14 @@ loop_word v word =
     then looked v word (record v { seen = word; stage = stage.StoreEvent })
     else at (stage.ResponseHigh word) v
 
+-- a request was begun: of a write a word of its data was written, of a read the first word of its grant
+abbrev pub issue_stage : Request → Transfer → Stage
+issue_stage r (transfer.Write tag) = stage.Data r 1
+issue_stage r transfer.Read = stage.GrantFence r
+
 -- an event ends sleep; a watch has nothing to tell where there are no keys
 abbrev pub loop_step : View → Option Request → FrontAnswer → View
-loop_step v (Some r) answer = at (stage.Data r 1) v
+loop_step v (Some r) answer = at (issue_stage r r.transfer) v
 loop_step v None (Word word) = loop_word v word
 loop_step v None Event = record v { asleep = false }
 loop_step v None answer = v
@@ -75,7 +83,7 @@ abbrev pub taken : View → ℕ → Request → Status → View
 taken v place r status = record v {
   ring = record v.ring { cons = next_of v.ring.cons };
   requests = remove v.requests place;
-  stage = stage.GrantRead (record { number = r.number; frame = r.frame; status = status });
+  stage = stage.GrantRead (record { number = r.number; transfer = r.transfer; frame = r.frame; status = status });
 }
 
 -- a response was read whole: its id is looked at first, then its status
@@ -91,9 +99,18 @@ response_step v low high last = response_at v (response_of (low ∷ high ∷ las
 abbrev pub is_mapped : ℕ → Bool
 is_mapped word = nat_lt 0 (word / 8 % 4)
 
--- the grant ended: the answer is told and the frame is free
+-- the grant ended: the answer is told; the data of a read that went well are read next, and else the frame is free
 abbrev pub ended : View → Ending → View
-ended v e = record v { stage = stage.Loop; pool = with_free v.pool e.frame; told = Some (told.Answer e.number e.status) }
+ended v e =
+    if has_data e.transfer e.status then record v { stage = stage.ReadData e 0; told = Some (told.Answer e.number e.status) }
+    else record v { stage = stage.Loop; pool = with_free v.pool e.frame; told = Some (told.Answer e.number e.status) }
+
+-- a word of the data was read: after the last one the sector is told, and the frame is free
+abbrev pub data_step : View → Ending → ℕ → ℕ → View
+data_step v e k word =
+    if k == 127
+    then record v { words = slice_set v.words k word; stage = stage.Loop; pool = with_free v.pool e.frame; told = Some (told.Sector e.number 0 (slice_set v.words k word)) }
+    else record v { words = slice_set v.words k word; stage = stage.ReadData e (k + 1) }
 
 -- the grant entry was read: it may be ended where the back has no mapping of it
 abbrev pub end_step : View → Ending → ℕ → View
@@ -130,6 +147,7 @@ step_at (stage.ResponseHigh low) v (Word high) = at (stage.ResponseLast low high
 step_at (stage.ResponseLast low high) v (Word last) = response_step v low high last
 step_at (stage.GrantRead e) v (Word word) = end_step v e word
 step_at (stage.GrantEnd e before) v (Word word) = exchanged v e before word
+step_at (stage.ReadData e k) v (Word word) = data_step v e k word
 step_at stage.StoreEvent v answer = at stage.EventFence v
 step_at stage.EventFence v answer = at stage.LookAgain v
 step_at stage.LookAgain v (Word word) = looked v word (record v { seen = word; stage = stage.Loop; asleep = true })

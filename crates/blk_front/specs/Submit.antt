@@ -3,7 +3,9 @@ use Rattle.std.specs.Prelude.{ℕ, ◌+◌, Bool, true, false, not, [], ◌∷�
 use Rattle.blk_base.specs.declared.ask.FrontAsk.{FrontAsk}
 use Rattle.blk_base.specs.declared.ask.FrontAsk.TheVariants.{Wait}
 use Rattle.blk_base.specs.declared.config.Job.{Job}
-use Rattle.blk_base.specs.declared.config.Job.TheVariants.{Write}
+use Rattle.blk_base.specs.declared.config.Job.TheVariants as jobs
+use Rattle.blk_front.specs.declared.request.Transfer.{Transfer}
+use Rattle.blk_front.specs.declared.request.Transfer.TheVariants as transfer
 use Rattle.blk_front.specs.declared.stage.Stage.{Stage}
 use Rattle.blk_front.specs.declared.stage.Stage.TheVariants as stage
 use Rattle.blk_front.specs.declared.told.Refusal.{Refusal}
@@ -31,18 +33,20 @@ is_connected stage.RingFlags = false
 is_connected stage.NewPort = false
 is_connected s = true
 
--- a request whose grant is being ended is unfinished still
+-- a request whose grant is being ended, or whose data are told, is unfinished still
 abbrev pub ending_of : Stage → ℕ
 ending_of (stage.GrantRead e) = 1
 ending_of (stage.GrantEnd e before) = 1
+ending_of (stage.ReadData e k) = 1
 ending_of s = 0
 
 abbrev pub unfinished : View → ℕ
 unfinished v = length v.requests + ending_of v.stage
 
--- the sector and the word of a write of one sector
-abbrev pub one_sector : Job → Option (ℕ × ℕ)
-one_sector (Write sector count tag) = if count == 1 then Some (sector, tag) else None
+-- the sector of a read or a write of one sector, and which way it goes
+abbrev pub one_sector : Job → Option (ℕ × Transfer)
+one_sector (jobs.Read sector count) = if count == 1 then Some (sector, transfer.Read) else None
+one_sector (jobs.Write sector count tag) = if count == 1 then Some (sector, transfer.Write tag) else None
 one_sector job = None
 
 -- nothing is to be done until an event comes
@@ -51,19 +55,19 @@ is_wait Wait = true
 is_wait ask = false
 
 -- accepted: the next number, the lowest free frame, last in the queue
-abbrev pub accepted : View → ℕ → ℕ → ℕ → View
-accepted v sector tag frame = record v {
+abbrev pub accepted : View → ℕ → Transfer → ℕ → View
+accepted v sector way frame = record v {
   last = v.last + 1;
   waiting = v.waiting + 1;
-  requests = v.requests ++ record { number = v.last + 1; sector = sector; tag = tag; frame = frame } ∷ [];
+  requests = v.requests ++ record { number = v.last + 1; sector = sector; transfer = way; frame = frame } ∷ [];
   pool = with_taken v.pool frame;
 }
 
-abbrev pub submit_with : View → ℕ × ℕ → Option ℕ → Result ℕ Refusal × View
+abbrev pub submit_with : View → ℕ × Transfer → Option ℕ → Result ℕ Refusal × View
 submit_with v what None = (Err refusal.Buffers, v)
 submit_with v what (Some frame) = (Ok (v.last + 1), accepted v what.0 what.1 frame)
 
-abbrev pub submit_one : View → Option (ℕ × ℕ) → Result ℕ Refusal × View
+abbrev pub submit_one : View → Option (ℕ × Transfer) → Result ℕ Refusal × View
 submit_one v None = (Err refusal.Unsupported, v)
 submit_one v (Some what) =
     if nat_le v.sectors what.0 then (Err refusal.Range, v)

@@ -1,5 +1,5 @@
 -- What contracts see of the front, and the places of the machine that it works in.
-use Rattle.std.specs.Prelude.{ℕ, ◌+◌, ◌-◌, ◌*◌, ◌/◌, ◌%◌, Bool, false, List, [], length, slice_get, Option, None, if◌then◌else◌, ◌==◌}
+use Rattle.std.specs.Prelude.{ℕ, replicate, ◌+◌, ◌-◌, ◌*◌, ◌/◌, ◌%◌, Bool, false, List, [], length, slice_get, Option, None, if◌then◌else◌, ◌==◌}
 use Rattle.blk_base.specs.declared.operation.Abi.TheVariants.{X64}
 use Rattle.ring_words.specs.Ring.{Ring, next_of}
 use Rattle.ring_words.specs.Shape.{Shape, slot_word_of}
@@ -10,7 +10,7 @@ use Rattle.blk_front.specs.Pool.{empty_pool}
 use Rattle.blk_front.specs.declared.request.Request.{Request}
 use Rattle.blk_front.specs.declared.told.Told.{Told}
 
--- The front: the disk's sectors and the ring's first index; its own indices and what it does; whether it sleeps; the responses' producer as last read; the last number given; the unfinished requests in order of number, of which the last `waiting` aren't issued yet; the frames in use; the words of the entry being written; what is to be told.
+-- The front: the disk's sectors and the ring's first index; its own indices and what it does; whether it sleeps; the responses' producer as last read; the last number given; the unfinished requests in order of number, of which the last `waiting` aren't issued yet; the frames in use; the words of the entry being written, and those of the sector being read; what is to be told.
 pub record View : Type 0 where
   pub sectors : ℕ
   pub start : ℕ
@@ -23,6 +23,7 @@ pub record View : Type 0 where
   pub requests : List Request
   pub pool : List Bool
   pub entry : List ℕ
+  pub words : List ℕ
   pub told : Option Told
 
 -- a ring of one page under the layout of 64-bit guests
@@ -77,5 +78,6 @@ start_of config = record {
   requests = [];
   pool = empty_pool;
   entry = [];
+  words = replicate 128 0;
   told = None;
 }

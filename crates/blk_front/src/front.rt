@@ -2,7 +2,7 @@
 ghost use Rattle.std.specs.Prelude.{◌≡◌, ◌<◌, ◌+◌, None, IfOk, IsOk, OnErr, slice_index};
 ghost use Rattle.blk_base.specs.declared.ask.FrontAsk.TheVariants.{Wait};
 ghost use Rattle.blk_front.specs.View.{start_of, next_request, slot_frame, slot_word, entry_frame, entry_word};
-ghost use Rattle.blk_front.specs.Ask.{ask_of, loop_ask, IsAnswer, IsPlace, StaysInMemory};
+ghost use Rattle.blk_front.specs.Ask.{ask_of, loop_ask, issue_ask, IsAnswer, IsPlace, StaysInMemory};
 ghost use Rattle.blk_front.specs.Step.{step_of, step_at};
 ghost use Rattle.blk_front.specs.Submit.{submit_of, unfinished};
 
@@ -11,18 +11,18 @@ mod submit;
 
 use crate::place;
 use crate::pool::{Pool, PoolFrame};
-use crate::request::Request;
+use crate::request::{Request, Transfer};
 use crate::stage::Stage;
 use crate::told::{Refusal, Told};
 use arrayvec::ArrayVec;
 use blk_base::{Abi, Config, Endpoint, FrontAnswer, FrontAsk, Job, OutOfMemory};
-use grant_table::{GTF_PERMIT_ACCESS, GTF_READONLY};
+use grant_table::GTF_PERMIT_ACCESS;
 use ring_words::{FrontRing, REQ_EVENT, REQ_PROD, RSP_EVENT, RSP_PROD, RingShape};
 use std::alloc::Global;
 use std::marker::Model;
 
-/// The front end of a ring of one page under the layout of 64-bit guests, which issues writes of one
-/// sector. After `new` it takes no memory.
+/// The front end of a ring of one page under the layout of 64-bit guests, which issues reads and
+/// writes of one sector. After `new` it takes no memory.
 #[derive(Drop)]
 pub struct Front {
     sectors: u64,
@@ -36,6 +36,7 @@ pub struct Front {
     requests: Vec<Request>,
     pool: Pool,
     entry: ArrayVec<u32, 28>,
+    words: [u32; 128],
     told: Option<Told>,
 }
 
@@ -70,6 +71,7 @@ impl Front {
             requests,
             pool: Pool::new(),
             entry: ArrayVec::new(),
+            words: [0; 128],
             told: None,
         })
     }
@@ -93,11 +95,7 @@ impl Front {
         ensures within { StaysInMemory result }
     {
         if let Some(r) = self.next_request() {
-            return FrontAsk::Write {
-                frame: r.frame.number(),
-                word: 0,
-                value: r.tag,
-            };
+            return issue(&r);
         }
         if self.asleep {
             FrontAsk::Wait
@@ -132,6 +130,17 @@ impl Front {
             .copied()
             .unwrap_or(0);
         write(frame, place, value)
+    }
+}
+
+// A request is begun: a write with its data, a read with its grant.
+fn issue<'a>(r: &Request) -> FrontAsk<'a>
+    ensures value { result ≡ issue_ask r.now r.now.transfer }
+    ensures within { StaysInMemory result }
+{
+    match r.transfer {
+        Transfer::Write(tag) => write(r.frame.number(), 0, tag),
+        Transfer::Read => write_frame(&r.frame),
     }
 }
 
@@ -218,10 +227,10 @@ impl<'a> Endpoint<'a> for Front {
             Stage::RingFlags => write(0, 16, GTF_PERMIT_ACCESS),
             Stage::NewPort => FrontAsk::NewPort,
             Stage::Loop => self.ask_in_loop(),
-            Stage::Data(r, word) => write(r.frame.number(), word, r.tag),
+            Stage::Data(r, word) => write(r.frame.number(), word, r.transfer.tag()),
             Stage::GrantFrame(r) => write_frame(&r.frame),
             Stage::GrantFence(_) => FrontAsk::Fence,
-            Stage::GrantFlags(r) => write_flags(&r.frame, GTF_PERMIT_ACCESS | GTF_READONLY),
+            Stage::GrantFlags(r) => write_flags(&r.frame, r.transfer.grant_flags()),
             Stage::Slot(word) => self.write_slot(word),
             Stage::Producer => write(
                 place::RING_FRAME,
@@ -235,6 +244,7 @@ impl<'a> Endpoint<'a> for Front {
             Stage::ResponseLast(_, _) => self.read_response(2),
             Stage::GrantRead(ending) => read_flags(&ending.frame),
             Stage::GrantEnd(ending, seen) => end_grant(&ending.frame, seen),
+            Stage::ReadData(ending, word) => read(ending.frame.number(), word),
             Stage::StoreEvent => write(
                 place::RING_FRAME,
                 RSP_EVENT,
@@ -278,6 +288,9 @@ impl<'a> Endpoint<'a> for Front {
             (Stage::GrantRead(ending), FrontAnswer::Word(word)) => self.end_grant(ending, *word),
             (Stage::GrantEnd(ending, before), FrontAnswer::Word(word)) => {
                 self.ended_grant(ending, before, *word);
+            }
+            (Stage::ReadData(ending, place), FrontAnswer::Word(word)) => {
+                self.read_data(ending, place, *word);
             }
             (Stage::StoreEvent, _) => self.stage = Stage::EventFence,
             (Stage::EventFence, _) => self.stage = Stage::LookAgain,

@@ -14,6 +14,6 @@ mod told;
 
 pub use front::Front;
 pub use pool::PoolFrame;
-pub use request::Request;
+pub use request::{Request, Transfer};
 pub use stage::{Ending, Stage};
 pub use told::{Refusal, Told};

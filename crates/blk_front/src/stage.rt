@@ -1,12 +1,13 @@
 // What the front is doing.
 use crate::pool::PoolFrame;
-use crate::request::Request;
+use crate::request::{Request, Transfer};
 use blk_base::Status;
 
-/// A request whose response was read, and whose grant is being ended.
+/// A request whose response was read, and whose grant is being ended or whose data are told.
 #[derive(Clone, Copy, Debug, PartialEq, Eq)]
 pub struct Ending {
     pub number: u32,
+    pub transfer: Transfer,
     pub frame: PoolFrame,
     pub status: Status,
 }
@@ -25,7 +26,7 @@ pub enum Stage {
     NewPort,
     /// Is connected, and at nothing in particular.
     Loop,
-    /// Writes a request's data: the word of this number is written next, 1 to 127.
+    /// Writes the data of a write: the word of this number is written next, 1 to 127.
     Data(Request, u32),
     /// Grants the request's frame: its entry's second word, a fence, its first word. The fence has the
     /// frame stand in the entry before its flags permit access.
@@ -47,6 +48,8 @@ pub enum Stage {
     /// Ends a grant: reads its entry's first word, and exchanges it for 0 if it is still this one.
     GrantRead(Ending),
     GrantEnd(Ending, u32),
+    /// Reads the data of a read that was answered: the word of this number is read next, 0 to 127.
+    ReadData(Ending, u32),
     /// Looks for responses a last time: the event word, a fence, the producer again. The fence has the
     /// event word seen before the producer is read (`RING_FINAL_CHECK_FOR_RESPONSES`).
     StoreEvent,

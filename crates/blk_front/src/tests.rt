@@ -1,10 +1,11 @@
-// How the front begins, sleeps, refuses and writes, held against a guest's memory.
+// How the front begins, sleeps, refuses, reads and writes, held against a guest's memory.
 mod answers;
 mod guest;
+mod reads;
 
 use crate::{Refusal, Told};
 use blk_base::{FrontAsk, Job, SectorCount};
-use guest::{Memory, asks, asleep, connected, front_of, one_move, quiet_moves, write};
+use guest::{Memory, asks, asleep, connected, front_of, one_move, quiet_moves, read, write};
 use std::test::Fail;
 
 // The entry of a write of sector 0 with id 1 whose data are granted by reference 24, up to its
@@ -191,7 +192,7 @@ fn what_it_cannot_do_is_refused_and_changes_nothing(rt: HostRuntime) -> Result<(
         (
             Job::Read {
                 sector: 0,
-                count: one,
+                count: two,
             },
             Refusal::Unsupported,
         ),
@@ -219,6 +220,7 @@ fn what_it_cannot_do_is_refused_and_changes_nothing(rt: HostRuntime) -> Result<(
             },
             Refusal::Unsupported,
         ),
+        (read(8)?, Refusal::Range),
         (write(8, 7)?, Refusal::Range),
         (write(18446744073709551615, 7)?, Refusal::Range),
     ] {

@@ -7,7 +7,16 @@ pub enum Told {
     /// It is connected.
     Ready,
     /// It took the response to a request.
-    Answer { id: u32, status: Status },
+    Answer {
+        id: u32,
+        status: Status,
+    },
+    /// It read a sector of a read that was answered: its place in the request, and its words.
+    Sector {
+        id: u32,
+        index: u32,
+        words: [u32; 128],
+    },
     /// It found this word, which no honest back leaves, and does nothing more.
     Broken(u32),
 }
@@ -19,7 +28,7 @@ pub enum Refusal {
     Spent,
     /// The front isn't connected, or is broken.
     NotReady,
-    /// Not a write of one sector: this front issues nothing else.
+    /// Not a read or a write of one sector: this front issues nothing else.
     Unsupported,
     /// The sector is past the disk's end.
     Range,

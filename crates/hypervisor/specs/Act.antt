@@ -1,5 +1,5 @@
 -- What is done at an ask: the answer that its end is told, what lies under the ends after it, and the move that a report shows.
-use Rattle.std.specs.Prelude.{ℕ, ◌+◌, List, Option, Some, None, Result, Ok, Err, if◌then◌else◌, ◌==◌}
+use Rattle.std.specs.Prelude.{◌≡◌, ℕ, ◌+◌, ◌^◌, ◌<◌, All, length, List, Option, Some, None, Result, Ok, Err, if◌then◌else◌, ◌==◌}
 use Rattle.std.specs.Option.{option_map}
 use Rattle.blk_base.specs.declared.parts.Mode.{Mode}
 use Rattle.blk_base.specs.declared.parts.End.TheVariants as end
@@ -41,6 +41,11 @@ pub data Outcome : Type 0 where
   Gave : (words : List ℕ) → Outcome
   Took : Outcome
   Failed : Outcome
+
+-- a sector that the disk gave has 128 words of 32 bits
+abbrev pub IsGiven : Outcome → Type 0
+IsGiven (Gave words) = (length words ≡ 128) × All (λ (word : ℕ). word < 2 ^ 32) words
+IsGiven outcome = Unit {0}
 
 abbrev pub with_pages : Hypervisor → List ℕ → Hypervisor
 with_pages h pages = record h { pages = pages }

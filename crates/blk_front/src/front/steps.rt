@@ -5,12 +5,12 @@ ghost use Rattle.blk_front.specs.declared.stage.Stage.TheVariants as stage;
 ghost use Rattle.blk_front.specs.View.{next_request};
 ghost use Rattle.blk_front.specs.Ask.{loop_ask, IsAnswer};
 ghost use Rattle.blk_front.specs.Sound.{AreAscending};
-ghost use Rattle.blk_front.specs.Step.{step_at, loop_step, loop_word, looked, broken, issued, taken, response_step, end_step, exchanged, pushed, entry_request, IsTaking};
+ghost use Rattle.blk_front.specs.Step.{step_at, loop_step, loop_word, looked, broken, issued, taken, response_step, end_step, exchanged, pushed, entry_request, data_step, issue_stage, IsTaking};
 ghost use Rattle.blk_layout.specs.Entry.{raw_of};
 ghost use Rattle.blk_front.specs.declared.request.Request.{Request};
 
 use super::Front;
-use crate::request::Request;
+use crate::request::{Request, Transfer};
 use crate::stage::{Ending, Stage};
 use crate::told::Told;
 use blk_base::{Abi, FrontAnswer, Status};
@@ -45,7 +45,7 @@ impl Front {
         ensures { self.new ≡ loop_step self.old (next_request self.old) answer.now }
     {
         match (self.next_request(), answer) {
-            (Some(r), _) => self.stage = Stage::Data(r, 1),
+            (Some(r), _) => self.stage = begun(r),
             (None, FrontAnswer::Word(word)) => self.read_in_loop(*word),
             (None, FrontAnswer::Event) => self.asleep = false,
             _ => {}
@@ -194,6 +194,7 @@ impl Front {
         self.requests.remove(place);
         self.stage = Stage::GrantRead(Ending {
             number: r.number,
+            transfer: r.transfer,
             frame: r.frame,
             status,
         });
@@ -218,15 +219,41 @@ impl Front {
         requires { self.old.stage ≡ stage.GrantEnd ending before }
         ensures { self.new ≡ exchanged self.old ending before word }
     {
-        if word == before {
+        if word != before {
+            self.break_with(word);
+            return;
+        }
+        self.told = Some(Told::Answer {
+            id: ending.number,
+            status: ending.status,
+        });
+        match (ending.transfer, ending.status) {
+            (Transfer::Read, Status::Okay) => self.stage = Stage::ReadData(ending, 0),
+            _ => {
+                self.pool.free(&ending.frame);
+                self.stage = Stage::Loop;
+            }
+        }
+    }
+
+    /// A word of an answered read's data was read.
+    #[inline(never)]
+    pub(super) fn read_data(&mut self, ending: Ending, place: u32, word: u32)
+        requires stage { self.old.stage ≡ stage.ReadData ending place }
+        requires placed { place < 128 }
+        ensures { self.new ≡ data_step self.old ending place word }
+    {
+        self.words[place as usize] = word;
+        if place == 127 {
             self.pool.free(&ending.frame);
-            self.told = Some(Told::Answer {
+            self.told = Some(Told::Sector {
                 id: ending.number,
-                status: ending.status,
+                index: 0,
+                words: self.words,
             });
             self.stage = Stage::Loop;
         } else {
-            self.break_with(word);
+            self.stage = Stage::ReadData(ending, place + 1);
         }
     }
 }
@@ -242,14 +269,28 @@ fn place_of(requests: &[Request], id: u64) -> Option<usize>
         .ok()
 }
 
+// What a front does after it began a request.
+fn begun(r: Request) -> Stage
+    ensures { result ≡ issue_stage r r.transfer }
+{
+    match r.transfer {
+        Transfer::Write(_) => Stage::Data(r, 1),
+        Transfer::Read => Stage::GrantFence(r),
+    }
+}
+
 // The request as its entry has it.
 fn wire(r: &Request) -> Wire
     ensures { raw_of result ≡ entry_request r.now }
 {
     let mut segments = [Segment::default(); 11];
     segments[0].gref = r.frame.reference();
+    let op = match r.transfer {
+        Transfer::Read => DirectOp::Read,
+        Transfer::Write(_) => DirectOp::Write,
+    };
     Wire::Direct {
-        op: DirectOp::Write,
+        op,
         count: 1,
         device: 51712,
         id: u64::from(r.number),

@@ -1,10 +1,10 @@
 // What the front is handed, and what it tells.
-ghost use Rattle.std.specs.Prelude.{◌≡◌, ◌≤◌, None};
+ghost use Rattle.std.specs.Prelude.{◌≡◌, ◌≤◌, None, is_some};
 ghost use Rattle.blk_front.specs.Ask.{ask_of};
 ghost use Rattle.blk_front.specs.Submit.{submit_of, submit_one, is_ready, is_connected, one_sector, unfinished, is_wait};
 
 use super::Front;
-use crate::request::Request;
+use crate::request::{Request, Transfer};
 use crate::stage::Stage;
 use crate::told::{Refusal, Told};
 use blk_base::{Abi, Endpoint, FrontAsk, Job};
@@ -23,7 +23,7 @@ impl Front {
         if !is_ready(self.stage) {
             return Err(Refusal::NotReady);
         }
-        let Some((sector, tag)) = one_sector(&job) else {
+        let Some((sector, transfer)) = one_sector(&job) else {
             return Err(Refusal::Unsupported);
         };
         if sector >= self.sectors {
@@ -41,7 +41,7 @@ impl Front {
             .push(Request {
                 number,
                 sector,
-                tag,
+                transfer,
                 frame,
             })
             .unwrap();
@@ -58,6 +58,7 @@ impl Front {
         let ending = match self.stage {
             Stage::GrantRead(_) => 1,
             Stage::GrantEnd(_, _) => 1,
+            Stage::ReadData(_, _) => 1,
             _ => 0,
         };
         self.requests.len() as u32 + ending
@@ -94,6 +95,14 @@ impl Front {
         (count, u64::from(count))
     }
 
+    /// Whether something is left to tell.
+    #[inline(always)]
+    pub fn has_told(&self) -> bool
+        ensures { result ≡ is_some self.now.told }
+    {
+        self.told.is_some()
+    }
+
     /// What happened in the last move, once; `None` exactly where nothing is left to tell.
     pub fn take_told(&mut self) -> Option<Told>
         ensures told { result ≡ self.old.told }
@@ -121,14 +130,21 @@ fn is_ready(stage: Stage) -> bool
     )
 }
 
-// The sector and the word of a write of one sector.
-fn one_sector(job: &Job) -> Option<(u64, u32)>
+// The sector of a read or a write of one sector, and which way it goes.
+fn one_sector(job: &Job) -> Option<(u64, Transfer)>
     ensures { result ≡ one_sector job.now }
 {
     match *job {
+        Job::Read { sector, count } => {
+            if count.get() == 1 {
+                Some((sector, Transfer::Read))
+            } else {
+                None
+            }
+        }
         Job::Write { sector, count, tag } => {
             if count.get() == 1 {
-                Some((sector, tag))
+                Some((sector, Transfer::Write(tag)))
             } else {
                 None
             }

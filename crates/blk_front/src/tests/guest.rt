@@ -179,6 +179,12 @@ pub fn asleep(
     Ok(front)
 }
 
+/// A read of one sector.
+pub fn read(sector: u64) -> Result<Job, Fail> {
+    let count = SectorCount::new(1).ok_or("a count above 0")?;
+    Ok(Job::Read { sector, count })
+}
+
 /// A write of one sector.
 pub fn write(sector: u64, tag: u32) -> Result<Job, Fail> {
     let count = SectorCount::new(1).ok_or("a count above 0")?;

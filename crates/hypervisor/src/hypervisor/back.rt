@@ -6,7 +6,7 @@ ghost use Rattle.xen_pages.specs.Pages.{word_of};
 ghost use Rattle.grant_table.specs.Table.{IsLive, frame_of};
 ghost use Rattle.blk_base.specs.declared.moves.Move.{Move};
 ghost use Rattle.hypervisor.specs.Hypervisor.{Hypervisor};
-ghost use Rattle.hypervisor.specs.Act.{back_act, back_seen, back_under, back_with_move, outcome_of, outcome_told, read_act, disk_act, wait_act};
+ghost use Rattle.hypervisor.specs.Act.{back_act, back_seen, back_under, back_with_move, outcome_of, outcome_told, IsGiven, read_act, disk_act, wait_act};
 ghost use Rattle.hypervisor.specs.Act.Outcome.{Took};
 ghost use Rattle.hypervisor.specs.May.{BackMay, IsCall, MayShow, HasMappingLeft};
 ghost use Rattle.hypervisor.specs.Disk.{DiskDoes, DiskReads, DiskWrites, DiskFlushes, DiskTrims};
@@ -32,6 +32,7 @@ impl Hypervisor {
         ensures acted { back_with_move self.new who ask.now result ≡ back_seen (back_act self.old who ask.now (outcome_of result)) }
         ensures under { self.new ≡ back_under self.old (back_act self.old who ask.now (outcome_of result)) }
         ensures may_show { IfSome result (λ answer. MayShow self.new ask.now answer) }
+        ensures given { IsGiven (outcome_of result) }
         ensures disk { DiskDoes ask.now (outcome_of result) (D.seen disk.old) (D.seen disk.new) }
     {
         match ask {
@@ -64,6 +65,7 @@ impl Hypervisor {
         ensures acted { back_with_move self.new who ask.now result ≡ back_seen (back_act self.old who ask.now (outcome_of result)) }
         ensures under { self.new ≡ back_under self.old (back_act self.old who ask.now (outcome_of result)) }
         ensures may_show { IfSome result (λ answer. MayShow self.new ask.now answer) }
+        ensures given { IsGiven (outcome_of result) }
         ensures disk { DiskDoes ask.now (outcome_of result) (D.seen disk.old) (D.seen disk.new) }
     {
         match ask {
@@ -162,12 +164,21 @@ fn read_disk<'a, D: SectorDisk>(
     requires { IsIn (attached_of (D.seen disk.old)) sector }
     ensures acted { (under : Hypervisor) (shown : Move) → Some (result, shown) ≡ back_seen (read_act under shown (outcome_told result)) }
     ensures under { (under : Hypervisor) (shown : Move) → back_under under (read_act under shown (outcome_told result)) ≡ under }
+    ensures given { IsGiven (outcome_told result) }
     ensures read { DiskReads sector (outcome_told result) (D.seen disk.old) (D.seen disk.new) }
 {
     match disk.read(sector, room) {
-        Ok(()) => BackAnswer::Sector(Lent::at(room)),
+        Ok(()) => sector_read(room),
         Err(Failed) => BackAnswer::DiskFailed,
     }
+}
+
+// The words of a sector that was read, as an answer.
+fn sector_read(words: &SectorWords) -> BackAnswer<'_>
+    ensures value { result ≡ BackAnswer.Sector words.now }
+    ensures given { IsGiven (outcome_told result) }
+{
+    BackAnswer::Sector(Lent::at(words))
 }
 
 // A sector is written to the disk.
@@ -175,6 +186,7 @@ fn write_disk<D: SectorDisk>(sector: u64, words: &SectorWords, disk: &mut D) -> 
     requires { IsIn (attached_of (D.seen disk.old)) sector }
     ensures acted { (under : Hypervisor) (shown : Move) → Some (result, shown) ≡ back_seen (disk_act under shown (outcome_told result)) }
     ensures under { (under : Hypervisor) (shown : Move) → back_under under (disk_act under shown (outcome_told result)) ≡ under }
+    ensures given { IsGiven (outcome_told result) }
     ensures written { DiskWrites sector words.now (outcome_told result) (D.seen disk.old) (D.seen disk.new) }
 {
     match disk.write(sector, words) {
@@ -188,6 +200,7 @@ fn flush_disk<D: SectorDisk>(disk: &mut D) -> BackAnswer<'static>
     requires { IsIn (attached_of (D.seen disk.old)) 0 }
     ensures acted { (under : Hypervisor) (shown : Move) → Some (result, shown) ≡ back_seen (disk_act under shown (outcome_told result)) }
     ensures under { (under : Hypervisor) (shown : Move) → back_under under (disk_act under shown (outcome_told result)) ≡ under }
+    ensures given { IsGiven (outcome_told result) }
     ensures flushed { DiskFlushes (outcome_told result) (D.seen disk.old) (D.seen disk.new) }
 {
     match disk.flush() {
@@ -201,6 +214,7 @@ fn trim_disk<D: SectorDisk>(sector: u64, count: u64, disk: &mut D) -> BackAnswer
     requires { AreIn (attached_of (D.seen disk.old)) sector count }
     ensures acted { (under : Hypervisor) (shown : Move) → Some (result, shown) ≡ back_seen (disk_act under shown (outcome_told result)) }
     ensures under { (under : Hypervisor) (shown : Move) → back_under under (disk_act under shown (outcome_told result)) ≡ under }
+    ensures given { IsGiven (outcome_told result) }
     ensures trimmed { DiskTrims sector count (outcome_told result) (D.seen disk.old) (D.seen disk.new) }
 {
     match disk.trim(sector, count) {

@@ -9,7 +9,7 @@ invariant_of-self c =
     let requests = c.self.inside.requests.items in
     let sound = c.self.invariant.0 in
     let last = c.self.inside.last in
-    let r : Request = record { number = last + 1; sector = c.in-Some.sector; tag = c.in-Some.tag; frame = c.in-Some-lowest.frame } in
+    let r : Request = record { number = last + 1; sector = c.in-Some.sector; transfer = c.in-Some.transfer; frame = c.in-Some-lowest.frame } in
     let grown : c.push.new.self.items ≡ requests ++ r ∷ [] = search rules in (
       record {
         entries = search rules;
