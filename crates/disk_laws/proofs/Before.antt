@@ -1,55 +1,146 @@
--- The beginnings of reports.
-use Rattle.std.proofs.Common.{◌≡◌, ℕ, List, [], ◌∷◌, ◌++◌, false, refl, ap, sym, ◌∙◌, subst}
-use Rattle.std.specs.Prelude.{Option, Some, None, option_and_then}
+-- The beginnings of reports: where the report ends among the lines of what happened last, what a recorder keeps of it is the report of a run of the pipeline too.
+use Rattle.std.proofs.Common.{◌≡◌, ℕ, zero, suc, List, [], ◌∷◌, ◌++◌, refl, ap, sym, ◌∙◌, subst, append-nil}
+use Rattle.std.specs.Prelude.{Option, Some, None, IsSomeAnd, slice_get}
 use Rattle.std.proofs.lemmas.Option.{none-some}
-use Rattle.std.proofs.lemmas.List.Elements.{All-nil, All-cons, All-head, All-tail}
 use Rattle.blk_base.specs.Options.{Options}
 use Rattle.blk_base.specs.declared.config.Job.{Job}
-use Rattle.blk_io.specs.Disk.{HasLength}
+use Rattle.blk_io.specs.Disk.{DiskSeen, HasLength}
 use Rattle.schedule_text.specs.declared.line.Detail.{Detail}
 use Rattle.schedule_text.specs.declared.line.Line.{Line}
+use Rattle.schedule_text.specs.declared.line.Line.TheVariants as lines
 use Rattle.schedule_text.specs.Recorder.{kept_of}
-use Rattle.plain_disk.specs.Disk.{Disk, disk_of}
-use Rattle.plain_disk.specs.Step.{step, after}
+use Rattle.plain_disk.specs.Refusal.{refusal_of}
 use Rattle.report_rules.specs.Obeys.{Obeys}
-use Rattle.report_rules.proofs.Obeys.{obeys_before}
 use Rattle.split_model.specs.World.{start_of}
-use Rattle.split_model.specs.Happening.{Happening}
-use Rattle.split_model.specs.Report.{ended_report_of}
-use Rattle.split_model.proofs.Running.{kept_of-append}
-use Rattle.pipeline_laws.specs.Submissions.{IsAnswerAt, AreAnswered}
-use Rattle.pipeline_laws.specs.Unbroken.{is_breach, IsUnbroken}
-use Rattle.pipeline_laws.specs.States.{IsStateAt, AreStates}
+use Rattle.split_model.specs.Happening.{Happening, DiskRuns, after, lines_at, lines_of}
+use Rattle.split_model.specs.Report.{report_of, ended_report_of}
+use Rattle.pipeline_laws.specs.Effects.{IsOfADisk}
+use Rattle.pipeline_laws.specs.Run.{PipelineRun, run_report, IsRun}
+use Rattle.pipeline_laws.specs.Submissions.{submitted_of as steps_submit, answer_count, IsAnswerAt, AreAnswered}
+use Rattle.pipeline_laws.specs.Answered.{AreAnsweredOnce, IsQuietAnswered}
+use Rattle.pipeline_laws.specs.Unbroken.{IsUnbroken}
+use Rattle.pipeline_laws.specs.States.{AreStates}
+use Rattle.pipeline_laws.proofs.Recorded.{kept_run}
+use Rattle.pipeline_laws.proofs.Reports.{report_runs, report_answers, report_answers_once, report_answers_at_quiet, report_unbroken, report_states}
 use Rattle.machine_pipeline.specs.Plain.{IsPlain}
-use Rattle.machine_pipeline.specs.Allowed.{AreAllowed}
+use Rattle.machine_pipeline.specs.Allowed.{AreServed}
+use Rattle.machine_pipeline.specs.Submissions.{submitted_of}
+use Rattle.machine_pipeline.proofs.Begun.{IsPartRun, part_run}
 use Rattle.disk_laws.specs.Run.{IsRunSoFar}
-use Rattle.disk_laws.proofs.Reports.{any_ended_run}
+use Rattle.disk_laws.proofs.OfADisk.{of_a_disk_kept}
+use Rattle.disk_laws.proofs.Runs.{HasRun}
+use Rattle.disk_laws.proofs.Reports.{report_run, ended_run}
 
--- a beginning of a run is one
-run_before : (first rest : List Line) (d e : Disk) → after (first ++ rest) d ≡ Some e → (x : Disk) × (after first d ≡ Some x)
-run_before [] rest d e run = (d, refl)
-run_before (line ∷ first) rest d e run = by_step (step d line) refl (λ y t. run_before first rest y e t) run
+-- a run whose report is this, and which submits the first of these requests
+pub record HasRunSoFar (jobs : List Job) (before : Option (List (List ℕ))) (report : List Line) : Type 0 where
+  pub run : PipelineRun
+  pub report_same : run_report run ≡ report
+  pub more : List Job
+  pub submits : steps_submit run.steps ++ more ≡ jobs
+  pub from : run.before ≡ before
+
+kept_part : (config : Options) (detail : Detail) (history : List Happening) (last : Happening) (part : List Line) (before : Option (List (List ℕ))) → IsPartRun config history last part before
+    → HasRunSoFar (submitted_of (history ++ last ∷ [])) before (kept_of detail (report_of config detail history ++ part))
+kept_part config detail history last part before r =
+    let k = kept_run whole detail in
+    record {
+      run = k.kept;
+      report_same = k.report ∙ ap (λ (ls : List Line). kept_of detail (lines.Begin config detail ∷ ls)) r.shows;
+      more = r.more;
+      submits = ap (λ (js : List Job). js ++ r.more) k.submitted ∙ r.submits;
+      from = k.before;
+    }
   where
-    by_step : (x : Option Disk) → step d line ≡ x → ((y : Disk) → after (first ++ rest) y ≡ Some e → (z : Disk) × (after first y ≡ Some z)) → option_and_then (after (first ++ rest)) x ≡ Some e → (z : Disk) × (option_and_then (after first) (step d line) ≡ Some z)
-    by_step None t further run = absurd (none-some e run)
-    by_step (Some y) t further run = let its = further y run in (its.0, ap (option_and_then (after first)) t ∙ its.1)
+    whole : PipelineRun
+    whole = record { options = config; detail = detail; steps = r.steps; allowed = r.allowed; before = before; now = None; disk = r.disk }
 
-pub begun_run : (config : Options) (detail : Detail) (hs : List Happening) (before : Option (List (List ℕ))) (said rest : List Line) → IsPlain config → AreAllowed hs (start_of config) → HasLength before config.sectors → said ++ rest ≡ ended_report_of config detail hs → IsRunSoFar before (kept_of detail said)
-begun_run config detail hs before said rest plain may long all =
-    let whole = any_ended_run config detail hs before long plain may in
-    let split : after (kept_of detail said ++ kept_of detail rest) (disk_of whole.first) ≡ Some whole.disk = ap (λ (ls : List Line). after ls (disk_of whole.first)) (sym (kept_of-append detail said rest) ∙ ap (kept_of detail) all) ∙ whole.run in
-    let its = run_before (kept_of detail said) (kept_of detail rest) (disk_of whole.first) whole.disk split in
-    record { first = whole.first; begins = whole.begins; disk = its.0; run = its.1 }
+-- the beginning of a report that ends among the lines of what happens last
+pub begun_report : (config : Options) (detail : Detail) (history : List Happening) (last : Happening) (part rest : List Line) (before now : DiskSeen)
+    → IsPlain config
+    → AreServed (history ++ last ∷ []) (start_of config)
+    → HasLength before.content config.sectors
+    → DiskRuns (history ++ last ∷ []) (start_of config) before now
+    → part ++ rest ≡ lines_at (after history (start_of config)) last
+    → IsOfADisk config.sectors before.content (kept_of detail (report_of config detail history ++ part))
+    → HasRunSoFar (submitted_of (history ++ last ∷ [])) before.content (kept_of detail (report_of config detail history ++ part))
+begun_report config detail history last part rest before now plain may long runs all of =
+    kept_part config detail history last part before.content
+    (part_run config history last part rest before now plain may long runs all (of_a_disk_kept config detail before.content (lines_of history (start_of config) ++ part) of))
 
--- the beginning of a report that answers
-pub answered_before : (jobs : List Job) (report more : List Line) → AreAnswered jobs (report ++ more) → Obeys (IsAnswerAt jobs) report
-answered_before jobs report more is = obeys_before (IsAnswerAt jobs) report more is.rightly
+-- a whole report, and one with its last line
+whole_so_far : (config : Options) (history : List Happening) (before now : Option (List (List ℕ))) (report : List Line) → HasRun config history before now report → HasRunSoFar (submitted_of history) before report
+whole_so_far config history before now report h = record { run = h.run; report_same = h.report_same; more = []; submits = append-nil (let r = h.run in steps_submit r.steps) ∙ h.submits; from = h.from }
 
-pub states_before : (report more : List Line) → AreStates (report ++ more) → AreStates report
-states_before report more are = obeys_before IsStateAt report more are
+pub whole_report : (config : Options) (detail : Detail) (history : List Happening) (before now : DiskSeen)
+    → IsPlain config
+    → AreServed history (start_of config)
+    → HasLength before.content config.sectors
+    → DiskRuns history (start_of config) before now
+    → IsOfADisk config.sectors before.content (kept_of detail (report_of config detail history))
+    → HasRunSoFar (submitted_of history) before.content (kept_of detail (report_of config detail history))
+whole_report config detail history before now plain may long runs of =
+    whole_so_far config history before.content now.content (kept_of detail (report_of config detail history)) (report_run config detail history before now plain may long runs of)
 
-pub unbroken_before : (report more : List Line) → IsUnbroken (report ++ more) → IsUnbroken report
-unbroken_before [] more whole = All-nil (λ (l : Line). is_breach l ≡ false)
-unbroken_before (l ∷ report) more whole =
-    All-cons (λ (x : Line). is_breach x ≡ false) l report (All-head (λ (x : Line). is_breach x ≡ false) l (report ++ more) whole)
-    (unbroken_before report more (All-tail (λ (x : Line). is_breach x ≡ false) l (report ++ more) whole))
+pub ended_report : (config : Options) (detail : Detail) (history : List Happening) (before now : DiskSeen)
+    → IsPlain config
+    → AreServed history (start_of config)
+    → HasLength before.content config.sectors
+    → DiskRuns history (start_of config) before now
+    → IsOfADisk config.sectors before.content (kept_of detail (ended_report_of config detail history))
+    → HasRunSoFar (submitted_of history) before.content (kept_of detail (ended_report_of config detail history))
+ended_report config detail history before now plain may long runs of =
+    whole_so_far config history before.content now.content (kept_of detail (ended_report_of config detail history)) (ended_run config detail history before now plain may long runs of)
+
+-- a run of the plain disk so far
+pub run_so_far : (sectors : ℕ) (before now : Option (List (List ℕ))) (report : List Line) → IsRun sectors before now report → IsRunSoFar before report
+run_so_far sectors before now report h = record { first = h.first; begins = h.begins; disk = h.disk; run = h.run }
+
+pub begun_run : (jobs : List Job) (before : Option (List (List ℕ))) (report : List Line) → HasRunSoFar jobs before report → IsRunSoFar before report
+begun_run jobs before report h =
+    let r = h.run in
+    subst (λ (b : Option (List (List ℕ))). IsRunSoFar b report) h.from (subst (IsRunSoFar r.before) h.report_same (run_so_far r.options.sectors r.before r.now (run_report r) (report_runs r)))
+
+-- what is submitted later changes no answer
+get_before : (jobs more : List Job) (n : ℕ) (job : Job) → slice_get jobs n ≡ Some job → slice_get (jobs ++ more) n ≡ Some job
+get_before [] more n job e = absurd (none-some job e)
+get_before (j ∷ jobs) more zero job e = e
+get_before (j ∷ jobs) more (suc n) job e = get_before jobs more n job e
+
+refused_later : (jobs more : List Job) (n : ℕ) (F : Job → Type 0) → IsSomeAnd (slice_get jobs n) F → IsSomeAnd (slice_get (jobs ++ more) n) F
+refused_later jobs more n F is = by_place (slice_get jobs n) refl
+  where
+    by_place : (x : Option Job) → slice_get jobs n ≡ x → IsSomeAnd (slice_get (jobs ++ more) n) F
+    by_place None e = absurd (subst (λ (y : Option Job). IsSomeAnd y F) e is)
+    by_place (Some job) e = subst (λ (y : Option Job). IsSomeAnd y F) (sym (get_before jobs more n job e)) (subst (λ (y : Option Job). IsSomeAnd y F) e is)
+
+answer_later : (jobs more : List Job) (before : List Line) (line : Line) → IsAnswerAt jobs before line → IsAnswerAt (jobs ++ more) before line
+answer_later jobs more before (lines.Submit id job) is = (get_before jobs more (answer_count before) job is.0, is.1)
+answer_later jobs more before (lines.Refuse refusal) is = refused_later jobs more (answer_count before) (λ job. refusal_of before job ≡ Some refusal) is
+answer_later jobs more before line is = tt
+
+-- each submission is answered by the rule
+pub begun_answered : (jobs : List Job) (before : Option (List (List ℕ))) (report : List Line) → HasRunSoFar jobs before report → Obeys (IsAnswerAt jobs) report
+begun_answered jobs before report h = subst (λ (js : List Job). Obeys (IsAnswerAt js) report) h.submits later
+  where
+    now : List Job
+    now = (let r = h.run in steps_submit r.steps)
+
+    answered : AreAnswered now report
+    answered = subst (AreAnswered now) h.report_same (report_answers h.run)
+
+    later : Obeys (IsAnswerAt (now ++ h.more)) report
+    later first rest line e = answer_later now h.more first line (answered.rightly first rest line e)
+
+-- each request once, and where `quiet` stands each one
+pub begun_once : (jobs : List Job) (before : Option (List (List ℕ))) (report : List Line) → HasRunSoFar jobs before report → AreAnsweredOnce report
+begun_once jobs before report h = subst AreAnsweredOnce h.report_same (report_answers_once h.run)
+
+pub begun_at_quiet : (jobs : List Job) (before : Option (List (List ℕ))) (report : List Line) → HasRunSoFar jobs before report → IsQuietAnswered report
+begun_at_quiet jobs before report h = subst IsQuietAnswered h.report_same (report_answers_at_quiet h.run)
+
+-- nothing is broken, and the front's state is as the lines say
+pub begun_unbroken : (jobs : List Job) (before : Option (List (List ℕ))) (report : List Line) → HasRunSoFar jobs before report → IsUnbroken report
+begun_unbroken jobs before report h = subst IsUnbroken h.report_same (report_unbroken h.run)
+
+pub begun_states : (jobs : List Job) (before : Option (List (List ℕ))) (report : List Line) → HasRunSoFar jobs before report → AreStates report
+begun_states jobs before report h = subst AreStates h.report_same (report_states h.run)

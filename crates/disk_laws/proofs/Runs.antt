@@ -1,16 +1,14 @@
 -- What a recorder keeps of the report of a history is the report of a run of the pipeline.
-use Rattle.std.proofs.Common.{◌≡◌, ℕ, List, [], ◌∷◌, ◌++◌, refl, ap, sym, ◌∙◌, subst, append-nil}
-use Rattle.std.specs.Prelude.{Option, Some, None}
+use Rattle.std.proofs.Common.{◌≡◌, ℕ, List, [], ◌∷◌, ◌++◌, refl, ap, ◌∙◌, append-nil}
+use Rattle.std.specs.Prelude.{Option}
 use Rattle.blk_base.specs.Options.{Options}
-use Rattle.blk_base.specs.declared.config.Job.{Job}
 use Rattle.schedule_text.specs.declared.line.Detail.{Detail}
 use Rattle.schedule_text.specs.declared.line.Line.{Line}
 use Rattle.schedule_text.specs.declared.line.Line.TheVariants as lines
 use Rattle.schedule_text.specs.Recorder.{kept_of}
-use Rattle.split_model.specs.World.{start_of}
 use Rattle.split_model.specs.Happening.{Happening}
 use Rattle.split_model.specs.Report.{report_of, ended_report_of}
-use Rattle.pipeline_laws.specs.Pipeline.{Step, Shows, pipeline_of, lines_of}
+use Rattle.pipeline_laws.specs.Pipeline.{Shows, pipeline_of}
 use Rattle.pipeline_laws.specs.Disk.{AreConsistent}
 use Rattle.pipeline_laws.specs.Run.{PipelineRun, run_report}
 use Rattle.pipeline_laws.specs.Submissions.{submitted_of as steps_submit}

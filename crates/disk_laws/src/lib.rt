@@ -5,8 +5,10 @@
 //! laws of every run of the pipeline (`pipeline_laws`).
 //!
 //! The premises: a ring of one page and a disk that may be written (`IsPlain`); the back moves only
-//! once the front is connected, and what is submitted are writes of one sector (`AreAllowed`). The
-//! happenings that the events of a schedule make are such.
+//! once the front is connected, and what is submitted are reads and writes of one sector (`AreServed`).
+//! The happenings that the events of a schedule make are such. Where the disk doesn't tell what it
+//! holds, the laws speak of a report whose effects are the calls of some disk (`IsOfADisk`): two reads
+//! of a sector with no write between them give the same words.
 #![tactic(auto)]
 
 ghost use Rattle.std.specs.Prelude.{List};
@@ -18,8 +20,9 @@ ghost use Rattle.split_model.specs.Happening.{Happening, DiskRuns};
 ghost use Rattle.schedule_text.specs.Recorder.{kept_of};
 ghost use Rattle.split_model.specs.Report.{report_of, ended_report_of};
 ghost use Rattle.machine_pipeline.specs.Plain.{IsPlain};
-ghost use Rattle.machine_pipeline.specs.Allowed.{AreAllowed};
+ghost use Rattle.machine_pipeline.specs.Allowed.{AreServed};
 ghost use Rattle.machine_pipeline.specs.Submissions.{submitted_of};
+ghost use Rattle.pipeline_laws.specs.Effects.{IsOfADisk};
 ghost use Rattle.pipeline_laws.specs.Run.{IsRun};
 ghost use Rattle.pipeline_laws.specs.Submissions.{AreAnswered};
 ghost use Rattle.pipeline_laws.specs.Unbroken.{IsUnbroken};
@@ -30,38 +33,58 @@ ghost use Rattle.pipeline_laws.specs.States.{AreStates};
 /// the report's last line.
 pub fn every_report_is_a_run_of_the_plain_disk()
     ensures report { (config : Options) (detail : Detail) (history : List Happening) (before now : DiskSeen)
-        → IsPlain config → AreAllowed history (start_of config) → HasLength before.content config.sectors
+        → IsPlain config → AreServed history (start_of config) → HasLength before.content config.sectors
         → DiskRuns history (start_of config) before now
+        → IsOfADisk config.sectors before.content (kept_of detail (report_of config detail history))
         → IsRun config.sectors before.content now.content (kept_of detail (report_of config detail history)) }
     ensures ended { (config : Options) (detail : Detail) (history : List Happening) (before now : DiskSeen)
-        → IsPlain config → AreAllowed history (start_of config) → HasLength before.content config.sectors
+        → IsPlain config → AreServed history (start_of config) → HasLength before.content config.sectors
         → DiskRuns history (start_of config) before now
+        → IsOfADisk config.sectors before.content (kept_of detail (ended_report_of config detail history))
         → IsRun config.sectors before.content now.content (kept_of detail (ended_report_of config detail history)) }
 {}
 
 /// It answers the submissions of the history, one line each, in order: accepted or refused as the
 /// lines before say.
 pub fn every_submission_is_answered_by_the_rule()
-    ensures report { (config : Options) (detail : Detail) (history : List Happening) → IsPlain config → AreAllowed history (start_of config)
+    ensures report { (config : Options) (detail : Detail) (history : List Happening) (before now : DiskSeen)
+        → IsPlain config → AreServed history (start_of config) → HasLength before.content config.sectors
+        → DiskRuns history (start_of config) before now
+        → IsOfADisk config.sectors before.content (kept_of detail (report_of config detail history))
         → AreAnswered (submitted_of history) (kept_of detail (report_of config detail history)) }
-    ensures ended { (config : Options) (detail : Detail) (history : List Happening) → IsPlain config → AreAllowed history (start_of config)
+    ensures ended { (config : Options) (detail : Detail) (history : List Happening) (before now : DiskSeen)
+        → IsPlain config → AreServed history (start_of config) → HasLength before.content config.sectors
+        → DiskRuns history (start_of config) before now
+        → IsOfADisk config.sectors before.content (kept_of detail (ended_report_of config detail history))
         → AreAnswered (submitted_of history) (kept_of detail (ended_report_of config detail history)) }
 {}
 
 /// No line of it says that the front was broken, that the back halted but where its front was gone, or
 /// that a request wasn't supported.
 pub fn no_end_breaks_the_protocol()
-    ensures report { (config : Options) (detail : Detail) (history : List Happening) → IsPlain config → AreAllowed history (start_of config)
+    ensures report { (config : Options) (detail : Detail) (history : List Happening) (before now : DiskSeen)
+        → IsPlain config → AreServed history (start_of config) → HasLength before.content config.sectors
+        → DiskRuns history (start_of config) before now
+        → IsOfADisk config.sectors before.content (kept_of detail (report_of config detail history))
         → IsUnbroken (kept_of detail (report_of config detail history)) }
-    ensures ended { (config : Options) (detail : Detail) (history : List Happening) → IsPlain config → AreAllowed history (start_of config)
+    ensures ended { (config : Options) (detail : Detail) (history : List Happening) (before now : DiskSeen)
+        → IsPlain config → AreServed history (start_of config) → HasLength before.content config.sectors
+        → DiskRuns history (start_of config) before now
+        → IsOfADisk config.sectors before.content (kept_of detail (ended_report_of config detail history))
         → IsUnbroken (kept_of detail (ended_report_of config detail history)) }
 {}
 
 /// The front connects once, and nothing is closed, left or broken out of turn (the states of
 /// `io/xenbus.h`).
 pub fn the_front_connects_and_closes_in_order()
-    ensures report { (config : Options) (detail : Detail) (history : List Happening) → IsPlain config → AreAllowed history (start_of config)
+    ensures report { (config : Options) (detail : Detail) (history : List Happening) (before now : DiskSeen)
+        → IsPlain config → AreServed history (start_of config) → HasLength before.content config.sectors
+        → DiskRuns history (start_of config) before now
+        → IsOfADisk config.sectors before.content (kept_of detail (report_of config detail history))
         → AreStates (kept_of detail (report_of config detail history)) }
-    ensures ended { (config : Options) (detail : Detail) (history : List Happening) → IsPlain config → AreAllowed history (start_of config)
+    ensures ended { (config : Options) (detail : Detail) (history : List Happening) (before now : DiskSeen)
+        → IsPlain config → AreServed history (start_of config) → HasLength before.content config.sectors
+        → DiskRuns history (start_of config) before now
+        → IsOfADisk config.sectors before.content (kept_of detail (ended_report_of config detail history))
         → AreStates (kept_of detail (ended_report_of config detail history)) }
 {}

@@ -19,6 +19,7 @@ use Rattle.split_model.specs.Safe.{IsSafe}
 use Rattle.machine_pipeline.proofs.Flow.{Flow, wrapped, filled, is_named, is_granted, entered, may_back_sleep, is_bound_back, may_front_sleep, is_issuing}
 use Rattle.machine_pipeline.proofs.Holds.{FrontAt, FrontSends, PortsAt, Holds}
 use Rattle.machine_pipeline.proofs.Turns.{FrontGoes, said_nothing}
+use Rattle.machine_pipeline.proofs.Resting.{data_rests}
 use Rattle.machine_pipeline.proofs.Issuing.{ring_turned, slots_turned, frames_turned, entries_turned, with_front, issue_kept}
 
 -- a step that changes the stage alone, between two at which nothing of a request is begun
@@ -30,7 +31,7 @@ turned_on : (config : Options) (w : World) (g : Flow) (d : Pipeline) (s s' : Fro
     → (w.back.asleep ≡ true → FrontSends s g.pushed g.fetched → FrontSends s' g.pushed g.fetched)
     → Holds config (with_front w s' w.front.entry w.under.pages) g d s' w.back.stage
 turned_on config w g d s s' i i' same h at full full' few few' unnamed ungranted sends =
-    issue_kept config w g d s s' w.front.entry w.under.pages i i' same h at h.memory (λ x lt. refl) (record { flags = refl; frame = refl })
+    issue_kept config w g d s s' w.front.entry w.under.pages i i' same h at h.memory (λ f low high x lt. refl) (λ x lt. refl) (record { flags = refl; frame = refl })
     (slots_turned g.start g.fetched g.pushed g.taken g.replied g.submitted g.replies w.under.pages w.under.pages s s' w.back.stage (λ x from to. refl) (omega arith) few' h.slots)
     (frames_turned g.pushed w.under.pages w.under.pages s s' w.front.requests (omega arith) (omega arith) (λ n x lt i l. refl) h.frames)
     (entries_turned g.pushed w.under.pages w.under.pages w.under.grants.live s s' w.front.requests i' (λ t. absurd (cc)) (λ t. absurd (cc)) (λ n x lt. record { flags = refl; frame = refl }) h.entries)
@@ -105,6 +106,7 @@ send_goes config w g d safe h =
         ring = ring_turned g.start g.pushed g.replied w.under.pages w.under.pages front.Send front.Loop w.back.stage refl refl (λ x lt. refl) (record { flags = refl; frame = refl }) h.ring;
         slots = slots_turned g.start g.fetched g.pushed g.taken g.replied g.submitted g.replies w.under.pages w.under.pages front.Send front.Loop w.back.stage (λ x from to. refl) (omega arith) refl h.slots;
         frames = frames_turned g.pushed w.under.pages w.under.pages front.Send front.Loop w.front.requests (omega arith) (omega arith) (λ n x lt i l. refl) h.frames;
+        telling = data_rests w.under.pages w.under.pages w.front.words front.Send front.Loop refl h.telling;
         entries = entries_turned g.pushed w.under.pages w.under.pages w.under.grants.live front.Send front.Loop w.front.requests refl (λ t. absurd (cc)) (λ t. absurd (cc)) (λ n x lt. record { flags = refl; frame = refl }) h.entries;
         mapped = h.mapped;
         page = h.page;

@@ -18,6 +18,7 @@ use Rattle.blk_front.specs.declared.request.Request.{Request}
 use Rattle.blk_front.specs.declared.stage.Stage.{Stage as FrontStage}
 use Rattle.blk_front.specs.View.{slot_word}
 use Rattle.blk_front.specs.Step.{entry_of}
+use Rattle.blk_front.specs.Request.{is_write}
 use Rattle.blk_front.specs.Submit.{ending_of, is_connected}
 use Rattle.blk_back.specs.declared.stage.Reply.{Reply}
 use Rattle.blk_back.specs.declared.stage.Stage.TheVariants as stage
@@ -25,7 +26,7 @@ use Rattle.blk_back.specs.Step.{fetched}
 use Rattle.split_model.specs.World.{World}
 use Rattle.split_model.specs.Shown.{back_lines, halt_lines}
 use Rattle.machine_pipeline.specs.Step.{IsSame}
-use Rattle.machine_pipeline.proofs.Flow.{Flow, segment_for, worked, is_issuing, ending_at}
+use Rattle.machine_pipeline.proofs.Flow.{Flow, segment_for, worked, is_issuing, ending_at, is_telling}
 use Rattle.machine_pipeline.proofs.Stations.{AreStations}
 use Rattle.machine_pipeline.proofs.StationsBack.{fetches}
 use Rattle.machine_pipeline.proofs.Holds.{Holds, AreIndices, IsSubmitted, IsWork, AreReplies, AreSlots}
@@ -116,6 +117,7 @@ goes_fetched config w g d k shown given r words p known e = subst (λ (ws : List
     ring = ring_at g.start g.pushed g.replied w.under.pages w.front.stage (stage.Fetch k) stage.Loop refl h.ring;
     slots = slots_with g.start g.fetched g.pushed g.taken g.replied g.submitted g.replies w.under.pages w.front.stage k h.slots;
     frames = h.frames;
+    telling = h.telling;
     entries = h.entries;
     mapped = record { counted = λ test. h.mapped.counted test ∙ ap (λ (l : List Mapping). count_by test (l ++ w.back.page ∷ [])) (sym (started_hands w.back.jobs (next_number w.back) (request_of X64 (entry_of r)))); framed = h.mapped.framed };
     page = record { gref = λ u. h.page.gref refl; mode = λ u. h.page.mode refl };
@@ -143,14 +145,14 @@ goes_fetched config w g d k shown given r words p known e = subst (λ (ws : List
     sub : IsSubmitted config.sectors g.fetched r
     sub = subst (λ (sectors : ℕ). IsSubmitted sectors g.fetched r) h.sized (h.submitted.each g.fetched r known)
 
-    made : t ≡ moving (next_number w.back) (entry_request r) w.back.jobs.info.sectors true r.sector (segment_for r ∷ [])
+    made : t ≡ moving (next_number w.back) (entry_request r) w.back.jobs.info.sectors (is_write r.transfer) r.sector (segment_for r ∷ [])
     made = ap (λ (i : DiskInfo). begun (next_number w.back) (request_of X64 (entry_of r)) w.back.jobs.info.sectors (verdict_of (request_of X64 (entry_of r)) i)) h.info ∙ entry_job config (next_number w.back) w.back.jobs.info.sectors g.fetched r p.plain (omega (arith, x.few, x.all, x.fetched_pushed)) sub
 
     is : IsWork g.submitted (g.fetched + 1) t
     is = subst (λ (u : Work). IsWork g.submitted (g.fetched + 1) u) (sym made) (is_work g.submitted g.fetched w.back.jobs.info.sectors config.sectors (next_number w.back) r number known sub)
 
-    s : Stepped None IsSame d [] (λ p. AreStations config (record g { fetched = g.fetched + 1 }) p (is_connected w.front.stage) (is_issuing w.front.stage) false (ending_at w.front.stage) None w.front.requests (w.back.jobs.works ++ t ∷ []))
-    s = fetches config g d (is_connected w.front.stage) (is_issuing w.front.stage) (ending_at w.front.stage) None w.front.requests w.back.jobs.works t (omega (arith, x.back_to, h.back_at.2)) (ap (λ (u : Work). u.number) made ∙ number) (ap (λ (u : Work). worked u.stage) made) h.stations
+    s : Stepped None IsSame d [] (λ p. AreStations config (record g { fetched = g.fetched + 1 }) p (is_connected w.front.stage) (is_issuing w.front.stage) false (ending_at w.front.stage) (is_telling w.front.stage) None w.front.requests (w.back.jobs.works ++ t ∷ []) w.under.pages)
+    s = fetches config g d (is_connected w.front.stage) (is_issuing w.front.stage) (ending_at w.front.stage) (is_telling w.front.stage) None w.front.requests w.back.jobs.works w.under.pages t (omega (arith, x.back_to, h.back_at.2)) (ap (λ (u : Work). u.number) made ∙ number) (ap (λ (u : Work). worked u.stage) made) (λ frame. rw made refl) h.stations
 
 goes_further : (config : Options) (w : World) (g : Flow) (d : Pipeline) (k word : ℕ) (shown : Shown) (given : BackAnswer) (last : Bool)
     → (k == 27) ≡ last

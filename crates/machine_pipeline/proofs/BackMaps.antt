@@ -23,12 +23,13 @@ use Rattle.blk_front.specs.Submit.{is_connected}
 use Rattle.blk_back.specs.declared.stage.Stage.TheVariants as stage
 use Rattle.blk_back.specs.View.{View}
 use Rattle.split_model.specs.World.{World}
-use Rattle.machine_pipeline.proofs.Flow.{Flow, is_ring_granted, is_ring_named}
+use Rattle.machine_pipeline.proofs.Flow.{Flow, is_ring_granted, is_ring_named, is_issuing, ending_at, is_telling}
 use Rattle.machine_pipeline.proofs.Holds.{Holds, PortsAt}
 use Rattle.machine_pipeline.proofs.Turns.{BackGoes, silent}
-use Rattle.machine_pipeline.proofs.Kept.{SameFrame, SameEntry, other_frame, slots_kept, frames_kept, front_sleep_kept, back_sleep_kept}
+use Rattle.machine_pipeline.proofs.Kept.{SameFrame, SameEntry, other_frame, slots_kept, frames_kept, data_kept, front_sleep_kept, back_sleep_kept}
+use Rattle.machine_pipeline.proofs.ReadsKept.{stations_elsewhere}
 use Rattle.machine_pipeline.proofs.Frames.{filled_few, entered_few}
-use Rattle.machine_pipeline.proofs.BackStill.{BackStands, pooled, ending_pooled}
+use Rattle.machine_pipeline.proofs.BackStill.{BackStands, pooled, ending_pooled, revoking_ends}
 use Rattle.machine_pipeline.proofs.BackQuiet.{goes_still, ring_at, slots_at, front_sleep_at, back_sleep_at}
 use Rattle.std.specs.Prelude.{Result, Ok}
 use Rattle.std.proofs.lemmas.List.Sums.{sum_by_push}
@@ -73,7 +74,7 @@ granted_still : (pushed : ℕ) (old new : List ℕ) (live : List Held) (h : Held
 granted_still pushed old new live h s r apart same was = record {
   named = λ le. same.frame ∙ was.named le;
   named_next = λ e t. same.frame ∙ was.named_next e t;
-  flags = λ le. same.flags ∙ was.flags le ∙ ap (λ (n : ℕ). flags_with n) (sym (mapped_beside live h (r.frame + 6) apart));
+  flags = λ le. same.flags ∙ was.flags le ∙ ap (λ (n : ℕ). flags_with r.transfer n) (sym (mapped_beside live h (r.frame + 6) apart));
   flags_next = λ e t. same.flags ∙ was.flags_next e t;
 }
 
@@ -93,7 +94,7 @@ maps config w g d verdict p e = subst (λ (x : Result ℕ MapRefusal). ActGoes c
     queue = h.queue;
     submitted = h.submitted;
     pool = h.pool;
-    stations = h.stations;
+    stations = stations_elsewhere config g d (is_connected w.front.stage) (is_issuing w.front.stage) false (ending_at w.front.stage) (is_telling w.front.stage) None w.front.requests w.back.jobs.works w.under.pages new w.front.sectors w.front.last h.submitted (λ f low high. others f (omega arith)) h.stations;
     works = h.works;
     counted = h.counted;
     info = h.info;
@@ -106,12 +107,13 @@ maps config w g d verdict p e = subst (λ (x : Result ℕ MapRefusal). ActGoes c
     ring = record { begun = begun g.start new w.front.stage p.connected; requests = λ t. others 2 (omega arith) 0 (omega arith) ∙ h.ring.requests t; responses = λ t. others 2 (omega arith) 2 (omega arith) ∙ h.ring.responses t; named = λ t u. cc; granted = λ t u. cc };
     slots = slots_at g.start g.fetched g.pushed g.taken g.replied g.submitted g.replies new w.front.stage stage.MapRing stage.Bind (λ rep t i lt. cc) (slots_kept g.start g.fetched g.pushed g.taken g.replied g.submitted g.replies w.under.pages new w.front.stage stage.MapRing (λ i from to. others 2 (omega arith) i to) (entered_few g.start g.pushed g.taken g.front_seen g.submitted g.replies _ w.front.entry w.front.stage h.front_at) h.slots);
     frames = frames_kept g.pushed w.under.pages new w.front.stage w.front.requests (filled_few g.start g.pushed g.taken g.front_seen g.submitted g.replies _ w.front.entry w.front.stage h.front_at) (λ k x lt. let frame = pooled config w g d w.front.stage stage.MapRing h k x lt in others _ (omega (arith, frame.0))) h.frames;
+    telling = data_kept w.under.pages new w.front.words w.front.stage (λ f low high. others f (omega arith)) h.telling;
     entries = record {
       each = λ k x lt.
           let frame = pooled config w g d w.front.stage stage.MapRing h k x lt in
           granted_still g.pushed w.under.pages new w.under.grants.live made w.front.stage _ (omega (arith, frame.0)) (other_entry w.under.pages 8 _ value (omega arith) (omega (arith, frame.1)) (omega (arith, frame.0))) (h.entries.each k x lt);
       ending = λ e same.
-          let frame = ending_pooled config w g d w.front.stage stage.MapRing e h same in
+          let frame = ending_pooled config w g d w.front.stage stage.MapRing e h (revoking_ends w.front.stage e same) in
           let entry : SameEntry w.under.pages new (e.frame + 6) = other_entry w.under.pages 8 (e.frame + 6) value (omega arith) (omega (arith, frame.1)) (omega (arith, frame.0)) in
           entry.flags ∙ h.entries.ending e same;
     };

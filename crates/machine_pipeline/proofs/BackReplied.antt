@@ -1,13 +1,9 @@
 -- The back pushes a response.
 use Rattle.std.proofs.Common.{◌≡◌, ℕ, zero, suc, ◌+◌, ◌-◌, ◌<◌, Bool, true, List, [], ◌∷◌, ◌++◌, length, refl, ap, sym, subst, ◌∙◌, inl, inr, arith, ◌≢◌, ◌^◌, ◌≤◌, length-append, false}
-use Rattle.std.specs.Prelude.{Option, Some, None, slice_get, slice_set, ◌⊎◌}
+use Rattle.std.specs.Prelude.{Option, Some, None, slice_get, ◌⊎◌}
 use Rattle.std.proofs.lemmas.Option.{none-some, same_Some, slice_get-get_or}
 use Rattle.std.proofs.lemmas.Bool.{false≢true}
 use Rattle.blk_base.specs.Options.{Options}
-use Rattle.blk_base.specs.declared.operation.Status.{Status}
-use Rattle.blk_base.specs.declared.moves.BackMover.TheVariants as back_mover
-use Rattle.blk_base.specs.declared.moves.Move.{Move as Shown}
-use Rattle.blk_base.specs.declared.moves.Move.TheVariants as moves
 use Rattle.schedule_text.specs.declared.line.Line.TheVariants.{Move}
 use Rattle.pipeline_laws.specs.Pipeline.{Pipeline}
 use Rattle.ring_words.specs.Ring.{Ring, next_of}
@@ -22,15 +18,15 @@ use Rattle.blk_front.specs.View.{slot_word, next_request}
 use Rattle.blk_front.specs.Submit.{is_connected, ending_of}
 use Rattle.blk_back.specs.declared.stage.Reply.{Reply}
 use Rattle.blk_back.specs.declared.stage.Stage.TheVariants as stage
-use Rattle.blk_back.specs.declared.told.Halt.{Halt}
 use Rattle.blk_back.specs.Ask.{response_word}
 use Rattle.blk_back.specs.Step.{fetched}
 use Rattle.split_model.specs.World.{World}
 use Rattle.split_model.specs.Shown.{halt_lines}
-use Rattle.machine_pipeline.proofs.Flow.{Flow, wrapped, ending_at, is_issuing}
+use Rattle.machine_pipeline.proofs.Flow.{Flow, wrapped, ending_at, is_issuing, is_telling}
 use Rattle.machine_pipeline.proofs.Holds.{Holds, AreIndices, IsReplying, IsReply, AreReplies, IsEnding, IsTaken, FrontAt, AreRingWords, AreSlots, IsFrontSleep}
 use Rattle.machine_pipeline.proofs.Turns.{BackGoes, Stepped, does_step}
-use Rattle.machine_pipeline.proofs.Kept.{slots_kept, front_sleep_kept, back_sleep_kept}
+use Rattle.machine_pipeline.proofs.Kept.{slots_kept, data_kept, front_sleep_kept, back_sleep_kept}
+use Rattle.machine_pipeline.proofs.ReadsKept.{stations_elsewhere}
 use Rattle.machine_pipeline.proofs.Frames.{entered_few}
 use Rattle.machine_pipeline.proofs.BackStill.{BackStands, frames_beside, entries_beside}
 use Rattle.machine_pipeline.proofs.BackQuiet.{back_sleep_at}
@@ -41,9 +37,9 @@ use Rattle.std.proofs.lemmas.List.Elements.{All-push}
 use Rattle.std.proofs.lemmas.List.Quantifiers.{all_pairs_push}
 use Rattle.blk_front.specs.declared.stage.Ending.{Ending}
 use Rattle.machine_pipeline.proofs.Lists.{get_append}
-use Rattle.pipeline_laws.specs.Station.{Replying, Replied, Taking}
-use Rattle.machine_pipeline.specs.Step.{IsSame}
-use Rattle.machine_pipeline.proofs.Stations.{AreStations, apart}
+use Rattle.pipeline_laws.specs.Station.{Replying, Replied}
+use Rattle.machine_pipeline.specs.Step.{IsSame, after_step}
+use Rattle.machine_pipeline.proofs.Stations.{AreStations, apart, finishing, finishing_kind}
 use Rattle.machine_pipeline.proofs.StationsBack.{replies}
 
 -- one response more was pushed
@@ -122,6 +118,7 @@ ending_still submitted replies rep e other h = record {
   r = h.r;
   known = h.known;
   positive = h.positive;
+  transfer = h.transfer;
   frame = h.frame;
   alone = All-push (λ (x : Reply). x.id ≢ e.number) replies rep h.alone other;
 }
@@ -134,11 +131,12 @@ front_still start pushed taken seen submitted replies next entry (front.Response
 front_still start pushed taken seen submitted replies next entry (front.ResponseLast low high) rep other h = (taken_still taken seen replies rep h.0, h.1, h.2)
 front_still start pushed taken seen submitted replies next entry (front.GrantRead e) rep other h = ending_still submitted replies rep e (other e refl) h
 front_still start pushed taken seen submitted replies next entry (front.GrantEnd e before) rep other h = (ending_still submitted replies rep e (other e refl) h.0, h.1)
+front_still start pushed taken seen submitted replies next entry (front.ReadData e k) rep other h = (ending_still submitted replies rep e (other e refl) h.0, h.1, h.2, h.3)
 front_still start pushed taken seen submitted replies next entry s rep other h = h
 
 pub goes_producer : (config : Options) (w : World) (g : Flow) (d : Pipeline) (rep : Reply) → BackStands config w g d (stage.Producer rep) → BackGoes config w d (stage.Producer rep)
 goes_producer config w g d rep p = record {
-  flow = record g { replied = g.replied + 1; replies = g.replies ++ rep ∷ [] };
+  flow = flow;
   step = Some s.step;
   does = does_step _ (lines.Reply rep.id rep.status ∷ halt_lines w.back.halted w.back.halted) (rw h.unhalted refl) s;
   holds = record {
@@ -148,7 +146,7 @@ goes_producer config w g d rep p = record {
     queue = h.queue;
     submitted = h.submitted;
     pool = h.pool;
-    stations = s.now;
+    stations = stations_elsewhere config flow (after_step d (Some s.step)) (is_connected w.front.stage) (is_issuing w.front.stage) false (ending_at w.front.stage) (is_telling w.front.stage) None w.front.requests w.back.jobs.works w.under.pages new w.front.sectors w.front.last h.submitted (λ f low high. wrote.others f (omega arith)) s.now;
     works = h.works;
     counted = omega (arith, h.counted);
     info = h.info;
@@ -161,6 +159,7 @@ goes_producer config w g d rep p = record {
     ring = ring_replied g.start g.pushed g.replied word w.back.ring.prod w.under.pages new w.front.stage rep wrote next p.connected h.ring;
     slots = slots_replied g.start g.fetched g.pushed g.taken g.replied w.back.ring.prod g.submitted g.replies new w.front.stage rep h.replies.counted (slots_kept g.start g.fetched g.pushed g.taken g.replied g.submitted g.replies w.under.pages new w.front.stage (stage.Producer rep) (λ i from to. wrote.words i (omega arith)) (entered_few g.start g.pushed g.taken g.front_seen g.submitted g.replies _ w.front.entry w.front.stage h.front_at) h.slots);
     frames = frames_beside config w g d w.front.stage (stage.Producer rep) new h wrote.others;
+    telling = data_kept w.under.pages new w.front.words w.front.stage (λ f low high. wrote.others f (omega arith)) h.telling;
     entries = entries_beside config w g d w.front.stage (stage.Producer rep) new h wrote.others;
     mapped = h.mapped;
     page = record { gref = λ t. h.page.gref refl; mode = λ t. h.page.mode refl };
@@ -170,6 +169,9 @@ goes_producer config w g d rep p = record {
   };
 }
   where
+    flow : Flow
+    flow = record g { replied = g.replied + 1; replies = g.replies ++ rep ∷ [] }
+
     h : Holds config w g d w.front.stage (stage.Producer rep)
     h = p.holds
 
@@ -179,15 +181,15 @@ goes_producer config w g d rep p = record {
     a : IsReplying g.fetched w.back.jobs.works rep
     a = h.back_at
 
-    s : Stepped None IsSame d (lines.Reply rep.id rep.status ∷ []) (λ x. AreStations config (record g { replied = g.replied + 1; replies = g.replies ++ rep ∷ [] }) x (is_connected w.front.stage) (is_issuing w.front.stage) false (ending_at w.front.stage) None w.front.requests w.back.jobs.works)
-    s = replies config g d (is_connected w.front.stage) (is_issuing w.front.stage) false (ending_at w.front.stage) w.front.requests w.back.jobs.works rep a.positive h.replies.counted h.stations
+    s : Stepped None IsSame d (lines.Reply rep.id rep.status ∷ []) (λ x. AreStations config (record g { replied = g.replied + 1; replies = g.replies ++ rep ∷ [] }) x (is_connected w.front.stage) (is_issuing w.front.stage) false (ending_at w.front.stage) (is_telling w.front.stage) None w.front.requests w.back.jobs.works w.under.pages)
+    s = replies config g d (is_connected w.front.stage) (is_issuing w.front.stage) false (ending_at w.front.stage) (is_telling w.front.stage) w.front.requests w.back.jobs.works w.under.pages rep a.positive h.replies.counted h.stations
 
     -- no response that waits names its request, nor is its grant being ended
     others : (i : ℕ) (other : Reply) → slice_get g.replies i ≡ Some other → other.id ≢ rep.id
     others i other at same = apart d.requests (other.id - 1) (rep.id - 1) (Replied other.status) (Replying rep.status) (h.stations.replied i other at) (h.stations.replying rep refl) (omega arith) (ap (λ (id : ℕ). id - 1) same)
 
     ending_other : (e : Ending) → ending_at w.front.stage ≡ Some e → rep.id ≢ e.number
-    ending_other e at same = apart d.requests (e.number - 1) (rep.id - 1) (Taking e.status) (Replying rep.status) (h.stations.taking e at) (h.stations.replying rep refl) (omega arith) (ap (λ (id : ℕ). id - 1) (sym same))
+    ending_other e at same = apart d.requests (e.number - 1) (rep.id - 1) (finishing (is_telling w.front.stage) e.status) (Replying rep.status) (h.stations.taking e at) (h.stations.replying rep refl) (omega (arith, finishing_kind (is_telling w.front.stage) e.status)) (ap (λ (id : ℕ). id - 1) (sym same))
 
     owed : g.replied < g.fetched
     owed = omega (arith, h.counted)

@@ -27,7 +27,7 @@ use Rattle.blk_back.specs.Step.{fetched}
 use Rattle.blk_back.specs.Hands.{hands_at}
 use Rattle.split_model.specs.World.{World}
 use Rattle.split_model.specs.Shown.{back_lines, halt_lines}
-use Rattle.machine_pipeline.proofs.Flow.{Flow, wrapped, entered, is_back_arming, may_back_sleep, is_bound_back, has_page, reply_at, reply_count, responded, is_issuing, is_fetching, ending_at}
+use Rattle.machine_pipeline.proofs.Flow.{Flow, wrapped, entered, is_back_arming, may_back_sleep, is_bound_back, has_page, reply_at, reply_count, responded, is_issuing, is_fetching, ending_at, is_telling}
 use Rattle.machine_pipeline.proofs.Holds.{Holds, AreIndices, AreWorks, AreSlots, BackSends, BackAt, PortsAt}
 use Rattle.machine_pipeline.proofs.Turns.{BackGoes, Goes, silent}
 use Rattle.machine_pipeline.proofs.Kept.{slot_from, slot_to, slots_apart, front_sleep_kept, back_sleep_kept}
@@ -97,7 +97,7 @@ pub goes_word : (config : Options) (w : World) (g : Flow) (d : Pipeline) (step :
     → frame ≡ 2
     → (BackSends b g.replied g.taken → ⊥)
     → ((j : ℕ) → j < i → word_of w.under.pages 2 (slot_word (wrapped g.start g.replied) j) ≡ response_word rep j)
-    → AreStations config g (after_step d step) (is_connected w.front.stage) (is_issuing w.front.stage) (is_fetching b') (ending_at w.front.stage) (reply_at b') w.front.requests jobs.works
+    → AreStations config g (after_step d step) (is_connected w.front.stage) (is_issuing w.front.stage) (is_fetching b') (ending_at w.front.stage) (is_telling w.front.stage) (reply_at b') w.front.requests jobs.works w.under.pages
     → AreWorks g.submitted g.fetched jobs.works
     → length jobs.works + 1 + g.replied ≡ g.fetched
     → jobs.info ≡ w.back.jobs.info

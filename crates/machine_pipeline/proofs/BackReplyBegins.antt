@@ -1,5 +1,5 @@
 -- In the loop the lowest job that is done is taken, and its response begun.
-use Rattle.std.proofs.Common.{◌≡◌, ◌≢◌, ℕ, ◌+◌, ◌-◌, ◌<◌, List, [], ◌∷◌, ◌++◌, length, refl, ap, sym, subst, ◌∙◌, inl, inr, arith, get_or, false}
+use Rattle.std.proofs.Common.{◌≡◌, ◌≢◌, ℕ, ◌+◌, ◌<◌, List, [], ◌∷◌, ◌++◌, length, refl, ap, sym, subst, ◌∙◌, inl, inr, arith, get_or, false}
 use Rattle.std.specs.Prelude.{All, AllPairs, Option, Some, None, slice_get, option_and_then, position}
 use Rattle.std.specs.List.{remove}
 use Rattle.std.proofs.lemmas.Option.{none-some, same_Some, slice_get_within, get_or_from_slice_get}
@@ -22,7 +22,7 @@ use Rattle.blk_back.specs.Ask.{response_word, next_reply, reply_of}
 use Rattle.blk_back.specs.Step.{fetched}
 use Rattle.split_model.specs.World.{World}
 use Rattle.split_model.specs.Shown.{back_lines, halt_lines}
-use Rattle.machine_pipeline.proofs.Flow.{Flow, is_issuing, ending_at, worked}
+use Rattle.machine_pipeline.proofs.Flow.{Flow, is_issuing, ending_at, worked, is_telling}
 use Rattle.machine_pipeline.proofs.Holds.{Holds, AreWorks, IsWork, IsReplying}
 use Rattle.blk_front.specs.Submit.{is_connected}
 use Rattle.machine_pipeline.specs.Step.{IsSame}
@@ -37,6 +37,7 @@ use Rattle.back_jobs.specs.declared.stage.Stage.{Stage as JobStage}
 use Rattle.back_jobs.specs.declared.stage.Stage.TheVariants as job
 use Rattle.back_jobs.specs.Jobs.{is_done, work_at, response_of, response_at, removed_at, without_done}
 use Rattle.back_jobs.proofs.Hands.{done_hands}
+use Rattle.machine_pipeline.proofs.BackBegins.{small_operation}
 use Rattle.machine_pipeline.proofs.BackReplies.{goes_word}
 
 -- what holds of each element holds of those but one
@@ -104,7 +105,7 @@ replying submitted fetched works rep l h =
     record {
       positive = omega (arith, is.positive);
       reached = omega (arith, is.reached);
-      op = omega (arith, is.op, l.op);
+      op = omega (arith, is.op, l.op, small_operation is.r.transfer);
       alone = subst (λ (k : ℕ). All (λ (u : Work). u.number ≢ k) (remove works l.place)) (sym number) (others_apart works l.place t l.at h.ascending);
     }
 
@@ -142,5 +143,5 @@ goes_reply config w g d rep frame shown given p in_two e =
     is : IsWork g.submitted g.fetched l.t
     is = all_at (IsWork g.submitted g.fetched) works l.place l.t h.works.each l.at
 
-    s : Stepped None IsSame d [] (λ x. AreStations config g x (is_connected w.front.stage) (is_issuing w.front.stage) false (ending_at w.front.stage) (Some rep) w.front.requests (remove works l.place))
-    s = begins_response config g d (is_connected w.front.stage) (is_issuing w.front.stage) false (ending_at w.front.stage) w.front.requests works l.place l.t rep l.at (ap worked l.stage) (l.id ∙ is.id) h.works.ascending (λ i u at. let work = all_at (IsWork g.submitted g.fetched) works i u h.works.each at in work.positive) h.stations
+    s : Stepped None IsSame d [] (λ x. AreStations config g x (is_connected w.front.stage) (is_issuing w.front.stage) false (ending_at w.front.stage) (is_telling w.front.stage) (Some rep) w.front.requests (remove works l.place) w.under.pages)
+    s = begins_response config g d (is_connected w.front.stage) (is_issuing w.front.stage) false (ending_at w.front.stage) (is_telling w.front.stage) w.front.requests works w.under.pages l.place l.t rep l.at (ap worked l.stage) (l.id ∙ is.id) h.works.ascending (λ i u at. let work = all_at (IsWork g.submitted g.fetched) works i u h.works.each at in work.positive) h.stations

@@ -84,6 +84,7 @@ entered_on config w g d k s' r i' same h e within more full at =
     let elsewhere : (f : ℕ) → f ≢ 2 → SameFrame w.under.pages new f = λ f other. other_frame w.under.pages 2 (slot_word (wrapped g.start g.pushed) k) (slice_index (entry_of r) k) f word other in
     issue_kept config w g d (front.Slot k) s' w.front.entry new refl i' same h at
     (length-set w.under.pages (2 * 1024 + slot_word (wrapped g.start g.pushed) k) (slice_index (entry_of r) k) ∙ h.memory)
+    (λ f low high. elsewhere f (omega arith))
     (λ z lt. other_word w.under.pages 2 (slot_word (wrapped g.start g.pushed) k) (slice_index (entry_of r) k) z (let from = slot_from (wrapped g.start g.pushed) k within in omega arith))
     (same_entry w.under.pages new 8 (omega arith) (elsewhere 0 (omega arith)) (elsewhere 1 (omega arith)))
     (slots_entered g.start g.fetched g.pushed g.taken g.replied g.submitted g.replies w.under.pages k s' w.back.stage r h.memory within more next.known

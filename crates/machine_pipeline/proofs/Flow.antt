@@ -1,7 +1,11 @@
 -- What passes through the ring, by whole indices in place of its wrapped words: whole indices, each request that was ever submitted, and the responses on their way.
 use Rattle.std.specs.Prelude.{ℕ, ◌+◌, ◌%◌, ◌^◌, ◌==◌, Bool, true, false, List, [], Option, Some, None, if◌then◌else◌}
+use Rattle.blk_base.specs.declared.config.Job.{Job}
+use Rattle.blk_base.specs.declared.config.Job.TheVariants as jobs
 use Rattle.blk_layout.specs.declared.segment.Segment.{Segment}
 use Rattle.blk_front.specs.declared.request.Request.{Request}
+use Rattle.blk_front.specs.declared.request.Transfer.{Transfer}
+use Rattle.blk_front.specs.declared.request.Transfer.TheVariants as transfer
 use Rattle.blk_front.specs.declared.stage.Ending.{Ending}
 use Rattle.blk_front.specs.declared.stage.Stage.{Stage as FrontStage}
 use Rattle.blk_front.specs.declared.stage.Stage.TheVariants as front
@@ -86,11 +90,23 @@ entered (front.Slot k) = k
 entered front.Producer = 28
 entered s = 0
 
--- the request whose grant is being ended
+-- the request whose grant is being ended, or whose data are told
 abbrev pub ending_at : FrontStage → Option Ending
 ending_at (front.GrantRead e) = Some e
 ending_at (front.GrantEnd e before) = Some e
+ending_at (front.ReadData e k) = Some e
 ending_at s = None
+
+-- the request whose grant is being ended
+abbrev pub revoking_at : FrontStage → Option Ending
+revoking_at (front.GrantRead e) = Some e
+revoking_at (front.GrantEnd e before) = Some e
+revoking_at s = None
+
+-- the data of an answered read are told
+abbrev pub is_telling : FrontStage → Bool
+is_telling (front.ReadData e k) = true
+is_telling s = false
 
 abbrev pub count_of : Option Ending → ℕ
 count_of None = 0
@@ -158,6 +174,7 @@ is_fetching s = false
 
 -- the station of a job's request, by the job's stage
 abbrev pub worked : JobStage → Station
+worked (job.WriteWord m k) = Working 1
 worked (job.Unmap m) = Working 1
 worked (job.GiveUp m) = Failed
 worked (job.Done status) = Ended status
@@ -172,6 +189,11 @@ abbrev pub is_bound_back : BackStage → Bool
 is_bound_back back.MapRing = false
 is_bound_back back.Bind = false
 is_bound_back s = true
+
+-- a request as the pipeline has it
+abbrev pub job_of : Transfer → ℕ → Job
+job_of transfer.Read sector = jobs.Read sector 1
+job_of (transfer.Write tag) sector = jobs.Write sector 1 tag
 
 -- the one segment of a request: the first sector of its frame
 abbrev pub segment_for : Request → Segment

@@ -19,7 +19,7 @@ use Rattle.blk_back.specs.declared.stage.Stage.{Stage as BackStage}
 use Rattle.blk_back.specs.declared.stage.Stage.TheVariants as back
 use Rattle.blk_back.specs.Hands.{given_up, page_at, hands_at}
 use Rattle.split_model.specs.World.{World}
-use Rattle.machine_pipeline.proofs.Flow.{Flow, ending_at, reply_at, filled, entered, worked}
+use Rattle.machine_pipeline.proofs.Flow.{Flow, ending_at, is_telling, reply_at, filled, entered, worked}
 use Rattle.machine_pipeline.proofs.Stations.{worked_kind}
 use Rattle.machine_pipeline.proofs.Holds.{Holds, FrontAt, BackAt, IsReplying, IsEnding, IsSubmitted, IsWork}
 use Rattle.machine_pipeline.proofs.Lists.{all_at}
@@ -29,6 +29,7 @@ use Rattle.machine_pipeline.proofs.Hands.{IsQueued, queued, frames_apart, work_h
 pub ending_is : (start pushed taken front_seen : ℕ) (submitted : List Request) (replies : List Reply) (next : Option Request) (entry : List ℕ) (s : FrontStage) (e : Ending) → FrontAt start pushed taken front_seen submitted replies next entry s → ending_at s ≡ Some e → IsEnding submitted replies e
 ending_is start pushed taken front_seen submitted replies next entry (front.GrantRead f) e h same = subst (IsEnding submitted replies) (same_Some f e same) h
 ending_is start pushed taken front_seen submitted replies next entry (front.GrantEnd f before) e h same = subst (IsEnding submitted replies) (same_Some f e same) h.0
+ending_is start pushed taken front_seen submitted replies next entry (front.ReadData f k) e h same = subst (IsEnding submitted replies) (same_Some f e same) h.0
 ending_is start pushed taken front_seen submitted replies next entry s e h same = absurd (none-some e same)
 
 -- the response that is being written
@@ -59,7 +60,7 @@ is_submitted config w g d s b h i r e = h.submitted.each (r.number - 1) r (all_a
 -- the request of a job is one of the front's
 pub work_queued : (config : Options) (w : World) (g : Flow) (d : Pipeline) (s : FrontStage) (b : BackStage) → Holds config w g d s b → (i : ℕ) (t : Work) → slice_get w.back.jobs.works i ≡ Some t → (is : IsWork g.submitted g.fetched t) → IsQueued w.front.requests is.r
 work_queued config w g d s b h i t here is =
-    queued g.submitted w.front.requests g.pushed w.front.waiting (t.number - 1) is.r d.requests (ending_at s) (worked t.stage) h.queue h.stations.opened h.stations.taking
+    queued g.submitted w.front.requests g.pushed w.front.waiting (t.number - 1) is.r d.requests (ending_at s) (is_telling s) (worked t.stage) h.queue h.stations.opened h.stations.taking
     (omega (arith, worked_kind t.stage)) is.known (h.stations.works i t here)
 
 -- no hand has a mapping of a request's frame where none of the jobs that have one has its number

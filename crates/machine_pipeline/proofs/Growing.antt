@@ -1,8 +1,7 @@
 -- What one request more makes of the front's queue and pool, and of what the pipeline knows.
 use Rattle.std.proofs.Common.{◌≡◌, ◌≢◌, ℕ, zero, suc, ◌+◌, ◌-◌, ◌^◌, ◌<◌, ◌≤◌, ◌==◌, ◌⊎◌, ◌||◌, Bool, true, false, not, cond, List, [], ◌∷◌, ◌++◌, length, get_or, refl, ap, sym, ◌∙◌, subst, inl, inr, arith, length-append, length-set, get_or-set_other}
-use Rattle.std.specs.Prelude.{Option, Some, None, slice_get, slice_index_or, count_by}
+use Rattle.std.specs.Prelude.{Option, Some, slice_get, slice_index_or, count_by}
 use Rattle.std.specs.List.{list_any}
-use Rattle.std.proofs.lemmas.Bool.{cases_lt}
 use Rattle.std.proofs.lemmas.Bool.Decides.{nat_tests}
 use Rattle.std.proofs.lemmas.Option.{none-some, same_Some, slice_get_within, get_or_from_slice_get}
 use Rattle.std.proofs.lemmas.Grind.{get_or-set_at}
@@ -11,12 +10,12 @@ use Rattle.std.proofs.lemmas.List.Elements.{All-push}
 use Rattle.std.proofs.lemmas.List.Sums.{sum_by_push}
 use Rattle.std.proofs.lemmas.List.Quantifiers.{all_pairs_push}
 use Rattle.std.proofs.lemmas.List.Folds.{list_any-append}
-use Rattle.blk_base.specs.declared.config.Job.TheVariants.{Write}
 use Rattle.pipeline_laws.specs.Station.{Request as Asked, is_finished}
 use Rattle.blk_front.specs.declared.request.Request.{Request}
+use Rattle.blk_front.specs.Request.{tag_of}
 use Rattle.blk_front.specs.declared.stage.Ending.{Ending}
 use Rattle.blk_front.specs.Pool.{with_taken}
-use Rattle.machine_pipeline.proofs.Flow.{frame_count}
+use Rattle.machine_pipeline.proofs.Flow.{frame_count, job_of}
 use Rattle.machine_pipeline.proofs.Holds.{AreQueued, IsSubmitted, AreSubmitted, ArePooled}
 use Rattle.machine_pipeline.proofs.Stations.{AreKnown, AreOpen}
 use Rattle.machine_pipeline.proofs.Lists.{get_append, get_last, get_within, count_set}
@@ -34,7 +33,7 @@ push_was (z ∷ xs) y (suc k) x e = elim (push_was xs y k x e) [ inl was ↦ inl
 pub same_before : {X : Type 0} (xs : List X) (y : X) (k : ℕ) → k < length xs → slice_get (xs ++ y ∷ []) k ≡ slice_get xs k
 same_before xs y k lt = let was = get_within xs k lt in get_append xs (y ∷ []) k was.0 was.1 ∙ sym was.1
 
-pub submitted_more : (submitted : List Request) (sectors last : ℕ) (x : Request) → x.number ≡ last + 1 → x.sector < sectors → x.tag < 2 ^ 32 → 18 ≤ x.frame → x.frame < 1018 → AreSubmitted submitted sectors last → AreSubmitted (submitted ++ x ∷ []) sectors (last + 1)
+pub submitted_more : (submitted : List Request) (sectors last : ℕ) (x : Request) → x.number ≡ last + 1 → x.sector < sectors → tag_of x.transfer < 2 ^ 32 → 18 ≤ x.frame → x.frame < 1018 → AreSubmitted submitted sectors last → AreSubmitted (submitted ++ x ∷ []) sectors (last + 1)
 submitted_more submitted sectors last x number on_disk small low high h = record {
   counted = longer submitted x ∙ ap (λ (n : ℕ). n + 1) h.counted;
   each = λ k r e. elim (push_was submitted x k r e) [
@@ -101,7 +100,7 @@ pooled_more pool requests ending x low high free h =
         let none : ◌≡◌ {A = ℕ} (cond (x.frame == 18 + f) 1 0) 0 = rw t refl in
         rw now (omega arith)
 
-pub known_more : (submitted : List Request) (asked : List Asked) (x : Request) (q : Asked) → q.job ≡ Write x.sector 1 x.tag → AreKnown submitted asked → AreKnown (submitted ++ x ∷ []) (asked ++ q ∷ [])
+pub known_more : (submitted : List Request) (asked : List Asked) (x : Request) (q : Asked) → q.job ≡ job_of x.transfer x.sector → AreKnown submitted asked → AreKnown (submitted ++ x ∷ []) (asked ++ q ∷ [])
 known_more submitted asked x q job h =
     let as_many = h.as_many in
     record {

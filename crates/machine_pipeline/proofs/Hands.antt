@@ -6,7 +6,7 @@ use Rattle.std.proofs.lemmas.Option.{none-some, same_Some}
 use Rattle.std.proofs.lemmas.List.Sums.{sum_by-append}
 use Rattle.std.proofs.lemmas.Bool.Decides.{nat_tests}
 use Rattle.blk_base.specs.declared.parts.Mapping.{Mapping}
-use Rattle.pipeline_laws.specs.Station.{Station, Taking, Request as Asked, is_finished}
+use Rattle.pipeline_laws.specs.Station.{Station, Request as Asked, is_finished}
 use Rattle.blk_front.specs.declared.request.Request.{Request}
 use Rattle.blk_front.specs.declared.stage.Ending.{Ending}
 use Rattle.back_jobs.specs.declared.stage.Stage.{Stage as JobStage}
@@ -19,7 +19,7 @@ use Rattle.blk_back.specs.declared.stage.Stage.TheVariants as back
 use Rattle.blk_back.specs.Hands.{given_up, page_at}
 use Rattle.machine_pipeline.proofs.Flow.{frame_count, has_page}
 use Rattle.machine_pipeline.proofs.Holds.{AreQueued, ArePooled, IsHand, AtWork, IsWork, BackAt}
-use Rattle.machine_pipeline.proofs.Stations.{StandsAt, AreOpen, IsTaking, kind_of, early_open, apart}
+use Rattle.machine_pipeline.proofs.Stations.{StandsAt, AreOpen, IsTaking, finishing, finishing_kind, kind_of, early_open, apart}
 use Rattle.machine_pipeline.proofs.Lists.{all_at, place_of_any, count_two, count_one, count_none}
 
 -- a submitted request stands at a place of the front's
@@ -36,22 +36,22 @@ same_request submitted requests pushed waiting k r queue known any =
     record { place = found.0; at = found.2 ∙ ap Some same }
 
 -- a request on its way, whose grant isn't being ended, is one of the front's
-pub queued : (submitted requests : List Request) (pushed waiting k : ℕ) (r : Request) (asked : List Asked) (ending : Option Ending) (station : Station)
+pub queued : (submitted requests : List Request) (pushed waiting k : ℕ) (r : Request) (asked : List Asked) (ending : Option Ending) (telling : Bool) (station : Station)
     → AreQueued submitted pushed requests waiting
     → AreOpen asked requests ending
-    → IsTaking ending asked
+    → IsTaking ending telling asked
     → kind_of station < 7
     → slice_get submitted k ≡ Some r
     → StandsAt asked k station
     → IsQueued requests r
-queued submitted requests pushed waiting k r asked ending station queue opened taking early known here = by_place (opened.held k here.q here.at (ap is_finished here.there ∙ early_open station (omega arith)))
+queued submitted requests pushed waiting k r asked ending telling station queue opened taking early known here = by_place (opened.held k here.q here.at (ap is_finished here.there ∙ early_open station (omega arith)))
   where
     by_place : (list_any (λ (x : Request). x.number == k + 1) requests ≡ true) ⊎ ((e : Ending) × (ending ≡ Some e) × (e.number ≡ k + 1)) → IsQueued requests r
     by_place (inl any) = same_request submitted requests pushed waiting k r queue known any
     by_place (inr other) =
         let e : Ending = other.0 in
         let number : e.number - 1 ≡ k = omega (arith, other.2) in
-        absurd (apart asked (e.number - 1) k (Taking e.status) station (taking e other.1) here (omega arith) number)
+        absurd (apart asked (e.number - 1) k (finishing telling e.status) station (taking e other.1) here (omega (arith, finishing_kind telling e.status)) number)
 
 few_of : (b : Bool) (n : ℕ) → n ≡ cond b 1 0 → n ≤ 1
 few_of true n e = omega arith
@@ -95,8 +95,8 @@ hand_at : (r : Request) (t : Work) (s : JobStage) (m : Mapping) → AtWork r t s
 hand_at r t job.Map m h e = absurd (none-some m e)
 hand_at r t (job.ReadWord n j) m h e = subst (λ (x : Mapping). IsHand x r) (same_Some n m e) h.1
 hand_at r t (job.DiskWrite n) m h e = subst (λ (x : Mapping). IsHand x r) (same_Some n m e) h.1
-hand_at r t (job.DiskRead n) m h e = absurd h
-hand_at r t (job.WriteWord n j) m h e = absurd h
+hand_at r t (job.DiskRead n) m h e = subst (λ (x : Mapping). IsHand x r) (same_Some n m e) h.1
+hand_at r t (job.WriteWord n j) m h e = subst (λ (x : Mapping). IsHand x r) (same_Some n m e) h.1
 hand_at r t (job.Unmap n) m h e = subst (λ (x : Mapping). IsHand x r) (same_Some n m e) h.1
 hand_at r t (job.GiveUp n) m h e = subst (λ (x : Mapping). IsHand x r) (same_Some n m e) h
 hand_at r t (job.Done status) m h e = absurd (none-some m e)

@@ -1,8 +1,8 @@
 -- What holds between both ends, memory, and the pipeline that they stand for, one subject a record.
-use Rattle.std.specs.Prelude.{◌≡◌, ◌≢◌, ℕ, ◌+◌, ◌-◌, ◌^◌, ◌<◌, ◌≤◌, ◌==◌, ◌⊎◌, Bool, true, false, not, cond, List, [], ◌∷◌, length, take, count_by, replicate, slice_get, slice_index, slice_index_or, Option, Some, None, All, AllPairs, if◌then◌else◌}
-use Rattle.std.specs.List.{list_any}
+use Rattle.std.specs.Prelude.{◌≡◌, ◌≢◌, ℕ, ◌+◌, ◌-◌, ◌^◌, ◌<◌, ◌≤◌, ◌==◌, ◌⊎◌, Bool, true, false, cond, List, [], ◌∷◌, length, take, count_by, replicate, slice_get, slice_index, slice_index_or, Option, Some, None, All, AllPairs, if◌then◌else◌}
 use Rattle.blk_base.specs.declared.parts.Mapping.{Mapping}
-use Rattle.blk_base.specs.declared.parts.Mode.TheVariants.{ReadOnly, ReadWrite}
+use Rattle.blk_base.specs.declared.parts.Mode.TheVariants.{ReadWrite}
+use Rattle.blk_base.specs.declared.operation.Status.TheVariants.{Okay}
 use Rattle.ring_words.specs.Ring.{Ring}
 use Rattle.xen_pages.specs.Pages.{word_of}
 use Rattle.grant_table.specs.declared.held.Held.{Held}
@@ -11,6 +11,9 @@ use Rattle.event_channel.specs.declared.channels.PortState.{PortState}
 use Rattle.event_channel.specs.declared.channels.PortState.TheVariants.{Unbound, Bound}
 use Rattle.pipeline_laws.specs.Pipeline.{Pipeline}
 use Rattle.blk_front.specs.declared.request.Request.{Request}
+use Rattle.blk_front.specs.declared.request.Transfer.{Transfer}
+use Rattle.blk_front.specs.declared.request.Transfer.TheVariants as transfer
+use Rattle.blk_front.specs.Request.{is_write, tag_of, operation_of, grant_flags}
 use Rattle.blk_front.specs.declared.stage.Ending.{Ending}
 use Rattle.blk_front.specs.declared.stage.Stage.{Stage as FrontStage}
 use Rattle.blk_front.specs.declared.stage.Stage.TheVariants as front
@@ -19,7 +22,7 @@ use Rattle.blk_front.specs.Step.{entry_of}
 use Rattle.blk_front.specs.Submit.{is_connected, ending_of}
 use Rattle.back_jobs.specs.declared.stage.Stage.{Stage as JobStage}
 use Rattle.back_jobs.specs.declared.stage.Stage.TheVariants as job
-use Rattle.back_jobs.specs.Task.{Work}
+use Rattle.back_jobs.specs.Task.{Work, mode_of}
 use Rattle.blk_back.specs.declared.stage.Reply.{Reply}
 use Rattle.blk_back.specs.declared.stage.Stage.{Stage as BackStage}
 use Rattle.blk_back.specs.declared.stage.Stage.TheVariants as back
@@ -29,7 +32,7 @@ use Rattle.blk_back.specs.Hands.{hands_at}
 use Rattle.blk_base.specs.Options.{Options}
 use Rattle.split_model.specs.World.{World}
 use Rattle.split_model.specs.Safe.{IsSafe}
-use Rattle.machine_pipeline.proofs.Flow.{Flow, wrapped, has_ring, is_ring_named, is_ring_granted, filled, is_named, is_granted, entered, ending_at, count_of, frame_count, is_front_arming, may_front_sleep, reply_at, reply_count, responded, is_back_arming, may_back_sleep, has_page, is_bound_back, segment_for, is_issuing, is_fetching}
+use Rattle.machine_pipeline.proofs.Flow.{Flow, wrapped, has_ring, is_ring_named, is_ring_granted, filled, is_named, is_granted, entered, ending_at, revoking_at, is_telling, count_of, frame_count, is_front_arming, may_front_sleep, reply_at, reply_count, responded, is_back_arming, may_back_sleep, has_page, is_bound_back, segment_for, is_issuing, is_fetching}
 use Rattle.machine_pipeline.proofs.Stations.{AreStations}
 
 -- the indices of both ends are whole ones, wrapped, in the order of a request's way; `held` requests are unfinished, `waiting` of them not issued, and `ending` more have their grant ended
@@ -66,7 +69,7 @@ pub record AreQueued (submitted : List Request) (pushed : ℕ) (requests : List 
 pub record IsSubmitted (sectors k : ℕ) (r : Request) : Type 0 where
   pub number : r.number ≡ k + 1
   pub sector : r.sector < sectors
-  pub tag : r.tag < 2 ^ 32
+  pub tag : tag_of r.transfer < 2 ^ 32
   pub low : 18 ≤ r.frame
   pub high : r.frame < 1018
 
@@ -83,24 +86,31 @@ pub record ArePooled (pool : List Bool) (requests : List Request) (ending : Opti
 
 -- a job that moves the one sector of a request, and hasn't yet
 pub record IsMoving (t : Work) (r : Request) : Type 0 where
-  pub writes : t.writes ≡ true
+  pub writes : t.writes ≡ is_write r.transfer
   pub within : t.within ≡ 0
   pub rest : t.rest ≡ segment_for r ∷ []
   pub moved : t.moved ≡ 0
   pub disk : t.disk ≡ r.sector
   pub words : length t.words ≡ 128
 
--- a mapping of the request's frame, for reading alone
+-- a job that read the one sector of a request, and writes its words to the frame
+pub record IsReturning (t : Work) (r : Request) : Type 0 where
+  pub writes : t.writes ≡ false
+  pub within : t.within ≡ 0
+  pub rest : t.rest ≡ segment_for r ∷ []
+  pub words : length t.words ≡ 128
+
+-- a mapping of the request's frame, for reading alone where it is a write
 pub record IsHand (m : Mapping) (r : Request) : Type 0 where
   pub gref : m.gref ≡ r.frame + 6
-  pub mode : m.mode ≡ ReadOnly
+  pub mode : m.mode ≡ mode_of (is_write r.transfer)
 
 abbrev pub AtWork : Request → Work → JobStage → Type 0
 AtWork r t job.Map = IsMoving t r
-AtWork r t (job.ReadWord m j) = IsMoving t r × IsHand m r × (j < 128) × ((i : ℕ) → i < j → slice_index t.words i ≡ r.tag)
-AtWork r t (job.DiskWrite m) = IsMoving t r × IsHand m r × (t.words ≡ replicate 128 r.tag)
-AtWork r t (job.DiskRead m) = ⊥
-AtWork r t (job.WriteWord m j) = ⊥
+AtWork r t (job.ReadWord m j) = IsMoving t r × IsHand m r × (j < 128) × (is_write r.transfer ≡ true) × ((i : ℕ) → i < j → slice_index t.words i ≡ tag_of r.transfer)
+AtWork r t (job.DiskWrite m) = IsMoving t r × IsHand m r × (is_write r.transfer ≡ true) × (t.words ≡ replicate 128 (tag_of r.transfer))
+AtWork r t (job.DiskRead m) = IsMoving t r × IsHand m r × (is_write r.transfer ≡ false)
+AtWork r t (job.WriteWord m j) = IsReturning t r × IsHand m r × (j < 128) × (is_write r.transfer ≡ false)
 AtWork r t (job.Unmap m) = (t.rest ≡ segment_for r ∷ []) × IsHand m r
 AtWork r t (job.GiveUp m) = IsHand m r
 AtWork r t (job.Done status) = Unit {0}
@@ -112,7 +122,7 @@ pub record IsWork (submitted : List Request) (fetched : ℕ) (t : Work) : Type 0
   pub positive : 1 ≤ t.number
   pub reached : t.number ≤ fetched
   pub id : t.id ≡ t.number
-  pub op : t.op ≡ 1
+  pub op : t.op ≡ operation_of r.transfer
   pub at : AtWork r t t.stage
 
 pub record AreWorks (submitted : List Request) (fetched : ℕ) (works : List Work) : Type 0 where
@@ -135,6 +145,7 @@ pub record IsEnding (submitted : List Request) (replies : List Reply) (e : Endin
   pub r : Request
   pub known : slice_get submitted (e.number - 1) ≡ Some r
   pub positive : 1 ≤ e.number
+  pub transfer : e.transfer ≡ r.transfer
   pub frame : e.frame ≡ r.frame
   pub alone : All (λ (rep : Reply). rep.id ≢ e.number) replies
 
@@ -146,7 +157,7 @@ pub record IsTaken (taken front_seen : ℕ) (replies : List Reply) : Type 0 wher
 
 abbrev pub FrontAt : (start pushed taken front_seen : ℕ) → List Request → List Reply → Option Request → List ℕ → FrontStage → Type 0
 FrontAt start pushed taken front_seen submitted replies next entry (front.RingWord k) = k < 16
-FrontAt start pushed taken front_seen submitted replies next entry (front.Data r k) = (next ≡ Some r) × (1 ≤ k) × (k < 128)
+FrontAt start pushed taken front_seen submitted replies next entry (front.Data r k) = (next ≡ Some r) × (1 ≤ k) × (k < 128) × (is_write r.transfer ≡ true)
 FrontAt start pushed taken front_seen submitted replies next entry (front.GrantFrame r) = next ≡ Some r
 FrontAt start pushed taken front_seen submitted replies next entry (front.GrantFence r) = next ≡ Some r
 FrontAt start pushed taken front_seen submitted replies next entry (front.GrantFlags r) = next ≡ Some r
@@ -157,7 +168,8 @@ FrontAt start pushed taken front_seen submitted replies next entry (front.Reques
 FrontAt start pushed taken front_seen submitted replies next entry (front.ResponseHigh low) = (t : IsTaken taken front_seen replies) × (low ≡ response_word t.rep 0)
 FrontAt start pushed taken front_seen submitted replies next entry (front.ResponseLast low high) = (t : IsTaken taken front_seen replies) × (low ≡ response_word t.rep 0) × (high ≡ response_word t.rep 1)
 FrontAt start pushed taken front_seen submitted replies next entry (front.GrantRead e) = IsEnding submitted replies e
-FrontAt start pushed taken front_seen submitted replies next entry (front.GrantEnd e before) = IsEnding submitted replies e × (before ≡ 5)
+FrontAt start pushed taken front_seen submitted replies next entry (front.GrantEnd e before) = IsEnding submitted replies e × (before ≡ grant_flags e.transfer)
+FrontAt start pushed taken front_seen submitted replies next entry (front.ReadData e k) = IsEnding submitted replies e × (k < 128) × (e.transfer ≡ transfer.Read) × (e.status ≡ Okay)
 FrontAt start pushed taken front_seen submitted replies next entry (front.Broken word) = ⊥
 FrontAt start pushed taken front_seen submitted replies next entry s = Unit {0}
 
@@ -208,24 +220,29 @@ pub record AreSlots (start fetched pushed taken replied : ℕ) (submitted : List
   pub responses : (k : ℕ) (rep : Reply) → slice_get replies k ≡ Some rep → (i : ℕ) → i < 3 → word_of pages 2 (slot_word (wrapped start (taken + k)) i) ≡ response_word rep i
   pub response : (rep : Reply) → reply_at back_stage ≡ Some rep → (i : ℕ) → i < responded back_stage → word_of pages 2 (slot_word (wrapped start replied) i) ≡ response_word rep i
 
--- the words of a request's frame, once it is pushed, and as far as it is being issued
+-- the words of a write's frame, once it is pushed, and as far as it is being issued
 pub record IsFilled (pushed : ℕ) (pages : List ℕ) (stage : FrontStage) (r : Request) : Type 0 where
-  pub whole : r.number ≤ pushed → (i : ℕ) → i < 128 → word_of pages r.frame i ≡ r.tag
-  pub begun : r.number ≡ pushed + 1 → (i : ℕ) → i < filled stage → word_of pages r.frame i ≡ r.tag
+  pub whole : is_write r.transfer ≡ true → r.number ≤ pushed → (i : ℕ) → i < 128 → word_of pages r.frame i ≡ tag_of r.transfer
+  pub begun : is_write r.transfer ≡ true → r.number ≡ pushed + 1 → (i : ℕ) → i < filled stage → word_of pages r.frame i ≡ tag_of r.transfer
 
--- the flags of an entry that permits reading (GTF_permit_access and GTF_readonly, 5), with GTF_reading (8) where the frame is mapped
-abbrev pub flags_with : ℕ → ℕ
-flags_with mappings = if mappings == 0 then 5 else 13
+-- the flags of a mapped frame's entry: with GTF_reading (8), and of a read's with GTF_writing (16) too
+abbrev pub mapped_flags : Transfer → ℕ
+mapped_flags transfer.Read = 25
+mapped_flags (transfer.Write tag) = 13
+
+-- the flags of a granted frame's entry, with so many mappings of it
+abbrev pub flags_with : Transfer → ℕ → ℕ
+flags_with way mappings = if mappings == 0 then grant_flags way else mapped_flags way
 
 pub record IsGranted (pushed : ℕ) (pages : List ℕ) (live : List Held) (stage : FrontStage) (r : Request) : Type 0 where
   pub named : r.number ≤ pushed → entry_word1 pages (r.frame + 6) ≡ r.frame
   pub named_next : r.number ≡ pushed + 1 → is_named stage ≡ true → entry_word1 pages (r.frame + 6) ≡ r.frame
-  pub flags : r.number ≤ pushed → entry_word0 pages (r.frame + 6) ≡ flags_with (mappings_of (r.frame + 6) live)
-  pub flags_next : r.number ≡ pushed + 1 → is_granted stage ≡ true → entry_word0 pages (r.frame + 6) ≡ 5
+  pub flags : r.number ≤ pushed → entry_word0 pages (r.frame + 6) ≡ flags_with r.transfer (mappings_of (r.frame + 6) live)
+  pub flags_next : r.number ≡ pushed + 1 → is_granted stage ≡ true → entry_word0 pages (r.frame + 6) ≡ grant_flags r.transfer
 
 pub record AreEntries (pushed : ℕ) (pages : List ℕ) (live : List Held) (stage : FrontStage) (requests : List Request) : Type 0 where
   pub each : All (IsGranted pushed pages live stage) requests
-  pub ending : (e : Ending) → ending_at stage ≡ Some e → entry_word0 pages (e.frame + 6) ≡ 5
+  pub ending : (e : Ending) → revoking_at stage ≡ Some e → entry_word0 pages (e.frame + 6) ≡ grant_flags e.transfer
 
 -- the live mappings are those in the hands of the back and its jobs, whichever test counts them; frame f has the reference f + 6
 pub record AreMapped (live : List Held) (hands : List Mapping) : Type 0 where
@@ -236,6 +253,15 @@ pub record AreMapped (live : List Held) (hands : List Mapping) : Type 0 where
 pub record IsPaged (page : Mapping) (stage : BackStage) : Type 0 where
   pub gref : has_page stage ≡ true → page.gref ≡ 8
   pub mode : has_page stage ≡ true → page.mode ≡ ReadWrite
+
+-- the words of the data that the front read so far, of a frame of the pool
+abbrev pub IsReadSoFar : (pages words : List ℕ) → FrontStage → Type 0
+IsReadSoFar pages words (front.ReadData e k) = (18 ≤ e.frame) × (e.frame < 1018) × ((i : ℕ) → i < k → i < 128 → slice_index words i ≡ word_of pages e.frame i)
+IsReadSoFar pages words s = Unit {0}
+
+pub record AreDataWords (pages words : List ℕ) (stage : FrontStage) : Type 0 where
+  pub size : length words ≡ 128
+  pub so_far : IsReadSoFar pages words stage
 
 -- an end whose event is pending or will be sent, since the other end pushed one entry just now
 abbrev pub FrontSends : FrontStage → ℕ → ℕ → Type 0
@@ -282,7 +308,7 @@ pub record Holds (config : Options) (w : World) (g : Flow) (d : Pipeline) (s : F
   pub queue : AreQueued g.submitted g.pushed w.front.requests w.front.waiting
   pub submitted : AreSubmitted g.submitted w.front.sectors w.front.last
   pub pool : ArePooled w.front.pool w.front.requests (ending_at s)
-  pub stations : AreStations config g d (is_connected s) (is_issuing s) (is_fetching b) (ending_at s) (reply_at b) w.front.requests w.back.jobs.works
+  pub stations : AreStations config g d (is_connected s) (is_issuing s) (is_fetching b) (ending_at s) (is_telling s) (reply_at b) w.front.requests w.back.jobs.works w.under.pages
   pub works : AreWorks g.submitted g.fetched w.back.jobs.works
   pub counted : length w.back.jobs.works + reply_count (reply_at b) + g.replied ≡ g.fetched
   pub info : w.back.jobs.info ≡ info_of config
@@ -295,6 +321,7 @@ pub record Holds (config : Options) (w : World) (g : Flow) (d : Pipeline) (s : F
   pub ring : AreRingWords g.start g.pushed g.replied w.under.pages s b
   pub slots : AreSlots g.start g.fetched g.pushed g.taken g.replied g.submitted g.replies w.under.pages s b
   pub frames : All (IsFilled g.pushed w.under.pages s) w.front.requests
+  pub telling : AreDataWords w.under.pages w.front.words s
   pub entries : AreEntries g.pushed w.under.pages w.under.grants.live s w.front.requests
   pub mapped : AreMapped w.under.grants.live (hands_at b w.back)
   pub page : IsPaged w.back.page b

@@ -1,5 +1,5 @@
 -- The indices of both ends where little of them changes.
-use Rattle.std.proofs.Common.{◌≡◌, ℕ, ◌+◌, ◌%◌, ◌^◌, ◌<◌, ◌≤◌, refl, arith}
+use Rattle.std.proofs.Common.{◌≡◌, ℕ, ◌+◌, ◌^◌, ◌<◌, ◌≤◌, refl, arith}
 use Rattle.blk_base.specs.Options.{Options}
 use Rattle.ring_words.specs.Ring.{Ring}
 use Rattle.split_model.specs.World.{World, start_of}

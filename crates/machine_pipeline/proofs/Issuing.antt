@@ -1,5 +1,5 @@
 -- A step of the front while it issues a request leaves all as it was but its stage, its entry and words of memory.
-use Rattle.std.proofs.Common.{◌≡◌, ℕ, ◌+◌, ◌<◌, ◌≤◌, true, false, List, length, get_or, refl, sym, ◌∙◌, inl, inr, arith}
+use Rattle.std.proofs.Common.{◌≡◌, ℕ, ◌+◌, ◌<◌, ◌≤◌, Bool, true, false, List, length, get_or, refl, sym, ◌∙◌, inl, inr, arith}
 use Rattle.std.specs.Prelude.{All, None}
 use Rattle.std.proofs.lemmas.Option.{slice_get-get_or}
 use Rattle.blk_base.specs.Options.{Options}
@@ -16,11 +16,13 @@ use Rattle.blk_front.specs.Submit.{is_connected, ending_of}
 use Rattle.blk_back.specs.declared.stage.Reply.{Reply}
 use Rattle.blk_back.specs.declared.stage.Stage.{Stage as BackStage}
 use Rattle.split_model.specs.World.{World}
-use Rattle.machine_pipeline.proofs.Flow.{Flow, has_ring, is_ring_named, is_ring_granted, filled, is_named, is_granted, entered, ending_at, is_front_arming, may_front_sleep, is_issuing, is_fetching, reply_at}
-use Rattle.machine_pipeline.proofs.Holds.{FrontAt, RingBegun, AreRingWords, AreSlots, IsFilled, AreEntries, FrontSends, Holds}
+use Rattle.machine_pipeline.proofs.Flow.{Flow, has_ring, is_ring_named, is_ring_granted, filled, is_named, is_granted, entered, ending_at, is_front_arming, may_front_sleep, is_telling, is_issuing, is_fetching, reply_at}
+use Rattle.machine_pipeline.proofs.Holds.{FrontAt, RingBegun, AreRingWords, AreSlots, IsFilled, AreEntries, FrontSends, IsFrontSleep, IsBackSleep, Holds}
 use Rattle.machine_pipeline.proofs.Frames.{is_submitted}
 use Rattle.machine_pipeline.proofs.Kept.{SameFrame, SameEntry, slots_kept}
 use Rattle.machine_pipeline.proofs.Stations.{AreStations, turned}
+use Rattle.machine_pipeline.proofs.ReadsKept.{stations_elsewhere}
+use Rattle.machine_pipeline.proofs.Resting.{unrevoked, data_rests}
 
 -- the ring is made, no grant is being ended, and no event word was stored for sleep
 pub record IsIssuing (s : FrontStage) : Type 0 where
@@ -32,6 +34,7 @@ pub record IsIssuing (s : FrontStage) : Type 0 where
   pub ended : ending_of s ≡ 0
   pub connected : is_connected s ≡ true
   pub arming : is_front_arming s ≡ false
+  pub untelling : is_telling s ≡ false
 
 -- so it is at the stages at which the front may sleep
 pub issuing : (s : FrontStage) → may_front_sleep s ≡ true → IsIssuing s
@@ -44,11 +47,12 @@ issuing (front.ResponseHigh low) t = absurd (cc)
 issuing (front.ResponseLast low high) t = absurd (cc)
 issuing (front.GrantRead e) t = absurd (cc)
 issuing (front.GrantEnd e before) t = absurd (cc)
+issuing (front.ReadData e k) t = absurd (cc)
 issuing front.StoreEvent t = absurd (cc)
 issuing front.EventFence t = absurd (cc)
 issuing front.LookAgain t = absurd (cc)
 issuing (front.Broken word) t = absurd (cc)
-issuing s t = record { ring = refl; named = refl; granted = refl; begun = λ start pages. tt; ending = refl; ended = refl; connected = refl; arming = refl }
+issuing s t = record { ring = refl; named = refl; granted = refl; begun = λ start pages. tt; ending = refl; ended = refl; connected = refl; arming = refl; untelling = refl }
 
 -- the ring's own words and the grant of its frame
 pub ring_turned : (start pushed replied : ℕ) (old new : List ℕ) (s s' : FrontStage) (b : BackStage)
@@ -92,8 +96,8 @@ frames_turned pushed old new s s' requests less few same h k d lt =
     let here = same k d lt in
     let was = h k d lt in
     record {
-      whole = λ le i l. here i (omega arith) ∙ was.whole le i l;
-      begun = λ e i l. here i (omega arith) ∙ was.begun e i (omega arith);
+      whole = λ way le i l. here i (omega arith) ∙ was.whole way le i l;
+      begun = λ way e i l. here i (omega arith) ∙ was.begun way e i (omega arith);
     }
 
 -- their grant entries, where none was written
@@ -111,7 +115,7 @@ entries_turned pushed old new live s s' requests m' named granted same h = let i
     flags = λ le. here.flags ∙ was.flags le;
     flags_next = λ e t. here.flags ∙ was.flags_next e (granted t);
   };
-  ending = λ e t. let none = i'.ending in absurd (cc);
+  ending = λ e t. absurd (unrevoked s' e i'.ending t);
 }
 
 -- the frames and the references of the front's requests are those of the pool
@@ -120,6 +124,34 @@ frames_elsewhere config w g d s b h new same n x lt = let is = is_submitted conf
 
 pub entries_elsewhere : (config : Options) (w : World) (g : Flow) (d : Pipeline) (s : FrontStage) (b : BackStage) → Holds config w g d s b → (new : List ℕ) → ((gref : ℕ) → gref < 1024 → SameEntry w.under.pages new gref) → All (λ (r : Request). SameEntry w.under.pages new (r.frame + 6)) w.front.requests
 entries_elsewhere config w g d s b h new same n x lt = let is = is_submitted config w g d s b h n (get_or w.front.requests n x) (slice_get-get_or w.front.requests n x lt) in let high = is.high in same _ (omega arith)
+
+-- how both ends sleep, where their event words stay
+front_sleep_turned : (start taken replied : ℕ) (old new : List ℕ) (asleep pending : Bool) (s s' : FrontStage) (b : BackStage)
+    → may_front_sleep s' ≡ true
+    → word_of new 2 3 ≡ word_of old 2 3
+    → IsFrontSleep start taken replied old asleep pending s b
+    → IsFrontSleep start taken replied new asleep pending s' b
+front_sleep_turned start taken replied old new asleep pending s s' b m' same h = let i' = issuing s' m' in record {
+  arming = λ t. let no = i'.arming in absurd (cc);
+  armed = λ t. same ∙ h.armed t;
+  may = λ t. absurd (cc);
+  woken = h.woken;
+}
+
+back_sleep_turned : (start fetched pushed : ℕ) (old new : List ℕ) (asleep pending : Bool) (s s' : FrontStage) (b : BackStage)
+    → word_of new 2 1 ≡ word_of old 2 1
+    → (asleep ≡ true → FrontSends s pushed fetched → FrontSends s' pushed fetched)
+    → IsBackSleep start fetched pushed old asleep pending s b
+    → IsBackSleep start fetched pushed new asleep pending s' b
+back_sleep_turned start fetched pushed old new asleep pending s s' b same sends h = record {
+  arming = λ t. same ∙ h.arming t;
+  armed = λ t. same ∙ h.armed t;
+  may = h.may;
+  woken = λ t. elim (h.woken t) [
+    | inl none ↦ inl none
+    | inr some ↦ elim some [ inl marked ↦ inr (inl marked) | inr comes ↦ inr (inr (sends t comes)) ]
+  ];
+}
 
 -- the machine with the front at another stage, with that entry and that memory
 abbrev pub with_front : World → FrontStage → (entry pages : List ℕ) → World
@@ -132,7 +164,7 @@ with_front w s entry pages = record {
 pub issue_moved : (config : Options) (w : World) (g : Flow) (d d' : Pipeline) (s s' : FrontStage) (entry pages : List ℕ)
     → may_front_sleep s ≡ true → may_front_sleep s' ≡ true
     → Holds config w g d s w.back.stage
-    → AreStations config g d' (is_connected s') (is_issuing s') (is_fetching w.back.stage) (ending_at s') (reply_at w.back.stage) w.front.requests w.back.jobs.works
+    → AreStations config g d' (is_connected s') (is_issuing s') (is_fetching w.back.stage) (ending_at s') (is_telling s') (reply_at w.back.stage) w.front.requests w.back.jobs.works pages
     → FrontAt g.start g.pushed g.taken g.front_seen g.submitted g.replies (next_request w.front) entry s'
     → length pages ≡ 1114112
     → ((x : ℕ) → x < 16 → word_of pages 2 x ≡ word_of w.under.pages 2 x)
@@ -148,8 +180,6 @@ issue_moved config w g d d' s s' entry pages m m' h stations at sized words name
     let ended : ending_of s' ≡ ending_of s = i'.ended ∙ sym i.ended in
     let ending : ending_at s' ≡ ending_at s = i'.ending ∙ sym i.ending in
     let connected : is_connected s' ≡ is_connected s = i'.connected ∙ sym i.connected in
-    let was = h.front_sleep in
-    let bwas = h.back_sleep in
     record {
       started = h.started;
       sized = h.sized;
@@ -170,33 +200,22 @@ issue_moved config w g d d' s s' entry pages m m' h stations at sized words name
       ring = ring_turned g.start g.pushed g.replied w.under.pages pages s s' w.back.stage m m' words named h.ring;
       slots = slots;
       frames = frames;
+      telling = data_rests w.under.pages pages w.front.words s s' i'.untelling h.telling;
       entries = entries;
       mapped = h.mapped;
       page = h.page;
-      front_sleep = record {
-        arming = λ t. let no = i'.arming in absurd (cc);
-        armed = λ t. words 3 (omega arith) ∙ was.armed t;
-        may = λ t. absurd (cc);
-        woken = was.woken;
-      };
-      back_sleep = record {
-        arming = λ t. words 1 (omega arith) ∙ bwas.arming t;
-        armed = λ t. words 1 (omega arith) ∙ bwas.armed t;
-        may = bwas.may;
-        woken = λ t. elim (bwas.woken t) [
-          | inl none ↦ inl none
-          | inr some ↦ elim some [ inl pending ↦ inr (inl pending) | inr comes ↦ inr (inr (sends t comes)) ]
-        ];
-      };
+      front_sleep = front_sleep_turned g.start g.taken g.replied w.under.pages pages w.front.asleep w.under.channels.front_pending s s' w.back.stage m' (words 3 (omega arith)) h.front_sleep;
+      back_sleep = back_sleep_turned g.start g.fetched g.pushed w.under.pages pages w.back.asleep w.under.channels.back_pending s s' w.back.stage (words 1 (omega arith)) sends h.back_sleep;
       ports = rw connected h.ports;
     }
 
--- where the pipeline stays
+-- where the pipeline stays, and the frames of the pool
 pub issue_kept : (config : Options) (w : World) (g : Flow) (d : Pipeline) (s s' : FrontStage) (entry pages : List ℕ)
     → may_front_sleep s ≡ true → may_front_sleep s' ≡ true → is_issuing s' ≡ is_issuing s
     → Holds config w g d s w.back.stage
     → FrontAt g.start g.pushed g.taken g.front_seen g.submitted g.replies (next_request w.front) entry s'
     → length pages ≡ 1114112
+    → ((f : ℕ) → 18 ≤ f → f < 1018 → SameFrame w.under.pages pages f)
     → ((x : ℕ) → x < 16 → word_of pages 2 x ≡ word_of w.under.pages 2 x)
     → SameEntry w.under.pages pages 8
     → AreSlots g.start g.fetched g.pushed g.taken g.replied g.submitted g.replies pages s' w.back.stage
@@ -204,8 +223,10 @@ pub issue_kept : (config : Options) (w : World) (g : Flow) (d : Pipeline) (s s' 
     → AreEntries g.pushed pages w.under.grants.live s' w.front.requests
     → (w.back.asleep ≡ true → FrontSends s g.pushed g.fetched → FrontSends s' g.pushed g.fetched)
     → Holds config (with_front w s' entry pages) g d s' w.back.stage
-issue_kept config w g d s s' entry pages m m' same h =
+issue_kept config w g d s s' entry pages m m' same h at sized elsewhere =
     let i = issuing s m in
     let i' = issuing s' m' in
     issue_moved config w g d d s s' entry pages m m' h
-    (turned config g d (is_connected s) (is_connected s') (is_issuing s) (is_issuing s') (is_fetching w.back.stage) (ending_at s) (ending_at s') (reply_at w.back.stage) w.front.requests w.back.jobs.works (i'.connected ∙ sym i.connected) same (i'.ending ∙ sym i.ending) h.stations)
+    (stations_elsewhere config g d (is_connected s') (is_issuing s') (is_fetching w.back.stage) (ending_at s') (is_telling s') (reply_at w.back.stage) w.front.requests w.back.jobs.works w.under.pages pages w.front.sectors w.front.last h.submitted elsewhere
+    (turned config g d (is_connected s) (is_connected s') (is_issuing s) (is_issuing s') (is_fetching w.back.stage) (ending_at s) (ending_at s') (is_telling s) (is_telling s') (reply_at w.back.stage) w.front.requests w.back.jobs.works w.under.pages (i'.connected ∙ sym i.connected) same (i'.ending ∙ sym i.ending) (i'.untelling ∙ sym i.untelling) h.stations))
+    at sized

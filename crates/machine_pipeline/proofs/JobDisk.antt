@@ -1,6 +1,6 @@
--- A job writes its sector to the disk, or the disk fails at it.
-use Rattle.std.proofs.Common.{◌≡◌, ℕ, ◌-◌, List, [], ◌∷◌, refl, sym, subst}
-use Rattle.std.specs.Prelude.{Some, None, slice_get, slice_set}
+-- A job writes its sector to the disk, or reads it, or the disk fails at it.
+use Rattle.std.proofs.Common.{◌≡◌, ℕ, List, [], ◌∷◌, length, refl, sym, ◌∙◌, subst, arith}
+use Rattle.std.specs.Prelude.{Some, None, slice_set}
 use Rattle.blk_base.specs.Options.{Options}
 use Rattle.blk_base.specs.declared.ask.BackAnswer.TheVariants as answer
 use Rattle.blk_base.specs.declared.moves.Move.TheVariants as moves
@@ -12,13 +12,14 @@ use Rattle.back_jobs.specs.declared.stage.Stage.TheVariants as job
 use Rattle.back_jobs.specs.Task.{Work, ask_at, step_at, counted}
 use Rattle.blk_back.specs.Hands.{hands_at}
 use Rattle.split_model.specs.World.{World}
+use Rattle.hypervisor.specs.Act.{IsGiven}
 use Rattle.pipeline_laws.specs.Pipeline.{Pipeline, next}
 use Rattle.machine_pipeline.proofs.Flow.{Flow}
-use Rattle.machine_pipeline.proofs.Holds.{Holds, IsMoving, AtWork, AreMapped}
+use Rattle.machine_pipeline.proofs.Holds.{Holds, AtWork, AreMapped}
 use Rattle.machine_pipeline.proofs.Turns.{Stepped, does_step}
 use Rattle.machine_pipeline.proofs.Jobs.{StationsWith, job_holds}
 use Rattle.machine_pipeline.proofs.JobMoves.{IsAt, JobGoesAt, stays, work_of, hands_step}
-use Rattle.machine_pipeline.proofs.JobSteps.{fills, fails}
+use Rattle.machine_pipeline.proofs.JobSteps.{fills, fails, gives, fails_to_give}
 use Rattle.machine_pipeline.specs.Step.{CallOf}
 
 -- the disk took the sector
@@ -34,22 +35,19 @@ took_goes config w g d number p t r m h is e at = record {
   does = does_step (moves.DiskWrite number t.disk) (lines.Effect t.id t.moved ∷ []) refl s;
   holds = subst (λ (x : Work). let v : World = record { front = w.front; back = record w.back { jobs = record w.back.jobs { works = slice_set w.back.jobs.works p x }; told = None }; under = w.under } in Holds config v g (next d s.step) v.front.stage v.back.stage) (sym stepped)
       (job_holds config w g d (next d s.step) p t then w.under.pages w.under.grants h is.place refl s.now
-      (work_of w g d (next d s.step) p t then r is refl refl refl (moving.rest, at.1))
+      (work_of w g d (next d s.step) p t then r is refl refl refl (at.0.rest, at.1))
       h.memory (λ v lt. refl) (record { flags = refl; frame = refl }) (λ f low high v lt. refl) h.entries
       (subst (λ (x : Work). AreMapped w.under.grants.live (hands_at w.back.stage (record w.back { jobs = record w.back.jobs { works = slice_set w.back.jobs.works p x } }))) stepped
       (subst (AreMapped w.under.grants.live) (sym (hands_step w p t (job.DiskWrite m) answer.Done is.place e tt)) h.mapped)));
 }
   where
-    moving : IsMoving t r
-    moving = at.0
-
     then : Work
     then = record (counted t) { stage = job.Unmap m }
 
     stepped : step_at (job.DiskWrite m) t answer.Done ≡ then
-    stepped = rw (moving.within, moving.rest) refl
+    stepped = rw (at.0.within, at.0.rest) refl
 
-    s : Stepped None (CallOf (ask_at (job.DiskWrite m) t) Took) d (lines.Effect t.id t.moved ∷ []) (λ x. StationsWith config w g x (slice_set w.back.jobs.works p then))
+    s : Stepped None (CallOf (ask_at (job.DiskWrite m) t) Took) d (lines.Effect t.id t.moved ∷ []) (λ x. StationsWith config w g x (slice_set w.back.jobs.works p then) w.under.pages)
     s = fills config w g d p t then r m h is e at refl refl
 
 -- the disk failed at it
@@ -72,7 +70,7 @@ failed_goes config w g d number p t r m h is e at = record {
     then : Work
     then = record t { stage = job.GiveUp m }
 
-    s : Stepped None (CallOf (ask_at (job.DiskWrite m) t) Failed) d (lines.Fault t.id t.moved ∷ []) (λ x. StationsWith config w g x (slice_set w.back.jobs.works p then))
+    s : Stepped None (CallOf (ask_at (job.DiskWrite m) t) Failed) d (lines.Fault t.id t.moved ∷ []) (λ x. StationsWith config w g x (slice_set w.back.jobs.works p then) w.under.pages)
     s = fails config w g d p t then r m h is e at refl refl
 
 pub disk_goes : (config : Options) (w : World) (g : Flow) (d : Pipeline) (number p : ℕ) (t : Work) (r : Request) (m : Mapping) (o : Outcome)
@@ -84,3 +82,61 @@ pub disk_goes : (config : Options) (w : World) (g : Flow) (d : Pipeline) (number
 disk_goes config w g d number p t r m (Gave words) h is e at = stays (CallOf (ask_at (job.DiskWrite m) t) (Gave words)) config w g d (λ a b call. absurd call) h
 disk_goes config w g d number p t r m Took h is e at = took_goes config w g d number p t r m h is e at
 disk_goes config w g d number p t r m Failed h is e at = failed_goes config w g d number p t r m h is e at
+
+-- the disk gave the sector
+gave_goes : (config : Options) (w : World) (g : Flow) (d : Pipeline) (number p : ℕ) (t : Work) (r : Request) (m : Mapping) (words : List ℕ)
+    → Holds config w g d w.front.stage w.back.stage
+    → IsAt w g d p t r
+    → t.stage ≡ job.DiskRead m
+    → AtWork r t (job.DiskRead m)
+    → length words ≡ 128
+    → JobGoesAt config w d number p t (job.DiskRead m) (Gave words)
+gave_goes config w g d number p t r m words h is e at sized = record {
+  flow = g;
+  step = Some s.step;
+  does = does_step (moves.DiskRead number t.disk) (lines.EffectRead t.id t.moved words ∷ []) refl s;
+  holds = job_holds config w g d (next d s.step) p t then w.under.pages w.under.grants h is.place refl s.now
+      (work_of w g d (next d s.step) p t then r is refl refl refl (record { writes = at.0.writes ∙ at.2; within = at.0.within; rest = at.0.rest; words = sized }, at.1, omega arith, at.2))
+      h.memory (λ v lt. refl) (record { flags = refl; frame = refl }) (λ f low high v lt. refl) h.entries
+      (subst (AreMapped w.under.grants.live) (sym (hands_step w p t (job.DiskRead m) (answer.Sector words) is.place e tt)) h.mapped);
+}
+  where
+    then : Work
+    then = record (counted t) { words = words; stage = job.WriteWord m 0 }
+
+    s : Stepped None (CallOf (ask_at (job.DiskRead m) t) (Gave words)) d (lines.EffectRead t.id t.moved words ∷ []) (λ x. StationsWith config w g x (slice_set w.back.jobs.works p then) w.under.pages)
+    s = gives config w g d p t r m words h is e at sized
+
+-- the disk failed to give it
+gave_nothing : (config : Options) (w : World) (g : Flow) (d : Pipeline) (number p : ℕ) (t : Work) (r : Request) (m : Mapping)
+    → Holds config w g d w.front.stage w.back.stage
+    → IsAt w g d p t r
+    → t.stage ≡ job.DiskRead m
+    → AtWork r t (job.DiskRead m)
+    → JobGoesAt config w d number p t (job.DiskRead m) Failed
+gave_nothing config w g d number p t r m h is e at = record {
+  flow = g;
+  step = Some s.step;
+  does = does_step (moves.DiskRead number t.disk) (lines.Fault t.id t.moved ∷ []) refl s;
+  holds = job_holds config w g d (next d s.step) p t then w.under.pages w.under.grants h is.place refl s.now
+      (work_of w g d (next d s.step) p t then r is refl refl refl at.1)
+      h.memory (λ v lt. refl) (record { flags = refl; frame = refl }) (λ f low high v lt. refl) h.entries
+      (subst (AreMapped w.under.grants.live) (sym (hands_step w p t (job.DiskRead m) answer.DiskFailed is.place e tt)) h.mapped);
+}
+  where
+    then : Work
+    then = record t { stage = job.GiveUp m }
+
+    s : Stepped None (CallOf (ask_at (job.DiskRead m) t) Failed) d (lines.Fault t.id t.moved ∷ []) (λ x. StationsWith config w g x (slice_set w.back.jobs.works p then) w.under.pages)
+    s = fails_to_give config w g d p t r m h is e at
+
+pub disk_gives : (config : Options) (w : World) (g : Flow) (d : Pipeline) (number p : ℕ) (t : Work) (r : Request) (m : Mapping) (o : Outcome)
+    → Holds config w g d w.front.stage w.back.stage
+    → IsAt w g d p t r
+    → t.stage ≡ job.DiskRead m
+    → AtWork r t (job.DiskRead m)
+    → IsGiven o
+    → JobGoesAt config w d number p t (job.DiskRead m) o
+disk_gives config w g d number p t r m (Gave words) h is e at given = gave_goes config w g d number p t r m words h is e at given.0
+disk_gives config w g d number p t r m Took h is e at given = stays (CallOf (ask_at (job.DiskRead m) t) Took) config w g d (λ a b call. absurd call.0) h
+disk_gives config w g d number p t r m Failed h is e at given = gave_nothing config w g d number p t r m h is e at

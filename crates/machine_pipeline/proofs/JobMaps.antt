@@ -1,5 +1,5 @@
 -- A job maps its request's frame, and gives the mapping up: what that makes of all that holds.
-use Rattle.std.proofs.Common.{◌≡◌, ◌≢◌, ℕ, ◌+◌, ◌-◌, ◌*◌, ◌/◌, ◌%◌, ◌<◌, ◌≤◌, ◌==◌, ◌⊎◌, inl, inr, Bool, true, false, cond, List, [], ◌∷◌, ◌++◌, length, refl, ap, sym, ◌∙◌, subst, arith, length-set}
+use Rattle.std.proofs.Common.{◌≡◌, ◌≢◌, ℕ, ◌+◌, ◌-◌, ◌*◌, ◌/◌, ◌%◌, ◌<◌, ◌≤◌, ◌==◌, ◌&&◌, ◌⊎◌, inl, inr, Bool, true, false, cond, List, [], ◌∷◌, ◌++◌, length, refl, ap, sym, ◌∙◌, subst, arith, length-set}
 use Rattle.std.specs.Prelude.{Option, Some, None, slice_get, slice_set, count_by, Result, Ok}
 use Rattle.std.proofs.lemmas.Option.{none-some, same_Some}
 use Rattle.std.proofs.lemmas.List.Sums.{sum_by-cons, sum_by-append}
@@ -10,62 +10,45 @@ use Rattle.blk_base.specs.declared.ask.BackAsk.TheVariants as ask
 use Rattle.blk_base.specs.declared.ask.BackAnswer.TheVariants as answer
 use Rattle.blk_base.specs.declared.moves.BackMover.TheVariants as back_mover
 use Rattle.blk_base.specs.declared.parts.Mapping.{Mapping}
-use Rattle.blk_base.specs.declared.parts.Mode.TheVariants.{ReadOnly}
+use Rattle.blk_base.specs.declared.parts.Mode.{Mode}
 use Rattle.grant_table.specs.declared.held.Held.{Held}
 use Rattle.grant_table.specs.declared.entry.MapRefusal.{MapRefusal}
 use Rattle.blk_base.specs.declared.moves.Move.TheVariants as moves
-use Rattle.grant_table.specs.Entry.{verdict_of, mapped_entry, unmapped_entry}
+use Rattle.grant_table.specs.Entry.{verdict_of, mapped_entry, unmapped_entry, is_for_writing}
 use Rattle.grant_table.specs.Table.{GrantTable, entry_word0, entry_word1, with_entry_word0, mappings_of, writers_of, without, next_mapping, verdict_at, unmap_pages, unmap_table}
+use Rattle.pipeline_laws.specs.Station.{Working}
 use Rattle.pipeline_laws.specs.Pipeline.{Pipeline}
 use Rattle.hypervisor.specs.Hypervisor.{Hypervisor}
 use Rattle.hypervisor.specs.Act.{BackAct, Outcome, back_act, map_act}
 use Rattle.blk_front.specs.declared.request.Request.{Request}
+use Rattle.blk_front.specs.Request.{is_write, grant_flags}
 use Rattle.back_jobs.specs.declared.stage.Stage.TheVariants as job
-use Rattle.back_jobs.specs.Task.{Work, ask_at, step_at, IsAnswer}
+use Rattle.back_jobs.specs.Task.{Work, mode_of, sector_stage, ask_at, step_at, IsAnswer}
 use Rattle.back_jobs.specs.Jobs.{mapping_at}
 use Rattle.back_jobs.specs.Hands.{HandsAfter, HasOneMore}
 use Rattle.blk_back.specs.Hands.{hands_of, hands_at}
 use Rattle.split_model.specs.World.{World}
 use Rattle.split_model.specs.Safe.{AreHeld}
 use Rattle.machine_pipeline.proofs.Flow.{Flow, ending_at, worked}
-use Rattle.machine_pipeline.proofs.Holds.{Holds, IsMoving, IsHand, AtWork, IsWork, IsGranted, AreEntries, AreMapped, ArePooled, flags_with}
+use Rattle.machine_pipeline.proofs.Holds.{Holds, IsMoving, IsHand, AtWork, IsWork, IsGranted, AreEntries, AreMapped, ArePooled, mapped_flags, flags_with}
+use Rattle.machine_pipeline.proofs.ReadBack.{ReadAt}
 use Rattle.machine_pipeline.proofs.Turns.{GoesBy, nothing}
 use Rattle.machine_pipeline.proofs.Lists.{all_at, set_was}
 use Rattle.machine_pipeline.proofs.Hands.{frames_apart, ending_apart}
-use Rattle.machine_pipeline.proofs.Frames.{is_submitted, work_queued, ending_is, unmapped, none_in_hands}
+use Rattle.machine_pipeline.proofs.Frames.{is_submitted, ending_is, unmapped, none_in_hands}
 use Rattle.machine_pipeline.proofs.Mapped.{mapped_more, mapped_less, hands_more}
 use Rattle.machine_pipeline.proofs.Kept.{SameFrame, SameEntry, other_frame, other_entry}
-use Rattle.machine_pipeline.proofs.JobGrants.{may_map, entries_marked}
+use Rattle.machine_pipeline.proofs.BackStill.{revoking_ends}
+use Rattle.machine_pipeline.proofs.JobGrants.{may_map, set_flags, cleared_flags, entries_marked}
 use Rattle.machine_pipeline.proofs.Jobs.{StationsWith, stations_stay, job_holds, other_number}
-use Rattle.machine_pipeline.proofs.JobMoves.{IsAt, JobGoesAt, job_says, job_next, work_of, at_work, live_hand, hands_step}
+use Rattle.machine_pipeline.proofs.JobMoves.{IsAt, IsOwn, own_at, JobGoesAt, job_says, job_next, work_of, at_work, read_was, live_hand, hands_step}
 use Rattle.machine_pipeline.specs.Step.{CallOf}
-
--- the job's request among the front's
-record IsOwn (w : World) (g : Flow) (t : Work) (r : Request) : Type 0 where
-  place : ℕ
-  at : slice_get w.front.requests place ≡ Some r
-  number : r.number ≡ t.number
-  reached : r.number ≤ g.pushed
-  low : 18 ≤ r.frame
-  high : r.frame < 1018
-
-own_at : (config : Options) (w : World) (g : Flow) (d : Pipeline) (p : ℕ) (t : Work) (r : Request) → Holds config w g d w.front.stage w.back.stage → IsAt w g d p t r → IsWork g.submitted g.fetched t → IsOwn w g t r
-own_at config w g d p t r h is work =
-    let same : work.r ≡ r = same_Some work.r r (sym work.known ∙ is.known) in
-    let its = work_queued config w g d w.front.stage w.back.stage h p t is.place work in
-    let number = h.submitted.each (t.number - 1) r is.known in
-    let numbered = number.number in
-    let positive = is.positive in
-    let reached = is.reached in
-    let indices = h.indices in
-    let pushed = indices.fetched_pushed in
-    record { place = its.place; at = its.at ∙ ap Some same; number = omega arith; reached = omega arith; low = number.low; high = number.high }
 
 -- the grant entries once the flags of the request's entry were made anew
 marked : (config : Options) (w : World) (g : Flow) (d : Pipeline) (t : Work) (r : Request) (live' : List Held) (flags : ℕ)
     → Holds config w g d w.front.stage w.back.stage
     → IsOwn w g t r
-    → flags ≡ flags_with (mappings_of (r.frame + 6) live')
+    → flags ≡ flags_with r.transfer (mappings_of (r.frame + 6) live')
     → ((f : ℕ) → f ≢ r.frame → mappings_of (f + 6) live' ≡ mappings_of (f + 6) w.under.grants.live)
     → AreEntries g.pushed (with_entry_word0 w.under.pages (r.frame + 6) flags) live' w.front.stage w.front.requests
 marked config w g d t r live' flags h own same others =
@@ -74,7 +57,8 @@ marked config w g d t r live' flags h own same others =
     (λ j x off e.
     let is = is_submitted config w g d w.front.stage w.back.stage h j x e in
     frames_apart w.front.pool w.front.requests (ending_at w.front.stage) j own.place x r h.pool is.low is.high off e own.at)
-    (λ e same.
+    (λ e revoked.
+    let same : ending_at w.front.stage ≡ Some e = revoking_ends w.front.stage e revoked in
     let ending = ending_is _ _ _ _ _ _ _ _ w.front.stage e h.front_at same in
     let its = h.submitted.each (e.number - 1) ending.r ending.known in
     let frame = ending.frame in
@@ -99,6 +83,11 @@ more_mappings gref live x =
     let one = sum_by-cons (λ (y : Held). cond (y.mapping.gref == gref) 1 0) x [] in
     omega arith
 
+-- a job's first stage with a mapping is at the station of its map
+worked_begun : (b : Bool) (m : Mapping) → worked (sector_stage b m) ≡ Working 0
+worked_begun true m = refl
+worked_begun false m = refl
+
 -- the job maps its frame
 pub map_goes : (config : Options) (w : World) (g : Flow) (d : Pipeline) (number p : ℕ) (t : Work) (r : Request) (o : Outcome)
     → Holds config w g d w.front.stage w.back.stage
@@ -111,10 +100,11 @@ map_goes config w g d number p t r o h is e at = subst (λ (x : Option BackAct).
   step = None;
   does = nothing (CallOf (ask_at job.Map t) o) _ d (λ a b call. same_Some b a (subst (λ (x : BackAsk). CallOf x o a b) asked call).1);
   holds = subst (λ (x : Work). let v : World = record { front = w.front; back = record w.back { jobs = record w.back.jobs { works = slice_set w.back.jobs.works p x }; told = None }; under = under } in Holds config v g d v.front.stage v.back.stage) (sym stepped)
-      (job_holds config w g d d p t later pages grants h is.place refl (stations_stay config w g d p t later h is.place refl (rw e refl))
-      (work_of w g d d p t later r is refl refl refl (record { writes = moving.writes; within = moving.within; rest = moving.rest; moved = moving.moved; disk = moving.disk; words = moving.words }, record { gref = refl; mode = refl }, omega arith, (λ i lt. absurd (omega arith))))
-      sized (ring_frame_same w (r.frame + 6) 13 (let top = own.high in omega arith)) (ring_entry_same w (r.frame + 6) 13 (let top = own.high in omega arith) (let low = own.low in omega arith)) (data_same w (r.frame + 6) 13 (let top = own.high in omega arith))
-      (marked config w g d t r grants.live 13 h own counted others)
+      (job_holds config w g d d p t later pages grants h is.place refl (stations_stay config w g d p t later r w.under.pages h.stations is.place is.known refl (worked_begun (is_write r.transfer) m ∙ sym (ap worked e))
+      (λ q was reads. subst (λ (b : Bool). ReadAt w.under.pages r.frame t.words q.words (sector_stage b m)) (sym reads) (read_was config w g d p t r h is e q was reads)))
+      (work_of w g d d p t later r is refl refl refl (begun (is_write r.transfer) refl))
+      sized (ring_frame_same w (r.frame + 6) value (let top = own.high in omega arith)) (ring_entry_same w (r.frame + 6) value (let top = own.high in omega arith) (let low = own.low in omega arith)) (data_same w (r.frame + 6) value (let top = own.high in omega arith))
+      (marked config w g d t r grants.live value h own counted others)
       (mapped_more w.under.grants.live (hands_of w.back) (hands_at w.back.stage (record w.back { jobs = record w.back.jobs { works = slice_set w.back.jobs.works p later } })) m r.frame refl more h.mapped));
 })
   where
@@ -124,14 +114,20 @@ map_goes config w g d number p t r o h is e at = subst (λ (x : Option BackAct).
     own : IsOwn w g t r
     own = own_at config w g d p t r h is (at_work w g d p t r is e at)
 
+    mode : Mode
+    mode = mode_of (is_write r.transfer)
+
+    value : ℕ
+    value = mapped_flags r.transfer
+
     m : Mapping
-    m = next_mapping w.under.grants (r.frame + 6) ReadOnly
+    m = next_mapping w.under.grants (r.frame + 6) mode
 
     held : Held
     held = record { mapping = m; frame = r.frame }
 
     pages : List ℕ
-    pages = with_entry_word0 w.under.pages (r.frame + 6) 13
+    pages = with_entry_word0 w.under.pages (r.frame + 6) value
 
     grants : GrantTable
     grants = record { made = w.under.grants.made + 1; live = w.under.grants.live ++ held ∷ [] }
@@ -140,10 +136,13 @@ map_goes config w g d number p t r o h is e at = subst (λ (x : Option BackAct).
     under = record w.under { pages = pages; grants = grants }
 
     later : Work
-    later = record t { stage = job.ReadWord m 0 }
+    later = record t { stage = sector_stage (is_write r.transfer) m }
+
+    still_moving : IsMoving later r
+    still_moving = record { writes = moving.writes; within = moving.within; rest = moving.rest; moved = moving.moved; disk = moving.disk; words = moving.words }
 
     sized : length pages ≡ 1114112
-    sized = length-set w.under.pages ((r.frame + 6) / 512 * 1024 + 2 * ((r.frame + 6) % 512)) 13 ∙ h.memory
+    sized = length-set w.under.pages ((r.frame + 6) / 512 * 1024 + 2 * ((r.frame + 6) % 512)) value ∙ h.memory
 
     granted : IsGranted g.pushed w.under.pages w.under.grants.live w.front.stage r
     granted = all_at (IsGranted g.pushed w.under.pages w.under.grants.live w.front.stage) w.front.requests own.place r h.entries.each own.at
@@ -163,34 +162,39 @@ map_goes config w g d number p t r o h is e at = subst (λ (x : Option BackAct).
     none : mappings_of (r.frame + 6) w.under.grants.live ≡ 0
     none = unmapped config w g d w.front.stage w.back.stage h own.place r own.at alone (λ (x : Mapping). x.gref == r.frame + 6) (λ x apart. grind (arith, nat_tests))
 
-    flags : entry_word0 w.under.pages (r.frame + 6) ≡ 5
-    flags = granted.flags own.reached ∙ ap flags_with none
+    flags : entry_word0 w.under.pages (r.frame + 6) ≡ grant_flags r.transfer
+    flags = granted.flags own.reached ∙ ap (λ (n : ℕ). flags_with r.transfer n) none
 
-    verdict : verdict_at w.under.pages (r.frame + 6) ReadOnly ≡ Ok r.frame
+    verdict : verdict_at w.under.pages (r.frame + 6) mode ≡ Ok r.frame
     verdict =
-        ap (λ (n : ℕ). verdict_of (r.frame + 6) n (entry_word1 w.under.pages (r.frame + 6)) ReadOnly) flags
-        ∙ (ap (λ (n : ℕ). verdict_of (r.frame + 6) 5 n ReadOnly) (granted.named own.reached)
-        ∙ may_map r.frame (let low = own.low in omega arith) own.high)
+        ap (λ (n : ℕ). verdict_of (r.frame + 6) n (entry_word1 w.under.pages (r.frame + 6)) mode) flags
+        ∙ (ap (λ (n : ℕ). verdict_of (r.frame + 6) (grant_flags r.transfer) n mode) (granted.named own.reached)
+        ∙ may_map r.transfer r.frame (let low = own.low in omega arith) own.high)
 
-    asked : ask_at job.Map t ≡ ask.Map (r.frame + 6) ReadOnly
+    asked : ask_at job.Map t ≡ ask.Map (r.frame + 6) mode
     asked = rw (moving.rest, moving.writes) refl
 
-    acted : back_act w.under (back_mover.Job number) (ask_at job.Map t) o ≡ Some (record { answer = answer.Mapped m; under = under; shown = moves.Map (back_mover.Job number) (r.frame + 6) ReadOnly (w.under.grants.made + 1) r.frame })
+    acted : back_act w.under (back_mover.Job number) (ask_at job.Map t) o ≡ Some (record { answer = answer.Mapped m; under = under; shown = moves.Map (back_mover.Job number) (r.frame + 6) mode (w.under.grants.made + 1) r.frame })
     acted =
         ap (λ (a : BackAsk). back_act w.under (back_mover.Job number) a o) asked
-        ∙ (ap (λ (x : Result ℕ MapRefusal). Some (map_act w.under (back_mover.Job number) (r.frame + 6) ReadOnly x)) verdict
-        ∙ ap (λ (n : ℕ). Some (record { answer = answer.Mapped m; under = record w.under { pages = with_entry_word0 w.under.pages (r.frame + 6) (mapped_entry n ReadOnly); grants = grants }; shown = moves.Map (back_mover.Job number) (r.frame + 6) ReadOnly (w.under.grants.made + 1) r.frame })) flags)
+        ∙ (ap (λ (x : Result ℕ MapRefusal). Some (map_act w.under (back_mover.Job number) (r.frame + 6) mode x)) verdict
+        ∙ (ap (λ (n : ℕ). Some (record { answer = answer.Mapped m; under = record w.under { pages = with_entry_word0 w.under.pages (r.frame + 6) (mapped_entry n mode); grants = grants }; shown = moves.Map (back_mover.Job number) (r.frame + 6) mode (w.under.grants.made + 1) r.frame })) flags
+        ∙ ap (λ (n : ℕ). Some (record { answer = answer.Mapped m; under = record w.under { pages = with_entry_word0 w.under.pages (r.frame + 6) n; grants = grants }; shown = moves.Map (back_mover.Job number) (r.frame + 6) mode (w.under.grants.made + 1) r.frame })) (set_flags r.transfer)))
 
     stepped : step_at job.Map t (answer.Mapped m) ≡ later
-    stepped = rw moving.writes refl
+    stepped = ap (λ (b : Bool). record t { stage = sector_stage b m }) moving.writes
 
-    counted : 13 ≡ flags_with (mappings_of (r.frame + 6) grants.live)
+    begun : (b : Bool) → is_write r.transfer ≡ b → AtWork r later (sector_stage b m)
+    begun true writes = (still_moving, record { gref = refl; mode = refl }, omega arith, writes, λ i lt. absurd (omega arith))
+    begun false reads = (still_moving, record { gref = refl; mode = refl }, reads)
+
+    counted : value ≡ flags_with r.transfer (mappings_of (r.frame + 6) grants.live)
     counted =
         let same : (r.frame + 6 == r.frame + 6) ≡ true = grind (arith, nat_tests) in
         let one : ◌≡◌ {A = ℕ} (cond (r.frame + 6 == r.frame + 6) 1 0) 1 = rw same refl in
         let free = none in
         let all : mappings_of (r.frame + 6) grants.live ≡ 1 = more_mappings (r.frame + 6) w.under.grants.live held ∙ omega arith in
-        sym (ap flags_with all)
+        sym (ap (λ (n : ℕ). flags_with r.transfer n) all)
 
     others : (f : ℕ) → f ≢ r.frame → mappings_of (f + 6) grants.live ≡ mappings_of (f + 6) w.under.grants.live
     others f apart =
@@ -222,14 +226,6 @@ hand_counted config w g d p t t' r h is own none test apart =
         let number = own.number in
         (i, other.1, λ same. differs (same ∙ number))
 
--- the flags once no mapping is left
-cleared : (n : ℕ) → unmapped_entry 13 0 n ≡ 5
-cleared n = by_test (n == 0) refl
-  where
-    by_test : (b : Bool) → (n == 0) ≡ b → unmapped_entry 13 0 n ≡ 5
-    by_test true t = rw t refl
-    by_test false t = rw t refl
-
 -- the job gives its mapping up, and is at its next stage
 pub unmap_holds : (config : Options) (w : World) (g : Flow) (d d' : Pipeline) (p : ℕ) (t t' : Work) (r : Request) (m : Mapping)
     → Holds config w g d w.front.stage w.back.stage
@@ -240,33 +236,39 @@ pub unmap_holds : (config : Options) (w : World) (g : Flow) (d d' : Pipeline) (p
     → IsHand m r
     → mapping_at t'.stage ≡ None
     → t'.number ≡ t.number
-    → StationsWith config w g d' (slice_set w.back.jobs.works p t')
+    → StationsWith config w g d' (slice_set w.back.jobs.works p t') w.under.pages
     → IsWork g.submitted g.fetched t'
     → HasOneMore m (hands_at w.back.stage (record w.back { jobs = record w.back.jobs { works = slice_set w.back.jobs.works p t' } })) (hands_of w.back)
     → (let v : World = record { front = w.front; back = record w.back { jobs = record w.back.jobs { works = slice_set w.back.jobs.works p t' }; told = None }; under = record w.under { pages = unmap_pages w.under.grants w.under.pages m; grants = unmap_table w.under.grants m } } in Holds config v g d' v.front.stage v.back.stage)
 unmap_holds config w g d d' p t t' r m h held is work has hand none number stations now more =
     subst (λ (pages : List ℕ). let v : World = record { front = w.front; back = record w.back { jobs = record w.back.jobs { works = slice_set w.back.jobs.works p t' }; told = None }; under = record w.under { pages = pages; grants = unmap_table w.under.grants m } } in Holds config v g d' v.front.stage v.back.stage) (sym written_so)
     (job_holds config w g d d' p t t' pages (unmap_table w.under.grants m) h is.place number stations now
-    sized (ring_frame_same w (r.frame + 6) 5 (let top = own.high in omega arith)) (ring_entry_same w (r.frame + 6) 5 (let top = own.high in omega arith) (let low = own.low in omega arith)) (data_same w (r.frame + 6) 5 (let top = own.high in omega arith))
-    (marked config w g d t r left 5 h own (sym (ap flags_with gone)) others) fewer)
+    sized (ring_frame_same w (r.frame + 6) value (let top = own.high in omega arith)) (ring_entry_same w (r.frame + 6) value (let top = own.high in omega arith) (let low = own.low in omega arith)) (data_same w (r.frame + 6) value (let top = own.high in omega arith))
+    (marked config w g d t r left value h own (sym (ap (λ (n : ℕ). flags_with r.transfer n) gone)) others) fewer)
   where
     own : IsOwn w g t r
     own = own_at config w g d p t r h is work
 
+    value : ℕ
+    value = grant_flags r.transfer
+
     pages : List ℕ
-    pages = with_entry_word0 w.under.pages (r.frame + 6) 5
+    pages = with_entry_word0 w.under.pages (r.frame + 6) value
 
     left : List Held
     left = without m.number w.under.grants.live
 
     sized : length pages ≡ 1114112
-    sized = length-set w.under.pages ((r.frame + 6) / 512 * 1024 + 2 * ((r.frame + 6) % 512)) 5 ∙ h.memory
+    sized = length-set w.under.pages ((r.frame + 6) / 512 * 1024 + 2 * ((r.frame + 6) % 512)) value ∙ h.memory
 
     fewer : AreMapped left (hands_at w.back.stage (record w.back { jobs = record w.back.jobs { works = slice_set w.back.jobs.works p t' } }))
     fewer = mapped_less w.under.grants (hands_of w.back) (hands_at w.back.stage (record w.back { jobs = record w.back.jobs { works = slice_set w.back.jobs.works p t' } })) m held (live_hand w p t m is.place has held) more h.mapped
 
     gone : mappings_of (r.frame + 6) left ≡ 0
     gone = fewer.counted (λ (x : Mapping). x.gref == r.frame + 6) ∙ hand_counted config w g d p t t' r h is own none (λ (x : Mapping). x.gref == r.frame + 6) (λ x apart. grind (arith, nat_tests))
+
+    none_writes : writers_of (r.frame + 6) left ≡ 0
+    none_writes = fewer.counted (λ (x : Mapping). x.gref == r.frame + 6 && is_for_writing x.mode) ∙ hand_counted config w g d p t t' r h is own none (λ (x : Mapping). x.gref == r.frame + 6 && is_for_writing x.mode) (λ x apart. let differs : (x.gref == r.frame + 6) ≡ false = grind (arith, nat_tests) in rw differs refl)
 
     counts : (f : ℕ) → mappings_of (f + 6) w.under.grants.live ≡ mappings_of (f + 6) left + cond (m.gref == f + 6) 1 0
     counts f =
@@ -295,12 +297,13 @@ unmap_holds config w g d d' p t t' r m h held is work has hand none number stati
     granted : IsGranted g.pushed w.under.pages w.under.grants.live w.front.stage r
     granted = all_at (IsGranted g.pushed w.under.pages w.under.grants.live w.front.stage) w.front.requests own.place r h.entries.each own.at
 
-    flags : entry_word0 w.under.pages (r.frame + 6) ≡ 13
-    flags = granted.flags own.reached ∙ ap flags_with one_mapping
+    flags : entry_word0 w.under.pages (r.frame + 6) ≡ mapped_flags r.transfer
+    flags = granted.flags own.reached ∙ ap (λ (n : ℕ). flags_with r.transfer n) one_mapping
 
     written_so : unmap_pages w.under.grants w.under.pages m ≡ pages
     written_so =
         ap (λ (n : ℕ). with_entry_word0 w.under.pages n (unmapped_entry (entry_word0 w.under.pages n) (mappings_of n left) (writers_of n left))) hand.gref
         ∙ (ap (λ (n : ℕ). with_entry_word0 w.under.pages (r.frame + 6) (unmapped_entry n (mappings_of (r.frame + 6) left) (writers_of (r.frame + 6) left))) flags
-        ∙ (ap (λ (n : ℕ). with_entry_word0 w.under.pages (r.frame + 6) (unmapped_entry 13 n (writers_of (r.frame + 6) left))) gone
-        ∙ ap (λ (n : ℕ). with_entry_word0 w.under.pages (r.frame + 6) n) (cleared (writers_of (r.frame + 6) left))))
+        ∙ (ap (λ (n : ℕ). with_entry_word0 w.under.pages (r.frame + 6) (unmapped_entry (mapped_flags r.transfer) n (writers_of (r.frame + 6) left))) gone
+        ∙ (ap (λ (n : ℕ). with_entry_word0 w.under.pages (r.frame + 6) (unmapped_entry (mapped_flags r.transfer) 0 n)) none_writes
+        ∙ ap (λ (n : ℕ). with_entry_word0 w.under.pages (r.frame + 6) n) (cleared_flags r.transfer))))

@@ -3,6 +3,7 @@ use Rattle.std.proofs.Common.{◌≡◌, ◌≢◌, ℕ, zero, ◌+◌, ◌-◌,
 use Rattle.std.proofs.lemmas.Grind.{get_or-set_at}
 use Rattle.std.specs.Prelude.{Option, Some, None, slice_get, slice_set, slice_index}
 use Rattle.std.proofs.lemmas.Option.{same_Some}
+use Rattle.std.proofs.lemmas.Bool.{false≢true}
 use Rattle.std.proofs.lemmas.List.Elements.{All-contains}
 use Rattle.std.proofs.lemmas.Bool.Decides.{nat_tests}
 use Rattle.blk_base.specs.Options.{Options}
@@ -15,9 +16,11 @@ use Rattle.schedule_text.specs.declared.line.Line.{Line}
 use Rattle.schedule_text.specs.declared.line.Line.TheVariants.{Move}
 use Rattle.xen_pages.specs.Pages.{word_of}
 use Rattle.grant_table.specs.Table.{IsLive, frame_of}
+use Rattle.pipeline_laws.specs.Station.{Request as Asked}
 use Rattle.pipeline_laws.specs.Pipeline.{Pipeline}
 use Rattle.hypervisor.specs.Act.{BackAct, Outcome, back_act}
 use Rattle.blk_front.specs.declared.request.Request.{Request}
+use Rattle.blk_front.specs.Request.{is_write, tag_of, operation_of}
 use Rattle.back_jobs.specs.declared.stage.Stage.{Stage as JobStage}
 use Rattle.back_jobs.specs.declared.stage.Stage.TheVariants as job
 use Rattle.back_jobs.specs.Task.{Work, ask_at, step_at, word_at, IsAnswer}
@@ -31,6 +34,7 @@ use Rattle.split_model.specs.World.{World}
 use Rattle.split_model.specs.Shown.{back_lines}
 use Rattle.split_model.specs.Safe.{AreHeld}
 use Rattle.machine_pipeline.proofs.Flow.{Flow, worked}
+use Rattle.machine_pipeline.proofs.ReadBack.{ReadAt}
 use Rattle.machine_pipeline.proofs.Holds.{Holds, IsWork, IsMoving, AtWork, IsFilled, AreMapped}
 use Rattle.machine_pipeline.proofs.Turns.{GoesBy, nothing, no_move}
 use Rattle.machine_pipeline.proofs.Lists.{all_at, all_same}
@@ -65,7 +69,7 @@ pub record IsAt (w : World) (g : Flow) (d : Pipeline) (p : ℕ) (t : Work) (r : 
   pub positive : 1 ≤ t.number
   pub reached : t.number ≤ g.fetched
   pub id : t.id ≡ t.number
-  pub op : t.op ≡ 1
+  pub op : t.op ≡ operation_of r.transfer
 
 pub work_of : (w : World) (g : Flow) (d d' : Pipeline) (p : ℕ) (t t' : Work) (r : Request) → IsAt w g d p t r → t'.number ≡ t.number → t'.id ≡ t.id → t'.op ≡ t.op → AtWork r t' t'.stage → IsWork g.submitted g.fetched t'
 work_of w g d d' p t t' r is number id op at = record {
@@ -94,19 +98,37 @@ hands_step w p t j x place e =
 pub at_work : (w : World) (g : Flow) (d : Pipeline) (p : ℕ) (t : Work) (r : Request) {j : JobStage} → IsAt w g d p t r → t.stage ≡ j → AtWork r t j → IsWork g.submitted g.fetched t
 at_work w g d p t r is e at = work_of w g d d p t t r is refl refl refl (subst (AtWork r t) (sym e) at)
 
--- the words of a job's request lie in its frame
-filled_at : (config : Options) (w : World) (g : Flow) (d : Pipeline) (p : ℕ) (t : Work) (r : Request) → Holds config w g d w.front.stage w.back.stage → IsAt w g d p t r → IsWork g.submitted g.fetched t → (i : ℕ) → i < 128 → word_of w.under.pages r.frame i ≡ r.tag
-filled_at config w g d p t r h is work =
+-- what a read's job has in hand, and its frame holds
+pub read_was : (config : Options) (w : World) (g : Flow) (d : Pipeline) (p : ℕ) (t : Work) (r : Request) {j : JobStage} → Holds config w g d w.front.stage w.back.stage → IsAt w g d p t r → t.stage ≡ j → (q : Asked) → slice_get d.requests (t.number - 1) ≡ Some q → is_write r.transfer ≡ false → ReadAt w.under.pages r.frame t.words q.words j
+read_was config w g d p t r h is e q was reads = subst (ReadAt w.under.pages r.frame t.words q.words) e (h.stations.reads.working p t r q is.place is.known was reads)
+
+-- the job's request among the front's
+pub record IsOwn (w : World) (g : Flow) (t : Work) (r : Request) : Type 0 where
+  pub place : ℕ
+  pub at : slice_get w.front.requests place ≡ Some r
+  pub number : r.number ≡ t.number
+  pub reached : r.number ≤ g.pushed
+  pub low : 18 ≤ r.frame
+  pub high : r.frame < 1018
+
+pub own_at : (config : Options) (w : World) (g : Flow) (d : Pipeline) (p : ℕ) (t : Work) (r : Request) → Holds config w g d w.front.stage w.back.stage → IsAt w g d p t r → IsWork g.submitted g.fetched t → IsOwn w g t r
+own_at config w g d p t r h is work =
     let same : work.r ≡ r = same_Some work.r r (sym work.known ∙ is.known) in
     let its = work_queued config w g d w.front.stage w.back.stage h p t is.place work in
-    let filled = all_at (IsFilled g.pushed w.under.pages w.front.stage) w.front.requests its.place work.r h.frames its.at in
-    let number = h.submitted.each (t.number - 1) work.r work.known in
+    let number = h.submitted.each (t.number - 1) r is.known in
     let numbered = number.number in
     let positive = is.positive in
     let reached = is.reached in
     let indices = h.indices in
     let pushed = indices.fetched_pushed in
-    subst (λ (x : Request). (i : ℕ) → i < 128 → word_of w.under.pages x.frame i ≡ x.tag) same (filled.whole (omega arith))
+    record { place = its.place; at = its.at ∙ ap Some same; number = omega arith; reached = omega arith; low = number.low; high = number.high }
+
+-- the words of a write lie in its frame
+filled_at : (config : Options) (w : World) (g : Flow) (d : Pipeline) (p : ℕ) (t : Work) (r : Request) → Holds config w g d w.front.stage w.back.stage → IsAt w g d p t r → IsWork g.submitted g.fetched t → is_write r.transfer ≡ true → (i : ℕ) → i < 128 → word_of w.under.pages r.frame i ≡ tag_of r.transfer
+filled_at config w g d p t r h is work writes =
+    let own = own_at config w g d p t r h is work in
+    let filled = all_at (IsFilled g.pushed w.under.pages w.front.stage) w.front.requests own.place r h.frames own.at in
+    filled.whole writes own.reached
 
 -- a word of data is read
 pub read_goes : (config : Options) (w : World) (g : Flow) (d : Pipeline) (number p : ℕ) (t : Work) (r : Request) (m : Mapping) (k : ℕ) (o : Outcome)
@@ -120,7 +142,7 @@ read_goes config w g d number p t r m k o h held is e at = record {
   flow = g;
   step = None;
   does = nothing (CallOf (ask_at (job.ReadWord m k) t) o) _ d (λ a b same. same_Some b a same.1);
-  holds = job_holds config w g d d p t (step_at (job.ReadWord m k) t (answer.Word value)) w.under.pages w.under.grants h is.place refl (stations_stay config w g d p t (step_at (job.ReadWord m k) t (answer.Word value)) h is.place refl (read_station (k == 127)))
+  holds = job_holds config w g d d p t (step_at (job.ReadWord m k) t (answer.Word value)) w.under.pages w.under.grants h is.place refl (stations_stay config w g d p t (step_at (job.ReadWord m k) t (answer.Word value)) r w.under.pages h.stations is.place is.known refl (read_station (k == 127)) (λ q was reads. absurd (false≢true (sym reads ∙ at.3))))
       (work_of w g d d p t (step_at (job.ReadWord m k) t (answer.Word value)) r is refl refl refl (by_test (k == 127) refl))
       h.memory (λ v lt. refl) (record { flags = refl; frame = refl }) (λ f low high v lt. refl) h.entries
       (subst (AreMapped w.under.grants.live) (sym (hands_step w p t (job.ReadWord m k) (answer.Word value) is.place e tt)) h.mapped);
@@ -129,21 +151,21 @@ read_goes config w g d number p t r m k o h held is e at = record {
     value : ℕ
     value = word_of w.under.pages (frame_of w.under.grants m) (word_at t k)
 
-    is_tag : value ≡ r.tag
+    is_tag : value ≡ tag_of r.transfer
     is_tag =
         let moving = at.0 in
         let frame : frame_of w.under.grants m ≡ r.frame = (let hand = at.1 in frame_live w.under.grants m r.frame (live_hand w p t m is.place (rw e refl) held) h.mapped.framed hand.gref) in
         let word : word_at t k ≡ k = (let within = moving.within in omega arith) in
-        let filled = filled_at config w g d p t r h is (at_work w g d p t r is e at) in
+        let filled = filled_at config w g d p t r h is (at_work w g d p t r is e at) at.3 in
         ap (λ (f : ℕ). word_of w.under.pages f (word_at t k)) frame ∙ (ap (λ (i : ℕ). word_of w.under.pages r.frame i) word ∙ filled k at.2)
 
     words : List ℕ
     words = slice_set t.words k value
 
-    tags : (i : ℕ) → i < k + 1 → slice_index words i ≡ r.tag
+    tags : (i : ℕ) → i < k + 1 → slice_index words i ≡ tag_of r.transfer
     tags i lt = by_place (i == k) refl
       where
-        by_place : (b : Bool) → (i == k) ≡ b → slice_index words i ≡ r.tag
+        by_place : (b : Bool) → (i == k) ≡ b → slice_index words i ≡ tag_of r.transfer
         by_place true same =
             let it : i ≡ k = grind (arith, nat_tests) in
             let moving = at.0 in
@@ -151,14 +173,14 @@ read_goes config w g d number p t r m k o h held is e at = record {
             get_or-set_at t.words k i value 0 (omega (arith, at.2)) (omega arith) ∙ is_tag
         by_place false same =
             let apart : i ≢ k = grind (arith, nat_tests) in
-            get_or-set_other t.words k i value 0 (omega arith) ∙ at.3 i (omega arith)
+            get_or-set_other t.words k i value 0 (omega arith) ∙ at.4 i (omega arith)
 
     moved : IsMoving (step_at (job.ReadWord m k) t (answer.Word value)) r
     moved = let was = at.0 in record { writes = was.writes; within = was.within; rest = was.rest; moved = was.moved; disk = was.disk; words = length-set t.words k value ∙ was.words }
 
     by_test : (b : Bool) → (k == 127) ≡ b → AtWork r (step_at (job.ReadWord m k) t (answer.Word value)) (if b then job.DiskWrite m else job.ReadWord m (k + 1))
-    by_test true last = (moved, at.1, (let long = moved.words in all_same 128 words r.tag long (λ i lt. tags i (let top : k ≡ 127 = grind (arith, nat_tests) in omega arith))))
-    by_test false last = (moved, at.1, (let apart : k ≢ 127 = grind (arith, nat_tests) in omega (arith, at.2)), tags)
+    by_test true last = (moved, at.1, at.3, (let long = moved.words in all_same 128 words (tag_of r.transfer) long (λ i lt. tags i (let top : k ≡ 127 = grind (arith, nat_tests) in omega arith))))
+    by_test false last = (moved, at.1, (let apart : k ≢ 127 = grind (arith, nat_tests) in omega (arith, at.2)), at.3, tags)
 
     read_station : (b : Bool) → worked (if b then job.DiskWrite m else job.ReadWord m (k + 1)) ≡ worked t.stage
     read_station true = rw e refl

@@ -1,5 +1,5 @@
 -- Whatever move a job makes, all that holds goes on holding.
-use Rattle.std.proofs.Common.{◌≡◌, ℕ, ◌-◌, ◌==◌, List, [], refl, sym, subst}
+use Rattle.std.proofs.Common.{◌≡◌, ℕ, ◌==◌, List, [], refl, sym, subst}
 use Rattle.std.specs.Prelude.{Option, Some, None, slice_get, slice_set}
 use Rattle.std.proofs.lemmas.Option.{same_Some}
 use Rattle.blk_base.specs.Options.{Options}
@@ -23,6 +23,7 @@ use Rattle.blk_back.specs.Hands.{hands_of, hands_at}
 use Rattle.blk_back.specs.Step.{job_ask_of}
 use Rattle.split_model.specs.World.{World}
 use Rattle.split_model.specs.Safe.{AreHeld}
+use Rattle.hypervisor.specs.Act.{IsGiven}
 use Rattle.split_model.specs.Happening.{job_after, job_shows}
 use Rattle.machine_pipeline.proofs.Flow.{Flow}
 use Rattle.machine_pipeline.proofs.Holds.{Holds, AtWork, IsWork}
@@ -31,7 +32,8 @@ use Rattle.machine_pipeline.proofs.Lists.{all_at, found_at}
 use Rattle.machine_pipeline.proofs.JobMoves.{IsAt, JobGoesAt, act_at, job_says, job_next, stays, work_of, at_work, hands_step, read_goes}
 use Rattle.machine_pipeline.proofs.Jobs.{StationsWith}
 use Rattle.machine_pipeline.proofs.JobSteps.{ends_well, ends_badly}
-use Rattle.machine_pipeline.proofs.JobDisk.{disk_goes}
+use Rattle.machine_pipeline.proofs.JobDisk.{disk_goes, disk_gives}
+use Rattle.machine_pipeline.proofs.JobWrites.{write_goes}
 use Rattle.machine_pipeline.proofs.JobMaps.{map_goes, unmap_holds}
 use Rattle.machine_pipeline.specs.Step.{CallOf}
 
@@ -57,8 +59,8 @@ unmap_goes config w g d number p t r m o h held is e at = subst (λ (x : Work). 
     stepped : step_at (job.Unmap m) t answer.Done ≡ later
     stepped = rw at.0 refl
 
-    s : Stepped None (CallOf (ask_at (job.Unmap m) t) o) d [] (λ x. StationsWith config w g x (slice_set w.back.jobs.works p later))
-    s = ends_well o config w g d p t later r m h is e refl refl
+    s : Stepped None (CallOf (ask_at (job.Unmap m) t) o) d [] (λ x. StationsWith config w g x (slice_set w.back.jobs.works p later) w.under.pages)
+    s = ends_well o config w g d p t r m [] h is e
 
 give_up_goes : (config : Options) (w : World) (g : Flow) (d : Pipeline) (number p : ℕ) (t : Work) (r : Request) (m : Mapping) (o : Outcome)
     → Holds config w g d w.front.stage w.back.stage
@@ -79,8 +81,8 @@ give_up_goes config w g d number p t r m o h held is e at = record {
     later : Work
     later = record t { stage = job.Done Error }
 
-    s : Stepped None (CallOf (ask_at (job.GiveUp m) t) o) d [] (λ x. StationsWith config w g x (slice_set w.back.jobs.works p later))
-    s = ends_badly o config w g d p t later r m h is e refl refl
+    s : Stepped None (CallOf (ask_at (job.GiveUp m) t) o) d [] (λ x. StationsWith config w g x (slice_set w.back.jobs.works p later) w.under.pages)
+    s = ends_badly o config w g d p t r m h is e
 
 by_stage : (config : Options) (w : World) (g : Flow) (d : Pipeline) (number p : ℕ) (t : Work) (r : Request) (o : Outcome) (j : JobStage)
     → Holds config w g d w.front.stage w.back.stage
@@ -88,15 +90,16 @@ by_stage : (config : Options) (w : World) (g : Flow) (d : Pipeline) (number p : 
     → IsAt w g d p t r
     → t.stage ≡ j
     → AtWork r t j
+    → IsGiven o
     → JobGoesAt config w d number p t j o
-by_stage config w g d number p t r o job.Map h held is e at = map_goes config w g d number p t r o h is e at
-by_stage config w g d number p t r o (job.ReadWord m k) h held is e at = read_goes config w g d number p t r m k o h held is e at
-by_stage config w g d number p t r o (job.DiskWrite m) h held is e at = disk_goes config w g d number p t r m o h is e at
-by_stage config w g d number p t r o (job.DiskRead m) h held is e at = absurd at
-by_stage config w g d number p t r o (job.WriteWord m k) h held is e at = absurd at
-by_stage config w g d number p t r o (job.Unmap m) h held is e at = unmap_goes config w g d number p t r m o h held is e at
-by_stage config w g d number p t r o (job.GiveUp m) h held is e at = give_up_goes config w g d number p t r m o h held is e at
-by_stage config w g d number p t r o (job.Done status) h held is e at = stays (CallOf (ask_at (job.Done status) t) o) config w g d (λ a b call. same_Some b a call.1) h
+by_stage config w g d number p t r o job.Map h held is e at given = map_goes config w g d number p t r o h is e at
+by_stage config w g d number p t r o (job.ReadWord m k) h held is e at given = read_goes config w g d number p t r m k o h held is e at
+by_stage config w g d number p t r o (job.DiskWrite m) h held is e at given = disk_goes config w g d number p t r m o h is e at
+by_stage config w g d number p t r o (job.DiskRead m) h held is e at given = disk_gives config w g d number p t r m o h is e at given
+by_stage config w g d number p t r o (job.WriteWord m k) h held is e at given = write_goes config w g d number p t r m k o h held is e at
+by_stage config w g d number p t r o (job.Unmap m) h held is e at given = unmap_goes config w g d number p t r m o h held is e at
+by_stage config w g d number p t r o (job.GiveUp m) h held is e at given = give_up_goes config w g d number p t r m o h held is e at
+by_stage config w g d number p t r o (job.Done status) h held is e at given = stays (CallOf (ask_at (job.Done status) t) o) config w g d (λ a b call. same_Some b a call.1) h
 
 -- the move of the job at a place is that of its number
 at_place : (config : Options) (w : World) (d : Pipeline) (number p : ℕ) (t : Work) (o : Outcome)
@@ -128,8 +131,9 @@ no_place config w g d number o h place =
 pub job_kept : (config : Options) (w : World) (g : Flow) (d : Pipeline) (number : ℕ) (o : Outcome)
     → Holds config w g d w.front.stage w.back.stage
     → AreHeld w.under.grants (hands_of w.back)
+    → IsGiven o
     → JobGoes config w d number o
-job_kept config w g d number o h held = by_place (place_of w.back.jobs.works number) refl
+job_kept config w g d number o h held given = by_place (place_of w.back.jobs.works number) refl
   where
     by_place : (place : Option ℕ) → place_of w.back.jobs.works number ≡ place → JobGoes config w d number o
     by_place None e = no_place config w g d number o h e
@@ -137,4 +141,4 @@ job_kept config w g d number o h held = by_place (place_of w.back.jobs.works num
         let found = found_at (λ (t : Work). t.number == number) w.back.jobs.works p e in
         let work = all_at (IsWork g.submitted g.fetched) w.back.jobs.works p found.0 h.works.each found.1 in
         at_place config w d number p found.0 o h.unhalted e found.1
-        (by_stage config w g d number p found.0 work.r o (let t : Work = found.0 in t.stage) h held (record { place = found.1; known = work.known; positive = work.positive; reached = work.reached; id = work.id; op = work.op }) refl work.at)
+        (by_stage config w g d number p found.0 work.r o (let t : Work = found.0 in t.stage) h held (record { place = found.1; known = work.known; positive = work.positive; reached = work.reached; id = work.id; op = work.op }) refl work.at given)

@@ -1,15 +1,14 @@
 -- What a move of a job leaves of all that holds, by what it changes.
-use Rattle.std.proofs.Common.{◌≡◌, ◌≢◌, ℕ, ◌-◌, ◌<◌, ◌≤◌, ◌⊎◌, inl, inr, not, Bool, true, false, List, length, refl, ap, sym, ◌∙◌, subst, arith, length-set}
-use Rattle.std.specs.Prelude.{All, AllPairs, Option, Some, None, slice_get, slice_set, count_by, nat_lt}
-use Rattle.std.proofs.lemmas.Option.{none-some, same_Some}
+use Rattle.std.proofs.Common.{◌≡◌, ◌≢◌, ℕ, ◌-◌, ◌<◌, ◌≤◌, ◌⊎◌, inl, inr, Bool, true, false, List, length, refl, ap, sym, ◌∙◌, subst, arith, length-set}
+use Rattle.std.specs.Prelude.{All, AllPairs, Some, None, slice_get, slice_set, nat_lt}
+use Rattle.std.proofs.lemmas.Option.{same_Some}
 use Rattle.std.proofs.lemmas.Bool.Decides.{nat_tests}
 use Rattle.blk_base.specs.Options.{Options}
 use Rattle.grant_table.specs.Table.{GrantTable}
+use Rattle.pipeline_laws.specs.Station.{Request as Asked}
 use Rattle.pipeline_laws.specs.Pipeline.{Pipeline}
-use Rattle.blk_base.specs.declared.operation.Status.{Status}
-use Rattle.blk_front.specs.View.{next_request}
+use Rattle.blk_front.specs.Request.{is_write}
 use Rattle.blk_front.specs.declared.request.Request.{Request}
-use Rattle.blk_front.specs.declared.stage.Ending.{Ending}
 use Rattle.back_jobs.specs.Task.{Work}
 use Rattle.blk_back.specs.declared.stage.Reply.{Reply}
 use Rattle.blk_back.specs.declared.stage.Stage.{Stage as BackStage}
@@ -17,13 +16,15 @@ use Rattle.blk_back.specs.declared.stage.Stage.TheVariants as back
 use Rattle.blk_back.specs.Hands.{hands_at}
 use Rattle.split_model.specs.World.{World}
 use Rattle.blk_front.specs.Submit.{is_connected}
-use Rattle.machine_pipeline.proofs.Flow.{Flow, ending_at, reply_at, is_issuing, is_fetching, worked}
+use Rattle.machine_pipeline.proofs.Flow.{Flow, ending_at, reply_at, is_issuing, is_fetching, worked, is_telling}
 use Rattle.machine_pipeline.proofs.Stations.{AreStations}
 use Rattle.machine_pipeline.proofs.StationsBack.{job_stays}
-use Rattle.machine_pipeline.proofs.Holds.{Holds, BackAt, IsWork, AreWorks, AreEntries, AreMapped}
+use Rattle.machine_pipeline.proofs.Holds.{Holds, BackAt, IsWork, AreWorks, IsFilled, AreDataWords, AreEntries, AreMapped}
 use Rattle.machine_pipeline.proofs.Lists.{all_at, all_from, pair_at, pairs_from, set_was}
 use Rattle.machine_pipeline.proofs.Frames.{is_submitted, few_words, filled_few, entered_few}
-use Rattle.machine_pipeline.proofs.Kept.{SameFrame, SameEntry, ring_kept, slots_kept, frames_kept, front_sleep_kept, back_sleep_kept}
+use Rattle.machine_pipeline.proofs.Kept.{SameFrame, SameEntry, ring_kept, slots_kept, frames_kept, data_kept, front_sleep_kept, back_sleep_kept}
+use Rattle.machine_pipeline.proofs.ReadBack.{ReadAt}
+use Rattle.machine_pipeline.proofs.ReadsKept.{stations_elsewhere}
 
 -- the numbers of jobs stay in order
 number_was : (works : List Work) (p i : ℕ) (t t' x : Work) → slice_get works p ≡ Some t → t'.number ≡ t.number → slice_get (slice_set works p t') i ≡ Some x → (y : Work) × (slice_get works i ≡ Some y) × (x.number ≡ y.number)
@@ -81,34 +82,42 @@ alone_after works p t t' id here same alone = all_from (λ (x : Work). x.number 
     λ it. apart (sym was.2 ∙ it))
 
 -- the stations with these jobs
-abbrev pub StationsWith : Options → World → Flow → Pipeline → List Work → Type 0
-StationsWith config w g d works = AreStations config g d (is_connected w.front.stage) (is_issuing w.front.stage) (is_fetching w.back.stage) (ending_at w.front.stage) (reply_at w.back.stage) w.front.requests works
+abbrev pub StationsWith : Options → World → Flow → Pipeline → List Work → List ℕ → Type 0
+StationsWith config w g d works pages = AreStations config g d (is_connected w.front.stage) (is_issuing w.front.stage) (is_fetching w.back.stage) (ending_at w.front.stage) (is_telling w.front.stage) (reply_at w.back.stage) w.front.requests works pages
 
--- they stay where the job's stage is another of the same station
-pub stations_stay : (config : Options) (w : World) (g : Flow) (d : Pipeline) (p : ℕ) (t t' : Work)
-    → Holds config w g d w.front.stage w.back.stage
+-- they stay where the job's stage is another of the same station, and a read's job has what its stage says
+pub stations_stay : (config : Options) (w : World) (g : Flow) (d : Pipeline) (p : ℕ) (t t' : Work) (r : Request) (pages : List ℕ)
+    → StationsWith config w g d w.back.jobs.works pages
     → slice_get w.back.jobs.works p ≡ Some t
+    → slice_get g.submitted (t.number - 1) ≡ Some r
     → t'.number ≡ t.number
     → worked t'.stage ≡ worked t.stage
-    → StationsWith config w g d (slice_set w.back.jobs.works p t')
-stations_stay config w g d p t t' h here number same =
-    job_stays config g d (is_connected w.front.stage) (is_issuing w.front.stage) (is_fetching w.back.stage) (ending_at w.front.stage) (reply_at w.back.stage) w.front.requests w.back.jobs.works p t t' here number same h.stations
+    → ((q : Asked) → slice_get d.requests (t.number - 1) ≡ Some q → is_write r.transfer ≡ false → ReadAt pages r.frame t'.words q.words t'.stage)
+    → StationsWith config w g d (slice_set w.back.jobs.works p t') pages
+stations_stay config w g d p t t' r pages h here known number same now =
+    job_stays config g d (is_connected w.front.stage) (is_issuing w.front.stage) (is_fetching w.back.stage) (ending_at w.front.stage) (is_telling w.front.stage) (reply_at w.back.stage) w.front.requests w.back.jobs.works pages p t t' here number same
+    (λ x q its at reads.
+    let one : r ≡ x = same_Some r x (sym known ∙ (ap (λ (n : ℕ). slice_get g.submitted (n - 1)) (sym number) ∙ its)) in
+    let was : slice_get d.requests (t.number - 1) ≡ Some q = ap (λ (n : ℕ). slice_get d.requests (n - 1)) (sym number) ∙ at in
+    subst (λ (y : Request). is_write y.transfer ≡ false → ReadAt pages y.frame t'.words q.words t'.stage) one (now q was) reads)
+    h
 
 -- all of it: the job at place p is this now, the pipeline and memory are these
-pub job_holds : (config : Options) (w : World) (g : Flow) (d d' : Pipeline) (p : ℕ) (t t' : Work) (pages' : List ℕ) (grants' : GrantTable)
+pub job_makes : (config : Options) (w : World) (g : Flow) (d d' : Pipeline) (p : ℕ) (t t' : Work) (pages' : List ℕ) (grants' : GrantTable)
     → Holds config w g d w.front.stage w.back.stage
     → slice_get w.back.jobs.works p ≡ Some t
     → t'.number ≡ t.number
-    → StationsWith config w g d' (slice_set w.back.jobs.works p t')
+    → StationsWith config w g d' (slice_set w.back.jobs.works p t') pages'
     → IsWork g.submitted g.fetched t'
     → length pages' ≡ 1114112
     → SameFrame w.under.pages pages' 2
     → SameEntry w.under.pages pages' 8
-    → ((f : ℕ) → 18 ≤ f → f < 1018 → SameFrame w.under.pages pages' f)
+    → All (IsFilled g.pushed pages' w.front.stage) w.front.requests
+    → AreDataWords pages' w.front.words w.front.stage
     → AreEntries g.pushed pages' grants'.live w.front.stage w.front.requests
     → AreMapped grants'.live (hands_at w.back.stage (record w.back { jobs = record w.back.jobs { works = slice_set w.back.jobs.works p t' } }))
     → (let v : World = record { front = w.front; back = record w.back { jobs = record w.back.jobs { works = slice_set w.back.jobs.works p t' }; told = None }; under = record w.under { pages = pages'; grants = grants' } } in Holds config v g d' v.front.stage v.back.stage)
-job_holds config w g d d' p t t' pages' grants' h here number stations now sized ring entry frames entries mapped = record {
+job_makes config w g d d' p t t' pages' grants' h here number stations now sized ring entry frames told entries mapped = record {
   started = h.started;
   sized = h.sized;
   indices = h.indices;
@@ -127,7 +136,8 @@ job_holds config w g d d' p t t' pages' grants' h here number stations now sized
   memory = sized;
   ring = ring_kept g.start g.pushed g.replied w.under.pages pages' w.front.stage w.back.stage (λ v lt. ring v (omega arith)) (few_words _ _ _ _ _ _ _ _ w.front.stage h.front_at) entry h.ring;
   slots = slots_kept g.start g.fetched g.pushed g.taken g.replied g.submitted g.replies w.under.pages pages' w.front.stage w.back.stage (λ v from to. ring v to) (entered_few _ _ _ _ _ _ _ _ w.front.stage h.front_at) h.slots;
-  frames = frames_kept g.pushed w.under.pages pages' w.front.stage w.front.requests (filled_few _ _ _ _ _ _ _ _ w.front.stage h.front_at) (all_from (λ (r : Request). SameFrame w.under.pages pages' r.frame) w.front.requests (λ i r e. let is = is_submitted config w g d w.front.stage w.back.stage h i r e in frames r.frame is.low is.high)) h.frames;
+  frames = frames;
+  telling = told;
   entries = entries;
   mapped = mapped;
   page = h.page;
@@ -135,3 +145,24 @@ job_holds config w g d d' p t t' pages' grants' h here number stations now sized
   back_sleep = back_sleep_kept g.start g.fetched g.pushed w.under.pages pages' w.back.asleep w.under.channels.back_pending w.front.stage w.back.stage (ring 1 (omega arith)) h.back_sleep;
   ports = h.ports;
 }
+
+-- where memory changes in no frame of the pool
+pub job_holds : (config : Options) (w : World) (g : Flow) (d d' : Pipeline) (p : ℕ) (t t' : Work) (pages' : List ℕ) (grants' : GrantTable)
+    → Holds config w g d w.front.stage w.back.stage
+    → slice_get w.back.jobs.works p ≡ Some t
+    → t'.number ≡ t.number
+    → StationsWith config w g d' (slice_set w.back.jobs.works p t') w.under.pages
+    → IsWork g.submitted g.fetched t'
+    → length pages' ≡ 1114112
+    → SameFrame w.under.pages pages' 2
+    → SameEntry w.under.pages pages' 8
+    → ((f : ℕ) → 18 ≤ f → f < 1018 → SameFrame w.under.pages pages' f)
+    → AreEntries g.pushed pages' grants'.live w.front.stage w.front.requests
+    → AreMapped grants'.live (hands_at w.back.stage (record w.back { jobs = record w.back.jobs { works = slice_set w.back.jobs.works p t' } }))
+    → (let v : World = record { front = w.front; back = record w.back { jobs = record w.back.jobs { works = slice_set w.back.jobs.works p t' }; told = None }; under = record w.under { pages = pages'; grants = grants' } } in Holds config v g d' v.front.stage v.back.stage)
+job_holds config w g d d' p t t' pages' grants' h here number stations now sized ring entry frames entries mapped =
+    job_makes config w g d d' p t t' pages' grants' h here number
+    (stations_elsewhere config g d' (is_connected w.front.stage) (is_issuing w.front.stage) (is_fetching w.back.stage) (ending_at w.front.stage) (is_telling w.front.stage) (reply_at w.back.stage) w.front.requests (slice_set w.back.jobs.works p t') w.under.pages pages' w.front.sectors w.front.last h.submitted frames stations)
+    now sized ring entry
+    (frames_kept g.pushed w.under.pages pages' w.front.stage w.front.requests (filled_few _ _ _ _ _ _ _ _ w.front.stage h.front_at) (all_from (λ (r : Request). SameFrame w.under.pages pages' r.frame) w.front.requests (λ i r e. let is = is_submitted config w g d w.front.stage w.back.stage h i r e in frames r.frame is.low is.high)) h.frames)
+    (data_kept w.under.pages pages' w.front.words w.front.stage frames h.telling) entries mapped

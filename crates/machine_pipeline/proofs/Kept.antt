@@ -13,8 +13,8 @@ use Rattle.blk_front.specs.View.{slot_word}
 use Rattle.blk_back.specs.declared.stage.Reply.{Reply}
 use Rattle.blk_back.specs.declared.stage.Stage.{Stage as BackStage}
 use Rattle.blk_back.specs.declared.stage.Stage.TheVariants as back
-use Rattle.machine_pipeline.proofs.Flow.{wrapped, ending_at, filled, entered, responded}
-use Rattle.machine_pipeline.proofs.Holds.{RingBegun, AreRingWords, AreSlots, IsFilled, AreEntries, IsFrontSleep, IsBackSleep}
+use Rattle.machine_pipeline.proofs.Flow.{wrapped, revoking_at, filled, entered, responded}
+use Rattle.machine_pipeline.proofs.Holds.{RingBegun, AreRingWords, AreSlots, IsFilled, IsReadSoFar, AreDataWords, AreEntries, IsFrontSleep, IsBackSleep}
 
 -- each word of a frame is as it was
 abbrev pub SameFrame : (old new : List ℕ) → ℕ → Type 0
@@ -115,13 +115,21 @@ frames_kept pushed old new s requests few same h k d lt =
     let here = same k d lt in
     let was = h k d lt in
     record {
-      whole = λ le i l. here i (omega arith) ∙ was.whole le i l;
-      begun = λ e i l. here i (omega arith) ∙ was.begun e i l;
+      whole = λ way le i l. here i (omega arith) ∙ was.whole way le i l;
+      begun = λ way e i l. here i (omega arith) ∙ was.begun way e i l;
     }
+
+-- the words of data that are told are as they were
+pub data_kept : (old new words : List ℕ) (s : FrontStage) → ((f : ℕ) → 18 ≤ f → f < 1018 → SameFrame old new f) → AreDataWords old words s → AreDataWords new words s
+data_kept old new words s same h = record { size = h.size; so_far = by_stage s h.so_far }
+  where
+    by_stage : (t : FrontStage) → IsReadSoFar old words t → IsReadSoFar new words t
+    by_stage (front.ReadData e k) x = (x.0, x.1, λ i lt few. x.2 i lt few ∙ sym (same e.frame x.0 x.1 i (omega arith)))
+    by_stage t x = tt
 
 pub entries_kept : (pushed : ℕ) (old new : List ℕ) (live : List Held) (s : FrontStage) (requests : List Request)
     → All (λ (r : Request). SameEntry old new (r.frame + 6)) requests
-    → ((e : Ending) → ending_at s ≡ Some e → SameEntry old new (e.frame + 6))
+    → ((e : Ending) → revoking_at s ≡ Some e → SameEntry old new (e.frame + 6))
     → AreEntries pushed old live s requests
     → AreEntries pushed new live s requests
 entries_kept pushed old new live s requests same ending h = record {

@@ -1,6 +1,6 @@
 -- Whatever happens, a connected front stays connected; and twenty moves connect one that isn't.
 use Rattle.std.proofs.Common.{◌≡◌, ◌≢◌, ℕ, zero, suc, ◌+◌, ◌-◌, ◌*◌, ◌^◌, ◌<◌, ◌≤◌, ◌==◌, if◌then◌else◌, Bool, true, false, List, [], ◌∷◌, refl, sym, subst, arith, true≢false}
-use Rattle.std.specs.Prelude.{Option, Some, None, Result, Ok, Err, nat_lt, replicate}
+use Rattle.std.specs.Prelude.{Option, Some, None, Result, Ok, Err, nat_lt, replicate, slice_set}
 use Rattle.std.proofs.lemmas.Bool.Decides.{nat_tests}
 use Rattle.blk_base.specs.Distance.{distance_of}
 use Rattle.blk_base.specs.Options.{Options}
@@ -13,8 +13,14 @@ use Rattle.hypervisor.specs.Act.{FrontAct, BackAct, Took}
 use Rattle.blk_front.specs.declared.stage.Stage.{Stage}
 use Rattle.blk_front.specs.declared.stage.Stage.TheVariants as front
 use Rattle.blk_front.specs.declared.request.Request.{Request}
+use Rattle.blk_front.specs.declared.request.Transfer.{Transfer}
+use Rattle.blk_front.specs.declared.request.Transfer.TheVariants as transfer
+use Rattle.blk_front.specs.declared.stage.Ending.{Ending}
+use Rattle.blk_front.specs.declared.told.Told.TheVariants as told
+use Rattle.blk_front.specs.Request.{has_data}
+use Rattle.blk_front.specs.Pool.{with_free}
 use Rattle.blk_front.specs.View.{View, next_request}
-use Rattle.blk_front.specs.Step.{at, broken, looked, loop_step, issued, response_at, is_mapped, ended, step_at}
+use Rattle.blk_front.specs.Step.{at, broken, looked, issue_stage, loop_step, issued, response_at, is_mapped, ended, data_step, step_at}
 use Rattle.blk_front.specs.Submit.{is_connected}
 use Rattle.split_model.specs.World.{World, start_of}
 use Rattle.split_model.specs.Happening.{Happening, FrontMoves, BackMoves, JobMoves, Submits, Notifies, Looks, Settles, happens, after, back_turn, job_turn, back_after, job_after}
@@ -75,8 +81,12 @@ looked_on v word otherwise p =
     either (nat_lt (distance_of v.ring.cons v.ring.prod) (distance_of v.ring.cons word)) (broken word v) (if word == v.ring.cons then otherwise else record v { seen = word; stage = front.Loop }) refl
     (either (word == v.ring.cons) otherwise (record v { seen = word; stage = front.Loop }) p refl)
 
+issue_on : (v : View) (r : Request) (way : Transfer) → IsOn (at (issue_stage r way) v)
+issue_on v r transfer.Read = refl
+issue_on v r (transfer.Write tag) = refl
+
 loop_on : (v : View) (r : Option Request) (x : FrontAnswer) → IsOn v → IsOn (loop_step v r x)
-loop_on v (Some r) x p = refl
+loop_on v (Some r) x p = issue_on v r r.transfer
 loop_on v None (answer.Word word) p =
     either (responses_of v.ring v.seen == 0) (looked v word (record v { seen = word; stage = front.StoreEvent })) (at (front.ResponseHigh word) v)
     (looked_on v word (record v { seen = word; stage = front.StoreEvent }) refl) refl
@@ -87,6 +97,16 @@ response_on : (v : View) (response : Result Response ℕ) (low : ℕ) (found : O
 response_on v response low None = refl
 response_on v (Err word) low (Some found) = refl
 response_on v (Ok response) low (Some found) = refl
+
+ended_on : (v : View) (e : Ending) → IsOn (ended v e)
+ended_on v e = either (has_data e.transfer e.status)
+    (record v { stage = front.ReadData e 0; told = Some (told.Answer e.number e.status) })
+    (record v { stage = front.Loop; pool = with_free v.pool e.frame; told = Some (told.Answer e.number e.status) }) refl refl
+
+data_on : (v : View) (e : Ending) (k word : ℕ) → IsOn (data_step v e k word)
+data_on v e k word = either (k == 127)
+    (record v { words = slice_set v.words k word; stage = front.Loop; pool = with_free v.pool e.frame; told = Some (told.Sector e.number 0 (slice_set v.words k word)) })
+    (record v { words = slice_set v.words k word; stage = front.ReadData e (k + 1) }) refl refl
 
 -- a connected front stays so, whatever it is told
 step_on : (s : Stage) (v : View) (x : FrontAnswer) → IsOn v → is_connected s ≡ true → IsOn (step_at s v x)
@@ -108,7 +128,8 @@ step_on front.Send v x p e = refl
 step_on (front.ResponseHigh low) v (answer.Word high) p e = refl
 step_on (front.ResponseLast low high) v (answer.Word last) p e = response_on v (response_of (low ∷ high ∷ last ∷ [])) low (issued v (low + high * 2 ^ 32))
 step_on (front.GrantRead e) v (answer.Word word) p f = either (is_mapped word) (broken word v) (at (front.GrantEnd e word) v) refl refl
-step_on (front.GrantEnd e before) v (answer.Word word) p f = either (word == before) (ended v e) (broken word v) refl refl
+step_on (front.GrantEnd e before) v (answer.Word word) p f = either (word == before) (ended v e) (broken word v) (ended_on v e) refl
+step_on (front.ReadData e k) v (answer.Word word) p f = data_on v e k word
 step_on front.StoreEvent v x p e = refl
 step_on front.EventFence v x p e = refl
 step_on front.LookAgain v (answer.Word word) p e = looked_on v word (record v { seen = word; stage = front.Loop; asleep = true }) refl

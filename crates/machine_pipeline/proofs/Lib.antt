@@ -1,5 +1,6 @@
 pub mod Lists
 pub mod Flow
+pub mod ReadBack
 pub mod Stations
 pub mod Holds
 pub mod Indices
@@ -10,6 +11,7 @@ pub mod Wrapped
 pub mod Removals
 pub mod Growing
 pub mod Taking
+pub mod ReadsKept
 pub mod StationsFront
 pub mod StationsBack
 pub mod Hands
@@ -33,6 +35,7 @@ pub mod Jobs
 pub mod JobMoves
 pub mod JobSteps
 pub mod JobDisk
+pub mod JobWrites
 pub mod JobGrants
 pub mod JobMaps
 pub mod JobTurns
@@ -46,6 +49,7 @@ pub mod Next
 pub mod Issuing
 pub mod Filling
 pub mod Granting
+pub mod Beginning
 pub mod Entering
 pub mod Pushing
 pub mod Producing
@@ -55,6 +59,7 @@ pub mod Submitting
 pub mod Submissions
 pub mod Ending
 pub mod Ended
+pub mod Telling
 pub mod Starting
 pub mod StartingMoves
 pub mod StartingHolds
@@ -64,3 +69,4 @@ pub mod Together
 pub mod KindsFront
 pub mod KindsEvents
 pub mod Runs
+pub mod Begun

@@ -130,6 +130,16 @@ all_same (suc n) (y ∷ xs) x long each =
     let rest : xs ≡ replicate n x = all_same n xs x (omega arith) (λ i lt. each (suc i) (omega arith)) in
     rw (here, rest) refl
 
+-- two lists of numbers as long as each other, with the same numbers, are one
+pub same_words : (xs ys : List ℕ) → length xs ≡ length ys → ((i : ℕ) → i < length xs → slice_index xs i ≡ slice_index ys i) → xs ≡ ys
+same_words [] [] long same = refl
+same_words [] (y ∷ ys) long same = absurd (omega (arith, long))
+same_words (x ∷ xs) [] long same = absurd (omega (arith, long))
+same_words (x ∷ xs) (y ∷ ys) long same =
+    let first : x ≡ y = same 0 (omega arith) in
+    let rest : xs ≡ ys = same_words xs ys (omega (arith, long)) (λ i lt. same (suc i) (omega arith)) in
+    rw (first, rest) refl
+
 pub get_within : {X : Type 0} (xs : List X) (i : ℕ) → i < length xs → (x : X) × (slice_get xs i ≡ Some x)
 get_within [] i lt = absurd (omega arith)
 get_within (x ∷ xs) zero lt = (x, refl)

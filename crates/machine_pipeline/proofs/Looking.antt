@@ -1,6 +1,6 @@
 -- The front looks for responses: at the producer, and again before it sleeps.
 use Rattle.std.proofs.Common.{◌≡◌, ◌≢◌, ℕ, ◌+◌, ◌*◌, ◌<◌, ◌≤◌, ◌==◌, inl, if◌then◌else◌, Bool, true, false, List, ◌∷◌, length, refl, sym, ◌∙◌, subst, arith, true≢false, length-set}
-use Rattle.std.specs.Prelude.{Option, Some, None, nat_lt}
+use Rattle.std.specs.Prelude.{None, nat_lt}
 use Rattle.std.proofs.lemmas.Bool.Decides.{nat_tests}
 use Rattle.blk_base.specs.Options.{Options}
 use Rattle.blk_base.specs.Distance.{distance_of}
@@ -12,7 +12,6 @@ use Rattle.hypervisor.specs.Hypervisor.{Hypervisor}
 use Rattle.pipeline_laws.specs.Pipeline.{Pipeline}
 use Rattle.ring_words.specs.Ring.{next_of}
 use Rattle.xen_pages.specs.Pages.{word_of, with_word}
-use Rattle.blk_front.specs.declared.told.Told.{Told}
 use Rattle.blk_front.specs.declared.stage.Stage.{Stage as FrontStage}
 use Rattle.blk_front.specs.declared.stage.Stage.TheVariants as front
 use Rattle.blk_front.specs.View.{View, next_request}

@@ -1,8 +1,10 @@
 -- The request that is issued next: the first of those that wait, in a frame that no other one has.
-use Rattle.std.proofs.Common.{◌≡◌, ◌≢◌, ℕ, ◌+◌, ◌-◌, ◌<◌, ◌≤◌, ◌==◌, Bool, true, false, List, length, get_or, refl, ap, sym, ◌∙◌, subst, arith}
+use Rattle.std.proofs.Common.{◌≡◌, ◌≢◌, ℕ, ◌+◌, ◌-◌, ◌<◌, ◌≤◌, ◌==◌, ◌⊎◌, inl, inr, Bool, true, false, List, length, get_or, refl, ap, sym, ◌∙◌, subst, arith}
 use Rattle.std.specs.Prelude.{All, Option, Some, None, slice_get, if◌then◌else◌}
 use Rattle.std.proofs.lemmas.Bool.Decides.{nat_tests}
 use Rattle.std.proofs.lemmas.Option.{none-some, same_Some, slice_get_within, slice_get-get_or, get_or_from_slice_get}
+use Rattle.std.specs.List.{list_any}
+use Rattle.pipeline_laws.specs.Station.{Issuing, Request as Asked}
 use Rattle.blk_front.specs.declared.request.Request.{Request}
 use Rattle.blk_front.specs.declared.stage.Ending.{Ending}
 use Rattle.blk_front.specs.View.{View, next_request}
@@ -10,6 +12,8 @@ use Rattle.ring_words.specs.Ring.{Ring}
 use Rattle.machine_pipeline.proofs.Flow.{Flow}
 use Rattle.machine_pipeline.proofs.Holds.{AreIndices, AreQueued, IsSubmitted, AreSubmitted, ArePooled}
 use Rattle.machine_pipeline.proofs.Hands.{frames_apart}
+use Rattle.machine_pipeline.proofs.Lists.{all_at, place_of_any}
+use Rattle.machine_pipeline.proofs.Stations.{StandsAt, AreOpen, kind_of, early_open, apart}
 
 -- no more wait than are unfinished
 pub waiting_few : {g : Flow} {front_ring back_ring : Ring} {front_seen back_seen number last waiting unfinished ending : ℕ} → AreIndices g front_ring back_ring front_seen back_seen number last waiting unfinished ending → waiting ≤ unfinished
@@ -78,3 +82,27 @@ next_is v submitted sectors last pushed ending r queue all pooled e = by_test (v
       where
         some_wait : (n : ℕ) → (n == 0) ≡ false → 1 ≤ n
         some_wait n t = grind (arith, nat_tests)
+
+-- a request that was fetched and isn't finished has another frame than the one that is being issued
+pub fetched_apart : (submitted requests : List Request) (pushed waiting : ℕ) (asked : List Asked) (r : Request)
+    → IsNext submitted requests pushed waiting r
+    → AreQueued submitted pushed requests waiting
+    → AreOpen asked requests None
+    → StandsAt asked pushed Issuing
+    → (k : ℕ) (x : Request) (q : Asked) → slice_get submitted k ≡ Some x → slice_get asked k ≡ Some q → 4 ≤ kind_of q.station → kind_of q.station ≤ 7
+    → x.frame ≢ r.frame
+fetched_apart submitted requests pushed waiting asked r next queue opened issuing k x q known at low high = by_place (opened.held k q at (early_open q.station (omega arith)))
+  where
+    other : k ≢ pushed
+    other = apart asked k pushed q.station Issuing (record { q = q; at = at; there = refl }) issuing (λ same. omega arith)
+
+    by_place : (list_any (λ (y : Request). y.number == k + 1) requests ≡ true) ⊎ ((e : Ending) × (None ≡ Some e) × (e.number ≡ k + 1)) → x.frame ≢ r.frame
+    by_place (inl any) =
+        let found = place_of_any (λ (y : Request). y.number == k + 1) requests any in
+        let its = all_at (λ (y : Request). slice_get submitted (y.number - 1) ≡ Some y) requests found.0 found.1 queue.known found.2 in
+        let far = all_at (λ (y : Request). y.number ≢ pushed + 1 → y.frame ≢ r.frame) requests found.0 found.1 next.apart found.2 in
+        let number : (let y : Request = found.1 in y.number) ≡ k + 1 = grind (arith, nat_tests, found.3) in
+        let less : (let y : Request = found.1 in y.number - 1) ≡ k = omega (arith, number) in
+        let same : found.1 ≡ x = same_Some found.1 x (sym its ∙ (ap (slice_get submitted) less ∙ known)) in
+        subst (λ (y : Request). y.frame ≢ r.frame) same (far (λ e. other (omega (arith, number, e))))
+    by_place (inr ending) = absurd (none-some ending.0 ending.1)

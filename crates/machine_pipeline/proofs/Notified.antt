@@ -67,6 +67,7 @@ marked config w g d s b front_pending back_pending front_more back_more h = reco
   ring = h.ring;
   slots = h.slots;
   frames = h.frames;
+  telling = h.telling;
   entries = h.entries;
   mapped = h.mapped;
   page = h.page;

@@ -97,11 +97,11 @@ frames_pushed pushed old_word old new requests same h k d lt =
     let here = same k d lt in
     let was = h k d lt in
     record {
-      whole = λ le i l. here i (omega arith) ∙ (elim (cases_lt pushed (let q = get_or requests k d in q.number)) [
-        | inl above ↦ was.begun (omega arith) i l
-        | inr below ↦ was.whole below i l
+      whole = λ way le i l. here i (omega arith) ∙ (elim (cases_lt pushed (let q = get_or requests k d in q.number)) [
+        | inl above ↦ was.begun way (omega arith) i l
+        | inr below ↦ was.whole way below i l
       ]);
-      begun = λ e i l. absurd (omega arith);
+      begun = λ way e i l. absurd (omega arith);
     }
 
 pub entries_pushed : (submitted requests : List Request) (pushed waiting old_word : ℕ) (old new : List ℕ) (live : List Held) (r : Request)

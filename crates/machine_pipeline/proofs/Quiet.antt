@@ -1,9 +1,7 @@
 -- Where all is quiet, each request of the pipeline is finished.
-use Rattle.std.proofs.Common.{◌≡◌, ℕ, ◌+◌, ◌-◌, ◌==◌, ◌&&◌, ◌⊎◌, inl, inr, not, cond, if◌then◌else◌, Bool, true, false, List, [], ◌∷◌, length, refl, ap, sym, ◌∙◌, subst, arith, true≢false}
-use Rattle.std.specs.Prelude.{Option, Some, None, count_by, slice_get, option_and_then}
-use Rattle.std.specs.List.{list_all}
+use Rattle.std.proofs.Common.{◌≡◌, ℕ, ◌+◌, ◌-◌, ◌==◌, ◌&&◌, ◌⊎◌, inl, inr, not, if◌then◌else◌, Bool, true, false, List, [], ◌∷◌, length, refl, ap, sym, ◌∙◌, subst, arith, true≢false}
+use Rattle.std.specs.Prelude.{Option, Some, None, count_by, slice_get}
 use Rattle.std.proofs.lemmas.Option.{none-some}
-use Rattle.std.proofs.lemmas.List.Sums.{sum_by-cons}
 use Rattle.std.proofs.lemmas.Bool.Decides.{nat_tests}
 use Rattle.blk_base.specs.Options.{Options}
 use Rattle.blk_base.specs.declared.ask.FrontAsk.{FrontAsk}
@@ -14,6 +12,8 @@ use Rattle.pipeline_laws.specs.Station.{Request as Asked, is_finished}
 use Rattle.pipeline_laws.specs.Pipeline.{Pipeline, Rests}
 use Rattle.pipeline_laws.specs.Allowed.{AreFinished, is_aside}
 use Rattle.blk_front.specs.declared.request.Request.{Request}
+use Rattle.blk_front.specs.declared.request.Transfer.{Transfer}
+use Rattle.blk_front.specs.declared.request.Transfer.TheVariants as transfer
 use Rattle.blk_front.specs.declared.stage.Stage.{Stage as FrontStage}
 use Rattle.blk_front.specs.declared.stage.Stage.TheVariants as front
 use Rattle.blk_front.specs.View.{next_request}
@@ -46,6 +46,10 @@ front_acts : (b : Bool) (x y : FrontAsk) → front_submit.is_wait x ≡ false �
 front_acts true x y e f t = true≢false (sym t ∙ e)
 front_acts false x y e f t = true≢false (sym t ∙ f)
 
+issue_acts : (r : Request) (way : Transfer) → front_submit.is_wait (front_ask.issue_ask r way) ≡ true → ⊥
+issue_acts r transfer.Read t = true≢false (sym t)
+issue_acts r (transfer.Write tag) t = true≢false (sym t)
+
 front_sleeps : (start pushed taken seen : ℕ) (submitted : List Request) (replies : List Reply) (entry : List ℕ) (v : front_view.View) (s : FrontStage)
     → front_submit.is_wait (front_ask.ask_at s v) ≡ true
     → FrontAt start pushed taken seen submitted replies (next_request v) entry s
@@ -53,7 +57,7 @@ front_sleeps : (start pushed taken seen : ℕ) (submitted : List Request) (repli
 front_sleeps start pushed taken seen submitted replies entry v front.Loop waits at = in_loop (next_request v) v.asleep waits
   where
     in_loop : (next : Option Request) (asleep : Bool) → front_submit.is_wait (front_ask.loop_ask (record v { asleep = asleep }) next) ≡ true → FrontSleeps front.Loop asleep next
-    in_loop (Some r) asleep t = absurd (true≢false (sym t))
+    in_loop (Some r) asleep t = absurd (issue_acts r r.transfer t)
     in_loop None true t = record { looping = refl; sleeps = refl; none_next = refl; no_ending = refl; sends_none = λ p f x. x }
     in_loop None false t = absurd (front_acts (responses_of v.ring v.seen == 0) _ _ refl refl t)
 front_sleeps start pushed taken seen submitted replies entry v (front.Broken word) waits at = absurd at
@@ -210,13 +214,13 @@ look_goes config w g d otherwise passes stands = by_test (is_quiet w) refl
     by_test true t = record {
       flow = g;
       step = Some Rests;
-      does = record { asides = []; aside = refl; shows = refl; asks = refl; allowed = quiet_taken config w g d t stands; disk = λ a b e. e; possible = λ a. (a, refl) };
+      does = record { asides = []; aside = refl; shows = refl; asks = refl; allowed = quiet_taken config w g d t stands; disk = λ a b e. e };
       holds = stands.holds;
     }
     by_test false t = record {
       flow = g;
       step = None;
-      does = record { asides = otherwise ∷ []; aside = rw passes refl; shows = refl; asks = refl; allowed = tt; disk = λ a b e. e; possible = λ a. (a, refl) };
+      does = record { asides = otherwise ∷ []; aside = rw passes refl; shows = refl; asks = refl; allowed = tt; disk = λ a b e. e };
       holds = stands.holds;
     }
 

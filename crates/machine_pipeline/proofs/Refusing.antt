@@ -1,5 +1,5 @@
 -- The front refuses a submission exactly where the pipeline does, by the rule of the plain disk.
-use Rattle.std.proofs.Common.{◌≡◌, ℕ, ◌+◌, ◌<◌, ◌≤◌, ◌==◌, Bool, true, false, not, cond, List, [], ◌∷◌, length, get_or, refl, ap, ◌∙◌, arith, max}
+use Rattle.std.proofs.Common.{◌≡◌, ℕ, ◌+◌, ◌<◌, ◌≤◌, Bool, true, false, not, cond, List, [], ◌∷◌, length, get_or, refl, ap, ◌∙◌, arith, max}
 use Rattle.std.specs.Prelude.{◌||◌, All, Option, Some, None, Result, Ok, Err, count_by, nat_lt, nat_le, if◌then◌else◌, map}
 use Rattle.std.specs.List.{sum_by, position_or_len}
 use Rattle.std.proofs.lemmas.Bool.Decides.{nat_tests}
@@ -18,6 +18,8 @@ use Rattle.pipeline_laws.specs.Allowed.{refusal_now}
 use Rattle.plain_disk.specs.Refusal.{frames_of, frames_held, refusal_by}
 use Rattle.pipeline_laws.specs.Pipeline.{Pipeline}
 use Rattle.blk_front.specs.declared.request.Request.{Request}
+use Rattle.blk_front.specs.declared.request.Transfer.{Transfer}
+use Rattle.blk_front.specs.declared.request.Transfer.TheVariants as transfer
 use Rattle.blk_front.specs.declared.stage.Stage.{Stage as FrontStage}
 use Rattle.blk_front.specs.declared.stage.Stage.TheVariants as front
 use Rattle.blk_front.specs.declared.told.Refusal.{Refusal}
@@ -28,9 +30,9 @@ use Rattle.blk_front.specs.Submit.{is_ready, is_connected, ending_of, unfinished
 use Rattle.blk_back.specs.declared.stage.Reply.{Reply}
 use Rattle.split_model.specs.World.{World}
 use Rattle.split_model.specs.Shown.{refusal_word}
-use Rattle.machine_pipeline.specs.Allowed.{IsOneWrite}
+use Rattle.machine_pipeline.specs.Allowed.{IsOneSector}
 use Rattle.machine_pipeline.specs.Plain.{IsPlain}
-use Rattle.machine_pipeline.proofs.Flow.{Flow, ending_at, count_of}
+use Rattle.machine_pipeline.proofs.Flow.{Flow, ending_at, count_of, job_of}
 use Rattle.machine_pipeline.proofs.Holds.{FrontAt, Holds}
 use Rattle.machine_pipeline.proofs.Stations.{AreKnown}
 use Rattle.std.proofs.lemmas.List.{length-map}
@@ -48,6 +50,7 @@ ready_at start pushed taken front_seen submitted replies next entry s at = refl
 pub same_ending : (s : FrontStage) → count_of (ending_at s) ≡ ending_of s
 same_ending (front.GrantRead e) = refl
 same_ending (front.GrantEnd e before) = refl
+same_ending (front.ReadData e k) = refl
 same_ending s = refl
 
 -- a frame is free where fewer are in use than there are
@@ -83,15 +86,19 @@ frames_few (q ∷ asked) all =
     by_stage true frames e = omega arith
     by_stage false frames e = omega arith
 
+one_job : (way : Transfer) (sector : ℕ) → frames_of (job_of way sector) ≡ 1
+one_job transfer.Read sector = refl
+one_job (transfer.Write tag) sector = refl
+
 one_frame : (submitted : List Request) (carried : List Carried) → AreKnown submitted carried → All (λ (q : Asked). frames_of q.job ≡ 1) (map asked carried)
 one_frame submitted carried known = All-map (λ (q : Asked). frames_of q.job ≡ 1) asked carried (λ k x lt.
     let as_many = known.as_many in
     let r : Request = get_or submitted k nobody in
-    let same : (let q : Carried = get_or carried k x in q.job) ≡ Write r.sector 1 r.tag = known.each k r (get_or carried k x) (slice_get-get_or submitted k nobody (omega arith)) (slice_get-get_or carried k x lt) in
-    rw same refl)
+    let same : (let q : Carried = get_or carried k x in q.job) ≡ job_of r.transfer r.sector = known.each k r (get_or carried k x) (slice_get-get_or submitted k nobody (omega arith)) (slice_get-get_or carried k x lt) in
+    ap frames_of same ∙ one_job r.transfer r.sector)
   where
     nobody : Request
-    nobody = record { number = 0; sector = 0; tag = 0; frame = 0 }
+    nobody = record { number = 0; sector = 0; transfer = transfer.Read; frame = 0 }
 
 -- as many are unfinished for the plain disk as for the pipeline
 same_stage : (s : Station) → is_finished (stage_at s) ≡ is_ended s
@@ -109,7 +116,7 @@ as_unfinished (x ∷ carried) =
     omega arith
 
 -- one answer by both, as the same tests come out
-same_answer : (v : View) (what : ℕ × ℕ) (spent connected past full lacks : Bool) (lowest : Option ℕ) → (full ≡ false → (lacks ≡ false) × ((frame : ℕ) × (lowest ≡ Some frame)))
+same_answer : (v : View) (what : ℕ × Transfer) (spent connected past full lacks : Bool) (lowest : Option ℕ) → (full ≡ false → (lacks ≡ false) × ((frame : ℕ) × (lowest ≡ Some frame)))
     → (if spent then Some words.Spent else (if not connected || false then Some words.NotReady else (if past then Some words.Range else (if full then Some words.Full else (if lacks then Some words.Buffers else None)))))
     ≡ answer_of (if spent then (Err refusal.Spent, v) else (if not connected then (Err refusal.NotReady, v) else (if past then (Err refusal.Range, v) else (if full then (Err refusal.Full, v) else submit_with v what lowest)))).0
 same_answer v what true connected past full lacks lowest fits = refl
@@ -118,39 +125,57 @@ same_answer v what false true true full lacks lowest fits = refl
 same_answer v what false true false true lacks lowest fits = refl
 same_answer v what false true false false lacks lowest fits = let yes = fits refl in rw (yes.0, yes.1.1) refl
 
-refused_write : (config : Options) (w : World) (g : Flow) (d : Pipeline) (sector count tag : ℕ) → IsPlain config → Holds config w g d w.front.stage w.back.stage → count ≡ 1 → refusal_by (record { config = Some config; connected = is_connected w.front.stage; closing = false; broken = false }) config (map asked d.requests) (Write sector count tag) ≡ answer_of (submit_of w.front (Write sector count tag)).0
-refused_write config w g d sector count tag plain h one =
-    let x = h.indices in
-    let known = h.stations.known in
-    let spent : length (map asked d.requests) ≡ w.front.last = length-map d.requests asked ∙ known.as_many ∙ (let all = h.submitted in all.counted) in
-    let ready : is_ready w.front.stage ≡ is_connected w.front.stage = ready_at g.start g.pushed g.taken g.front_seen g.submitted g.replies (next_request w.front) w.front.entry w.front.stage h.front_at in
-    let open_ones : count_by (λ (q : Asked). not (is_finished q.stage)) (map asked d.requests) ≡ unfinished w.front = as_unfinished d.requests ∙ h.stations.opened.unfinished ∙ ap (λ (n : ℕ). length w.front.requests + n) (same_ending w.front.stage) in
-    let past : nat_lt config.sectors (sector + 1) ≡ nat_le w.front.sectors sector = past_end config.sectors w.front.sectors sector h.sized in
-    let short : nat_lt (max 11 config.indirect) 1 ≡ false = few_segments config.indirect in
-    rw (spent, ready, plain.read_only, plain.order, one, past, short, open_ones)
-    (same_answer w.front (sector, tag) (w.front.last == 4294967295) (is_connected w.front.stage) (nat_le w.front.sectors sector) (nat_le 32 (unfinished w.front)) (nat_lt 1000 (sum_by frames_held (map asked d.requests) + 1)) (lowest_of w.front.pool) (λ full.
-    let held = frames_few (map asked d.requests) (one_frame g.submitted d.requests known) in
-    let pooled = h.pool in
-    let used : count_by (λ (b : Bool). b) w.front.pool ≡ unfinished w.front = pooled.used ∙ ap (λ (n : ℕ). length w.front.requests + n) (same_ending w.front.stage) in
-    (few_frames (unfinished w.front) (sum_by frames_held (map asked d.requests)) (count_by (λ (q : Asked). not (is_finished q.stage)) (map asked d.requests)) full open_ones held, (18 + position_or_len not w.front.pool, lowest_free w.front.pool (few_used (unfinished w.front) full used pooled.size)))))
+refused_sector : (config : Options) (w : World) (g : Flow) (d : Pipeline) (sector : ℕ) (way : Transfer) → IsPlain config → Holds config w g d w.front.stage w.back.stage → refusal_by (record { config = Some config; connected = is_connected w.front.stage; closing = false; broken = false }) config (map asked d.requests) (job_of way sector) ≡ answer_of (submit_of w.front (job_of way sector)).0
+refused_sector config w g d sector way plain h = by_way way
   where
-    few_frames : (n frames counted : ℕ) → nat_le 32 n ≡ false → counted ≡ n → frames ≤ counted → nat_lt 1000 (frames + 1) ≡ false
-    few_frames n frames counted full e le = grind (arith, nat_tests)
+    known : AreKnown g.submitted d.requests
+    known = h.stations.known
 
-    past_end : (sectors known sector : ℕ) → known ≡ sectors → nat_lt sectors (sector + 1) ≡ nat_le known sector
-    past_end sectors known sector e = rw e (grind (arith, nat_tests))
+    spent : length (map asked d.requests) ≡ w.front.last
+    spent = length-map d.requests asked ∙ known.as_many ∙ (let all = h.submitted in all.counted)
 
-    few_segments : (n : ℕ) → nat_lt (max 11 n) 1 ≡ false
-    few_segments n = grind (arith, nat_tests)
+    ready : is_ready w.front.stage ≡ is_connected w.front.stage
+    ready = ready_at g.start g.pushed g.taken g.front_seen g.submitted g.replies (next_request w.front) w.front.entry w.front.stage h.front_at
+
+    open_ones : count_by (λ (q : Asked). not (is_finished q.stage)) (map asked d.requests) ≡ unfinished w.front
+    open_ones = as_unfinished d.requests ∙ h.stations.opened.unfinished ∙ ap (λ (n : ℕ). length w.front.requests + n) (same_ending w.front.stage)
+
+    used : count_by (λ (b : Bool). b) w.front.pool ≡ unfinished w.front
+    used = let pooled = h.pool in pooled.used ∙ ap (λ (n : ℕ). length w.front.requests + n) (same_ending w.front.stage)
+
+    past : nat_lt config.sectors (sector + 1) ≡ nat_le w.front.sectors sector
+    past = past_end config.sectors w.front.sectors sector h.sized
+      where
+        past_end : (sectors known sector : ℕ) → known ≡ sectors → nat_lt sectors (sector + 1) ≡ nat_le known sector
+        past_end sectors known sector e = rw e (grind (arith, nat_tests))
+
+    short : nat_lt (max 11 config.indirect) 1 ≡ false
+    short = few_segments config.indirect
+      where
+        few_segments : (n : ℕ) → nat_lt (max 11 n) 1 ≡ false
+        few_segments n = grind (arith, nat_tests)
+
+    fits : nat_le 32 (unfinished w.front) ≡ false → (nat_lt 1000 (sum_by frames_held (map asked d.requests) + 1) ≡ false) × ((frame : ℕ) × (lowest_of w.front.pool ≡ Some frame))
+    fits full =
+        let held = frames_few (map asked d.requests) (one_frame g.submitted d.requests known) in
+        let pooled = h.pool in
+        (few_frames (unfinished w.front) (sum_by frames_held (map asked d.requests)) (count_by (λ (q : Asked). not (is_finished q.stage)) (map asked d.requests)) full open_ones held, (18 + position_or_len not w.front.pool, lowest_free w.front.pool (few_used (unfinished w.front) full used pooled.size)))
+      where
+        few_frames : (n frames counted : ℕ) → nat_le 32 n ≡ false → counted ≡ n → frames ≤ counted → nat_lt 1000 (frames + 1) ≡ false
+        few_frames n frames counted full e le = grind (arith, nat_tests)
+
+    by_way : (x : Transfer) → refusal_by (record { config = Some config; connected = is_connected w.front.stage; closing = false; broken = false }) config (map asked d.requests) (job_of x sector) ≡ answer_of (submit_of w.front (job_of x sector)).0
+    by_way transfer.Read = rw (spent, ready, plain.order, past, short, open_ones) (same_answer w.front (sector, transfer.Read) _ _ _ _ _ _ fits)
+    by_way (transfer.Write tag) = rw (spent, ready, plain.read_only, plain.order, past, short, open_ones) (same_answer w.front (sector, transfer.Write tag) _ _ _ _ _ _ fits)
 
 -- the rule's answer is the front's
-ruled : (config : Options) (w : World) (g : Flow) (d : Pipeline) (job : Job) → IsPlain config → Holds config w g d w.front.stage w.back.stage → IsOneWrite job → refusal_by (record { config = Some config; connected = is_connected w.front.stage; closing = false; broken = false }) config (map asked d.requests) job ≡ answer_of (submit_of w.front job).0
-ruled config w g d (Write sector count tag) plain h one = refused_write config w g d sector count tag plain h one.0
-ruled config w g d (Read sector count) plain h one = absurd one
+ruled : (config : Options) (w : World) (g : Flow) (d : Pipeline) (job : Job) → IsPlain config → Holds config w g d w.front.stage w.back.stage → IsOneSector job → refusal_by (record { config = Some config; connected = is_connected w.front.stage; closing = false; broken = false }) config (map asked d.requests) job ≡ answer_of (submit_of w.front job).0
+ruled config w g d (Read sector count) plain h one = rw one (refused_sector config w g d sector transfer.Read plain h)
+ruled config w g d (Write sector count tag) plain h one = rw one.0 (refused_sector config w g d sector (transfer.Write tag) plain h)
 ruled config w g d (Barrier sector count tag) plain h one = absurd one
 ruled config w g d Flush plain h one = absurd one
 ruled config w g d (Discard sector count) plain h one = absurd one
 
 -- so is the pipeline's
-pub refused_rightly : (config : Options) (w : World) (g : Flow) (d : Pipeline) (job : Job) → IsPlain config → Holds config w g d w.front.stage w.back.stage → IsOneWrite job → refusal_now d job ≡ answer_of (submit_of w.front job).0
+pub refused_rightly : (config : Options) (w : World) (g : Flow) (d : Pipeline) (job : Job) → IsPlain config → Holds config w g d w.front.stage w.back.stage → IsOneSector job → refusal_now d job ≡ answer_of (submit_of w.front job).0
 refused_rightly config w g d job plain h one = rw (h.stations.options, h.stations.front) (ruled config w g d job plain h one)

@@ -3,6 +3,7 @@ use Rattle.std.proofs.Common.{◌≡◌, ◌≢◌, ℕ, ◌+◌, ◌<◌, ◌�
 use Rattle.std.specs.Prelude.{All, Some, None, slice_index_or}
 use Rattle.grant_table.specs.declared.held.Held.{Held}
 use Rattle.grant_table.specs.Table.{entry_word0}
+use Rattle.blk_front.specs.Request.{grant_flags}
 use Rattle.blk_back.specs.declared.stage.Reply.{Reply}
 use Rattle.std.proofs.lemmas.Option.{none-some}
 use Rattle.blk_base.specs.Options.{Options}
@@ -19,12 +20,13 @@ use Rattle.blk_front.specs.View.{next_request}
 use Rattle.blk_front.specs.Submit.{is_connected, ending_of}
 use Rattle.blk_back.specs.declared.stage.Stage.{Stage as BackStage}
 use Rattle.split_model.specs.World.{World}
-use Rattle.machine_pipeline.proofs.Flow.{Flow, wrapped, has_ring, is_ring_named, is_ring_granted, filled, is_named, is_granted, entered, ending_at, is_bound_back, is_issuing, is_fetching, reply_at}
-use Rattle.machine_pipeline.proofs.Holds.{FrontAt, RingBegun, AreRingWords, AreSlots, IsFilled, IsGranted, AreEntries, ArePooled, IsUnused, IsFrontSleep, FrontSends, PortsAt, Holds}
+use Rattle.machine_pipeline.proofs.Flow.{Flow, wrapped, has_ring, is_ring_named, is_ring_granted, filled, is_named, is_granted, entered, ending_at, revoking_at, is_telling, is_bound_back, is_issuing, is_fetching, reply_at}
+use Rattle.machine_pipeline.proofs.Holds.{FrontAt, RingBegun, AreRingWords, AreSlots, IsFilled, IsGranted, AreEntries, ArePooled, IsUnused, IsFrontSleep, FrontSends, PortsAt, IsReadSoFar, AreDataWords, Holds}
 use Rattle.machine_pipeline.proofs.Kept.{SameFrame, SameEntry, same_entry, slots_kept, frames_kept, entries_kept}
 use Rattle.machine_pipeline.proofs.Lists.{all_from}
 use Rattle.machine_pipeline.proofs.Frames.{is_submitted}
-use Rattle.machine_pipeline.proofs.Stations.{saw_more, turned}
+use Rattle.machine_pipeline.proofs.Stations.{AreStations, saw_more, turned}
+use Rattle.machine_pipeline.proofs.ReadsKept.{stations_elsewhere}
 use Rattle.machine_pipeline.proofs.Indices.{indices_seen}
 
 -- a stage at which the ring is made and no request is issued
@@ -56,6 +58,9 @@ at_read e = record { ring = refl; named = refl; granted = refl; begun = λ start
 pub at_end : (e : Ending) (before : ℕ) → IsResting (front.GrantEnd e before)
 at_end e before = record { ring = refl; named = refl; granted = refl; begun = λ start pages. tt; connected = refl; filled_none = refl; unnamed = refl; ungranted = refl; entered_none = refl; unissued = refl; quiet = λ p f x. x }
 
+pub at_data : (e : Ending) (k : ℕ) → IsResting (front.ReadData e k)
+at_data e k = record { ring = refl; named = refl; granted = refl; begun = λ start pages. tt; connected = refl; filled_none = refl; unnamed = refl; ungranted = refl; entered_none = refl; unissued = refl; quiet = λ p f x. x }
+
 pub at_store : IsResting front.StoreEvent
 at_store = record { ring = refl; named = refl; granted = refl; begun = λ start pages. tt; connected = refl; filled_none = refl; unnamed = refl; ungranted = refl; entered_none = refl; unissued = refl; quiet = λ p f x. x }
 
@@ -64,6 +69,24 @@ at_fence = record { ring = refl; named = refl; granted = refl; begun = λ start 
 
 pub at_look : IsResting front.LookAgain
 at_look = record { ring = refl; named = refl; granted = refl; begun = λ start pages. tt; connected = refl; filled_none = refl; unnamed = refl; ungranted = refl; entered_none = refl; unissued = refl; quiet = λ p f x. x }
+
+-- where no request ends, no grant is ended and no data are told
+pub untelling : (s : FrontStage) → ending_at s ≡ None → is_telling s ≡ false
+untelling (front.ReadData e k) none = absurd (none-some e (sym none))
+untelling s none = refl
+
+pub unrevoked : (s : FrontStage) (e : Ending) → ending_at s ≡ None → revoking_at s ≡ Some e → ⊥
+unrevoked (front.GrantRead f) e none same = none-some f (sym none)
+unrevoked (front.GrantEnd f before) e none same = none-some f (sym none)
+unrevoked s e none same = none-some e same
+
+-- of the words that were read nothing is said but their number, while no data are told
+silent : (pages words : List ℕ) (s : FrontStage) → is_telling s ≡ false → IsReadSoFar pages words s
+silent pages words (front.ReadData e k) none = absurd (true≢false none)
+silent pages words s none = tt
+
+pub data_rests : (old new words : List ℕ) (s s' : FrontStage) → is_telling s' ≡ false → AreDataWords old words s → AreDataWords new words s'
+data_rests old new words s s' none h = record { size = h.size; so_far = silent new words s' none }
 
 -- the subjects of memory at another such stage
 pub ring_rests : (start pushed replied : ℕ) (pages : List ℕ) (s s' : FrontStage) (b : BackStage) → IsResting s → IsResting s' → AreRingWords start pushed replied pages s b → AreRingWords start pushed replied pages s' b
@@ -86,7 +109,7 @@ slots_rest start fetched pushed taken replied submitted replies pages s s' b i' 
 pub frames_rest : (pushed : ℕ) (pages : List ℕ) (s s' : FrontStage) (requests : List Request) → IsResting s' → All (IsFilled pushed pages s) requests → All (IsFilled pushed pages s') requests
 frames_rest pushed pages s s' requests i' h k d lt =
     let was = h k d lt in
-    record { whole = was.whole; begun = λ e i l. let none = i'.filled_none in absurd (omega arith) }
+    record { whole = was.whole; begun = λ way e i l. let none = i'.filled_none in absurd (omega arith) }
 
 pub granted_rests : (pushed : ℕ) (pages : List ℕ) (live : List Held) (s s' : FrontStage) (r : Request) → IsResting s' → IsGranted pushed pages live s r → IsGranted pushed pages live s' r
 granted_rests pushed pages live s s' r i' h = record {
@@ -96,7 +119,7 @@ granted_rests pushed pages live s s' r i' h = record {
   flags_next = λ e t. absurd (true≢false (sym t ∙ i'.ungranted));
 }
 
-pub entries_rest : (pushed : ℕ) (pages : List ℕ) (live : List Held) (s s' : FrontStage) (requests : List Request) → IsResting s' → ((e : Ending) → ending_at s' ≡ Some e → entry_word0 pages (e.frame + 6) ≡ 5) → AreEntries pushed pages live s requests → AreEntries pushed pages live s' requests
+pub entries_rest : (pushed : ℕ) (pages : List ℕ) (live : List Held) (s s' : FrontStage) (requests : List Request) → IsResting s' → ((e : Ending) → revoking_at s' ≡ Some e → entry_word0 pages (e.frame + 6) ≡ grant_flags e.transfer) → AreEntries pushed pages live s requests → AreEntries pushed pages live s' requests
 entries_rest pushed pages live s s' requests i' ending h = record {
   each = λ k d lt. granted_rests pushed pages live s s' (slice_index_or requests k d) i' (h.each k d lt);
   ending = ending;
@@ -130,8 +153,8 @@ rest_kept config w g d s s' seen whole asleep pages channels i i' none none' zer
   queue = h.queue;
   submitted = h.submitted;
   pool = subst (ArePooled w.front.pool w.front.requests) (none ∙ sym none') h.pool;
-  stations = saw_more config g whole g.back_seen d (is_connected s') (is_issuing s') (is_fetching w.back.stage) (ending_at s') (reply_at w.back.stage) w.front.requests w.back.jobs.works
-      (turned config g d (is_connected s) (is_connected s') (is_issuing s) (is_issuing s') (is_fetching w.back.stage) (ending_at s) (ending_at s') (reply_at w.back.stage) w.front.requests w.back.jobs.works (i'.connected ∙ sym i.connected) (i'.unissued ∙ sym i.unissued) (none' ∙ sym none) h.stations);
+  stations = saw_more config g whole g.back_seen d (is_connected s') (is_issuing s') (is_fetching w.back.stage) (ending_at s') (is_telling s') (reply_at w.back.stage) w.front.requests w.back.jobs.works pages
+      (stations_elsewhere config g d (is_connected s') (is_issuing s') (is_fetching w.back.stage) (ending_at s') (is_telling s') (reply_at w.back.stage) w.front.requests w.back.jobs.works w.under.pages pages w.front.sectors w.front.last h.submitted (λ f low high. frames f (omega arith)) stations);
   works = h.works;
   counted = h.counted;
   info = h.info;
@@ -144,10 +167,11 @@ rest_kept config w g d s s' seen whole asleep pages channels i i' none none' zer
   ring = ring_rests g.start g.pushed g.replied pages s s' w.back.stage i i' (ring_words h.ring);
   slots = slots_rest g.start g.fetched g.pushed g.taken g.replied g.submitted g.replies pages s s' w.back.stage i' (slots_kept g.start g.fetched g.pushed g.taken g.replied g.submitted g.replies w.under.pages pages s w.back.stage (λ x from to. words x (omega arith) to) (let few = i.entered_none in omega arith) h.slots);
   frames = frames_rest g.pushed pages s s' w.front.requests i' (frames_kept g.pushed w.under.pages pages s w.front.requests (let few = i.filled_none in omega arith) (all_from (λ (r : Request). SameFrame w.under.pages pages r.frame) w.front.requests (λ j r e. let is = is_submitted config w g d s w.back.stage h j r e in frames r.frame (let low = is.low in omega arith))) h.frames);
-  entries = entries_rest g.pushed pages w.under.grants.live s s' w.front.requests i' (λ e same. absurd (none-some e (sym none' ∙ same)))
+  telling = data_rests w.under.pages pages w.front.words s s' (untelling s' none') h.telling;
+  entries = entries_rest g.pushed pages w.under.grants.live s s' w.front.requests i' (λ e same. absurd (unrevoked s' e none' same))
       (entries_kept g.pushed w.under.pages pages w.under.grants.live s w.front.requests
       (all_from (λ (r : Request). SameEntry w.under.pages pages (r.frame + 6)) w.front.requests (λ j r e. let is = is_submitted config w g d s w.back.stage h j r e in same_entry w.under.pages pages (r.frame + 6) (let top = is.high in omega arith) (frames 0 (omega arith)) (frames 1 (omega arith))))
-      (λ e same. absurd (none-some e (sym none ∙ same))) h.entries);
+      (λ e same. absurd (unrevoked s e none same)) h.entries);
   mapped = h.mapped;
   page = h.page;
   front_sleep = sleep;
@@ -161,6 +185,9 @@ rest_kept config w g d s s' seen whole asleep pages channels i i' none none' zer
       (subst (λ (n : ℕ). PortsAt (is_connected s) (is_bound_back w.back.stage) n channels.ports) (sym made) (subst (PortsAt (is_connected s) (is_bound_back w.back.stage) w.under.channels.made) (sym ports) h.ports));
 }
   where
+    stations : AreStations config g d (is_connected s') (is_issuing s') (is_fetching w.back.stage) (ending_at s') (is_telling s') (reply_at w.back.stage) w.front.requests w.back.jobs.works w.under.pages
+    stations = turned config g d (is_connected s) (is_connected s') (is_issuing s) (is_issuing s') (is_fetching w.back.stage) (ending_at s) (ending_at s') (is_telling s) (is_telling s') (reply_at w.back.stage) w.front.requests w.back.jobs.works w.under.pages (i'.connected ∙ sym i.connected) (i'.unissued ∙ sym i.unissued) (none' ∙ sym none) (untelling s' none' ∙ sym (untelling s none)) h.stations
+
     by_wake : (g.pushed ≡ g.fetched) ⊎ (w.under.channels.back_pending ≡ true) ⊎ FrontSends s g.pushed g.fetched → (g.pushed ≡ g.fetched) ⊎ (channels.back_pending ≡ true) ⊎ FrontSends s' g.pushed g.fetched
     by_wake (inl same) = inl same
     by_wake (inr (inl t)) = inr (inl (pending ∙ t))

@@ -37,15 +37,15 @@ use Rattle.machine_pipeline.proofs.JobMoves.{stays}
 use Rattle.machine_pipeline.specs.Step.{IsSame}
 
 -- the loop's move, by the request that is issued next
-abbrev loop_next : World → Option Request → Option FrontAct → World
+abbrev pub loop_next : World → Option Request → Option FrontAct → World
 loop_next w n None = w
 loop_next w n (Some a) = record { front = record (loop_step w.front n a.answer) { told = None }; back = w.back; under = a.under }
 
-abbrev loop_says : World → Option Request → Option FrontAct → List Line
+abbrev pub loop_says : World → Option Request → Option FrontAct → List Line
 loop_says w n None = []
 loop_says w n (Some a) = lines.Move a.shown ∷ front_lines (let f : View = loop_step w.front n a.answer in f.told)
 
-abbrev LoopGoes : Options → World → Pipeline → Option Request → FrontAsk → Type 0
+abbrev pub LoopGoes : Options → World → Pipeline → Option Request → FrontAsk → Type 0
 LoopGoes config w d n a = Goes config (loop_says w n (front_act w.under a)) (loop_next w n (front_act w.under a)) d
 
 -- asleep, it takes its event, if one is pending

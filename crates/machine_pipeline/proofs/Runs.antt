@@ -1,11 +1,11 @@
 -- A history of the machine is a run of the pipeline: its steps, with one for each line that tells nothing of a request.
-use Rattle.std.proofs.Common.{◌≡◌, ℕ, ◌&&◌, Bool, true, false, List, [], ◌∷◌, ◌++◌, length, refl, ap, sym, ◌∙◌, subst}
-use Rattle.std.specs.Prelude.{Option, Some, None, replicate}
+use Rattle.std.proofs.Common.{◌≡◌, ℕ, ◌&&◌, Bool, true, false, List, [], ◌∷◌, ◌++◌, refl, ap, sym, ◌∙◌, subst}
+use Rattle.std.specs.Prelude.{Option, Some, None}
 use Rattle.std.specs.Option.{option_to_list}
 use Rattle.std.specs.List.{list_all}
 use Rattle.std.proofs.lemmas.Bool.{true≢false}
 use Rattle.std.proofs.lemmas.Option.{none-some, same_Some}
-use Rattle.std.proofs.lemmas.List.{append-nil, length-replicate}
+use Rattle.std.proofs.lemmas.List.{append-nil}
 use Rattle.blk_base.specs.Options.{Options}
 use Rattle.blk_base.specs.declared.config.Job.{Job}
 use Rattle.blk_base.specs.declared.ask.BackAsk.{BackAsk}
@@ -15,14 +15,16 @@ use Rattle.schedule_text.specs.declared.line.Line.{Line}
 use Rattle.hypervisor.specs.Act.{Outcome, Gave, Took, Failed}
 use Rattle.blk_back.specs.Step.{job_ask_of}
 use Rattle.split_model.specs.World.{World, start_of}
-use Rattle.split_model.specs.Happening.{Happening, FrontMoves, BackMoves, JobMoves, Submits, Notifies, Looks, Settles, happens, lines_at, lines_of as shown_by, DiskRuns as MachineRuns}
-use Rattle.pipeline_laws.specs.Pipeline.{Pipeline, Step, Shows, next, step_lines, after_steps, lines_of, pipeline_of}
+use Rattle.split_model.specs.Happening.{Happening, FrontMoves, BackMoves, JobMoves, Submits, Notifies, Looks, Settles, happens, after, lines_at, lines_of as shown_by, DiskRuns as MachineRuns}
+use Rattle.pipeline_laws.specs.Pipeline.{Pipeline, Step, Shows, step_lines, after_steps, lines_of, pipeline_of}
 use Rattle.pipeline_laws.specs.Allowed.{is_aside, AreAllowed as StepsAllowed}
-use Rattle.pipeline_laws.specs.Disk.{DiskRuns, AgreesWith, AreConsistent}
+use Rattle.pipeline_laws.specs.Disk.{DiskRuns, AreConsistent}
+use Rattle.pipeline_laws.specs.Effects.{LinesDo, AreOfADisk, IsOfADisk}
 use Rattle.pipeline_laws.specs.Submissions.{submitted_at as step_submits, submitted_of as steps_submit}
-use Rattle.pipeline_laws.proofs.Joining.{allowed_append, lines_append, runs_append, submitted_append}
+use Rattle.pipeline_laws.proofs.Joining.{after_append, allowed_append, lines_append, runs_append, submitted_append}
+use Rattle.pipeline_laws.proofs.Effects.{calls_of_effects}
 use Rattle.machine_pipeline.specs.Plain.{IsPlain}
-use Rattle.machine_pipeline.specs.Allowed.{AreAllowed}
+use Rattle.machine_pipeline.specs.Allowed.{AreServed}
 use Rattle.machine_pipeline.specs.Submissions.{submitted_at, submitted_of}
 use Rattle.machine_pipeline.specs.Sectors.{SectorsDo}
 use Rattle.machine_pipeline.specs.Step.{after_step, shown_of, IsAllowedStep, StepGoes, CallAt, submitted_by, Does, GoesStepwise}
@@ -31,11 +33,11 @@ use Rattle.machine_pipeline.proofs.Sectors.{SectorsGo, SectorsRun, sectors_run}
 use Rattle.machine_pipeline.proofs.Together.{always_steps}
 
 -- the steps of asides, and of what they stand before
-abbrev steps_of : List Line → Option Step → List Step
+abbrev pub steps_of : List Line → Option Step → List Step
 steps_of [] step = option_to_list step
 steps_of (line ∷ asides) step = Shows line ∷ steps_of asides step
 
-after_of : (asides : List Line) (step : Option Step) (p : Pipeline) → after_steps (steps_of asides step) p ≡ after_step p step
+pub after_of : (asides : List Line) (step : Option Step) (p : Pipeline) → after_steps (steps_of asides step) p ≡ after_step p step
 after_of [] None p = refl
 after_of [] (Some s) p = refl
 after_of (line ∷ asides) step p = after_of asides step p
@@ -44,17 +46,17 @@ both : (a b : Bool) → (a && b) ≡ true → (a ≡ true) × (b ≡ true)
 both true b e = (refl, e)
 both false b e = absurd (true≢false (sym e))
 
-allowed_of : (asides : List Line) (step : Option Step) (p : Pipeline) → list_all is_aside asides ≡ true → IsAllowedStep p step → StepsAllowed (steps_of asides step) p
+pub allowed_of : (asides : List Line) (step : Option Step) (p : Pipeline) → list_all is_aside asides ≡ true → IsAllowedStep p step → StepsAllowed (steps_of asides step) p
 allowed_of [] None p aside may = tt
 allowed_of [] (Some s) p aside may = (may, tt)
 allowed_of (line ∷ asides) step p aside may = let e = both (is_aside line) (list_all is_aside asides) aside in (e.0, allowed_of asides step p e.1 may)
 
-lines_shown : (asides : List Line) (step : Option Step) (p : Pipeline) → lines_of (steps_of asides step) p ≡ asides ++ shown_of p step
+pub lines_shown : (asides : List Line) (step : Option Step) (p : Pipeline) → lines_of (steps_of asides step) p ≡ asides ++ shown_of p step
 lines_shown [] None p = refl
 lines_shown [] (Some s) p = append-nil (step_lines p s)
 lines_shown (line ∷ asides) step p = ap (λ (ls : List Line). line ∷ ls) (lines_shown asides step p)
 
-submits_of : (asides : List Line) (step : Option Step) → steps_submit (steps_of asides step) ≡ option_to_list (submitted_by step)
+pub submits_of : (asides : List Line) (step : Option Step) → steps_submit (steps_of asides step) ≡ option_to_list (submitted_by step)
 submits_of [] None = refl
 submits_of [] (Some s) = by_step (step_submits s) refl
   where
@@ -63,19 +65,18 @@ submits_of [] (Some s) = by_step (step_submits s) refl
     by_step (Some job) e = rw e refl
 submits_of (line ∷ asides) step = submits_of asides step
 
-disk_of : (asides : List Line) (step : Option Step) (a b : List (List ℕ)) → StepGoes step a b → DiskRuns (steps_of asides step) a b
+pub disk_of : (asides : List Line) (step : Option Step) (a b : List (List ℕ)) → StepGoes step a b → DiskRuns (steps_of asides step) a b
 disk_of [] None a b goes = goes
 disk_of [] (Some s) a b goes = (b, goes, refl)
 disk_of (line ∷ asides) step a b goes = (a, refl, disk_of asides step a b goes)
 
 -- what happens, as steps from where the pipeline stands
-record IsRunFrom (hs : List Happening) (w : World) (p : Pipeline) : Type 0 where
-  steps : List Step
-  allowed : StepsAllowed steps p
-  shows : lines_of steps p ≡ shown_by hs w
-  submits : steps_submit steps ≡ submitted_of hs
-  disk : (a b : List (List ℕ)) → SectorsRun hs w (Some a) (Some b) → DiskRuns steps a b
-  possible : (a : List (List ℕ)) → (b : List (List ℕ)) × DiskRuns steps a b
+pub record IsRunFrom (hs : List Happening) (w : World) (p : Pipeline) : Type 0 where
+  pub steps : List Step
+  pub allowed : StepsAllowed steps p
+  pub shows : lines_of steps p ≡ shown_by hs w
+  pub submits : steps_submit steps ≡ submitted_of hs
+  pub disk : (a b : List (List ℕ)) → SectorsRun hs w (Some a) (Some b) → DiskRuns steps a b
 
 -- a disk that exposes its sectors goes on doing so, and one that doesn't never does
 none_after : (ask : BackAsk) (o : Outcome) (a : List (List ℕ)) → SectorsDo ask o (Some a) None → ⊥
@@ -88,7 +89,7 @@ none_after (back_ask.Trim sector count) Took a p = none-some _ p
 none_after (back_ask.Trim sector count) Failed a p = p
 none_after ask o a p = none-some a p.1
 
-goes_none : (w : World) (h : Happening) (a : List (List ℕ)) → SectorsGo w h (Some a) None → ⊥
+pub goes_none : (w : World) (h : Happening) (a : List (List ℕ)) → SectorsGo w h (Some a) None → ⊥
 goes_none w (JobMoves number outcome) a p = none_after (job_ask_of w.back number) outcome a p
 goes_none w FrontMoves a p = none-some a p
 goes_none w BackMoves a p = none-some a p
@@ -120,7 +121,7 @@ none_runs : (hs : List Happening) (w : World) (x : Option (List (List ℕ))) →
 none_runs [] w x p = p
 none_runs (h ∷ hs) w x p = none_runs hs (happens w h) x (subst (λ (y : Option (List (List ℕ))). SectorsRun hs (happens w h) y x) (none_goes w h p.0 p.1) p.2)
 
-called : (w : World) (h : Happening) (a b : List (List ℕ)) → SectorsGo w h (Some a) (Some b) → CallAt w h a b
+pub called : (w : World) (h : Happening) (a b : List (List ℕ)) → SectorsGo w h (Some a) (Some b) → CallAt w h a b
 called w (JobMoves number outcome) a b p = p
 called w FrontMoves a b p = same_Some b a p
 called w BackMoves a b p = same_Some b a p
@@ -129,8 +130,18 @@ called w (Notifies at) a b p = same_Some b a p
 called w Looks a b p = same_Some b a p
 called w Settles a b p = same_Some b a p
 
+-- the requests of the first happening, and of those after it
+pub submitted_first : (h : Happening) (hs : List Happening) → submitted_of (h ∷ hs) ≡ option_to_list (submitted_at h) ++ submitted_of hs
+submitted_first (Submits job) hs = refl
+submitted_first FrontMoves hs = refl
+submitted_first BackMoves hs = refl
+submitted_first (JobMoves number outcome) hs = refl
+submitted_first (Notifies at) hs = refl
+submitted_first Looks hs = refl
+submitted_first Settles hs = refl
+
 -- the first happening, and those after it
-one_more : (h : Happening) (hs : List Happening) (w : World) (p : Pipeline) (step : Option Step) → Does (submitted_at h) (CallAt w h) (lines_at w h) p step → IsRunFrom hs (happens w h) (after_step p step) → IsRunFrom (h ∷ hs) w p
+pub one_more : (h : Happening) (hs : List Happening) (w : World) (p : Pipeline) (step : Option Step) → Does (submitted_at h) (CallAt w h) (lines_at w h) p step → IsRunFrom hs (happens w h) (after_step p step) → IsRunFrom (h ∷ hs) w p
 one_more h hs w p step does rest = record {
   steps = first ++ rest.steps;
   allowed = allowed_append first rest.steps p (allowed_of does.asides step p does.aside does.allowed) (subst (StepsAllowed rest.steps) (sym further) rest.allowed);
@@ -143,10 +154,6 @@ one_more h hs w p step does rest = record {
       ∙ (ap (λ (js : List Job). js ++ steps_submit rest.steps) (submits_of does.asides step ∙ ap option_to_list does.asks)
       ∙ (ap (λ (js : List Job). option_to_list (submitted_at h) ++ js) rest.submits ∙ sym (submitted_first h hs)));
   disk = λ a b runs. by_between a b runs.0 runs.1 runs.2;
-  possible = λ a.
-      let one = does.possible a in
-      let more = rest.possible one.0 in
-      (more.0, runs_append first rest.steps a one.0 more.0 (disk_of does.asides step a one.0 one.1) more.1);
 }
   where
     first : List Step
@@ -159,18 +166,34 @@ one_more h hs w p step does rest = record {
     by_between a b None goes runs = absurd (goes_none w h a goes)
     by_between a b (Some c) goes runs = runs_append first rest.steps a c b (disk_of does.asides step a c (does.disk a c (called w h a c goes))) (rest.disk c b runs)
 
-    submitted_first : (h : Happening) (hs : List Happening) → submitted_of (h ∷ hs) ≡ option_to_list (submitted_at h) ++ submitted_of hs
-    submitted_first (Submits job) hs = refl
-    submitted_first FrontMoves hs = refl
-    submitted_first BackMoves hs = refl
-    submitted_first (JobMoves number outcome) hs = refl
-    submitted_first (Notifies at) hs = refl
-    submitted_first Looks hs = refl
-    submitted_first Settles hs = refl
-
-run_from : (hs : List Happening) (w : World) (p : Pipeline) → GoesStepwise hs w p → IsRunFrom hs w p
-run_from [] w p goes = record { steps = []; allowed = tt; shows = refl; submits = refl; disk = λ a b same. same_Some b a same; possible = λ a. (a, refl) }
+pub run_from : (hs : List Happening) (w : World) (p : Pipeline) → GoesStepwise hs w p → IsRunFrom hs w p
+run_from [] w p goes = record { steps = []; allowed = tt; shows = refl; submits = refl; disk = λ a b same. same_Some b a same }
 run_from (h ∷ hs) w p goes = one_more h hs w p goes.0 goes.1 (run_from hs (happens w h) (after_step p goes.0) goes.2)
+
+-- the steps of all but the last happening, and what that is to the pipeline
+pub record IsRunUpTo (hs : List Happening) (last : Happening) (w : World) (p : Pipeline) : Type 0 where
+  pub run : IsRunFrom hs w p
+  pub step : Option Step
+  pub does : Does (submitted_at last) (CallAt (after hs w) last) (lines_at (after hs w) last) (after_steps run.steps p) step
+
+up_to_more : (h : Happening) (hs : List Happening) (last : Happening) (w : World) (p : Pipeline) (step : Option Step) → Does (submitted_at h) (CallAt w h) (lines_at w h) p step → IsRunUpTo hs last (happens w h) (after_step p step) → IsRunUpTo (h ∷ hs) last w p
+unfolding one_more
+up_to_more h hs last w p step does rest = record {
+  run = one_more h hs w p step does rest.run;
+  step = rest.step;
+  does = subst (λ (x : Pipeline). Does (submitted_at last) (CallAt (after hs (happens w h)) last) (lines_at (after hs (happens w h)) last) x rest.step) (sym same) rest.does;
+}
+  where
+    further : List Step
+    further = (let r = rest.run in r.steps)
+
+    same : after_steps (steps_of does.asides step ++ further) p ≡ after_steps further (after_step p step)
+    same = after_append (steps_of does.asides step) further p ∙ ap (after_steps further) (after_of does.asides step p)
+
+pub run_up_to : (hs : List Happening) (last : Happening) (w : World) (p : Pipeline) → GoesStepwise (hs ++ last ∷ []) w p → IsRunUpTo hs last w p
+unfolding run_from
+run_up_to [] last w p goes = record { run = run_from [] w p tt; step = goes.0; does = goes.1 }
+run_up_to (h ∷ hs) last w p goes = up_to_more h hs last w p goes.0 goes.1 (run_up_to hs last (happens w h) (after_step p goes.0) goes.2)
 
 never_none : (hs : List Happening) (w : World) (a : List (List ℕ)) → SectorsRun hs w (Some a) None → ⊥
 never_none [] w a p = none-some a p
@@ -180,39 +203,32 @@ never_none (h ∷ hs) w a p = by_between p.0 p.1 (λ c rest. never_none hs (happ
     by_between None goes later rest = goes_none w h a goes
     by_between (Some c) goes later rest = later c rest
 
--- the calls of the disk are consistent with what it exposes, or with any sectors
-consistent : (sectors : ℕ) (hs : List Happening) (w : World) (p : Pipeline) (before now : Option (List (List ℕ))) (r : IsRunFrom hs w p) → HasLength before sectors → SectorsRun hs w before now → AreConsistent sectors r.steps before now
-consistent sectors hs w p None now r long runs =
-    let content : List (List ℕ) = replicate sectors [] in
-    let some = r.possible content in
-    subst (AreConsistent sectors r.steps None) (sym (none_runs hs w now runs)) (record { content = content; sized = length-replicate sectors []; begins = tt; later = some.0; runs = some.1; ends = tt })
-consistent sectors hs w p (Some a) None r long runs = absurd (never_none hs w a runs)
-consistent sectors hs w p (Some a) (Some b) r long runs = record { content = a; sized = long; begins = refl; later = b; runs = r.disk a b runs; ends = refl }
+-- steps whose lines are of a disk have its calls
+pub shown_calls : (config : Options) (steps : List Step) (report : List Line) → StepsAllowed steps (pipeline_of config) → lines_of steps (pipeline_of config) ≡ report → AreOfADisk config.sectors report → AreConsistent config.sectors steps None None
+shown_calls config steps report allowed shows of = record {
+  content = of.content;
+  sized = of.sized;
+  begins = tt;
+  later = of.later;
+  runs = calls_of_effects steps (pipeline_of config) [] refl allowed of.content of.later (subst (λ (ls : List Line). LinesDo [] ls of.content of.later) (sym shows) of.effects);
+  ends = tt;
+}
+
+-- the calls of the disk are consistent with what it exposes, or with the disk that the lines are of
+consistent : (config : Options) (hs : List Happening) (before now : Option (List (List ℕ))) (r : IsRunFrom hs (start_of config) (pipeline_of config)) → HasLength before config.sectors → SectorsRun hs (start_of config) before now → IsOfADisk config.sectors before (shown_by hs (start_of config)) → AreConsistent config.sectors r.steps before now
+consistent config hs None now r long runs of =
+    subst (AreConsistent config.sectors r.steps None) (sym (none_runs hs (start_of config) now runs)) (shown_calls config r.steps (shown_by hs (start_of config)) r.allowed r.shows of)
+consistent config hs (Some a) None r long runs of = absurd (never_none hs (start_of config) a runs)
+consistent config hs (Some a) (Some b) r long runs of = record { content = a; sized = long; begins = refl; later = b; runs = r.disk a b runs; ends = refl }
 
 -- the whole of it
-pub is_run : (config : Options) (history : List Happening) (before now : DiskSeen) → IsPlain config → AreAllowed history (start_of config) → HasLength before.content config.sectors → MachineRuns history (start_of config) before now → IsPipelineRun config history before.content now.content
-is_run config history before now plain may long runs =
+pub is_run : (config : Options) (history : List Happening) (before now : DiskSeen) → IsPlain config → AreServed history (start_of config) → HasLength before.content config.sectors → MachineRuns history (start_of config) before now → IsOfADisk config.sectors before.content (shown_by history (start_of config)) → IsPipelineRun config history before.content now.content
+is_run config history before now plain may long runs of =
     let r = run_from history (start_of config) (pipeline_of config) (always_steps config history plain may) in
     record {
       steps = r.steps;
       allowed = r.allowed;
       shows = r.shows;
       submits = r.submits;
-      disk = consistent config.sectors history (start_of config) (pipeline_of config) before.content now.content r long (sectors_run history (start_of config) before now runs);
+      disk = consistent config history before.content now.content r long (sectors_run history (start_of config) before now runs) of;
     }
-
--- over a disk that exposes what it holds at first, or of which nothing is known
-pub is_any_run : (config : Options) (history : List Happening) (before : Option (List (List ℕ))) → HasLength before config.sectors → IsPlain config → AreAllowed history (start_of config) → IsPipelineRun config history before None
-is_any_run config history before long plain may = by_first before long
-  where
-    r : IsRunFrom history (start_of config) (pipeline_of config)
-    r = run_from history (start_of config) (pipeline_of config) (always_steps config history plain may)
-
-    from : (first : Option (List (List ℕ))) (content : List (List ℕ)) → length content ≡ config.sectors → AgreesWith first content → IsPipelineRun config history first None
-    from first content sized begins =
-        let some = r.possible content in
-        record { steps = r.steps; allowed = r.allowed; shows = r.shows; submits = r.submits; disk = record { content = content; sized = sized; begins = begins; later = some.0; runs = some.1; ends = tt } }
-
-    by_first : (first : Option (List (List ℕ))) → HasLength first config.sectors → IsPipelineRun config history first None
-    by_first None long = from None (replicate config.sectors []) (length-replicate config.sectors []) tt
-    by_first (Some content) long = from (Some content) content long refl

@@ -1,9 +1,9 @@
 -- What happens to the sectors of a disk, where it exposes them, by what happens to the disk.
-use Rattle.std.proofs.Common.{◌≡◌, ℕ, List, [], ◌∷◌, refl, ap}
+use Rattle.std.proofs.Common.{◌≡◌, ℕ, List, [], ◌∷◌, ap}
 use Rattle.std.specs.Prelude.{Option}
 use Rattle.blk_base.specs.declared.ask.BackAsk.{BackAsk}
 use Rattle.blk_base.specs.declared.ask.BackAsk.TheVariants as back_ask
-use Rattle.blk_io.specs.Disk.{DiskSeen, IsSectorOf, with_sector, with_zeros, SameBut}
+use Rattle.blk_io.specs.Disk.{DiskSeen}
 use Rattle.blk_back.specs.Step.{job_ask_of}
 use Rattle.hypervisor.specs.Act.{Outcome, Gave, Took, Failed}
 use Rattle.hypervisor.specs.Disk.{DiskDoes, DiskReads, DiskWrites, DiskFlushes, DiskTrims}

@@ -1,6 +1,6 @@
 -- What a move of the front tells: that it is connected, where it becomes so; and that it is broken, where it becomes so.
 use Rattle.std.proofs.Common.{◌≡◌, ℕ, ◌+◌, ◌*◌, ◌^◌, ◌==◌, Bool, true, false, if◌then◌else◌, [], ◌∷◌, refl, sym, ap, subst}
-use Rattle.std.specs.Prelude.{Option, Some, None, Result, Ok, Err, nat_lt}
+use Rattle.std.specs.Prelude.{Option, Some, None, Result, Ok, Err, nat_lt, slice_set}
 use Rattle.blk_base.specs.Distance.{distance_of}
 use Rattle.blk_base.specs.declared.ask.FrontAnswer.{FrontAnswer}
 use Rattle.blk_base.specs.declared.ask.FrontAnswer.TheVariants as answer
@@ -8,19 +8,25 @@ use Rattle.ring_words.specs.Ring.{responses_of, notifies}
 use Rattle.blk_layout.specs.declared.response.Response.{Response}
 use Rattle.blk_layout.specs.Response.{response_of}
 use Rattle.blk_front.specs.declared.request.Request.{Request}
+use Rattle.blk_front.specs.declared.request.Transfer.{Transfer}
+use Rattle.blk_front.specs.declared.request.Transfer.TheVariants as transfer
+use Rattle.blk_front.specs.Request.{has_data}
+use Rattle.blk_front.specs.Pool.{with_free}
+use Rattle.blk_front.specs.declared.stage.Ending.{Ending}
 use Rattle.blk_front.specs.declared.stage.Stage.{Stage}
 use Rattle.blk_front.specs.declared.stage.Stage.TheVariants as stage
 use Rattle.blk_front.specs.declared.told.Told.{Told}
 use Rattle.blk_front.specs.declared.told.Told.TheVariants as told
 use Rattle.blk_front.specs.View.{View, next_request}
 use Rattle.blk_front.specs.Submit.{is_connected}
-use Rattle.blk_front.specs.Step.{broken, looked, loop_step, issued, response_at, is_mapped, at, ended, step_at}
+use Rattle.blk_front.specs.Step.{broken, looked, issue_stage, loop_step, issued, response_at, is_mapped, at, ended, data_step, step_at}
 
 -- what was told by an end that was connected or not, and is at this stage now
 abbrev pub Tells : Bool → Option Told → Stage → Type 0
 Tells connected None s = is_connected s ≡ connected
 Tells connected (Some told.Ready) s = is_connected s ≡ true
 Tells connected (Some (told.Answer id status)) s = is_connected s ≡ connected
+Tells connected (Some (told.Sector id index words)) s = is_connected s ≡ connected
 Tells connected (Some (told.Broken word)) s = s ≡ stage.Broken word
 
 abbrev pub TellsAs : Bool → View → Type 0
@@ -42,8 +48,12 @@ looked_tells v word otherwise e p =
     either true (nat_lt (distance_of v.ring.cons v.ring.prod) (distance_of v.ring.cons word)) (broken word v) (if word == v.ring.cons then otherwise else record v { seen = word; stage = stage.Loop }) refl
     (either true (word == v.ring.cons) otherwise (record v { seen = word; stage = stage.Loop }) p (untold true v.told stage.Loop e refl))
 
+issue_tells : (v : View) (r : Request) (way : Transfer) → v.told ≡ None → TellsAs true (at (issue_stage r way) v)
+issue_tells v r transfer.Read e = untold true v.told (stage.GrantFence r) e refl
+issue_tells v r (transfer.Write tag) e = untold true v.told (stage.Data r 1) e refl
+
 loop_tells : (v : View) (next : Option Request) (a : FrontAnswer) → v.told ≡ None → v.stage ≡ stage.Loop → TellsAs true (loop_step v next a)
-loop_tells v (Some r) a e s = untold true v.told (stage.Data r 1) e refl
+loop_tells v (Some r) a e s = issue_tells v r r.transfer e
 loop_tells v None (answer.Word word) e s =
     either true (responses_of v.ring v.seen == 0) (looked v word (record v { seen = word; stage = stage.StoreEvent })) (at (stage.ResponseHigh word) v)
     (looked_tells v word (record v { seen = word; stage = stage.StoreEvent }) e (untold true v.told stage.StoreEvent e refl)) (untold true v.told (stage.ResponseHigh word) e refl)
@@ -52,7 +62,17 @@ loop_tells v None a e s = untold true v.told v.stage e (ap is_connected s)
 response_tells : (v : View) (response : Result Response ℕ) (low : ℕ) (found : Option (ℕ × Request)) → v.told ≡ None → TellsAs true (response_at v response low found)
 response_tells v response low None e = refl
 response_tells v (Err word) low (Some found) e = refl
-response_tells v (Ok response) low (Some found) e = untold true v.told (stage.GrantRead (record { number = found.1.number; frame = found.1.frame; status = response.status })) e refl
+response_tells v (Ok response) low (Some found) e = untold true v.told (stage.GrantRead (record { number = found.1.number; transfer = found.1.transfer; frame = found.1.frame; status = response.status })) e refl
+
+ended_tells : (v : View) (end : Ending) → TellsAs true (ended v end)
+ended_tells v end = either true (has_data end.transfer end.status)
+    (record v { stage = stage.ReadData end 0; told = Some (told.Answer end.number end.status) })
+    (record v { stage = stage.Loop; pool = with_free v.pool end.frame; told = Some (told.Answer end.number end.status) }) refl refl
+
+data_tells : (v : View) (end : Ending) (k word : ℕ) → v.told ≡ None → TellsAs true (data_step v end k word)
+data_tells v end k word e = either true (k == 127)
+    (record v { words = slice_set v.words k word; stage = stage.Loop; pool = with_free v.pool end.frame; told = Some (told.Sector end.number 0 (slice_set v.words k word)) })
+    (record v { words = slice_set v.words k word; stage = stage.ReadData end (k + 1) }) refl (untold true v.told (stage.ReadData end (k + 1)) e refl)
 
 pub front_tells : (s : Stage) (v : View) (a : FrontAnswer) → v.told ≡ None → v.stage ≡ s → TellsAs (is_connected s) (step_at s v a)
 front_tells (stage.RingWord k) v a e same = untold false v.told (if k == 15 then stage.RingFrame else stage.RingWord (k + 1)) e (staged (k == 15) false stage.RingFrame (stage.RingWord (k + 1)) refl refl)
@@ -73,7 +93,8 @@ front_tells stage.Send v a e same = untold true v.told stage.Loop e refl
 front_tells (stage.ResponseHigh low) v (answer.Word high) e same = untold true v.told (stage.ResponseLast low high) e refl
 front_tells (stage.ResponseLast low high) v (answer.Word last) e same = response_tells v (response_of (low ∷ high ∷ last ∷ [])) low (issued v (low + high * 2 ^ 32)) e
 front_tells (stage.GrantRead end) v (answer.Word word) e same = either true (is_mapped word) (broken word v) (at (stage.GrantEnd end word) v) refl (untold true v.told (stage.GrantEnd end word) e refl)
-front_tells (stage.GrantEnd end before) v (answer.Word word) e same = either true (word == before) (ended v end) (broken word v) refl refl
+front_tells (stage.GrantEnd end before) v (answer.Word word) e same = either true (word == before) (ended v end) (broken word v) (ended_tells v end) refl
+front_tells (stage.ReadData end k) v (answer.Word word) e same = data_tells v end k word e
 front_tells stage.StoreEvent v a e same = untold true v.told stage.EventFence e refl
 front_tells stage.EventFence v a e same = untold true v.told stage.LookAgain e refl
 front_tells stage.LookAgain v (answer.Word word) e same = looked_tells v word (record v { seen = word; stage = stage.Loop; asleep = true }) e (untold true v.told stage.Loop e refl)

@@ -1,7 +1,7 @@
 -- While the front makes its ring and its port, nothing was submitted and nothing passes through the ring.
 use Rattle.std.proofs.Common.{◌≡◌, ℕ, ◌<◌, ◌≤◌, Bool, true, false, List, length, refl, sym, ◌∙◌, subst, arith, true≢false}
 use Rattle.std.specs.Prelude.{Some, None, slice_get}
-use Rattle.std.proofs.lemmas.Option.{none-some, slice_get_within}
+use Rattle.std.proofs.lemmas.Option.{slice_get_within}
 use Rattle.blk_base.specs.Options.{Options}
 use Rattle.xen_pages.specs.Pages.{word_of}
 use Rattle.event_channel.specs.Channels.{ChannelState}
@@ -14,11 +14,12 @@ use Rattle.blk_front.specs.Submit.{is_connected, ending_of}
 use Rattle.blk_back.specs.declared.stage.Stage.{Stage as BackStage}
 use Rattle.blk_back.specs.declared.stage.Stage.TheVariants as back
 use Rattle.split_model.specs.World.{World}
-use Rattle.machine_pipeline.proofs.Flow.{Flow, filled, entered, ending_at, is_front_arming, may_front_sleep, is_back_arming, may_back_sleep, is_bound_back, is_issuing, is_fetching, reply_at}
+use Rattle.machine_pipeline.proofs.Flow.{Flow, filled, entered, ending_at, is_front_arming, may_front_sleep, is_back_arming, may_back_sleep, is_bound_back, is_telling, is_issuing, is_fetching, reply_at}
 use Rattle.machine_pipeline.proofs.Holds.{FrontAt, AreRingWords, AreSlots, IsFilled, IsGranted, ArePooled, IsUnused, PortsAt, Holds}
 use Rattle.machine_pipeline.proofs.Kept.{slots_kept}
 use Rattle.machine_pipeline.proofs.Lists.{all_from}
-use Rattle.machine_pipeline.proofs.Resting.{rested}
+use Rattle.machine_pipeline.proofs.Resting.{rested, untelling, unrevoked, data_rests}
+use Rattle.machine_pipeline.proofs.ReadsKept.{stations_kept}
 use Rattle.machine_pipeline.proofs.Stations.{AreStations}
 use Rattle.machine_pipeline.proofs.Indices.{indices_room}
 
@@ -78,7 +79,7 @@ none_yet config w g d s starting h = none_of (is_connected s) g.pushed w.front.l
 pub starts_on : (config : Options) (w : World) (g : Flow) (d d' : Pipeline) (s s' : FrontStage) (pages : List ℕ) (channels : ChannelState)
     → is_connected s ≡ false → may_front_sleep s ≡ false → IsBare s → IsBare s'
     → Holds config w g d s w.back.stage
-    → AreStations config g d' (is_connected s') (is_issuing s') (is_fetching w.back.stage) (ending_at s') (reply_at w.back.stage) w.front.requests w.back.jobs.works
+    → AreStations config g d' (is_connected s') (is_issuing s') (is_fetching w.back.stage) (ending_at s') (is_telling s') (reply_at w.back.stage) w.front.requests w.back.jobs.works w.under.pages
     → FrontAt g.start g.pushed g.taken g.front_seen g.submitted g.replies (next_request w.front) w.front.entry s'
     → length pages ≡ 1114112
     → ((x : ℕ) → 16 ≤ x → x < 1024 → word_of pages 2 x ≡ word_of w.under.pages 2 x)
@@ -92,7 +93,7 @@ starts_on config w g d d' s s' pages channels starting restless i i' h stations 
   queue = h.queue;
   submitted = h.submitted;
   pool = subst (ArePooled w.front.pool w.front.requests) (i.no_ending ∙ sym i'.no_ending) h.pool;
-  stations = stations;
+  stations = stations_kept config g d' (is_connected s') (is_issuing s') (is_fetching w.back.stage) (ending_at s') (is_telling s') (reply_at w.back.stage) w.front.requests w.back.jobs.works w.under.pages pages (λ k r q its. absurd (unknown k r its)) stations;
   works = h.works;
   counted = h.counted;
   info = h.info;
@@ -105,9 +106,10 @@ starts_on config w g d d' s s' pages channels starting restless i i' h stations 
   ring = ring;
   slots = (let was = slots in record { entries = was.entries; entry = λ r e k lt. let zero = i'.entered_none in absurd (omega arith); responses = was.responses; response = was.response });
   frames = all_from (IsFilled g.pushed pages s') w.front.requests (λ j r e. absurd (empty j r e));
+  telling = data_rests w.under.pages pages w.front.words s s' (untelling s' i'.no_ending) h.telling;
   entries = record {
     each = all_from (IsGranted g.pushed pages w.under.grants.live s') w.front.requests (λ j r e. absurd (empty j r e));
-    ending = λ e same. absurd (none-some e (sym i'.no_ending ∙ same));
+    ending = λ e same. absurd (unrevoked s' e i'.no_ending same);
   };
   mapped = h.mapped;
   page = h.page;
@@ -134,6 +136,14 @@ starts_on config w g d d' s s' pages channels starting restless i i' h stations 
         let within = slice_get_within w.front.requests j r e in
         let indices = h.indices in
         let held = indices.held in
+        let last = none.unsubmitted in
+        omega arith
+
+    unknown : (k : ℕ) (r : Request) → slice_get g.submitted k ≡ Some r → ⊥
+    unknown k r e =
+        let within = slice_get_within g.submitted k r e in
+        let submitted = h.submitted in
+        let counted = submitted.counted in
         let last = none.unsubmitted in
         omega arith
 

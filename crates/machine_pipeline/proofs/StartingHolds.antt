@@ -1,5 +1,5 @@
 -- The machine at the start, and the pipeline of which nothing was asked.
-use Rattle.std.proofs.Common.{◌≡◌, ℕ, zero, suc, ◌^◌, ◌<◌, Bool, false, cond, List, [], refl, ap, sym, arith, true≢false}
+use Rattle.std.proofs.Common.{◌≡◌, ℕ, zero, suc, Bool, false, cond, [], refl, ap, sym, arith, true≢false}
 use Rattle.std.specs.Prelude.{None, count_by, replicate, slice_index_or}
 use Rattle.std.proofs.Math.ListN.{length-replicate}
 use Rattle.std.proofs.lemmas.Option.{none-some}
@@ -11,9 +11,11 @@ use Rattle.blk_front.specs.Pool.{empty_pool}
 use Rattle.split_model.specs.World.{start_of}
 use Rattle.split_model.proofs.Safe.{safe_start}
 use Rattle.machine_pipeline.specs.Plain.{IsPlain}
-use Rattle.machine_pipeline.proofs.Flow.{start_flow, wrapped}
+use Rattle.machine_pipeline.proofs.Flow.{start_flow}
 use Rattle.machine_pipeline.proofs.Holds.{ArePooled, Stands}
+use Rattle.machine_pipeline.proofs.Stations.{AreStations}
 use Rattle.machine_pipeline.proofs.Indices.{indices_first}
+use Rattle.xen_pages.specs.Pages.{fresh_pages}
 
 -- a frame of a pool in which none is in use
 free_at : (n f : ℕ) → slice_index_or (replicate n false) f false ≡ false
@@ -31,6 +33,24 @@ empty_pooled = record {
   used = none_used 1000;
 }
 
+-- nothing was asked of the pipeline
+start_stations : (config : Options) → AreStations config (start_flow config.start) (pipeline_of config) false false false None false None [] [] fresh_pages
+start_stations config = record {
+  options = refl;
+  front = refl;
+  ring = record { pushed = refl; entries = λ i lt. absurd (omega arith); fetched = refl; replied = refl; responses = λ i rep e. absurd (none-some rep e); taken = refl };
+  known = record { as_many = refl; each = λ k r q e f. absurd (none-some r e) };
+  opened = record { unfinished = refl; held = λ k q e f. absurd (none-some q e) };
+  issued = λ k q lt e. absurd (none-some q e);
+  waiting = record { issued = λ t. absurd (true≢false (sym t)); rest = λ k le lt other. absurd (omega arith) };
+  pushed = record { copied = λ t. absurd (true≢false (sym t)); rest = λ k le lt other. absurd (omega arith) };
+  works = λ i t e. absurd (none-some t e);
+  replying = λ rep e. absurd (none-some rep e);
+  replied = λ i rep e. absurd (none-some rep e);
+  taking = λ e same. absurd (none-some e same);
+  reads = record { working = λ i t r q at. absurd (none-some t at); after = λ k r q at. absurd (none-some r at) };
+}
+
 pub start_holds : (config : Options) → IsPlain config → Stands config (start_of config) (start_flow config.start) (pipeline_of config)
 start_holds config plain = record {
   safe = safe_start config;
@@ -46,20 +66,7 @@ start_holds config plain = record {
     };
     submitted = record { counted = refl; each = λ k r e. absurd (none-some r e); sized = plain.sectors };
     pool = empty_pooled;
-    stations = record {
-      options = refl;
-      front = refl;
-      ring = record { pushed = refl; entries = λ i lt. absurd (omega arith); fetched = refl; replied = refl; responses = λ i rep e. absurd (none-some rep e); taken = refl };
-      known = record { as_many = refl; each = λ k r q e f. absurd (none-some r e) };
-      opened = record { unfinished = refl; held = λ k q e f. absurd (none-some q e) };
-      issued = λ k q lt e. absurd (none-some q e);
-      waiting = record { issued = λ t. absurd (true≢false (sym t)); rest = λ k le lt other. absurd (omega arith) };
-      pushed = record { copied = λ t. absurd (true≢false (sym t)); rest = λ k le lt other. absurd (omega arith) };
-      works = λ i t e. absurd (none-some t e);
-      replying = λ rep e. absurd (none-some rep e);
-      replied = λ i rep e. absurd (none-some rep e);
-      taking = λ e same. absurd (none-some e same);
-    };
+    stations = start_stations config;
     works = record { each = λ k d lt. absurd (omega arith); ascending = λ i j d lt within. absurd (omega arith) };
     counted = refl;
     info = refl;
@@ -83,6 +90,7 @@ start_holds config plain = record {
       response = λ rep e. absurd (none-some rep e);
     };
     frames = λ k d lt. absurd (omega arith);
+    telling = record { size = length-replicate {A = ℕ} 128 0; so_far = tt };
     entries = record { each = λ k d lt. absurd (omega arith); ending = λ e same. absurd (none-some e same) };
     mapped = record { counted = λ test. refl; framed = λ k d lt. absurd (omega arith) };
     page = record { gref = λ t. absurd (true≢false (sym t)); mode = λ t. absurd (true≢false (sym t)) };

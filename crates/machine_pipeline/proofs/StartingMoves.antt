@@ -20,10 +20,11 @@ use Rattle.blk_front.specs.Submit.{is_connected}
 use Rattle.split_model.specs.World.{World}
 use Rattle.split_model.specs.Shown.{front_lines}
 use Rattle.machine_pipeline.specs.Plain.{IsPlain}
-use Rattle.machine_pipeline.proofs.Flow.{Flow, wrapped, may_front_sleep, is_bound_back, is_issuing, is_fetching, reply_at, ending_at}
+use Rattle.machine_pipeline.proofs.Flow.{Flow, wrapped, may_front_sleep, is_bound_back, is_issuing, is_fetching, reply_at, ending_at, is_telling}
 use Rattle.machine_pipeline.proofs.Holds.{Holds, FrontAt, RingBegun, AreRingWords, PortsAt}
 use Rattle.machine_pipeline.proofs.Turns.{Goes, FrontGoes, said_nothing, Stepped, does_step}
 use Rattle.machine_pipeline.proofs.Kept.{written, other_word, other_frame}
+use Rattle.machine_pipeline.proofs.Resting.{untelling}
 use Rattle.machine_pipeline.proofs.Starting.{IsBare, bare_word, bare_frame, bare_fence, bare_flags, bare_port, bare_loop, none_yet, unbound_of, starts_on}
 use Rattle.machine_pipeline.proofs.Stations.{AreStations, turned}
 use Rattle.machine_pipeline.proofs.StationsFront.{connects}
@@ -44,7 +45,7 @@ makes config w g d s s' m pages told starting going restless i i' h place sized 
   step = None;
   does = said_nothing d m w.front.told told;
   holds = starts_on config w g d d s s' pages w.under.channels starting restless i i' h
-      (turned config g d (is_connected s) (is_connected s') (is_issuing s) (is_issuing s') (is_fetching w.back.stage) (ending_at s) (ending_at s') (reply_at w.back.stage) w.front.requests w.back.jobs.works (going ∙ sym starting) (i'.unissued ∙ sym i.unissued) (i'.no_ending ∙ sym i.no_ending) h.stations) place sized words ring
+      (turned config g d (is_connected s) (is_connected s') (is_issuing s) (is_issuing s') (is_fetching w.back.stage) (ending_at s) (ending_at s') (is_telling s) (is_telling s') (reply_at w.back.stage) w.front.requests w.back.jobs.works w.under.pages (going ∙ sym starting) (i'.unissued ∙ sym i.unissued) (i'.no_ending ∙ sym i.no_ending) (untelling s' i'.no_ending ∙ sym (untelling s i.no_ending)) h.stations) place sized words ring
       (subst (λ (c : Bool). PortsAt c (is_bound_back w.back.stage) w.under.channels.made w.under.channels.ports) (starting ∙ sym going) h.ports);
 }
 
@@ -185,8 +186,8 @@ port_goes config w g d h =
           (first_port (is_bound_back w.back.stage) w.under.channels.made w.under.channels.ports none.0 none.1 none.2);
     }
   where
-    s : Stepped None IsSame d (lines.Ready ∷ []) (λ p. AreStations config g p true false (is_fetching w.back.stage) None (reply_at w.back.stage) w.front.requests w.back.jobs.works)
-    s = connects config g d false (is_fetching w.back.stage) None (reply_at w.back.stage) w.front.requests w.back.jobs.works h.stations
+    s : Stepped None IsSame d (lines.Ready ∷ []) (λ p. AreStations config g p true false (is_fetching w.back.stage) None false (reply_at w.back.stage) w.front.requests w.back.jobs.works w.under.pages)
+    s = connects config g d false (is_fetching w.back.stage) None false (reply_at w.back.stage) w.front.requests w.back.jobs.works w.under.pages h.stations
 
 -- a front that isn't connected goes on at each stage
 pub start_moves : (config : Options) (w : World) (g : Flow) (d : Pipeline) (s : FrontStage)

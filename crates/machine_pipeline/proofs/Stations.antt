@@ -1,12 +1,11 @@
 -- Where the machine has each request: at the front, on the ring, at the back or one of its jobs. A request is named by its place among all, from 0; its number, which is its id on the ring, is one more.
-use Rattle.std.proofs.Common.{◌≡◌, ◌≢◌, ℕ, ◌+◌, ◌-◌, ◌<◌, ◌≤◌, ◌==◌, ◌⊎◌, inl, inr, Bool, true, false, not, cond, List, [], ◌∷◌, ◌++◌, length, refl, ap, sym, ◌∙◌, subst, arith, length-set}
-use Rattle.std.specs.Prelude.{Option, Some, None, slice_get, slice_set, count_by}
+use Rattle.std.proofs.Common.{◌≡◌, ◌≢◌, ℕ, ◌+◌, ◌-◌, ◌<◌, ◌≤◌, ◌==◌, ◌⊎◌, inl, inr, Bool, true, false, not, cond, List, length, refl, ap, sym, ◌∙◌, arith, length-set}
+use Rattle.std.specs.Prelude.{Option, Some, slice_get, slice_set, count_by}
 use Rattle.std.specs.List.{list_any}
-use Rattle.std.proofs.lemmas.Option.{none-some, same_Some}
+use Rattle.std.proofs.lemmas.Option.{same_Some}
 use Rattle.std.proofs.lemmas.Bool.{cases_eq}
 use Rattle.blk_base.specs.Options.{Options}
-use Rattle.blk_base.specs.declared.config.Job.{Job}
-use Rattle.blk_base.specs.declared.config.Job.TheVariants.{Write}
+use Rattle.blk_base.specs.declared.operation.Status.{Status}
 use Rattle.blk_front.specs.declared.request.Request.{Request}
 use Rattle.blk_front.specs.declared.stage.Ending.{Ending}
 use Rattle.back_jobs.specs.declared.stage.Stage.{Stage as JobStage}
@@ -17,8 +16,9 @@ use Rattle.pipeline_laws.specs.Station.{Station, Waiting, Issuing, Pushed, Fetch
 use Rattle.pipeline_laws.specs.Ring.{Ring}
 use Rattle.pipeline_laws.specs.Pipeline.{Pipeline, Front}
 use Rattle.pipeline_laws.specs.Allowed.{is_unissued}
-use Rattle.machine_pipeline.proofs.Flow.{Flow, count_of, worked}
-use Rattle.machine_pipeline.proofs.Lists.{get_set_here, get_set_other, set_was, count_set}
+use Rattle.machine_pipeline.proofs.Flow.{Flow, count_of, worked, job_of}
+use Rattle.machine_pipeline.proofs.ReadBack.{AreReadBack}
+use Rattle.machine_pipeline.proofs.Lists.{get_set_here, get_set_other, count_set}
 
 -- the request at this place is at that station
 pub record StandsAt (asked : List Asked) (k : ℕ) (station : Station) : Type 0 where
@@ -29,7 +29,7 @@ pub record StandsAt (asked : List Asked) (k : ℕ) (station : Station) : Type 0 
 -- the pipeline has each submitted request, as it was asked
 pub record AreKnown (submitted : List Request) (asked : List Asked) : Type 0 where
   pub as_many : length asked ≡ length submitted
-  pub each : (k : ℕ) (r : Request) (q : Asked) → slice_get submitted k ≡ Some r → slice_get asked k ≡ Some q → q.job ≡ Write r.sector 1 r.tag
+  pub each : (k : ℕ) (r : Request) (q : Asked) → slice_get submitted k ≡ Some r → slice_get asked k ≡ Some q → q.job ≡ job_of r.transfer r.sector
 
 -- it has as many unfinished requests as the front, and each of those is one of the front's
 pub record AreOpen (asked : List Asked) (requests : List Request) (ending : Option Ending) : Type 0 where
@@ -67,15 +67,20 @@ IsResponding replying asked = (rep : Reply) → replying ≡ Some rep → Stands
 abbrev pub AreReplied : List Reply → List Asked → Type 0
 AreReplied replies asked = (i : ℕ) (rep : Reply) → slice_get replies i ≡ Some rep → StandsAt asked (rep.id - 1) (Replied rep.status)
 
-abbrev pub IsTaking : Option Ending → List Asked → Type 0
-IsTaking ending asked = (e : Ending) → ending ≡ Some e → StandsAt asked (e.number - 1) (Taking e.status)
+-- a request whose response was taken: its grant is being ended, or its data are told
+abbrev pub finishing : Bool → Status → Station
+finishing false status = Taking status
+finishing true status = Telling 0
+
+abbrev pub IsTaking : Option Ending → Bool → List Asked → Type 0
+IsTaking ending telling asked = (e : Ending) → ending ≡ Some e → StandsAt asked (e.number - 1) (finishing telling e.status)
 
 -- the front of the pipeline: connected or not, and never closing
 abbrev pub open_front : Bool → Front
 open_front connected = record { connected = connected; closing = false; closed = false }
 
 -- the pipeline, with the front connected or not, issuing a request or not, ending the grant of one, the back copying an entry or not, writing a response, with these requests and jobs
-pub record AreStations (config : Options) (g : Flow) (d : Pipeline) (connected issuing fetching : Bool) (ending : Option Ending) (response : Option Reply) (requests : List Request) (jobs : List Work) : Type 0 where
+pub record AreStations (config : Options) (g : Flow) (d : Pipeline) (connected issuing fetching : Bool) (ending : Option Ending) (telling : Bool) (response : Option Reply) (requests : List Request) (jobs : List Work) (pages : List ℕ) : Type 0 where
   pub options : d.options ≡ config
   pub front : d.front ≡ open_front connected
   pub ring : IsRing g d.ring
@@ -87,7 +92,8 @@ pub record AreStations (config : Options) (g : Flow) (d : Pipeline) (connected i
   pub works : AreWorking jobs d.requests
   pub replying : IsResponding response d.requests
   pub replied : AreReplied g.replies d.requests
-  pub taking : IsTaking ending d.requests
+  pub taking : IsTaking ending telling d.requests
+  pub reads : AreReadBack g.submitted d.requests jobs pages
 
 -- stations of one kind have one number
 abbrev pub kind_of : Station → ℕ
@@ -101,11 +107,12 @@ kind_of (Ended status) = 4
 kind_of (Replying status) = 5
 kind_of (Replied status) = 6
 kind_of (Taking status) = 7
-kind_of (Telling next) = 8
+kind_of (Telling next) = 7
 kind_of (Finished status) = 9
 
 -- a job's request
 pub worked_kind : (s : JobStage) → kind_of (worked s) ≡ 4
+worked_kind (job.WriteWord m k) = refl
 worked_kind (job.Unmap m) = refl
 worked_kind (job.GiveUp m) = refl
 worked_kind (job.Done status) = refl
@@ -128,7 +135,7 @@ pub record IsMoved (asked moved : List Asked) (k : ℕ) (from to : Station) : Ty
   pub as_many : length moved ≡ length asked
   pub counted : count_by (λ (q : Asked). not (is_finished q.station)) moved + cond (not (is_finished from)) 1 0 ≡ count_by (λ (q : Asked). not (is_finished q.station)) asked + cond (not (is_finished to)) 1 0
 
-pub is_moved : (asked : List Asked) (k : ℕ) (from to : Station) (q now : Asked) → slice_get asked k ≡ Some q → q.station ≡ from → now.station ≡ to → now.job ≡ q.job → IsMoved asked (slice_set asked k now) k from to
+abbrev pub is_moved : (asked : List Asked) (k : ℕ) (from to : Station) (q now : Asked) → slice_get asked k ≡ Some q → q.station ≡ from → now.station ≡ to → now.job ≡ q.job → IsMoved asked (slice_set asked k now) k from to
 is_moved asked k from to q now at before after job =
     let sum = count_set (λ (x : Asked). not (is_finished x.station)) asked k q now at in
     let first : ◌≡◌ {A = ℕ} (cond (not (is_finished q.station)) 1 0) (cond (not (is_finished from)) 1 0) = ap (λ (s : Station). cond (not (is_finished s)) 1 0) before in
@@ -206,17 +213,23 @@ replying_moved replying asked moved k from to m other h rep e = kind_stays asked
 pub replied_moved : (replies : List Reply) (asked moved : List Asked) (k : ℕ) (from to : Station) → IsMoved asked moved k from to → kind_of from ≢ 6 → AreReplied replies asked → AreReplied replies moved
 replied_moved replies asked moved k from to m other h i rep e = kind_stays asked moved (rep.id - 1) k (Replied rep.status) from to m (omega (arith, other)) (h i rep e)
 
-pub taking_moved : (ending : Option Ending) (asked moved : List Asked) (k : ℕ) (from to : Station) → IsMoved asked moved k from to → kind_of from ≢ 7 → IsTaking ending asked → IsTaking ending moved
-taking_moved ending asked moved k from to m other h e same = kind_stays asked moved (e.number - 1) k (Taking e.status) from to m (omega (arith, other)) (h e same)
+pub finishing_kind : (telling : Bool) (status : Status) → kind_of (finishing telling status) ≡ 7
+finishing_kind false status = refl
+finishing_kind true status = refl
+
+pub taking_moved : (ending : Option Ending) (telling : Bool) (asked moved : List Asked) (k : ℕ) (from to : Station) → IsMoved asked moved k from to → kind_of from ≢ 7 → IsTaking ending telling asked → IsTaking ending telling moved
+taking_moved ending telling asked moved k from to m other h e same = kind_stays asked moved (e.number - 1) k (finishing telling e.status) from to m (omega (arith, finishing_kind telling e.status, other)) (h e same)
 
 -- a job's request is unfinished, and was pushed
 pub worked_open : (s : JobStage) → is_finished (worked s) ≡ false
+worked_open (job.WriteWord m k) = refl
 worked_open (job.Unmap m) = refl
 worked_open (job.GiveUp m) = refl
 worked_open (job.Done status) = refl
 worked_open s = refl
 
 pub worked_issued : (s : JobStage) → is_unissued (worked s) ≡ false
+worked_issued (job.WriteWord m k) = refl
 worked_issued (job.Unmap m) = refl
 worked_issued (job.GiveUp m) = refl
 worked_issued (job.Done status) = refl
@@ -228,10 +241,10 @@ early_open (Finished status) early = absurd (omega arith)
 early_open s early = refl
 
 -- what an end saw of the other's producer is nothing to the pipeline
-pub saw_more : (config : Options) (g : Flow) (front_seen back_seen : ℕ) (d : Pipeline) (connected issuing fetching : Bool) (ending : Option Ending) (replying : Option Reply) (requests : List Request) (works : List Work)
-    → AreStations config g d connected issuing fetching ending replying requests works
-    → AreStations config (record g { front_seen = front_seen; back_seen = back_seen }) d connected issuing fetching ending replying requests works
-saw_more config g front_seen back_seen d connected issuing fetching ending replying requests works h = record {
+pub saw_more : (config : Options) (g : Flow) (front_seen back_seen : ℕ) (d : Pipeline) (connected issuing fetching : Bool) (ending : Option Ending) (telling : Bool) (replying : Option Reply) (requests : List Request) (works : List Work) (pages : List ℕ)
+    → AreStations config g d connected issuing fetching ending telling replying requests works pages
+    → AreStations config (record g { front_seen = front_seen; back_seen = back_seen }) d connected issuing fetching ending telling replying requests works pages
+saw_more config g front_seen back_seen d connected issuing fetching ending telling replying requests works pages h = record {
   options = h.options;
   front = h.front;
   ring = record { pushed = h.ring.pushed; entries = h.ring.entries; fetched = h.ring.fetched; replied = h.ring.replied; responses = h.ring.responses; taken = h.ring.taken };
@@ -244,11 +257,12 @@ saw_more config g front_seen back_seen d connected issuing fetching ending reply
   replying = h.replying;
   replied = h.replied;
   taking = h.taking;
+  reads = h.reads;
 }
 
 -- the front at another stage that is as far
-pub turned : (config : Options) (g : Flow) (d : Pipeline) (connected connected' issuing issuing' fetching : Bool) (ending ending' : Option Ending) (replying : Option Reply) (requests : List Request) (works : List Work)
-    → connected' ≡ connected → issuing' ≡ issuing → ending' ≡ ending
-    → AreStations config g d connected issuing fetching ending replying requests works
-    → AreStations config g d connected' issuing' fetching ending' replying requests works
-turned config g d connected connected' issuing issuing' fetching ending ending' replying requests works c i e h = rw (c, i, e) h
+pub turned : (config : Options) (g : Flow) (d : Pipeline) (connected connected' issuing issuing' fetching : Bool) (ending ending' : Option Ending) (telling telling' : Bool) (replying : Option Reply) (requests : List Request) (works : List Work) (pages : List ℕ)
+    → connected' ≡ connected → issuing' ≡ issuing → ending' ≡ ending → telling' ≡ telling
+    → AreStations config g d connected issuing fetching ending telling replying requests works pages
+    → AreStations config g d connected' issuing' fetching ending' telling' replying requests works pages
+turned config g d connected connected' issuing issuing' fetching ending ending' telling telling' replying requests works pages c i e t h = rw (c, i, e, t) h

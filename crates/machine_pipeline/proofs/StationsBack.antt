@@ -1,44 +1,41 @@
 -- The steps of the pipeline that the back and its jobs make: an entry is begun and fetched, a job moves its sector and ends, its response is begun and pushed.
-use Rattle.std.proofs.Common.{◌≡◌, ◌≢◌, ℕ, ◌+◌, ◌-◌, ◌<◌, ◌≤◌, ◌⊎◌, inl, inr, Bool, true, false, List, [], ◌∷◌, ◌++◌, length, refl, ap, sym, ◌∙◌, subst, arith, length-append}
+use Rattle.std.proofs.Common.{◌≡◌, ◌≢◌, ℕ, ◌+◌, ◌-◌, ◌<◌, ◌≤◌, inl, inr, Bool, true, false, List, [], ◌∷◌, ◌++◌, length, refl, ap, sym, ◌∙◌, subst, arith, length-append}
 use Rattle.std.specs.Prelude.{AllPairs, Option, Some, None, slice_get, slice_set}
 use Rattle.std.specs.List.{remove}
-use Rattle.std.proofs.lemmas.Option.{none-some, same_Some, slice_get_within}
-use Rattle.std.proofs.lemmas.Bool.{false≢true, cases_eq, cases_lt}
+use Rattle.std.proofs.lemmas.Option.{none-some, same_Some}
+use Rattle.std.proofs.lemmas.Bool.{false≢true, cases_lt}
 use Rattle.blk_base.specs.Options.{Options}
-use Rattle.blk_base.specs.declared.config.Job.TheVariants.{Write}
-use Rattle.blk_base.specs.declared.operation.Status.{Status}
-use Rattle.blk_base.specs.declared.operation.Status.TheVariants.{Okay, Error}
-use Rattle.schedule_text.specs.declared.line.Line.{Line}
 use Rattle.schedule_text.specs.declared.line.Line.TheVariants as lines
 use Rattle.blk_front.specs.declared.request.Request.{Request}
+use Rattle.blk_front.specs.Request.{is_write}
 use Rattle.blk_front.specs.declared.stage.Ending.{Ending}
 use Rattle.back_jobs.specs.Task.{Work}
 use Rattle.blk_back.specs.declared.stage.Reply.{Reply}
-use Rattle.pipeline_laws.specs.Station.{Station, Pushed, Fetching, Working, Failed, Ended, Replying, Replied, Request as Asked, is_finished}
-use Rattle.pipeline_laws.specs.Move.{Move, BeginsFetch, Fetches, Ends, BeginsResponse, Replies, moved, station_before, station_after}
+use Rattle.pipeline_laws.specs.Station.{Station, Pushed, Fetching, Working, Ended, Replying, Replied, Request as Asked}
+use Rattle.pipeline_laws.specs.Move.{Move, BeginsFetch, Fetches, BeginsResponse, Replies, moved, station_after, words_after}
 use Rattle.pipeline_laws.specs.Ring.{Ring, ring_after}
 use Rattle.pipeline_laws.specs.Pipeline.{Pipeline, Moves}
-use Rattle.pipeline_laws.specs.Allowed.{May}
 use Rattle.machine_pipeline.specs.Step.{IsSame}
 use Rattle.machine_pipeline.proofs.Flow.{Flow, worked}
+use Rattle.machine_pipeline.proofs.ReadBack.{IsReadBack, ReadAt, has_data_at}
+use Rattle.machine_pipeline.proofs.ReadsKept.{reads_moved, reads_fetched, reads_set, reads_step, reads_fewer}
 use Rattle.machine_pipeline.proofs.Lists.{pair_at, set_was, get_append, get_last}
 use Rattle.machine_pipeline.proofs.Growing.{push_was}
 use Rattle.machine_pipeline.proofs.Removals.{removed_was}
 use Rattle.machine_pipeline.proofs.Turns.{Stepped}
-use Rattle.machine_pipeline.proofs.Stations.{StandsAt, AreStations, AreWorking, AreReplied, IsRing, IsMoved, is_moved, stands_now, other_stays, kind_of, worked_kind, worked_open, worked_issued, known_moved, open_moved, issued_moved, waiting_moved, pushed_moved, works_moved, replying_moved, replied_moved, taking_moved}
+use Rattle.machine_pipeline.proofs.Stations.{StandsAt, apart as stands_apart, AreStations, AreWorking, IsRing, IsMoved, is_moved, stands_now, other_stays, kind_of, worked_kind, worked_open, worked_issued, known_moved, open_moved, issued_moved, waiting_moved, pushed_moved, works_moved, replying_moved, replied_moved, taking_moved}
 
 -- the next entry is begun to be copied
-pub begins_fetch : (config : Options) (g : Flow) (d : Pipeline) (connected issuing : Bool) (ending : Option Ending) (replying : Option Reply) (requests : List Request) (works : List Work)
+pub begins_fetch : (config : Options) (g : Flow) (d : Pipeline) (connected issuing : Bool) (ending : Option Ending) (telling : Bool) (replying : Option Reply) (requests : List Request) (works : List Work) (pages : List ℕ)
     → g.fetched < g.pushed
-    → AreStations config g d connected issuing false ending replying requests works
-    → Stepped None IsSame d [] (λ p. AreStations config g p connected issuing true ending replying requests works)
-begins_fetch config g d connected issuing ending replying requests works more h = record {
+    → AreStations config g d connected issuing false ending telling replying requests works pages
+    → Stepped None IsSame d [] (λ p. AreStations config g p connected issuing true ending telling replying requests works pages)
+begins_fetch config g d connected issuing ending telling replying requests works pages more h = record {
   step = Moves g.fetched x.q BeginsFetch;
   allowed = (record { here = x.at; there = x.there }, ap (slice_get (let ring : Ring = d.ring in ring.pushed)) h.ring.fetched ∙ h.ring.entries g.fetched more);
   shows = refl;
   asks = refl;
   disk = λ a b e. e;
-  possible = λ a. (a, refl);
   now = record {
     options = h.options;
     front = h.front;
@@ -54,7 +51,8 @@ begins_fetch config g d connected issuing ending replying requests works more h 
     works = works_moved works d.requests new g.fetched Pushed Fetching m (omega arith) h.works;
     replying = replying_moved replying d.requests new g.fetched Pushed Fetching m (omega arith) h.replying;
     replied = replied_moved g.replies d.requests new g.fetched Pushed Fetching m (omega arith) h.replied;
-    taking = taking_moved ending d.requests new g.fetched Pushed Fetching m (omega arith) h.taking;
+    taking = taking_moved ending telling d.requests new g.fetched Pushed Fetching m (omega arith) h.taking;
+    reads = reads_moved g.submitted d.requests new works pages g.fetched Pushed Fetching m refl (λ t. absurd (false≢true t)) h.reads;
   };
 }
   where
@@ -68,19 +66,19 @@ begins_fetch config g d connected issuing ending replying requests works more h 
     m = is_moved d.requests g.fetched Pushed Fetching x.q (moved x.q BeginsFetch) x.at x.there refl refl
 
 -- it is copied, and a job made of it
-pub fetches : (config : Options) (g : Flow) (d : Pipeline) (connected issuing : Bool) (ending : Option Ending) (replying : Option Reply) (requests : List Request) (works : List Work) (t : Work)
+pub fetches : (config : Options) (g : Flow) (d : Pipeline) (connected issuing : Bool) (ending : Option Ending) (telling : Bool) (replying : Option Reply) (requests : List Request) (works : List Work) (pages : List ℕ) (t : Work)
     → g.fetched < g.pushed
     → t.number ≡ g.fetched + 1
     → worked t.stage ≡ Working 0
-    → AreStations config g d connected issuing true ending replying requests works
-    → Stepped None IsSame d [] (λ p. AreStations config (record g { fetched = g.fetched + 1 }) p connected issuing false ending replying requests (works ++ t ∷ []))
-fetches config g d connected issuing ending replying requests works t more number begun h = record {
+    → ((frame : ℕ) → ReadAt pages frame t.words [] t.stage)
+    → AreStations config g d connected issuing true ending telling replying requests works pages
+    → Stepped None IsSame d [] (λ p. AreStations config (record g { fetched = g.fetched + 1 }) p connected issuing false ending telling replying requests (works ++ t ∷ []) pages)
+fetches config g d connected issuing ending telling replying requests works pages t more number begun unread h = record {
   step = Moves g.fetched x.q Fetches;
   allowed = (record { here = x.at; there = x.there }, ap (slice_get (let ring : Ring = d.ring in ring.pushed)) h.ring.fetched ∙ h.ring.entries g.fetched more);
   shows = refl;
   asks = refl;
   disk = λ a b e. e;
-  possible = λ a. (a, refl);
   now = record {
     options = h.options;
     front = h.front;
@@ -96,7 +94,10 @@ fetches config g d connected issuing ending replying requests works t more numbe
     works = working;
     replying = replying_moved replying d.requests new g.fetched Fetching (Working 0) m (omega arith) h.replying;
     replied = replied_moved g.replies d.requests new g.fetched Fetching (Working 0) m (omega arith) h.replied;
-    taking = taking_moved ending d.requests new g.fetched Fetching (Working 0) m (omega arith) h.taking;
+    taking = taking_moved ending telling d.requests new g.fetched Fetching (Working 0) m (omega arith) h.taking;
+    reads = reads_fetched g.submitted d.requests new works pages g.fetched Fetching (Working 0) m t
+        (λ i u at. stands_apart d.requests (u.number - 1) g.fetched (worked u.stage) Fetching (h.works i u at) (h.pushed.copied refl) (omega (arith, worked_kind u.stage)))
+        (omega (arith, number)) refl refl unread h.reads;
   };
 }
   where
@@ -127,11 +128,12 @@ works_at asked works place t t' here number same h i u e = elim (set_was works p
   | inr other ↦ h i u other.1
 ]
 
-pub job_stays : (config : Options) (g : Flow) (d : Pipeline) (connected issuing fetching : Bool) (ending : Option Ending) (replying : Option Reply) (requests : List Request) (works : List Work) (place : ℕ) (t t' : Work)
+pub job_stays : (config : Options) (g : Flow) (d : Pipeline) (connected issuing fetching : Bool) (ending : Option Ending) (telling : Bool) (replying : Option Reply) (requests : List Request) (works : List Work) (pages : List ℕ) (place : ℕ) (t t' : Work)
     → slice_get works place ≡ Some t → t'.number ≡ t.number → worked t'.stage ≡ worked t.stage
-    → AreStations config g d connected issuing fetching ending replying requests works
-    → AreStations config g d connected issuing fetching ending replying requests (slice_set works place t')
-job_stays config g d connected issuing fetching ending replying requests works place t t' here number same h = record {
+    → ((r : Request) (q : Asked) → slice_get g.submitted (t'.number - 1) ≡ Some r → slice_get d.requests (t'.number - 1) ≡ Some q → is_write r.transfer ≡ false → ReadAt pages r.frame t'.words q.words t'.stage)
+    → AreStations config g d connected issuing fetching ending telling replying requests works pages
+    → AreStations config g d connected issuing fetching ending telling replying requests (slice_set works place t') pages
+job_stays config g d connected issuing fetching ending telling replying requests works pages place t t' here number same now h = record {
   options = h.options;
   front = h.front;
   ring = h.ring;
@@ -144,6 +146,7 @@ job_stays config g d connected issuing fetching ending replying requests works p
   replying = h.replying;
   replied = h.replied;
   taking = h.taking;
+  reads = reads_set g.submitted d.requests works pages place t t' here now h.reads;
 }
 
 -- another job has another request
@@ -157,16 +160,17 @@ other_number works place i t u ascending positive here other at same =
     ]
 
 -- a job makes a move of its request
-pub job_steps : (config : Options) (g : Flow) (d : Pipeline) (connected issuing fetching : Bool) (ending : Option Ending) (replying : Option Reply) (requests : List Request) (works : List Work) (place : ℕ) (t t' : Work) (x : StandsAt d.requests (t.number - 1) (worked t.stage)) (move : Move)
+pub job_steps : (config : Options) (g : Flow) (d : Pipeline) (connected issuing fetching : Bool) (ending : Option Ending) (telling : Bool) (replying : Option Reply) (requests : List Request) (works : List Work) (pages : List ℕ) (place : ℕ) (t t' : Work) (x : StandsAt d.requests (t.number - 1) (worked t.stage)) (move : Move)
     → slice_get works place ≡ Some t
     → AllPairs (λ (a b : Work). a.number < b.number) works
     → ((i : ℕ) (u : Work) → slice_get works i ≡ Some u → 1 ≤ u.number)
     → t'.number ≡ t.number
     → (let q : Asked = x.q in station_after q.job move) ≡ worked t'.stage
     → ring_after d.ring (t.number - 1) move ≡ d.ring
-    → AreStations config g d connected issuing fetching ending replying requests works
-    → AreStations config g (record d { requests = slice_set d.requests (t.number - 1) (moved x.q move); ring = ring_after d.ring (t.number - 1) move }) connected issuing fetching ending replying requests (slice_set works place t')
-job_steps config g d connected issuing fetching ending replying requests works place t t' x move here ascending positive number after still h = record {
+    → ((r : Request) → slice_get g.submitted (t.number - 1) ≡ Some r → is_write r.transfer ≡ false → (let q : Asked = x.q in ReadAt pages r.frame t'.words (words_after move q.words) t'.stage × (has_data_at (worked t'.stage) ≡ true → IsReadBack pages r.frame (words_after move q.words))))
+    → AreStations config g d connected issuing fetching ending telling replying requests works pages
+    → AreStations config g (record d { requests = slice_set d.requests (t.number - 1) (moved x.q move); ring = ring_after d.ring (t.number - 1) move }) connected issuing fetching ending telling replying requests (slice_set works place t') pages
+job_steps config g d connected issuing fetching ending telling replying requests works pages place t t' x move here ascending positive number after still now h = record {
   options = h.options;
   front = h.front;
   ring = subst (IsRing g) (sym still) h.ring;
@@ -183,7 +187,8 @@ job_steps config g d connected issuing fetching ending replying requests works p
   ];
   replying = replying_moved replying d.requests new k from to m (omega (arith, kind)) h.replying;
   replied = replied_moved g.replies d.requests new k from to m (omega (arith, kind)) h.replied;
-  taking = taking_moved ending d.requests new k from to m (omega (arith, kind)) h.taking;
+  taking = taking_moved ending telling d.requests new k from to m (omega (arith, kind)) h.taking;
+  reads = reads_step g.submitted d.requests new works pages place t t' from to m here number apart now h.reads;
 }
   where
     k : ℕ
@@ -208,21 +213,20 @@ job_steps config g d connected issuing fetching ending replying requests works p
     apart i u other at = other_number works place i t u ascending positive here other at
 
 -- the result of a job that is done is taken, and its response begun
-pub begins_response : (config : Options) (g : Flow) (d : Pipeline) (connected issuing fetching : Bool) (ending : Option Ending) (requests : List Request) (works : List Work) (place : ℕ) (t : Work) (rep : Reply)
+pub begins_response : (config : Options) (g : Flow) (d : Pipeline) (connected issuing fetching : Bool) (ending : Option Ending) (telling : Bool) (requests : List Request) (works : List Work) (pages : List ℕ) (place : ℕ) (t : Work) (rep : Reply)
     → slice_get works place ≡ Some t
     → worked t.stage ≡ Ended rep.status
     → rep.id ≡ t.number
     → AllPairs (λ (a b : Work). a.number < b.number) works
     → ((i : ℕ) (u : Work) → slice_get works i ≡ Some u → 1 ≤ u.number)
-    → AreStations config g d connected issuing fetching ending None requests works
-    → Stepped None IsSame d [] (λ p. AreStations config g p connected issuing fetching ending (Some rep) requests (remove works place))
-begins_response config g d connected issuing fetching ending requests works place t rep here done number ascending positive h = record {
+    → AreStations config g d connected issuing fetching ending telling None requests works pages
+    → Stepped None IsSame d [] (λ p. AreStations config g p connected issuing fetching ending telling (Some rep) requests (remove works place) pages)
+begins_response config g d connected issuing fetching ending telling requests works pages place t rep here done number ascending positive h = record {
   step = Moves k x.q (BeginsResponse rep.status);
   allowed = (record { here = x.at; there = x.there }, tt);
   shows = refl;
   asks = refl;
   disk = λ a b e. e;
-  possible = λ a. (a, refl);
   now = record {
     options = h.options;
     front = h.front;
@@ -239,7 +243,9 @@ begins_response config g d connected issuing fetching ending requests works plac
         subst (λ (y : Reply). StandsAt new (y.id - 1) (Replying y.status)) (same_Some rep r same)
         (subst (λ (n : ℕ). StandsAt new (n - 1) to) (sym number) (stands_now d.requests new k from to m));
     replied = replied_moved g.replies d.requests new k from to m (omega arith) h.replied;
-    taking = taking_moved ending d.requests new k from to m (omega arith) h.taking;
+    taking = taking_moved ending telling d.requests new k from to m (omega arith) h.taking;
+    reads = reads_fewer g.submitted new works (remove works place) pages (λ i u e. let was = removed_was works place i u e in (was.0, was.2))
+        (reads_moved g.submitted d.requests new works pages k from to m refl (λ t. t) h.reads);
   };
 }
   where
@@ -280,18 +286,17 @@ ring_replied g ring rep counted h = record {
   taken = h.taken;
 }
 
-pub replies : (config : Options) (g : Flow) (d : Pipeline) (connected issuing fetching : Bool) (ending : Option Ending) (requests : List Request) (works : List Work) (rep : Reply)
+pub replies : (config : Options) (g : Flow) (d : Pipeline) (connected issuing fetching : Bool) (ending : Option Ending) (telling : Bool) (requests : List Request) (works : List Work) (pages : List ℕ) (rep : Reply)
     → 1 ≤ rep.id
     → length g.replies + g.taken ≡ g.replied
-    → AreStations config g d connected issuing fetching ending (Some rep) requests works
-    → Stepped None IsSame d (lines.Reply rep.id rep.status ∷ []) (λ p. AreStations config (record g { replied = g.replied + 1; replies = g.replies ++ rep ∷ [] }) p connected issuing fetching ending None requests works)
-replies config g d connected issuing fetching ending requests works rep positive counted h = record {
+    → AreStations config g d connected issuing fetching ending telling (Some rep) requests works pages
+    → Stepped None IsSame d (lines.Reply rep.id rep.status ∷ []) (λ p. AreStations config (record g { replied = g.replied + 1; replies = g.replies ++ rep ∷ [] }) p connected issuing fetching ending telling None requests works pages)
+replies config g d connected issuing fetching ending telling requests works pages rep positive counted h = record {
   step = Moves k x.q (Replies rep.status);
   allowed = (record { here = x.at; there = x.there }, tt);
   shows = ap (λ (n : ℕ). lines.Reply n rep.status ∷ []) (omega arith);
   asks = refl;
   disk = λ a b e. e;
-  possible = λ a. (a, refl);
   now = record {
     options = h.options;
     front = h.front;
@@ -307,7 +312,8 @@ replies config g d connected issuing fetching ending requests works rep positive
       | inl was ↦ replied_moved g.replies d.requests new k from to m (omega arith) h.replied i other was
       | inr last ↦ subst (λ (y : Reply). StandsAt new (y.id - 1) (Replied y.status)) (sym last.1) (stands_now d.requests new k from to m)
     ];
-    taking = taking_moved ending d.requests new k from to m (omega arith) h.taking;
+    taking = taking_moved ending telling d.requests new k from to m (omega arith) h.taking;
+    reads = reads_moved g.submitted d.requests new works pages k from to m refl (λ t. t) h.reads;
   };
 }
   where

@@ -1,43 +1,48 @@
 -- The steps of the pipeline that the front makes: it connects, begins an entry, pushes it, takes a response and answers.
-use Rattle.std.proofs.Common.{◌≡◌, ◌≢◌, ℕ, zero, suc, ◌+◌, ◌-◌, ◌<◌, ◌≤◌, ◌==◌, ◌⊎◌, inl, inr, Bool, true, false, not, cond, List, [], ◌∷◌, ◌++◌, length, drop, refl, ap, sym, ◌∙◌, subst, arith, length-append}
-use Rattle.std.specs.Prelude.{Option, Some, None, slice_get, slice_set, remove}
+use Rattle.std.proofs.Common.{◌≡◌, ◌≢◌, ℕ, suc, ◌+◌, ◌-◌, ◌<◌, ◌≤◌, ◌==◌, ◌⊎◌, inl, inr, Bool, true, false, not, cond, List, [], ◌∷◌, ◌++◌, length, drop, refl, ap, sym, ◌∙◌, subst, arith, length-append}
+use Rattle.std.specs.Prelude.{Option, Some, None, slice_get, slice_set, slice_index, remove}
 use Rattle.std.specs.List.{list_any}
-use Rattle.std.proofs.lemmas.Option.{none-some, same_Some, slice_get_within}
+use Rattle.std.proofs.lemmas.Option.{none-some, same_Some}
 use Rattle.std.proofs.lemmas.Bool.{false≢true, true≢false, cases_eq, cases_lt}
 use Rattle.blk_base.specs.Options.{Options}
 use Rattle.blk_base.specs.declared.config.Job.{Job}
-use Rattle.blk_base.specs.declared.config.Job.TheVariants.{Write}
 use Rattle.blk_base.specs.declared.operation.Status.{Status}
+use Rattle.blk_base.specs.declared.operation.Status.TheVariants.{Okay}
 use Rattle.schedule_text.specs.declared.line.Line.TheVariants as lines
+use Rattle.xen_pages.specs.Pages.{word_of}
 use Rattle.blk_front.specs.declared.request.Request.{Request}
+use Rattle.blk_front.specs.declared.request.Transfer.{Transfer}
+use Rattle.blk_front.specs.declared.request.Transfer.TheVariants as transfer
+use Rattle.blk_front.specs.Request.{is_write, has_data}
 use Rattle.blk_front.specs.declared.stage.Ending.{Ending}
 use Rattle.back_jobs.specs.Task.{Work}
 use Rattle.blk_back.specs.declared.stage.Reply.{Reply}
-use Rattle.pipeline_laws.specs.Station.{Station, Waiting, Issuing, Pushed, Fetching, Replying, Replied, Taking, Finished, Request as Asked, is_finished, submitted}
-use Rattle.pipeline_laws.specs.Move.{BeginsEntry, Pushes, Takes, Answers, moved, station_after}
+use Rattle.pipeline_laws.specs.Station.{Station, Waiting, Issuing, Pushed, Fetching, Replying, Replied, Taking, Telling, Finished, Request as Asked, is_finished, submitted}
+use Rattle.pipeline_laws.specs.Move.{BeginsEntry, Pushes, Takes, Answers, Tells, moved, station_after}
 use Rattle.pipeline_laws.specs.Ring.{Ring}
 use Rattle.pipeline_laws.specs.Pipeline.{Pipeline, Submits, Moves, Connects}
 use Rattle.pipeline_laws.specs.Allowed.{is_unissued, refusal_now}
 use Rattle.machine_pipeline.specs.Step.{IsSame}
-use Rattle.machine_pipeline.proofs.Flow.{Flow, worked}
-use Rattle.machine_pipeline.proofs.Lists.{all_at, pair_at, get_append, get_last}
+use Rattle.machine_pipeline.proofs.Flow.{Flow, worked, job_of}
+use Rattle.machine_pipeline.proofs.ReadBack.{IsReadBack, has_data_at}
+use Rattle.machine_pipeline.proofs.ReadsKept.{reads_moved, reads_more}
+use Rattle.machine_pipeline.proofs.Lists.{same_words, all_at, pair_at, get_append, get_last}
 use Rattle.machine_pipeline.proofs.Holds.{AreReplies, IsReply}
 use Rattle.machine_pipeline.proofs.Taking.{dropped, opened_without}
 use Rattle.machine_pipeline.proofs.Growing.{longer, push_was, known_more, opened_more}
 use Rattle.machine_pipeline.proofs.Turns.{Stepped}
-use Rattle.machine_pipeline.proofs.Stations.{StandsAt, AreStations, AreOpen, AreIssued, AreReplied, IsRing, IsMoved, is_moved, stands_now, other_stays, known_moved, open_moved, issued_moved, waiting_moved, pushed_moved, works_moved, replying_moved, replied_moved, taking_moved}
+use Rattle.machine_pipeline.proofs.Stations.{StandsAt, AreStations, finishing, AreOpen, AreIssued, AreReplied, IsRing, IsMoved, is_moved, stands_now, other_stays, known_moved, open_moved, issued_moved, waiting_moved, pushed_moved, works_moved, replying_moved, replied_moved, taking_moved}
 
 -- the front is connected
-pub connects : (config : Options) (g : Flow) (d : Pipeline) (issuing fetching : Bool) (ending : Option Ending) (replying : Option Reply) (requests : List Request) (works : List Work)
-    → AreStations config g d false issuing fetching ending replying requests works
-    → Stepped None IsSame d (lines.Ready ∷ []) (λ p. AreStations config g p true issuing fetching ending replying requests works)
-connects config g d issuing fetching ending replying requests works h = record {
+pub connects : (config : Options) (g : Flow) (d : Pipeline) (issuing fetching : Bool) (ending : Option Ending) (telling : Bool) (replying : Option Reply) (requests : List Request) (works : List Work) (pages : List ℕ)
+    → AreStations config g d false issuing fetching ending telling replying requests works pages
+    → Stepped None IsSame d (lines.Ready ∷ []) (λ p. AreStations config g p true issuing fetching ending telling replying requests works pages)
+connects config g d issuing fetching ending telling replying requests works pages h = record {
   step = Connects;
   allowed = rw h.front (refl, refl);
   shows = refl;
   asks = refl;
   disk = λ a b e. e;
-  possible = λ a. (a, refl);
   now = record {
     options = h.options;
     front = rw h.front refl;
@@ -51,21 +56,21 @@ connects config g d issuing fetching ending replying requests works h = record {
     replying = h.replying;
     replied = h.replied;
     taking = h.taking;
+    reads = h.reads;
   };
 }
 
 -- the next request's entry is begun
-pub begins_entry : (config : Options) (g : Flow) (d : Pipeline) (connected fetching : Bool) (ending : Option Ending) (replying : Option Reply) (requests : List Request) (works : List Work)
+pub begins_entry : (config : Options) (g : Flow) (d : Pipeline) (connected fetching : Bool) (ending : Option Ending) (telling : Bool) (replying : Option Reply) (requests : List Request) (works : List Work) (pages : List ℕ)
     → g.pushed < length d.requests
-    → AreStations config g d connected false fetching ending replying requests works
-    → Stepped None IsSame d [] (λ p. AreStations config g p connected true fetching ending replying requests works)
-begins_entry config g d connected fetching ending replying requests works within h = record {
+    → AreStations config g d connected false fetching ending telling replying requests works pages
+    → Stepped None IsSame d [] (λ p. AreStations config g p connected true fetching ending telling replying requests works pages)
+begins_entry config g d connected fetching ending telling replying requests works pages within h = record {
   step = Moves g.pushed x.q BeginsEntry;
   allowed = (record { here = x.at; there = x.there }, tt);
   shows = refl;
   asks = refl;
   disk = λ a b e. e;
-  possible = λ a. (a, refl);
   now = record {
     options = h.options;
     front = h.front;
@@ -81,7 +86,8 @@ begins_entry config g d connected fetching ending replying requests works within
     works = works_moved works d.requests new g.pushed Waiting Issuing m (omega arith) h.works;
     replying = replying_moved replying d.requests new g.pushed Waiting Issuing m (omega arith) h.replying;
     replied = replied_moved g.replies d.requests new g.pushed Waiting Issuing m (omega arith) h.replied;
-    taking = taking_moved ending d.requests new g.pushed Waiting Issuing m (omega arith) h.taking;
+    taking = taking_moved ending telling d.requests new g.pushed Waiting Issuing m (omega arith) h.taking;
+    reads = reads_moved g.submitted d.requests new works pages g.pushed Waiting Issuing m refl (λ t. absurd (false≢true t)) h.reads;
   };
 }
   where
@@ -109,18 +115,17 @@ ring_pushed g ring h = record {
 }
 
 -- the entry is pushed
-pub pushes : (config : Options) (g : Flow) (d : Pipeline) (connected fetching : Bool) (ending : Option Ending) (replying : Option Reply) (requests : List Request) (works : List Work)
+pub pushes : (config : Options) (g : Flow) (d : Pipeline) (connected fetching : Bool) (ending : Option Ending) (telling : Bool) (replying : Option Reply) (requests : List Request) (works : List Work) (pages : List ℕ)
     → g.fetched ≤ g.pushed
-    → AreStations config g d connected true fetching ending replying requests works
+    → AreStations config g d connected true fetching ending telling replying requests works pages
     → (fetching ≡ true → g.fetched < g.pushed)
-    → Stepped None IsSame d [] (λ p. AreStations config (record g { pushed = g.pushed + 1 }) p connected false fetching ending replying requests works)
-pushes config g d connected fetching ending replying requests works order h before = record {
+    → Stepped None IsSame d [] (λ p. AreStations config (record g { pushed = g.pushed + 1 }) p connected false fetching ending telling replying requests works pages)
+pushes config g d connected fetching ending telling replying requests works pages order h before = record {
   step = Moves g.pushed x.q Pushes;
   allowed = (record { here = x.at; there = x.there }, record { none = λ j y lt e. h.issued j y lt e });
   shows = refl;
   asks = refl;
   disk = λ a b e. e;
-  possible = λ a. (a, refl);
   now = record {
     options = h.options;
     front = h.front;
@@ -142,7 +147,8 @@ pushes config g d connected fetching ending replying requests works order h befo
     works = works_moved works d.requests new g.pushed Issuing Pushed m (omega arith) h.works;
     replying = replying_moved replying d.requests new g.pushed Issuing Pushed m (omega arith) h.replying;
     replied = replied_moved g.replies d.requests new g.pushed Issuing Pushed m (omega arith) h.replied;
-    taking = taking_moved ending d.requests new g.pushed Issuing Pushed m (omega arith) h.taking;
+    taking = taking_moved ending telling d.requests new g.pushed Issuing Pushed m (omega arith) h.taking;
+    reads = reads_moved g.submitted d.requests new works pages g.pushed Issuing Pushed m refl (λ t. absurd (false≢true t)) h.reads;
   };
 }
   where
@@ -174,21 +180,20 @@ ring_taken g ring h = record {
   taken = omega (arith, h.taken);
 }
 
-pub takes : (config : Options) (g : Flow) (d : Pipeline) (connected issuing fetching : Bool) (replying : Option Reply) (requests : List Request) (works : List Work) (place : ℕ) (r : Request) (rep : Reply) (e : Ending)
+pub takes : (config : Options) (g : Flow) (d : Pipeline) (connected issuing fetching : Bool) (replying : Option Reply) (requests : List Request) (works : List Work) (pages : List ℕ) (place : ℕ) (r : Request) (rep : Reply) (e : Ending)
     → slice_get g.replies 0 ≡ Some rep
     → slice_get requests place ≡ Some r
     → rep.id ≡ r.number
-    → e ≡ record { number = r.number; frame = r.frame; status = rep.status }
+    → e ≡ record { number = r.number; transfer = r.transfer; frame = r.frame; status = rep.status }
     → AreReplies g.fetched g.taken g.replied g.replies
-    → AreStations config g d connected issuing fetching None replying requests works
-    → Stepped None IsSame d [] (λ p. AreStations config (record g { taken = g.taken + 1; replies = drop 1 g.replies }) p connected issuing fetching (Some e) replying (remove requests place) works)
-takes config g d connected issuing fetching replying requests works place r rep e oldest found number made replies h = record {
+    → AreStations config g d connected issuing fetching None false replying requests works pages
+    → Stepped None IsSame d [] (λ p. AreStations config (record g { taken = g.taken + 1; replies = drop 1 g.replies }) p connected issuing fetching (Some e) false replying (remove requests place) works pages)
+takes config g d connected issuing fetching replying requests works pages place r rep e oldest found number made replies h = record {
   step = Moves k x.q (Takes rep.status);
   allowed = (record { here = x.at; there = x.there }, ap (slice_get (let ring : Ring = d.ring in ring.replied)) (omega (arith, h.ring.taken)) ∙ h.ring.responses 0 rep oldest);
   shows = refl;
   asks = refl;
   disk = λ a b e. e;
-  possible = λ a. (a, refl);
   now = record {
     options = h.options;
     front = h.front;
@@ -202,8 +207,9 @@ takes config g d connected issuing fetching replying requests works place r rep 
     replying = replying_moved replying d.requests new k (Replied rep.status) (Taking rep.status) m (omega arith) h.replying;
     replied = others_replied;
     taking = λ f same.
-        let it : f ≡ record { number = r.number; frame = r.frame; status = rep.status } = sym (same_Some e f same) ∙ made in
+        let it : f ≡ record { number = r.number; transfer = r.transfer; frame = r.frame; status = rep.status } = sym (same_Some e f same) ∙ made in
         subst (λ (y : Ending). StandsAt new (y.number - 1) (Taking y.status)) (sym it) (subst (λ (n : ℕ). StandsAt new (n - 1) (Taking rep.status)) number (stands_now d.requests new k (Replied rep.status) (Taking rep.status) m));
+    reads = reads_moved g.submitted d.requests new works pages k (Replied rep.status) (Taking rep.status) m refl (λ t. t) h.reads;
   };
 }
   where
@@ -227,21 +233,24 @@ takes config g d connected issuing fetching replying requests works place r rep 
         let differ = pair_at (λ (a b : Reply). a.id ≢ b.id) g.replies 0 (suc i) rep other replies.distinct (omega arith) oldest before in
         other_stays d.requests new (other.id - 1) k (Replied other.status) (Replied rep.status) (Taking rep.status) m (λ same. differ (omega (arith, first.positive, second.positive))) (h.replied (suc i) other before)
 
--- the request whose grant was ended is finished
-opened_finished : (asked finished : List Asked) (k : ℕ) (status : Status) (requests : List Request) (e : Ending)
-    → IsMoved asked finished k (Taking status) (Finished status)
+-- a request of which all was told is finished
+opened_finished : (asked finished : List Asked) (k : ℕ) (from : Station) (status : Status) (requests : List Request) (e : Ending)
+    → IsMoved asked finished k from (Finished status)
+    → is_finished from ≡ false
     → e.number ≡ k + 1
     → AreOpen asked requests (Some e)
     → AreOpen finished requests None
-opened_finished asked finished k status requests e m number h = record {
-  unfinished = omega (arith, m.counted, h.unfinished);
-  held = λ j q at going. elim (cases_eq j k) [
-    | inl same ↦
-        let one : m.now ≡ q = same_Some m.now q (sym m.here ∙ ap (slice_get finished) (sym same) ∙ at) in
-        absurd (true≢false (sym (ap is_finished m.there) ∙ (ap (λ (x : Asked). is_finished x.station) one ∙ going)))
-    | inr other ↦ left j other (h.held j q (sym (m.others j other) ∙ at) going)
-  ];
-}
+opened_finished asked finished k from status requests e m unfinished number h =
+    let was : ◌≡◌ {A = ℕ} (cond (not (is_finished from)) 1 0) 1 = rw unfinished refl in
+    record {
+      unfinished = omega (arith, m.counted, h.unfinished, was);
+      held = λ j q at going. elim (cases_eq j k) [
+        | inl same ↦
+            let one : m.now ≡ q = same_Some m.now q (sym m.here ∙ ap (slice_get finished) (sym same) ∙ at) in
+            absurd (true≢false (sym (ap is_finished m.there) ∙ (ap (λ (x : Asked). is_finished x.station) one ∙ going)))
+        | inr other ↦ left j other (h.held j q (sym (m.others j other) ∙ at) going)
+      ];
+    }
   where
     left : (j : ℕ) → j ≢ k → (list_any (λ (r : Request). r.number == j + 1) requests ≡ true) ⊎ ((f : Ending) × (Some e ≡ Some f) × (f.number ≡ j + 1)) → (list_any (λ (r : Request). r.number == j + 1) requests ≡ true) ⊎ ((f : Ending) × (None ≡ Some f) × (f.number ≡ j + 1))
     left j other (inl any) = inl any
@@ -249,25 +258,30 @@ opened_finished asked finished k status requests e m number h = record {
         let same : e.number ≡ j + 1 = ap (λ (x : Ending). x.number) (same_Some e it.0 it.1) ∙ it.2 in
         absurd (other (omega arith))
 
--- its answer is told
-pub answers : (config : Options) (g : Flow) (d : Pipeline) (connected issuing fetching : Bool) (replying : Option Reply) (requests : List Request) (works : List Work) (r : Request) (e : Ending)
+-- its answer is told, with which it is finished, but for a read that went well
+unread : (way : Transfer) (sector : ℕ) (status : Status) → has_data way status ≡ false → station_after (job_of way sector) (Answers status) ≡ Finished status
+unread transfer.Read sector Okay none = absurd (true≢false none)
+unread transfer.Read sector status none = refl
+unread (transfer.Write tag) sector status none = refl
+
+pub answers : (config : Options) (g : Flow) (d : Pipeline) (connected issuing fetching : Bool) (replying : Option Reply) (requests : List Request) (works : List Work) (pages : List ℕ) (r : Request) (e : Ending)
     → slice_get g.submitted (e.number - 1) ≡ Some r
     → 1 ≤ e.number
-    → AreStations config g d connected issuing fetching (Some e) replying requests works
-    → Stepped None IsSame d (lines.Answer e.number e.status ∷ []) (λ p. AreStations config g p connected issuing fetching None replying requests works)
-answers config g d connected issuing fetching replying requests works r e asked positive h = record {
+    → has_data r.transfer e.status ≡ false
+    → AreStations config g d connected issuing fetching (Some e) false replying requests works pages
+    → Stepped None IsSame d (lines.Answer e.number e.status ∷ []) (λ p. AreStations config g p connected issuing fetching None false replying requests works pages)
+answers config g d connected issuing fetching replying requests works pages r e asked positive none h = record {
   step = Moves k x.q (Answers e.status);
   allowed = (record { here = x.at; there = x.there }, tt);
   shows = ap (λ (n : ℕ). lines.Answer n e.status ∷ []) (omega arith);
   asks = refl;
   disk = λ a b e. e;
-  possible = λ a. (a, refl);
   now = record {
     options = h.options;
     front = h.front;
     ring = h.ring;
     known = known_moved g.submitted d.requests new k (Taking e.status) (Finished e.status) m h.known;
-    opened = opened_finished d.requests new k e.status requests e m (omega arith) h.opened;
+    opened = opened_finished d.requests new k (Taking e.status) e.status requests e m refl (omega arith) h.opened;
     issued = issued_moved g.pushed d.requests new k (Taking e.status) (Finished e.status) m (λ lt. refl) h.issued;
     waiting = waiting_moved g.pushed issuing d.requests new k (Taking e.status) (Finished e.status) m (omega arith) h.waiting;
     pushed = pushed_moved g.fetched g.pushed fetching d.requests new k (Taking e.status) (Finished e.status) m (omega arith) (omega arith) h.pushed;
@@ -275,6 +289,7 @@ answers config g d connected issuing fetching replying requests works r e asked 
     replying = replying_moved replying d.requests new k (Taking e.status) (Finished e.status) m (omega arith) h.replying;
     replied = replied_moved g.replies d.requests new k (Taking e.status) (Finished e.status) m (omega arith) h.replied;
     taking = λ f same. absurd (none-some f same);
+    reads = reads_moved g.submitted d.requests new works pages k (Taking e.status) (Finished e.status) m refl (λ t. absurd (false≢true t)) h.reads;
   };
 }
   where
@@ -287,32 +302,138 @@ answers config g d connected issuing fetching replying requests works r e asked 
     new : List Asked
     new = slice_set d.requests k (moved x.q (Answers e.status))
 
-    job : (let q : Asked = x.q in q.job) ≡ Write r.sector 1 r.tag
+    job : (let q : Asked = x.q in q.job) ≡ job_of r.transfer r.sector
     job = h.known.each k r x.q asked x.at
 
     after : (let q : Asked = x.q in station_after q.job (Answers e.status)) ≡ Finished e.status
-    after = rw job refl
+    after = rw job (unread r.transfer r.sector e.status none)
 
     m : IsMoved d.requests new k (Taking e.status) (Finished e.status)
     m = is_moved d.requests k (Taking e.status) (Finished e.status) x.q (moved x.q (Answers e.status)) x.at x.there after refl
+
+-- the data of a read that went well are told after its answer
+pub answers_read : (config : Options) (g : Flow) (d : Pipeline) (connected issuing fetching : Bool) (replying : Option Reply) (requests : List Request) (works : List Work) (pages : List ℕ) (r : Request) (e : Ending)
+    → slice_get g.submitted (e.number - 1) ≡ Some r
+    → 1 ≤ e.number
+    → r.transfer ≡ transfer.Read
+    → e.status ≡ Okay
+    → AreStations config g d connected issuing fetching (Some e) false replying requests works pages
+    → Stepped None IsSame d (lines.Answer e.number e.status ∷ []) (λ p. AreStations config g p connected issuing fetching (Some e) true replying requests works pages)
+answers_read config g d connected issuing fetching replying requests works pages r e asked positive way okay h = record {
+  step = Moves k x.q (Answers e.status);
+  allowed = (record { here = x.at; there = x.there }, tt);
+  shows = ap (λ (n : ℕ). lines.Answer n e.status ∷ []) (omega arith);
+  asks = refl;
+  disk = λ a b e. e;
+  now = record {
+    options = h.options;
+    front = h.front;
+    ring = h.ring;
+    known = known_moved g.submitted d.requests new k (Taking e.status) (Telling 0) m h.known;
+    opened = open_moved d.requests new k (Taking e.status) (Telling 0) requests (Some e) m refl refl h.opened;
+    issued = issued_moved g.pushed d.requests new k (Taking e.status) (Telling 0) m (λ lt. refl) h.issued;
+    waiting = waiting_moved g.pushed issuing d.requests new k (Taking e.status) (Telling 0) m (omega arith) h.waiting;
+    pushed = pushed_moved g.fetched g.pushed fetching d.requests new k (Taking e.status) (Telling 0) m (omega arith) (omega arith) h.pushed;
+    works = works_moved works d.requests new k (Taking e.status) (Telling 0) m (omega arith) h.works;
+    replying = replying_moved replying d.requests new k (Taking e.status) (Telling 0) m (omega arith) h.replying;
+    replied = replied_moved g.replies d.requests new k (Taking e.status) (Telling 0) m (omega arith) h.replied;
+    taking = λ f same. subst (λ (y : Ending). StandsAt new (y.number - 1) (Telling 0)) (same_Some e f same) (stands_now d.requests new k (Taking e.status) (Telling 0) m);
+    reads = reads_moved g.submitted d.requests new works pages k (Taking e.status) (Telling 0) m refl (λ t. rw okay refl) h.reads;
+  };
+}
+  where
+    k : ℕ
+    k = e.number - 1
+
+    x : StandsAt d.requests k (Taking e.status)
+    x = h.taking e refl
+
+    new : List Asked
+    new = slice_set d.requests k (moved x.q (Answers e.status))
+
+    job : (let q : Asked = x.q in q.job) ≡ job_of r.transfer r.sector
+    job = h.known.each k r x.q asked x.at
+
+    after : (let q : Asked = x.q in station_after q.job (Answers e.status)) ≡ Telling 0
+    after = rw (job, way, okay) refl
+
+    m : IsMoved d.requests new k (Taking e.status) (Telling 0)
+    m = is_moved d.requests k (Taking e.status) (Telling 0) x.q (moved x.q (Answers e.status)) x.at x.there after refl
+
+-- its one sector is told, the words that its frame holds
+pub tells : (config : Options) (g : Flow) (d : Pipeline) (connected issuing fetching : Bool) (replying : Option Reply) (requests : List Request) (works : List Work) (pages words : List ℕ) (r : Request) (e : Ending)
+    → slice_get g.submitted (e.number - 1) ≡ Some r
+    → 1 ≤ e.number
+    → r.transfer ≡ transfer.Read
+    → length words ≡ 128
+    → ((i : ℕ) → i < 128 → slice_index words i ≡ word_of pages r.frame i)
+    → AreStations config g d connected issuing fetching (Some e) true replying requests works pages
+    → Stepped None IsSame d (lines.Data e.number 0 words ∷ []) (λ p. AreStations config g p connected issuing fetching None false replying requests works pages)
+tells config g d connected issuing fetching replying requests works pages words r e asked positive way size same h = record {
+  step = Moves k x.q (Tells 0 words);
+  allowed = (record { here = x.at; there = x.there }, noted);
+  shows = ap (λ (n : ℕ). lines.Data n 0 words ∷ []) (omega arith);
+  asks = refl;
+  disk = λ a b e. e;
+  now = record {
+    options = h.options;
+    front = h.front;
+    ring = h.ring;
+    known = known_moved g.submitted d.requests new k (Telling 0) (Finished Okay) m h.known;
+    opened = opened_finished d.requests new k (Telling 0) Okay requests e m refl (omega arith) h.opened;
+    issued = issued_moved g.pushed d.requests new k (Telling 0) (Finished Okay) m (λ lt. refl) h.issued;
+    waiting = waiting_moved g.pushed issuing d.requests new k (Telling 0) (Finished Okay) m (omega arith) h.waiting;
+    pushed = pushed_moved g.fetched g.pushed fetching d.requests new k (Telling 0) (Finished Okay) m (omega arith) (omega arith) h.pushed;
+    works = works_moved works d.requests new k (Telling 0) (Finished Okay) m (omega arith) h.works;
+    replying = replying_moved replying d.requests new k (Telling 0) (Finished Okay) m (omega arith) h.replying;
+    replied = replied_moved g.replies d.requests new k (Telling 0) (Finished Okay) m (omega arith) h.replied;
+    taking = λ f same. absurd (none-some f same);
+    reads = reads_moved g.submitted d.requests new works pages k (Telling 0) (Finished Okay) m refl (λ t. absurd (false≢true t)) h.reads;
+  };
+}
+  where
+    k : ℕ
+    k = e.number - 1
+
+    x : StandsAt d.requests k (Telling 0)
+    x = h.taking e refl
+
+    new : List Asked
+    new = slice_set d.requests k (moved x.q (Tells 0 words))
+
+    job : (let q : Asked = x.q in q.job) ≡ job_of r.transfer r.sector
+    job = h.known.each k r x.q asked x.at
+
+    after : (let q : Asked = x.q in station_after q.job (Tells 0 words)) ≡ Finished Okay
+    after = rw (job, way) refl
+
+    m : IsMoved d.requests new k (Telling 0) (Finished Okay)
+    m = is_moved d.requests k (Telling 0) (Finished Okay) x.q (moved x.q (Tells 0 words)) x.at x.there after refl
+
+    back : (let q : Asked = x.q in IsReadBack pages r.frame q.words)
+    back = h.reads.after k r x.q asked x.at (ap is_write way) (ap has_data_at x.there)
+
+    noted : (let q : Asked = x.q in slice_get q.words 0) ≡ Some words
+    noted =
+        let these : back.words ≡ words = same_words back.words words (back.size ∙ sym size) (λ i lt. sym (back.held i (omega (arith, back.size))) ∙ sym (same i (omega (arith, back.size)))) in
+        ap (λ (ws : List (List ℕ)). slice_get ws 0) back.only ∙ ap Some these
 
 -- a request more is submitted
 stands_more : (asked : List Asked) (q : Asked) (k : ℕ) (station : Station) → StandsAt asked k station → StandsAt (asked ++ q ∷ []) k station
 stands_more asked q k station x = record { q = x.q; at = get_append asked (q ∷ []) k x.q x.at; there = x.there }
 
-pub submits : (config : Options) (g : Flow) (d : Pipeline) (connected issuing fetching : Bool) (ending : Option Ending) (replying : Option Reply) (requests : List Request) (works : List Work) (x : Request)
+pub submits : (config : Options) (g : Flow) (d : Pipeline) (connected issuing fetching : Bool) (ending : Option Ending) (telling : Bool) (replying : Option Reply) (requests : List Request) (works : List Work) (pages : List ℕ) (x : Request)
     → x.number ≡ length d.requests + 1
     → g.pushed ≤ length d.requests
-    → refusal_now d (Write x.sector 1 x.tag) ≡ None
-    → AreStations config g d connected issuing fetching ending replying requests works
-    → Stepped (Some (Write x.sector 1 x.tag)) IsSame d (lines.Submit x.number (Write x.sector 1 x.tag) ∷ []) (λ p. AreStations config (record g { submitted = g.submitted ++ x ∷ [] }) p connected issuing fetching ending replying (requests ++ x ∷ []) works)
-submits config g d connected issuing fetching ending replying requests works x number few accepted h = record {
+    → refusal_now d (job_of x.transfer x.sector) ≡ None
+    → AreStations config g d connected issuing fetching ending telling replying requests works pages
+    → Stepped (Some (job_of x.transfer x.sector)) IsSame d (lines.Submit x.number (job_of x.transfer x.sector) ∷ []) (λ p. AreStations config (record g { submitted = g.submitted ++ x ∷ [] }) p connected issuing fetching ending telling replying (requests ++ x ∷ []) works pages)
+submits config g d connected issuing fetching ending telling replying requests works pages x number few accepted h = record {
   step = Submits job;
   allowed = accepted;
   shows = ap (λ (n : ℕ). lines.Submit n job ∷ []) (sym number);
   asks = refl;
   disk = λ a b e. e;
-  possible = λ a. (a, refl);
   now = record {
     options = h.options;
     front = h.front;
@@ -337,9 +458,10 @@ submits config g d connected issuing fetching ending replying requests works x n
     works = λ i t e. stands_more d.requests (submitted job) (t.number - 1) (worked t.stage) (h.works i t e);
     replying = λ rep e. stands_more d.requests (submitted job) (rep.id - 1) (Replying rep.status) (h.replying rep e);
     replied = λ i rep e. stands_more d.requests (submitted job) (rep.id - 1) (Replied rep.status) (h.replied i rep e);
-    taking = λ e same. stands_more d.requests (submitted job) (e.number - 1) (Taking e.status) (h.taking e same);
+    taking = λ e same. stands_more d.requests (submitted job) (e.number - 1) (finishing telling e.status) (h.taking e same);
+    reads = reads_more g.submitted d.requests works pages x (submitted job) h.known.as_many refl (λ i t at. let stands = h.works i t at in (stands.q, stands.at)) h.reads;
   };
 }
   where
     job : Job
-    job = Write x.sector 1 x.tag
+    job = job_of x.transfer x.sector

@@ -72,7 +72,7 @@ pub front_at_more : (start pushed taken front_seen : ℕ) (submitted : List Requ
     → ((r : Request) → next ≡ Some r → next' ≡ Some r)
     → FrontAt start pushed taken front_seen submitted replies next entry s
     → FrontAt start pushed taken front_seen submitted replies next' entry s
-front_at_more start pushed taken front_seen submitted replies next next' entry (front.Data r k) stays h = (stays r h.0, h.1, h.2)
+front_at_more start pushed taken front_seen submitted replies next next' entry (front.Data r k) stays h = (stays r h.0, h.1, h.2, h.3)
 front_at_more start pushed taken front_seen submitted replies next next' entry (front.GrantFrame r) stays h = stays r h
 front_at_more start pushed taken front_seen submitted replies next next' entry (front.GrantFence r) stays h = stays r h
 front_at_more start pushed taken front_seen submitted replies next next' entry (front.GrantFlags r) stays h = stays r h
@@ -120,8 +120,8 @@ pub frames_more : (pushed last : ℕ) (pages : List ℕ) (s : FrontStage) (reque
     → All (IsFilled pushed pages s) requests
     → All (IsFilled pushed pages s) (requests ++ x ∷ [])
 frames_more pushed last pages s requests x number few idle h = All-push (IsFilled pushed pages s) requests x h (record {
-  whole = λ le i l. absurd (omega arith);
-  begun = λ e i l. absurd (let rest = idle (omega arith) in let none = rest.unfilled in omega arith);
+  whole = λ way le i l. absurd (omega arith);
+  begun = λ way e i l. absurd (let rest = idle (omega arith) in let none = rest.unfilled in omega arith);
 })
 
 pub entries_more : (pushed last : ℕ) (pages : List ℕ) (live : List Held) (s : FrontStage) (requests : List Request) (x : Request)
@@ -146,13 +146,14 @@ works_more submitted fetched works x h = record {
 }
 
 ending_more : (submitted : List Request) (replies : List Reply) (x : Request) (e : Ending) → IsEnding submitted replies e → IsEnding (submitted ++ x ∷ []) replies e
-ending_more submitted replies x e h = record { r = h.r; known = get_append submitted (x ∷ []) (e.number - 1) h.r h.known; positive = h.positive; frame = h.frame; alone = h.alone }
+ending_more submitted replies x e h = record { r = h.r; known = get_append submitted (x ∷ []) (e.number - 1) h.r h.known; positive = h.positive; transfer = h.transfer; frame = h.frame; alone = h.alone }
 
 pub front_at_grown : (start pushed taken front_seen : ℕ) (submitted : List Request) (replies : List Reply) (next : Option Request) (entry : List ℕ) (x : Request) (s : FrontStage)
     → FrontAt start pushed taken front_seen submitted replies next entry s
     → FrontAt start pushed taken front_seen (submitted ++ x ∷ []) replies next entry s
 front_at_grown start pushed taken front_seen submitted replies next entry x (front.GrantRead e) h = ending_more submitted replies x e h
 front_at_grown start pushed taken front_seen submitted replies next entry x (front.GrantEnd e before) h = (ending_more submitted replies x e h.0, h.1)
+front_at_grown start pushed taken front_seen submitted replies next entry x (front.ReadData e k) h = (ending_more submitted replies x e h.0, h.1, h.2, h.3)
 front_at_grown start pushed taken front_seen submitted replies next entry x s h = h
 
 pub back_at_grown : (start fetched back_seen replied : ℕ) (submitted : List Request) (works : List Work) (entry : List ℕ) (x : Request) (b : BackStage)

@@ -1,7 +1,7 @@
 -- The front takes a response: what all that holds becomes.
 use Rattle.std.proofs.Common.{◌≡◌, ◌≢◌, ℕ, suc, ◌+◌, ◌-◌, ◌*◌, ◌^◌, ◌<◌, ◌≤◌, ◌==◌, [], ◌∷◌, length, drop, refl, ap, sym, ◌∙◌, subst, arith, true≢false, true, false}
 use Rattle.std.specs.Prelude.{Some, None, slice_get, remove, Result, Ok}
-use Rattle.std.proofs.lemmas.Option.{none-some, same_Some, slice_get_within}
+use Rattle.std.proofs.lemmas.Option.{same_Some, slice_get_within}
 use Rattle.std.proofs.lemmas.List.Edits.{length-remove}
 use Rattle.std.proofs.lemmas.Bool.Decides.{nat_tests}
 use Rattle.blk_base.specs.Options.{Options}
@@ -15,6 +15,7 @@ use Rattle.xen_pages.specs.Pages.{word_of}
 use Rattle.blk_layout.specs.declared.response.Response.{Response}
 use Rattle.blk_layout.specs.Response.{response_of}
 use Rattle.blk_front.specs.declared.request.Request.{Request}
+use Rattle.blk_front.specs.Request.{grant_flags}
 use Rattle.blk_front.specs.declared.stage.Ending.{Ending}
 use Rattle.blk_front.specs.declared.stage.Stage.TheVariants as front
 use Rattle.blk_front.specs.View.{View, slot_frame, slot_word}
@@ -33,7 +34,7 @@ use Rattle.machine_pipeline.proofs.Lists.{all_at, all_from, pair_at}
 use Rattle.machine_pipeline.proofs.Removals.{removed_was}
 use Rattle.machine_pipeline.proofs.Wrapped.{next_wrapped}
 use Rattle.machine_pipeline.proofs.Frames.{unmapped}
-use Rattle.machine_pipeline.proofs.Resting.{at_read, at_last, ring_rests, granted_rests}
+use Rattle.machine_pipeline.proofs.Resting.{at_read, at_last, ring_rests, granted_rests, data_rests}
 use Rattle.machine_pipeline.proofs.Resuming.{response_read}
 use Rattle.machine_pipeline.proofs.Finding.{IsFound, finds, read_back, first_two, response_for}
 use Rattle.machine_pipeline.proofs.Taking.{queued_without, pooled_without, replies_without, dropped}
@@ -48,7 +49,7 @@ taken_holds : (config : Options) (w : World) (g : Flow) (d d' : Pipeline) (low h
     → slice_get g.replies 0 ≡ Some rep
     → g.taken < g.front_seen
     → (f : IsFound w g rep.id)
-    → AreStations config (record g { taken = g.taken + 1; replies = drop 1 g.replies }) d' true false (is_fetching w.back.stage) (Some (record { number = f.r.number; frame = f.r.frame; status = rep.status })) (reply_at w.back.stage) (remove w.front.requests f.place) w.back.jobs.works
+    → AreStations config (record g { taken = g.taken + 1; replies = drop 1 g.replies }) d' true false (is_fetching w.back.stage) (Some (record { number = f.r.number; transfer = f.r.transfer; frame = f.r.frame; status = rep.status })) false (reply_at w.back.stage) (remove w.front.requests f.place) w.back.jobs.works w.under.pages
     → (let x : View = taken w.front f.place f.r rep.status in let v : World = record { front = record x { told = None }; back = w.back; under = w.under } in
     Holds config v (record g { taken = g.taken + 1; replies = drop 1 g.replies }) d' x.stage w.back.stage)
 taken_holds config w g d d' low high rep h oldest seen f stations = record {
@@ -67,6 +68,7 @@ taken_holds config w g d d' low high rep h oldest seen f stations = record {
     r = f.r;
     known = all_at (λ (x : Request). slice_get g.submitted (x.number - 1) ≡ Some x) w.front.requests f.place f.r queue.known f.here;
     positive = (let number = f.number in let positive = is.positive in omega arith);
+    transfer = refl;
     frame = refl;
     alone = all_from (λ (x : Reply). x.id ≢ f.r.number) (drop 1 g.replies) (λ i x at. let replies = h.replies in
         let apart = pair_at (λ (a b : Reply). a.id ≢ b.id) g.replies 0 (suc i) rep x replies.distinct (omega arith) oldest (sym (dropped g.replies i) ∙ at) in
@@ -86,13 +88,14 @@ taken_holds config w g d d' low high rep h oldest seen f stations = record {
   frames = all_from (IsFilled g.pushed w.under.pages (front.GrantRead e)) (remove w.front.requests f.place) (λ i x at.
       let was = removed_was w.front.requests f.place i x at in
       let filled = all_at (IsFilled g.pushed w.under.pages (front.ResponseLast low high)) w.front.requests was.0 x h.frames was.2 in
-      record { whole = filled.whole; begun = λ n j lt. absurd (omega arith) });
+      record { whole = filled.whole; begun = λ way n j lt. absurd (omega arith) });
+  telling = data_rests w.under.pages w.under.pages w.front.words (front.ResponseLast low high) (front.GrantRead e) refl h.telling;
   entries = record {
     each = all_from (IsGranted g.pushed w.under.pages w.under.grants.live (front.GrantRead e)) (remove w.front.requests f.place) (λ i x at.
         let was = removed_was w.front.requests f.place i x at in
         let entries = h.entries in
         granted_rests g.pushed w.under.pages w.under.grants.live (front.ResponseLast low high) (front.GrantRead e) x (at_read e) (all_at (IsGranted g.pushed w.under.pages w.under.grants.live (front.ResponseLast low high)) w.front.requests was.0 x entries.each was.2));
-    ending = λ x same. subst (λ (y : Ending). entry_word0 w.under.pages (y.frame + 6) ≡ 5) (same_Some e x same) unmapped_flags;
+    ending = λ x same. subst (λ (y : Ending). entry_word0 w.under.pages (y.frame + 6) ≡ grant_flags y.transfer) (same_Some e x same) unmapped_flags;
   };
   mapped = h.mapped;
   page = h.page;
@@ -129,7 +132,7 @@ taken_holds config w g d d' low high rep h oldest seen f stations = record {
     })
 
     e : Ending
-    e = record { number = f.r.number; frame = f.r.frame; status = rep.status }
+    e = record { number = f.r.number; transfer = f.r.transfer; frame = f.r.frame; status = rep.status }
 
     is : IsReply g.fetched rep
     is = let replies = h.replies in all_at (IsReply g.fetched) g.replies 0 rep replies.each oldest
@@ -149,8 +152,8 @@ taken_holds config w g d d' low high rep h oldest seen f stations = record {
         let work = all_at (IsWork g.submitted g.fetched) w.back.jobs.works i t works.each at in
         absurd (apart d.requests (t.number - 1) (rep.id - 1) (worked t.stage) (Replied rep.status) (h.stations.works i t at) (h.stations.replied 0 rep oldest) (omega (arith, worked_kind t.stage)) (omega (arith, f.number, same, work.positive)))
 
-    unmapped_flags : entry_word0 w.under.pages (f.r.frame + 6) ≡ 5
-    unmapped_flags = granted.flags reached ∙ ap flags_with (unmapped config w g d (front.ResponseLast low high) w.back.stage h f.place f.r f.here no_job (λ (m : Mapping). m.gref == f.r.frame + 6) (λ m apart. grind (arith, nat_tests)))
+    unmapped_flags : entry_word0 w.under.pages (f.r.frame + 6) ≡ grant_flags f.r.transfer
+    unmapped_flags = granted.flags reached ∙ ap (flags_with f.r.transfer) (unmapped config w g d (front.ResponseLast low high) w.back.stage h f.place f.r f.here no_job (λ (m : Mapping). m.gref == f.r.frame + 6) (λ m apart. grind (arith, nat_tests)))
 
 -- the last word of the oldest response is read, and the response taken
 pub last_goes : (config : Options) (w : World) (g : Flow) (d : Pipeline) (low high : ℕ)
@@ -182,10 +185,10 @@ last_goes config w g d low high told h =
     found = finds config w g d (front.ResponseLast low high) rep h refl is (h.stations.replied 0 rep place.0.oldest)
 
     e : Ending
-    e = record { number = found.r.number; frame = found.r.frame; status = rep.status }
+    e = record { number = found.r.number; transfer = found.r.transfer; frame = found.r.frame; status = rep.status }
 
-    s : Stepped None IsSame d [] (λ p. AreStations config (record g { taken = g.taken + 1; replies = drop 1 g.replies }) p true false (is_fetching w.back.stage) (Some e) (reply_at w.back.stage) (remove w.front.requests found.place) w.back.jobs.works)
-    s = takes config g d true false (is_fetching w.back.stage) (reply_at w.back.stage) w.front.requests w.back.jobs.works found.place found.r rep e place.0.oldest found.here (sym found.number) refl h.replies h.stations
+    s : Stepped None IsSame d [] (λ p. AreStations config (record g { taken = g.taken + 1; replies = drop 1 g.replies }) p true false (is_fetching w.back.stage) (Some e) false (reply_at w.back.stage) (remove w.front.requests found.place) w.back.jobs.works w.under.pages)
+    s = takes config g d true false (is_fetching w.back.stage) (reply_at w.back.stage) w.front.requests w.back.jobs.works w.under.pages found.place found.r rep e place.0.oldest found.here (sym found.number) refl h.replies h.stations
 
     read : response_of (low ∷ high ∷ last ∷ []) ≡ Ok (response_for rep)
     read = read_back rep low high last is.op place.1 place.2 (response_read config w g d (front.ResponseLast low high) rep 2 h place.0.oldest (omega arith))

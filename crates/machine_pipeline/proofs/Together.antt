@@ -1,7 +1,6 @@
 -- Whatever happens is nothing to the pipeline or one step of it, and all that holds goes on holding.
-use Rattle.std.proofs.Common.{◌≡◌, ℕ, List, [], ◌∷◌, ◌++◌, refl, ap, ◌∙◌}
-use Rattle.std.specs.Prelude.{Option, Some, None, option_and_then}
-use Rattle.std.proofs.lemmas.Option.{none-some}
+use Rattle.std.proofs.Common.{◌≡◌, ℕ, List, [], ◌∷◌, refl}
+use Rattle.std.specs.Prelude.{Option, Some, None}
 use Rattle.blk_base.specs.Options.{Options}
 use Rattle.schedule_text.specs.declared.line.Line.{Line}
 use Rattle.blk_front.specs.declared.request.Request.{Request}
@@ -10,23 +9,25 @@ use Rattle.blk_front.specs.declared.stage.Stage.TheVariants as front
 use Rattle.blk_front.specs.View.{next_request}
 use Rattle.split_model.specs.World.{World, start_of}
 use Rattle.split_model.specs.Safe.{IsSafe}
-use Rattle.split_model.specs.Happening.{Happening, FrontMoves, BackMoves, JobMoves, Submits, Notifies, Looks, Settles, happens, lines_at, after as world_after, lines_of}
+use Rattle.split_model.specs.Happening.{Happening, FrontMoves, BackMoves, JobMoves, Submits, Notifies, Looks, Settles, happens, lines_at, after as world_after}
 use Rattle.split_model.proofs.Safe.{safe_happens}
 use Rattle.machine_pipeline.specs.Plain.{IsPlain}
-use Rattle.machine_pipeline.specs.Allowed.{IsAllowed, AreAllowed}
+use Rattle.machine_pipeline.specs.Allowed.{IsServed, AreServed}
 use Rattle.machine_pipeline.proofs.Flow.{Flow, start_flow}
 use Rattle.machine_pipeline.proofs.Holds.{Holds, Stands}
-use Rattle.machine_pipeline.proofs.Turns.{Goes, FrontGoes, GoesBy}
+use Rattle.machine_pipeline.proofs.Turns.{FrontGoes, GoesBy}
 use Rattle.machine_pipeline.proofs.StartingMoves.{start_moves}
 use Rattle.machine_pipeline.proofs.StartingHolds.{start_holds}
-use Rattle.machine_pipeline.proofs.Filling.{loop_issues, data_goes}
+use Rattle.machine_pipeline.proofs.Filling.{data_goes}
 use Rattle.machine_pipeline.proofs.Granting.{frame_goes, fence_goes, flags_goes}
+use Rattle.machine_pipeline.proofs.Beginning.{loop_issues}
 use Rattle.machine_pipeline.proofs.Entering.{slot_goes}
 use Rattle.machine_pipeline.proofs.Producing.{producer_goes}
 use Rattle.machine_pipeline.proofs.Announcing.{producer_fence_goes, event_goes, send_goes}
 use Rattle.machine_pipeline.proofs.Resuming.{loop_resumes, high_goes}
 use Rattle.machine_pipeline.proofs.Taken.{last_goes}
 use Rattle.machine_pipeline.proofs.Ended.{grant_read_goes, grant_end_goes}
+use Rattle.machine_pipeline.proofs.Telling.{told_goes}
 use Rattle.machine_pipeline.proofs.Looking.{store_goes, event_fence_goes, look_again_goes}
 use Rattle.machine_pipeline.proofs.BackMoves.{back_moves}
 use Rattle.machine_pipeline.proofs.JobTurns.{job_kept}
@@ -34,8 +35,7 @@ use Rattle.machine_pipeline.proofs.Submissions.{submit_kept}
 use Rattle.machine_pipeline.proofs.Notified.{notified_goes}
 use Rattle.machine_pipeline.proofs.Quiet.{looks_goes, settles_goes}
 use Rattle.pipeline_laws.specs.Pipeline.{Pipeline, pipeline_of, Step}
-use Rattle.machine_pipeline.specs.Step.{IsSame, CallAt, after_step, GoesStepwise, CallOf, Does}
-use Rattle.blk_back.specs.Step.{job_ask_of}
+use Rattle.machine_pipeline.specs.Step.{CallAt, after_step, GoesStepwise, Does}
 use Rattle.machine_pipeline.specs.Submissions.{submitted_at}
 use Rattle.blk_base.specs.declared.config.Job.{Job}
 
@@ -67,16 +67,17 @@ front_goes config w g d (front.ResponseHigh low) plain safe e h = high_goes conf
 front_goes config w g d (front.ResponseLast low high) plain safe e h = last_goes config w g d low high safe.front_told h
 front_goes config w g d (front.GrantRead x) plain safe e h = grant_read_goes config w g d x safe.front_told h
 front_goes config w g d (front.GrantEnd x before) plain safe e h = grant_end_goes config w g d x before h
+front_goes config w g d (front.ReadData x k) plain safe e h = told_goes config w g d x k safe.front_told h
 front_goes config w g d front.StoreEvent plain safe e h = store_goes config w g d safe.front_told h
 front_goes config w g d front.EventFence plain safe e h = event_fence_goes config w g d safe.front_told h
 front_goes config w g d front.LookAgain plain safe e h = look_again_goes config w g d safe.front_told h
 front_goes config w g d (front.Broken word) plain safe e h = absurd h.front_at
 
 -- whatever happens is nothing to the pipeline, or one step of it
-pub goes_on : (config : Options) (w : World) (g : Flow) (d : Pipeline) (h : Happening) → IsPlain config → Stands config w g d → IsAllowed w h → GoesBy (submitted_at h) (CallAt w h) config (lines_at w h) (happens w h) d
+pub goes_on : (config : Options) (w : World) (g : Flow) (d : Pipeline) (h : Happening) → IsPlain config → Stands config w g d → IsServed w h → GoesBy (submitted_at h) (CallAt w h) config (lines_at w h) (happens w h) d
 goes_on config w g d FrontMoves plain s may = front_goes config w g d w.front.stage plain s.safe refl s.holds
 goes_on config w g d BackMoves plain s may = back_moves config w g d plain may s
-goes_on config w g d (JobMoves number outcome) plain s may = (let safe = s.safe in job_kept config w g d number outcome s.holds safe.held)
+goes_on config w g d (JobMoves number outcome) plain s may = (let safe = s.safe in job_kept config w g d number outcome s.holds safe.held may)
 goes_on config w g d (Submits job) plain s may = submit_kept config w g d job plain s.holds may
 goes_on config w g d (Notifies at) plain s may = notified_goes config w g d at s
 goes_on config w g d Looks plain s may = looks_goes config w g d s
@@ -89,7 +90,7 @@ pub record HasGone (asked : Option Job) (call : (before after : List (List ℕ))
   pub does : Does asked call said d step
   pub stands : Stands config w flow (after_step d step)
 
-pub step_kept : (config : Options) (w : World) (g : Flow) (d : Pipeline) (h : Happening) → IsPlain config → Stands config w g d → IsAllowed w h → HasGone (submitted_at h) (CallAt w h) config (lines_at w h) (happens w h) d
+pub step_kept : (config : Options) (w : World) (g : Flow) (d : Pipeline) (h : Happening) → IsPlain config → Stands config w g d → IsServed w h → HasGone (submitted_at h) (CallAt w h) config (lines_at w h) (happens w h) d
 step_kept config w g d h plain s may =
     let gone = goes_on config w g d h plain s may in
     record { flow = gone.flow; step = gone.step; does = gone.does; stands = record { safe = safe_happens w h s.safe; holds = gone.holds } }
@@ -100,21 +101,21 @@ pub record IsStanding (config : Options) (w : World) : Type 0 where
   pub pipeline : Pipeline
   pub stands : Stands config w flow pipeline
 
-pub run_kept : (config : Options) (hs : List Happening) (w : World) (g : Flow) (d : Pipeline) → IsPlain config → Stands config w g d → AreAllowed hs w → IsStanding config (world_after hs w)
+pub run_kept : (config : Options) (hs : List Happening) (w : World) (g : Flow) (d : Pipeline) → IsPlain config → Stands config w g d → AreServed hs w → IsStanding config (world_after hs w)
 run_kept config [] w g d plain s may = record { flow = g; pipeline = d; stands = s }
 run_kept config (h ∷ hs) w g d plain s may =
     let one = step_kept config w g d h plain s may.0 in
     run_kept config hs (happens w h) one.flow (after_step d one.step) plain one.stands may.1
 
-pub always_stands : (config : Options) (hs : List Happening) → IsPlain config → AreAllowed hs (start_of config) → IsStanding config (world_after hs (start_of config))
+pub always_stands : (config : Options) (hs : List Happening) → IsPlain config → AreServed hs (start_of config) → IsStanding config (world_after hs (start_of config))
 always_stands config hs plain may = run_kept config hs (start_of config) (start_flow config.start) (pipeline_of config) plain (start_holds config plain) may
 
 -- each happening in its turn
-pub steps_on : (config : Options) (hs : List Happening) (w : World) (g : Flow) (d : Pipeline) → IsPlain config → Stands config w g d → AreAllowed hs w → GoesStepwise hs w d
+pub steps_on : (config : Options) (hs : List Happening) (w : World) (g : Flow) (d : Pipeline) → IsPlain config → Stands config w g d → AreServed hs w → GoesStepwise hs w d
 steps_on config [] w g d plain s may = tt
 steps_on config (h ∷ hs) w g d plain s may =
     let gone = step_kept config w g d h plain s may.0 in
     (gone.step, gone.does, steps_on config hs (happens w h) gone.flow (after_step d gone.step) plain gone.stands may.1)
 
-pub always_steps : (config : Options) (hs : List Happening) → IsPlain config → AreAllowed hs (start_of config) → GoesStepwise hs (start_of config) (pipeline_of config)
+pub always_steps : (config : Options) (hs : List Happening) → IsPlain config → AreServed hs (start_of config) → GoesStepwise hs (start_of config) (pipeline_of config)
 always_steps config hs plain may = steps_on config hs (start_of config) (start_flow config.start) (pipeline_of config) plain (start_holds config plain) may

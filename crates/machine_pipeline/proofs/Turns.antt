@@ -2,7 +2,6 @@
 use Rattle.std.proofs.Common.{◌≡◌, ℕ, List, [], ◌∷◌, ◌++◌, refl, ap, sym, ◌∙◌}
 use Rattle.std.specs.Prelude.{Option, Some, None}
 use Rattle.blk_base.specs.Options.{Options}
-use Rattle.blk_base.specs.declared.ask.BackAsk.{BackAsk}
 use Rattle.blk_base.specs.declared.ask.BackAnswer.{BackAnswer}
 use Rattle.blk_base.specs.declared.moves.BackMover.TheVariants as back_mover
 use Rattle.blk_base.specs.declared.moves.Move.{Move as Shown}
@@ -79,11 +78,11 @@ JobGoes config w d number outcome = GoesBy None (CallOf (back_step.job_ask_of w.
 
 -- a move by itself is nothing to the pipeline
 pub nothing : (call : (before after : List (List ℕ)) → Type 0) (shown : Shown) (d : Pipeline) → ((a b : List (List ℕ)) → call a b → b ≡ a) → Does None call (Move shown ∷ []) d None
-nothing call shown d same = record { asides = Move shown ∷ []; aside = refl; shows = refl; asks = refl; allowed = tt; disk = same; possible = λ a. (a, refl) }
+nothing call shown d same = record { asides = Move shown ∷ []; aside = refl; shows = refl; asks = refl; allowed = tt; disk = same }
 
 -- and where there is no move nothing is
 pub no_move : (call : (before after : List (List ℕ)) → Type 0) (d : Pipeline) → ((a b : List (List ℕ)) → call a b → b ≡ a) → Does None call [] d None
-no_move call d same = record { asides = []; aside = refl; shows = refl; asks = refl; allowed = tt; disk = same; possible = λ a. (a, refl) }
+no_move call d same = record { asides = []; aside = refl; shows = refl; asks = refl; allowed = tt; disk = same }
 
 -- so is a move of an end that tells nothing
 pub said_nothing : (d : Pipeline) (shown : Shown) (told : Option Told) → told ≡ None → Does None IsSame (Move shown ∷ front_lines told) d None
@@ -99,12 +98,11 @@ pub record Stepped (asked : Option Job) (call : (before after : List (List ℕ))
   pub shows : step_lines d step ≡ lines
   pub asks : submitted_at step ≡ asked
   pub disk : (before after : List (List ℕ)) → call before after → DiskGoes step before after
-  pub possible : (before : List (List ℕ)) → (after : List (List ℕ)) × DiskGoes step before after
   pub now : After (next d step)
 
 pub does_step : {asked : Option Job} {call : (before after : List (List ℕ)) → Type 0} {d : Pipeline} {lines : List Line} {After : Pipeline → Type 0} (shown : Shown) (said : List Line) → said ≡ lines → (s : Stepped asked call d lines After) → Does asked call (Move shown ∷ said) d (Some s.step)
-does_step shown said e s = record { asides = Move shown ∷ []; aside = refl; shows = ap (λ (ls : List Line). Move shown ∷ ls) (e ∙ sym s.shows); asks = s.asks; allowed = s.allowed; disk = s.disk; possible = s.possible }
+does_step shown said e s = record { asides = Move shown ∷ []; aside = refl; shows = ap (λ (ls : List Line). Move shown ∷ ls) (e ∙ sym s.shows); asks = s.asks; allowed = s.allowed; disk = s.disk }
 
 -- a step that shows its lines alone
 pub does_alone : {asked : Option Job} {call : (before after : List (List ℕ)) → Type 0} {d : Pipeline} {lines : List Line} {After : Pipeline → Type 0} (s : Stepped asked call d lines After) → Does asked call lines d (Some s.step)
-does_alone s = record { asides = []; aside = refl; shows = sym s.shows; asks = s.asks; allowed = s.allowed; disk = s.disk; possible = s.possible }
+does_alone s = record { asides = []; aside = refl; shows = sym s.shows; asks = s.asks; allowed = s.allowed; disk = s.disk }

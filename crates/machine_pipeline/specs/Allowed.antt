@@ -1,22 +1,25 @@
 -- Histories of a machine whose ends connect before they do anything else, with the submissions that it carries out.
 use Rattle.std.specs.Prelude.{◌≡◌, ◌^◌, ◌<◌, true, List, [], ◌∷◌}
 use Rattle.blk_base.specs.declared.config.Job.{Job}
-use Rattle.blk_base.specs.declared.config.Job.TheVariants.{Write}
+use Rattle.blk_base.specs.declared.config.Job.TheVariants.{Read, Write}
 use Rattle.blk_front.specs.Submit.{is_connected}
 use Rattle.split_model.specs.World.{World}
-use Rattle.split_model.specs.Happening.{Happening, BackMoves, Submits, happens}
+use Rattle.split_model.specs.Happening.{Happening, BackMoves, JobMoves, Submits, happens}
+use Rattle.hypervisor.specs.Act.{IsGiven}
 
--- a write of one sector, filled with a word of 32 bits
-abbrev pub IsOneWrite : Job → Type 0
-IsOneWrite (Write sector count tag) = (count ≡ 1) × (tag < 2 ^ 32)
-IsOneWrite job = ⊥
+-- a read of one sector, or a write of one, filled with a word of 32 bits
+abbrev pub IsOneSector : Job → Type 0
+IsOneSector (Read sector count) = count ≡ 1
+IsOneSector (Write sector count tag) = (count ≡ 1) × (tag < 2 ^ 32)
+IsOneSector job = ⊥
 
--- the back moves only once the front made its ring and its port
-abbrev pub IsAllowed : World → Happening → Type 0
-IsAllowed w BackMoves = is_connected w.front.stage ≡ true
-IsAllowed w (Submits job) = IsOneWrite job
-IsAllowed w h = Unit {0}
+-- the back moves only once the front made its ring and its port; a sector that the disk gives has 128 words of 32 bits; what is submitted is a read or a write of one sector
+abbrev pub IsServed : World → Happening → Type 0
+IsServed w BackMoves = is_connected w.front.stage ≡ true
+IsServed w (JobMoves number outcome) = IsGiven outcome
+IsServed w (Submits job) = IsOneSector job
+IsServed w h = Unit {0}
 
-abbrev pub AreAllowed : List Happening → World → Type 0
-AreAllowed [] w = Unit {0}
-AreAllowed (h ∷ hs) w = IsAllowed w h × AreAllowed hs (happens w h)
+abbrev pub AreServed : List Happening → World → Type 0
+AreServed [] w = Unit {0}
+AreServed (h ∷ hs) w = IsServed w h × AreServed hs (happens w h)

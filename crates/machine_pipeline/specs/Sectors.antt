@@ -1,5 +1,5 @@
 -- What a call of the disk makes of its sectors, where the disk exposes them.
-use Rattle.std.specs.Prelude.{◌≡◌, ℕ, List, Option, Some, None}
+use Rattle.std.specs.Prelude.{◌≡◌, ℕ, List, Option}
 use Rattle.blk_base.specs.declared.ask.BackAsk.{BackAsk}
 use Rattle.blk_base.specs.declared.ask.BackAsk.TheVariants as back_ask
 use Rattle.blk_io.specs.Disk.{IsSectorOf, with_sector, with_zeros, SameBut}

@@ -51,7 +51,7 @@ abbrev pub submitted_by : Option Step → Option Job
 submitted_by None = None
 submitted_by (Some s) = step_submits s
 
--- what is shown is the step's lines, after lines that tell nothing of a request (a move of the machine); it submits what was submitted (`asked`); the pipeline allows the step, and its call of the disk is the one that was made (`call`), whatever the sectors hold
+-- what is shown is the step's lines, after lines that tell nothing of a request (a move of the machine); it submits what was submitted (`asked`); the pipeline allows the step, and its call of the disk is the one that was made (`call`)
 pub record Does (asked : Option Job) (call : (before after : List (List ℕ)) → Type 0) (shown : List Line) (d : Pipeline) (step : Option Step) : Type 0 where
   pub asides : List Line
   pub aside : list_all is_aside asides ≡ true
@@ -59,7 +59,6 @@ pub record Does (asked : Option Job) (call : (before after : List (List ℕ)) �
   pub asks : submitted_by step ≡ asked
   pub allowed : IsAllowedStep d step
   pub disk : (before after : List (List ℕ)) → call before after → StepGoes step before after
-  pub possible : (before : List (List ℕ)) → (after : List (List ℕ)) × StepGoes step before after
 
 -- each happening of a history is nothing to the pipeline as it then stands, or one step of it
 abbrev pub GoesStepwise : List Happening → World → Pipeline → Type 0

@@ -4,18 +4,19 @@
 //! plain disk stands here: what a report of the machine is follows from the pipeline's laws.
 //!
 //! The premises: a ring of one page and a disk that may be written (`IsPlain`); the back moves only
-//! once the front is connected, and what is submitted are writes of one sector (`AreAllowed`). The
-//! happenings that the events of a schedule make are such.
+//! once the front is connected, and what is submitted are reads and writes of one sector (`AreServed`).
+//! The happenings that the events of a schedule make are such.
 #![tactic(auto)]
 
 ghost use Rattle.std.specs.Prelude.{List};
 ghost use Rattle.blk_base.specs.Options.{Options};
 ghost use Rattle.blk_io.specs.Disk.{DiskSeen, HasLength};
 ghost use Rattle.split_model.specs.World.{start_of};
-ghost use Rattle.split_model.specs.Happening.{Happening, DiskRuns};
+ghost use Rattle.split_model.specs.Happening.{Happening, lines_of, DiskRuns};
 ghost use Rattle.pipeline_laws.specs.Pipeline.{pipeline_of};
+ghost use Rattle.pipeline_laws.specs.Effects.{IsOfADisk};
 ghost use Rattle.machine_pipeline.specs.Plain.{IsPlain};
-ghost use Rattle.machine_pipeline.specs.Allowed.{AreAllowed};
+ghost use Rattle.machine_pipeline.specs.Allowed.{AreServed};
 ghost use Rattle.machine_pipeline.specs.Step.{GoesStepwise};
 ghost use Rattle.machine_pipeline.specs.Run.{IsPipelineRun};
 
@@ -23,14 +24,16 @@ ghost use Rattle.machine_pipeline.specs.Run.{IsPipelineRun};
 /// which the pipeline allows: the lines that the happening shows are that step's, but for moves of
 /// the machine, and its call of the disk is the one that the happening makes.
 pub fn each_happening_is_at_most_one_step()
-    ensures { (config : Options) (history : List Happening) → IsPlain config → AreAllowed history (start_of config)
+    ensures { (config : Options) (history : List Happening) → IsPlain config → AreServed history (start_of config)
         → GoesStepwise history (start_of config) (pipeline_of config) }
 {}
 
-/// So every history is a run of the pipeline, with the same lines and submissions, over the same
-/// disk; where the disk doesn't tell, over some sectors that its calls are consistent with.
+/// So every history is a run of the pipeline, with the same lines and submissions, over the same disk;
+/// where the disk doesn't tell what it holds, if the lines show the calls of some disk, as those of a
+/// real one do, over the sectors of that disk.
 pub fn every_history_is_a_run_of_the_pipeline()
-    ensures { (config : Options) (history : List Happening) (before now : DiskSeen) → IsPlain config → AreAllowed history (start_of config)
+    ensures { (config : Options) (history : List Happening) (before now : DiskSeen) → IsPlain config → AreServed history (start_of config)
         → HasLength before.content config.sectors → DiskRuns history (start_of config) before now
+        → IsOfADisk config.sectors before.content (lines_of history (start_of config))
         → IsPipelineRun config history before.content now.content }
 {}

@@ -18,13 +18,17 @@ use Rattle.blk_layout.specs.declared.response.Response.{Response}
 use Rattle.blk_layout.specs.Response.{response_of}
 use Rattle.blk_front.specs.declared.stage.Stage.{Stage}
 use Rattle.blk_front.specs.declared.stage.Stage.TheVariants as stage
+use Rattle.blk_front.specs.declared.stage.Ending.{Ending}
 use Rattle.blk_front.specs.declared.request.Request.{Request}
+use Rattle.blk_front.specs.declared.request.Transfer.{Transfer}
+use Rattle.blk_front.specs.declared.request.Transfer.TheVariants as transfer
 use Rattle.blk_front.specs.declared.told.Refusal.{Refusal}
 use Rattle.blk_front.specs.declared.told.Refusal.TheVariants as refusal
 use Rattle.blk_front.specs.Pool.{lowest_of}
+use Rattle.blk_front.specs.Request.{has_data}
 use Rattle.blk_front.specs.View.{View, next_request, shape, start_of, slot_frame, slot_word, ring_frame}
-use Rattle.blk_front.specs.Ask.{ask_at, ask_of, loop_ask, StaysInMemory}
-use Rattle.blk_front.specs.Step.{at, broken, looked, loop_step, found_at, issued, response_at, is_mapped, ended, step_at, step_of}
+use Rattle.blk_front.specs.Ask.{ask_at, ask_of, issue_ask, loop_ask, StaysInMemory}
+use Rattle.blk_front.specs.Step.{at, broken, looked, issue_stage, loop_step, found_at, issued, response_at, is_mapped, ended, data_step, step_at, step_of}
 use Rattle.blk_front.specs.Submit.{is_ready, unfinished, one_sector, submit_with, submit_one, submit_of}
 
 -- a stage is at one of the words that it goes through, of a frame that both ends share
@@ -37,6 +41,7 @@ IsPlaced (stage.GrantFlags r) = r.frame < 1018
 IsPlaced (stage.Slot k) = k < 28
 IsPlaced (stage.GrantRead e) = e.frame < 1018
 IsPlaced (stage.GrantEnd e before) = e.frame < 1018
+IsPlaced (stage.ReadData e k) = (e.frame < 1018) × (k < 128)
 IsPlaced s = Unit {0}
 
 abbrev Shared : Request → Type 0
@@ -69,8 +74,12 @@ next_by false v r all e = shared_at v.requests (length v.requests - v.waiting) r
 next_shared : (v : View) (r : Request) → All Shared v.requests → next_request v ≡ Some r → r.frame < 1018
 next_shared v r all e = next_by (v.waiting == 0) v r all e
 
+issue_within : (r : Request) (way : Transfer) → r.frame < 1018 → StaysInMemory (issue_ask r way)
+issue_within r transfer.Read shared = (omega arith, omega arith)
+issue_within r (transfer.Write tag) shared = (shared, omega arith)
+
 loop_ask_within : (v : View) (r : Option Request) → All Shared v.requests → next_request v ≡ r → StaysInMemory (loop_ask v r)
-loop_ask_within v (Some r) all e = (next_shared v r all e, omega arith)
+loop_ask_within v (Some r) all e = issue_within r r.transfer (next_shared v r all e)
 loop_ask_within v None all e = loop_within v.asleep (responses_of v.ring v.seen == 0) (slot_frame v.ring.cons 0) (slot_word v.ring.cons 0) (in_slot v.ring.cons 0 (omega arith))
 
 within_at : (s : Stage) (v : View) → IsPlaced s → All Shared v.requests → StaysInMemory (ask_at s v)
@@ -88,6 +97,7 @@ within_at (stage.ResponseHigh low) v p all = in_slot v.ring.cons 1 (omega arith)
 within_at (stage.ResponseLast low high) v p all = in_slot v.ring.cons 2 (omega arith)
 within_at (stage.GrantRead e) v p all = (omega arith, omega arith)
 within_at (stage.GrantEnd e seen) v p all = (omega arith, omega arith)
+within_at (stage.ReadData e k) v p all = (p.0, omega (arith, p.1))
 within_at stage.StoreEvent v p all = (omega arith, omega arith)
 within_at stage.LookAgain v p all = (omega arith, omega arith)
 within_at s v p all = tt
@@ -103,6 +113,10 @@ either : (b : Bool) (x y : View) → IsFront x → IsFront y → IsFront (if b t
 either true x y p q = p
 either false x y p q = q
 
+either_when : (b : Bool) (x y : View) → IsFront x → (b ≡ false → IsFront y) → IsFront (if b then x else y)
+either_when true x y p q = p
+either_when false x y p q = q refl
+
 either_stage : (b : Bool) (x y : Stage) → (b ≡ true → IsPlaced x) → (b ≡ false → IsPlaced y) → IsPlaced (if b then x else y)
 either_stage true x y p q = p refl
 either_stage false x y p q = q refl
@@ -116,8 +130,12 @@ looked_kept v word otherwise f h =
     either (nat_lt (distance_of v.ring.cons v.ring.prod) (distance_of v.ring.cons word)) (broken word v) (if word == v.ring.cons then otherwise else record v { seen = word; stage = stage.Loop }) (record { placed = tt; shared = f.shared; pool = f.pool })
     (either (word == v.ring.cons) otherwise (record v { seen = word; stage = stage.Loop }) h (record { placed = tt; shared = f.shared; pool = f.pool }))
 
+issue_placed : (r : Request) (way : Transfer) → r.frame < 1018 → IsPlaced (issue_stage r way)
+issue_placed r transfer.Read shared = shared
+issue_placed r (transfer.Write tag) shared = (shared, omega arith)
+
 loop_kept : (v : View) (r : Option Request) (x : FrontAnswer) → IsFront v → next_request v ≡ r → IsFront (loop_step v r x)
-loop_kept v (Some r) x f e = at_stage (stage.Data r 1) v (next_shared v r f.shared e, omega arith) f
+loop_kept v (Some r) x f e = at_stage (issue_stage r r.transfer) v (issue_placed r r.transfer (next_shared v r f.shared e)) f
 loop_kept v None (answer.Word word) f e =
     either (responses_of v.ring v.seen == 0) (looked v word (record v { seen = word; stage = stage.StoreEvent })) (at (stage.ResponseHigh word) v)
     (looked_kept v word (record v { seen = word; stage = stage.StoreEvent }) f (record { placed = tt; shared = f.shared; pool = f.pool })) (at_stage (stage.ResponseHigh word) v tt f)
@@ -142,6 +160,20 @@ response_kept v response low None f h = record { placed = tt; shared = f.shared;
 response_kept v (Err word) low (Some found) f h = record { placed = tt; shared = f.shared; pool = f.pool }
 response_kept v (Ok response) low (Some found) f h = record { placed = h; shared = All-append Shared _ _ (All-take Shared found.0 v.requests f.shared) (All-drop Shared (suc found.0) v.requests f.shared); pool = f.pool }
 
+-- behind a word of a sector that isn't the last there is another
+further : (k : ℕ) → k < 128 → (k == 127) ≡ false → k + 1 < 128
+further k lt t = grind (arith, nat_tests)
+
+ended_kept : (v : View) (e : Ending) → e.frame < 1018 → IsFront v → IsFront (ended v e)
+ended_kept v e p f =
+    either (has_data e.transfer e.status) _ _ (record { placed = (p, omega arith); shared = f.shared; pool = f.pool })
+    (record { placed = tt; shared = f.shared; pool = length-set v.pool (e.frame - 18) false ∙ f.pool })
+
+data_kept : (v : View) (e : Ending) (k word : ℕ) → e.frame < 1018 → k < 128 → IsFront v → IsFront (data_step v e k word)
+data_kept v e k word p within f =
+    either_when (k == 127) _ _ (record { placed = tt; shared = f.shared; pool = length-set v.pool (e.frame - 18) false ∙ f.pool })
+    (λ t. record { placed = (p, further k within t); shared = f.shared; pool = f.pool })
+
 step_kept : (s : Stage) (v : View) (x : FrontAnswer) → IsPlaced s → IsFront v → IsFront (step_at s v x)
 step_kept (stage.RingWord k) v x p f = at_stage _ v (either_stage (k == 15) stage.RingFrame (stage.RingWord (k + 1)) (λ t. tt) (λ t. grind (arith, nat_tests))) f
 step_kept stage.RingFrame v x p f = at_stage _ v tt f
@@ -150,9 +182,6 @@ step_kept stage.RingFlags v x p f = at_stage _ v tt f
 step_kept stage.NewPort v x p f = record { placed = tt; shared = f.shared; pool = f.pool }
 step_kept stage.Loop v x p f = loop_kept v (next_request v) x f refl
 step_kept (stage.Data r k) v x p f = at_stage _ v (either_stage (k == 127) (stage.GrantFrame r) (stage.Data r (k + 1)) (λ t. p.0) (λ t. (p.0, further k p.1 t))) f
-  where
-    further : (n : ℕ) → n < 128 → (n == 127) ≡ false → n + 1 < 128
-    further n lt t = grind (arith, nat_tests)
 step_kept (stage.GrantFrame r) v x p f = at_stage _ v p f
 step_kept (stage.GrantFence r) v x p f = at_stage _ v p f
 step_kept (stage.GrantFlags r) v x p f = record { placed = omega arith; shared = f.shared; pool = f.pool }
@@ -167,7 +196,8 @@ step_kept (stage.ResponseLast low high) v (answer.Word last) p f =
     (found_shared v.requests (position (λ (r : Request). r.number == low + high * 2 ^ 32) (take (length v.requests - v.waiting) v.requests)) f.shared)
 step_kept (stage.GrantRead e) v (answer.Word word) p f = either (is_mapped word) (broken word v) (at (stage.GrantEnd e word) v) (record { placed = tt; shared = f.shared; pool = f.pool }) (at_stage (stage.GrantEnd e word) v p f)
 step_kept (stage.GrantEnd e before) v (answer.Word word) p f =
-    either (word == before) (ended v e) (broken word v) (record { placed = tt; shared = f.shared; pool = length-set v.pool (e.frame - 18) false ∙ f.pool }) (record { placed = tt; shared = f.shared; pool = f.pool })
+    either (word == before) (ended v e) (broken word v) (ended_kept v e p f) (record { placed = tt; shared = f.shared; pool = f.pool })
+step_kept (stage.ReadData e k) v (answer.Word word) p f = data_kept v e k word p.0 p.1 f
 step_kept stage.StoreEvent v x p f = at_stage _ v tt f
 step_kept stage.EventFence v x p f = at_stage _ v tt f
 step_kept stage.LookAgain v (answer.Word word) p f = looked_kept v word (record v { seen = word; stage = stage.Loop; asleep = true }) f (record { placed = tt; shared = f.shared; pool = f.pool })
@@ -189,7 +219,7 @@ lowest_in pool (Some place) frame long e is =
     let same : 18 + place ≡ frame = same_Some (18 + place) frame is in
     omega arith
 
-submit_frame : (v : View) (what : ℕ × ℕ) (frame : Option ℕ) → lowest_of v.pool ≡ frame → IsFront v → IsFront (submit_with v what frame).1
+submit_frame : (v : View) (what : ℕ × Transfer) (frame : Option ℕ) → lowest_of v.pool ≡ frame → IsFront v → IsFront (submit_with v what frame).1
 submit_frame v what None e f = f
 submit_frame v what (Some frame) e f = record {
   placed = f.placed;
@@ -197,7 +227,7 @@ submit_frame v what (Some frame) e f = record {
   pool = length-set v.pool (frame - 18) true ∙ f.pool;
 }
 
-submit_sector : (v : View) (what : Option (ℕ × ℕ)) → IsFront v → IsFront (submit_one v what).1
+submit_sector : (v : View) (what : Option (ℕ × Transfer)) → IsFront v → IsFront (submit_one v what).1
 submit_sector v None f = f
 submit_sector v (Some what) f =
     either_submit (nat_le v.sectors what.0) (Err refusal.Range, v) (if nat_le (entries_of shape.order) (unfinished v) then (Err refusal.Full, v) else submit_with v what (lowest_of v.pool)) f

@@ -41,6 +41,7 @@ front_lines_kept : (t : Option Told) → AreKept (front_lines t)
 front_lines_kept None = refl
 front_lines_kept (Some front_told.Ready) = refl
 front_lines_kept (Some (front_told.Answer id status)) = refl
+front_lines_kept (Some (front_told.Sector id index words)) = refl
 front_lines_kept (Some (front_told.Broken word)) = refl
 
 effect_kept : (id index : ℕ) (a : BackAnswer) → AreKept (effect_line id index a ∷ [])

@@ -60,6 +60,7 @@ pub plain_front : (t : Option Told) → ArePlain (front_lines t)
 plain_front None = tt
 plain_front (Some front_told.Ready) = (record { is_still = still lines.Ready refl (λ f w v b. refl) (λ n. refl) refl; free = λ b. record { coherent = tt; answered = tt; numbered = tt; touched = tt; grantable = tt } }, tt)
 plain_front (Some (front_told.Answer id status)) = (record { is_still = still (lines.Answer id status) refl (λ f w v b. refl) (λ n. refl) refl; free = λ b. record { coherent = tt; answered = tt; numbered = tt; touched = tt; grantable = tt } }, tt)
+plain_front (Some (front_told.Sector id index words)) = (record { is_still = still (lines.Data id index words) refl (λ f w v b. refl) (λ n. refl) refl; free = λ b. record { coherent = tt; answered = tt; numbered = tt; touched = tt; grantable = tt } }, tt)
 plain_front (Some (front_told.Broken word)) = (record { is_still = still (lines.Broken word) refl (λ f w v b. refl) (λ n. refl) refl; free = λ b. record { coherent = tt; answered = tt; numbered = tt; touched = tt; grantable = tt } }, tt)
 
 plain_effect : (id index : ℕ) → IsPlain (lines.Effect id index)

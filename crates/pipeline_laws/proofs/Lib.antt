@@ -17,6 +17,7 @@ pub mod Running
 pub mod Ruled
 pub mod Submitting
 pub mod States
+pub mod Effects
 pub mod Reports
 pub mod Joining
 pub mod Sampling

@@ -4,6 +4,7 @@ pub mod Ring
 pub mod Pipeline
 pub mod Allowed
 pub mod Disk
+pub mod Effects
 pub mod Run
 pub mod Submissions
 pub mod Answered

@@ -30,6 +30,7 @@ ghost use Rattle.pipeline_laws.specs.Answered.{AreAnsweredOnce, IsQuietAnswered}
 ghost use Rattle.pipeline_laws.specs.Unbroken.{IsUnbroken};
 ghost use Rattle.pipeline_laws.specs.States.{AreStates};
 ghost use Rattle.pipeline_laws.specs.Recorded.{IsKeptRun};
+ghost use Rattle.pipeline_laws.specs.Effects.{LinesDo};
 ghost use Rattle.pipeline_laws.specs.Queue.{IsQueue};
 ghost use Rattle.pipeline_laws.specs.Samples.{two_sectors, write, barrier, other_write, long_write, past_end, barrier_steps, barrier_lines, order_steps, order_lines, read_steps, read_lines, fault_steps, fault_lines, second_begun, two_entries, two_jobs, half_done, two_reads};
 
@@ -40,6 +41,12 @@ ghost use Rattle.pipeline_laws.specs.Samples.{two_sectors, write, barrier, other
 pub fn every_run_of_the_pipeline_is_a_run_of_the_plain_disk()
     ensures run { (r : PipelineRun) → IsRun r.options.sectors r.before r.now (run_report r) }
     ensures within { (r : PipelineRun) (first : List (List ℕ)) → BeginsWithin first r.disk.content → IsRunOf first r (run_report r) }
+{}
+
+/// The effects and faults that it shows are the calls of its disk, line by line: a report shows what a
+/// disk that doesn't tell what it holds was asked, and what it gave.
+pub fn the_effects_of_a_report_are_the_calls_of_its_disk()
+    ensures { (r : PipelineRun) → LinesDo [] (run_report r) r.disk.content r.disk.later }
 {}
 
 /// It answers the submissions, one line each, in order: accepted or refused as the lines before say.

@@ -14,6 +14,7 @@ use Rattle.schedule_text.specs.declared.line.Line.TheVariants as lines
 use Rattle.hypervisor.specs.Act.{FrontAct, BackAct, Took}
 use Rattle.blk_front.specs.declared.told.Told.{Told}
 use Rattle.blk_front.specs.declared.told.Told.TheVariants as told
+use Rattle.blk_front.specs.declared.request.Transfer.{Transfer}
 use Rattle.blk_front.specs.declared.told.Refusal.{Refusal}
 use Rattle.blk_front.specs.declared.told.Refusal.TheVariants as refusal
 use Rattle.blk_front.specs.Pool.{lowest_of}
@@ -52,6 +53,7 @@ answers_more before ls all =
 told_counted : (before : List Line) (shown : Move) (t : Option Told) → answers_told (before ++ lines.Move shown ∷ front_lines t) ≡ with_told (answers_told before) t
 told_counted before shown None = answers_more before (lines.Move shown ∷ []) (refl, tt)
 told_counted before shown (Some told.Ready) = answers_more before (lines.Move shown ∷ lines.Ready ∷ []) (refl, (refl, tt))
+told_counted before shown (Some (told.Sector id index words)) = answers_more before (lines.Move shown ∷ lines.Data id index words ∷ []) (refl, (refl, tt))
 told_counted before shown (Some (told.Broken word)) = answers_more before (lines.Move shown ∷ lines.Broken word ∷ []) (refl, (refl, tt))
 told_counted before shown (Some (told.Answer id status)) = sum_by-append (λ (x : Line). cond (says_answer x) 1 0) before (lines.Move shown ∷ lines.Answer id status ∷ [])
 
@@ -95,11 +97,11 @@ either_submit : (b : Bool) (v : View) (x y : Result ℕ Refusal × View) → IsU
 either_submit true v x y p q = p
 either_submit false v x y p q = q
 
-with_frame : (v : View) (what : ℕ × ℕ) (frame : Option ℕ) → IsUntaken v (submit_with v what frame).1
+with_frame : (v : View) (what : ℕ × Transfer) (frame : Option ℕ) → IsUntaken v (submit_with v what frame).1
 with_frame v what None = untaken v
 with_frame v what (Some frame) = record { cons = refl; stage = refl }
 
-one_submitted : (v : View) (what : Option (ℕ × ℕ)) → IsUntaken v (submit_one v what).1
+one_submitted : (v : View) (what : Option (ℕ × Transfer)) → IsUntaken v (submit_one v what).1
 one_submitted v None = untaken v
 one_submitted v (Some what) =
     either_submit (nat_le v.sectors what.0) v (Err refusal.Range, v) (if nat_le (entries_of shape.order) (unfinished v) then (Err refusal.Full, v) else submit_with v what (lowest_of v.pool)) (untaken v)

@@ -14,7 +14,7 @@ use Rattle.blk_front.specs.Submit.{ending_of}
 use Rattle.split_model.specs.World.{World, start_of, is_quiet}
 use Rattle.split_model.specs.Happening.{Happening, FrontMoves, BackMoves, JobMoves, Submits, Notifies, Looks, Settles, lines_at, after, front_shows, back_shows, job_shows, front_turn, back_turn, job_turn, submit_line}
 use Rattle.machine_pipeline.specs.Plain.{IsPlain}
-use Rattle.machine_pipeline.specs.Allowed.{AreAllowed}
+use Rattle.machine_pipeline.specs.Allowed.{AreServed}
 use Rattle.machine_pipeline.proofs.Flow.{Flow, has_ring, wrapped}
 use Rattle.machine_pipeline.proofs.Holds.{AreIndices, Stands}
 use Rattle.machine_pipeline.proofs.Quiet.{IsCaughtUp, caught_up_at}
@@ -51,7 +51,7 @@ rest_of config w g d quiet stands = record {
     indices : AreIndices g w.front.ring w.back.ring w.front.seen w.back.seen w.back.fetched w.front.last w.front.waiting (length w.front.requests) (ending_of w.front.stage)
     indices = stands.holds.indices
 
-pub always_rests : (config : Options) (history : List Happening) → IsPlain config → AreAllowed history (start_of config) → is_quiet (after history (start_of config)) ≡ true → IsAtRest (after history (start_of config))
+pub always_rests : (config : Options) (history : List Happening) → IsPlain config → AreServed history (start_of config) → is_quiet (after history (start_of config)) ≡ true → IsAtRest (after history (start_of config))
 always_rests config history plain may quiet =
     let gone = always_stands config history plain may in
     rest_of config (after history (start_of config)) gone.flow gone.pipeline quiet gone.stands

@@ -1,7 +1,8 @@
 -- What the back and its jobs ask has the widths of the grammar.
 use Rattle.std.proofs.Common.{◌≡◌, ℕ, ◌-◌, ◌^◌, ◌<◌, ◌==◌, ◌⊎◌, inl, inr, Bool, true, false, if◌then◌else◌, List, [], ◌∷◌, refl, sym, ap, subst, arith}
-use Rattle.std.specs.Prelude.{Option, Some, None, nat_lt, slice_get}
+use Rattle.std.specs.Prelude.{Option, Some, None, nat_lt, slice_get, slice_index}
 use Rattle.std.specs.List.{AllByRecursion}
+use Rattle.std.proofs.lemmas.List.Elements.{recursion_from_All}
 use Rattle.std.proofs.lemmas.Bool.Decides.{nat_tests}
 use Rattle.blk_base.specs.Options.{Options}
 use Rattle.blk_base.specs.declared.operation.Status.{Status}
@@ -14,10 +15,13 @@ use Rattle.ring_words.specs.Ring.{requests_of}
 use Rattle.blk_layout.specs.Response.{response_words_of}
 use Rattle.blk_layout.specs.declared.segment.Segment.{Segment}
 use Rattle.pipeline_laws.specs.Pipeline.{Pipeline}
-use Rattle.plain_disk.specs.declared.request.Request.{Request as Asked}
-use Rattle.plain_disk.specs.declared.request.Place.{Place}
+use Rattle.pipeline_laws.specs.Station.{Request as Asked}
 use Rattle.hypervisor.specs.Act.{Outcome, back_act}
+use Rattle.line_text.specs.Sector.{IsSector}
 use Rattle.blk_front.specs.declared.request.Request.{Request}
+use Rattle.blk_front.specs.Request.{is_write}
+use Rattle.machine_pipeline.proofs.ReadBack.{ReadAt}
+use Rattle.machine_pipeline.proofs.Stations.{StandsAt}
 use Rattle.back_jobs.specs.declared.stage.Stage.{Stage as JobStage}
 use Rattle.back_jobs.specs.declared.stage.Stage.TheVariants as job
 use Rattle.back_jobs.specs.Task as task
@@ -31,12 +35,13 @@ use Rattle.blk_back.specs.Ask.{ask_at, ask_of, loop_ask, next_reply, response_wo
 use Rattle.blk_back.specs.Step.{job_ask_of}
 use Rattle.split_model.specs.World.{World}
 use Rattle.split_model.specs.Happening.{job_turn}
-use Rattle.machine_pipeline.proofs.Flow.{Flow, segment_for}
+use Rattle.machine_pipeline.proofs.Flow.{Flow, worked, segment_for}
 use Rattle.machine_pipeline.proofs.Holds.{Holds, Stands, AtWork, IsWork, IsSubmitted, IsReplying}
 use Rattle.machine_pipeline.proofs.Lists.{all_at, found_at}
 use Rattle.machine_pipeline.proofs.BackReplyBegins.{IsLowestDone, lowest_done, replying}
 use Rattle.report_laws.proofs.Words.{each_fits}
 use Rattle.report_laws.proofs.Acts.{IsMover, BackFits}
+use Rattle.report_laws.proofs.Noted.{AreSectors, AreNoted}
 
 -- the words of a response
 response_words : (id op : ℕ) (status : Status) → id < 2 ^ 64 → op < 2 ^ 8 → AllByRecursion (λ (v : ℕ). v < 2 ^ 32) (response_words_of (record { id = id; op = op; status = status }))
@@ -94,18 +99,25 @@ pub record JobAsks (w : World) (number : ℕ) : Type 0 where
 segment_fits : (number : ℕ) (rest : List Segment) (writes : Bool) (r : Request) → r.frame < 1018 → rest ≡ segment_for r ∷ [] → BackFits (Job number) (map_ask rest writes)
 segment_fits number rest writes r low e = subst (λ (x : List Segment). BackFits (Job number) (map_ask x writes)) (sym e) (omega arith)
 
-work_fits : (number : ℕ) (r : Request) (t : Work) (s : JobStage) → r.frame < 1018 → r.sector < 2 ^ 64 → number < 2 ^ 64 → nat_lt 0 number ≡ true → AtWork r t s → BackFits (Job number) (task.ask_at s t)
-work_fits number r t job.Map low sector long positive at = segment_fits number t.rest t.writes r low at.rest
-work_fits number r t (job.ReadWord m i) low sector long positive at = tt
-work_fits number r t (job.DiskWrite m) low sector long positive at = (subst (λ (n : ℕ). n < 2 ^ 64) (sym at.0.disk) sector, (long, positive))
-work_fits number r t (job.DiskRead m) low sector long positive at = absurd at
-work_fits number r t (job.WriteWord m i) low sector long positive at = absurd at
-work_fits number r t (job.Unmap m) low sector long positive at = tt
-work_fits number r t (job.GiveUp m) low sector long positive at = tt
-work_fits number r t (job.Done status) low sector long positive at = tt
+-- the words that a read's job writes are those that were noted
+hand_fits : (pages hand : List ℕ) (noted : List (List ℕ)) (frame j i : ℕ) (m : Mapping) → AreSectors noted → ReadAt pages frame hand noted (job.WriteWord m j) → slice_index hand i < 2 ^ 32
+hand_fits pages hand noted frame j i m all at =
+    let sector : IsSector hand = all 0 hand (ap (λ (ws : List (List ℕ)). slice_get ws 0) at.0) in
+    each_fits hand (recursion_from_All (λ (v : ℕ). v < 2 ^ 32) hand sector.fits) i
 
-found_asks : (config : Options) (w : World) (g : Flow) (d : Pipeline) (number p : ℕ) (t : Work) → Stands config w g d → place_of w.back.jobs.works number ≡ Some p → slice_get w.back.jobs.works p ≡ Some t → (t.number == number) ≡ true → IsWork g.submitted g.fetched t → JobAsks w number
-found_asks config w g d number p t stands place here same work =
+work_fits : (number : ℕ) (pages : List ℕ) (noted : List (List ℕ)) (r : Request) (t : Work) (s : JobStage) → r.frame < 1018 → r.sector < 2 ^ 64 → number < 2 ^ 64 → nat_lt 0 number ≡ true
+    → AreSectors noted → (is_write r.transfer ≡ false → ReadAt pages r.frame t.words noted s) → AtWork r t s → BackFits (Job number) (task.ask_at s t)
+work_fits number pages noted r t job.Map low sector long positive sectors back at = segment_fits number t.rest t.writes r low at.rest
+work_fits number pages noted r t (job.ReadWord m i) low sector long positive sectors back at = tt
+work_fits number pages noted r t (job.DiskWrite m) low sector long positive sectors back at = (subst (λ (n : ℕ). n < 2 ^ 64) (sym at.0.disk) sector, (long, positive))
+work_fits number pages noted r t (job.DiskRead m) low sector long positive sectors back at = (subst (λ (n : ℕ). n < 2 ^ 64) (sym at.0.disk) sector, (long, positive))
+work_fits number pages noted r t (job.WriteWord m i) low sector long positive sectors back at = hand_fits pages t.words noted r.frame i i m sectors (back at.3)
+work_fits number pages noted r t (job.Unmap m) low sector long positive sectors back at = tt
+work_fits number pages noted r t (job.GiveUp m) low sector long positive sectors back at = tt
+work_fits number pages noted r t (job.Done status) low sector long positive sectors back at = tt
+
+found_asks : (config : Options) (w : World) (g : Flow) (d : Pipeline) (number p : ℕ) (t : Work) → Stands config w g d → AreNoted d.requests → place_of w.back.jobs.works number ≡ Some p → slice_get w.back.jobs.works p ≡ Some t → (t.number == number) ≡ true → IsWork g.submitted g.fetched t → JobAsks w number
+found_asks config w g d number p t stands noted place here same work =
     let few = few_fetched config w g d w.back.stage stands.holds in
     let positive = work.positive in
     let reached = work.reached in
@@ -115,18 +127,21 @@ found_asks config w g d number p t stands place here same work =
     let submitted : IsSubmitted w.front.sectors (t.number - 1) work.r = stands.holds.submitted.each (t.number - 1) work.r work.known in
     let sized = stands.holds.submitted.sized in
     let sector = submitted.sector in
+    let stands_at : StandsAt d.requests (t.number - 1) (worked t.stage) = stands.holds.stations.works p t here in
+    let sectors = (noted (t.number - 1) stands_at.q stands_at.at).words in
+    let back = stands.holds.stations.reads.working p t work.r stands_at.q here work.known stands_at.at in
     let asked : job_ask_of w.back number ≡ task.ask_at t.stage t = rw (stands.holds.unhalted, place, here) refl in
     record {
       mover = record { widths = long; allowed = above };
-      fits = subst (BackFits (Job number)) (sym asked) (work_fits number work.r t t.stage submitted.high (omega arith) long above work.at);
+      fits = subst (BackFits (Job number)) (sym asked) (work_fits number w.under.pages (let q : Asked = stands_at.q in q.words) work.r t t.stage submitted.high (omega arith) long above sectors back work.at);
     }
 
 -- a job that isn't held does nothing
-pub job_asks : (config : Options) (w : World) (g : Flow) (d : Pipeline) (number : ℕ) (o : Outcome) → Stands config w g d → (job_turn w number o ≡ None) ⊎ JobAsks w number
-job_asks config w g d number o stands = by_place (place_of w.back.jobs.works number) refl
+pub job_asks : (config : Options) (w : World) (g : Flow) (d : Pipeline) (number : ℕ) (o : Outcome) → Stands config w g d → AreNoted d.requests → (job_turn w number o ≡ None) ⊎ JobAsks w number
+job_asks config w g d number o stands noted = by_place (place_of w.back.jobs.works number) refl
   where
     by_place : (place : Option ℕ) → place_of w.back.jobs.works number ≡ place → (job_turn w number o ≡ None) ⊎ JobAsks w number
     by_place None e = inl (let waits : job_ask_of w.back number ≡ ask.Wait = rw (stands.holds.unhalted, e) refl in ap (λ (x : BackAsk). back_act w.under (Job number) x o) waits)
     by_place (Some p) e =
         let found = found_at (λ (t : Work). t.number == number) w.back.jobs.works p e in
-        inr (found_asks config w g d number p found.0 stands e found.1 found.2 (all_at (IsWork g.submitted g.fetched) w.back.jobs.works p found.0 stands.holds.works.each found.1))
+        inr (found_asks config w g d number p found.0 stands noted e found.1 found.2 (all_at (IsWork g.submitted g.fetched) w.back.jobs.works p found.0 stands.holds.works.each found.1))

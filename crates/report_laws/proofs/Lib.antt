@@ -11,6 +11,8 @@ pub mod InlineLines
 pub mod Texts
 pub mod Words
 pub mod Acts
+pub mod Given
+pub mod Noted
 pub mod Told
 pub mod FrontAsks
 pub mod BackAsks

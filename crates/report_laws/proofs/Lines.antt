@@ -52,6 +52,7 @@ front_lines_usual : (t : Option Told) → AreUsual (front_lines t)
 front_lines_usual None = tt
 front_lines_usual (Some front_told.Ready) = (refl, tt)
 front_lines_usual (Some (front_told.Answer id status)) = (refl, tt)
+front_lines_usual (Some (front_told.Sector id index words)) = (refl, tt)
 front_lines_usual (Some (front_told.Broken word)) = (refl, tt)
 
 -- what holds of each line that the back or a job may show

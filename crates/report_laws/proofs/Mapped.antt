@@ -1,5 +1,5 @@
 -- Each move of the back or a job leaves few mappings made.
-use Rattle.std.proofs.Common.{◌≡◌, ℕ, ◌+◌, ◌-◌, ◌^◌, ◌<◌, ◌≤◌, ◌==◌, Bool, true, false, cond, if◌then◌else◌, List, [], ◌∷◌, refl, sym, ap, ◌∙◌, subst, arith, true≢false}
+use Rattle.std.proofs.Common.{◌≡◌, ℕ, ◌+◌, ◌^◌, ◌<◌, ◌≤◌, ◌==◌, Bool, true, false, cond, if◌then◌else◌, List, [], ◌∷◌, refl, sym, ap, ◌∙◌, subst, arith, true≢false}
 use Rattle.std.specs.Prelude.{Option, Some, None, Result, Ok, Err, slice_get, slice_set}
 use Rattle.std.proofs.lemmas.Option.{none-some}
 use Rattle.blk_base.specs.Options.{Options}
@@ -21,8 +21,6 @@ use Rattle.event_channel.specs.Channels.{state_of, is_pending}
 use Rattle.ring_words.specs.Ring.{requests_of}
 use Rattle.blk_layout.specs.declared.segment.Segment.{Segment}
 use Rattle.pipeline_laws.specs.Pipeline.{Pipeline}
-use Rattle.plain_disk.specs.declared.request.Request.{Request as Asked}
-use Rattle.plain_disk.specs.declared.request.Place.{Place}
 use Rattle.hypervisor.specs.Hypervisor.{Hypervisor}
 use Rattle.hypervisor.specs.Act.{BackAct, Outcome, Took, back_act, map_act, bind_act, wait_act}
 use Rattle.blk_front.specs.declared.request.Request.{Request}
@@ -129,8 +127,11 @@ later_unmapped r t (job.DiskWrite m) answer.Done free same at =
     let next = counted t in
     either_work (next.within == last_of next.rest) (record next { stage = job.Unmap m }) (record next { within = next.within + 1; stage = sector_stage next.writes m }) refl (sector_unmapped next.writes m)
 later_unmapped r t (job.DiskWrite m) answer.DiskFailed free same at = refl
-later_unmapped r t (job.DiskRead m) a free same at = absurd at
-later_unmapped r t (job.WriteWord m i) a free same at = absurd at
+later_unmapped r t (job.DiskRead m) (answer.Sector words) free same at = refl
+later_unmapped r t (job.DiskRead m) answer.DiskFailed free same at = refl
+later_unmapped r t (job.WriteWord m i) answer.Done free same at =
+    either_work (i == 127) (next_sector t m) (record t { stage = job.WriteWord m (i + 1) })
+    (either_work (t.within == last_of t.rest) (record t { stage = job.Unmap m }) (record t { within = t.within + 1; stage = sector_stage t.writes m }) refl (sector_unmapped t.writes m)) refl
 later_unmapped r t (job.Unmap m) answer.Done free same at = last_segment t r at.0
 later_unmapped r t (job.GiveUp m) answer.Done free same at = refl
 later_unmapped r t s a free same at = ap maps_next same ∙ free

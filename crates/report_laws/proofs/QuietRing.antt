@@ -1,5 +1,5 @@
 -- Where a report says `quiet`, the ring's words by its lines are served and read.
-use Rattle.std.proofs.Common.{◌≡◌, ℕ, ◌+◌, ◌%◌, ◌^◌, true, false, List, [], ◌∷◌, ◌++◌, refl, sym, ap, ◌∙◌, subst, arith, true≢false}
+use Rattle.std.proofs.Common.{◌≡◌, ℕ, ◌+◌, ◌%◌, ◌^◌, true, false, List, [], ◌∷◌, refl, sym, ap, ◌∙◌, subst, arith, true≢false}
 use Rattle.std.specs.Prelude.{fold}
 use Rattle.blk_base.specs.Options.{Options}
 use Rattle.schedule_text.specs.declared.line.Detail.{Detail}
@@ -11,15 +11,16 @@ use Rattle.report_rules.specs.Ring.{start_told, start_of}
 use Rattle.report_rules.specs.Value.{value_before}
 use Rattle.split_model.specs.World as world
 use Rattle.split_model.specs.World.{World, is_quiet}
-use Rattle.split_model.specs.Happening.{Happening, happens, after, lines_of}
+use Rattle.split_model.specs.Happening.{Happening, after, lines_of}
 use Rattle.schedule_text.specs.Recorder.{kept_of}
 use Rattle.split_model.specs.Report.{report_of, ended_report_of}
 use Rattle.move_laws.specs.Tells.{Tells}
 use Rattle.move_laws.proofs.Runs.{report_follows}
 use Rattle.move_laws.proofs.Recorded.{report_kept, ended_kept}
 use Rattle.machine_pipeline.specs.Plain.{IsPlain}
-use Rattle.machine_pipeline.specs.Allowed.{AreAllowed}
+use Rattle.machine_pipeline.specs.Allowed.{AreServed}
 use Rattle.machine_pipeline.proofs.Flow.{wrapped}
+use Rattle.machine_pipeline.proofs.KindsEvents.{served_first}
 use Rattle.machine_pipeline.proofs.Quiet.{IsCaughtUp, caught_up_at}
 use Rattle.machine_pipeline.proofs.Together.{IsStanding, always_stands}
 use Rattle.report_laws.specs.Begun.{is_begin}
@@ -30,11 +31,6 @@ use Rattle.report_laws.proofs.Looks.{SpeaksOfQuiet, HoldsWhereQuiet, reports_obe
 use Rattle.report_laws.proofs.AtRest.{rest_of}
 use Rattle.report_laws.proofs.Counts.{CountsAt}
 use Rattle.report_laws.proofs.Answers.{report_counts}
-
--- what was allowed was allowed as far as it went
-pub allowed_first : (first rest : List Happening) (w : World) → AreAllowed (first ++ rest) w → AreAllowed first w
-allowed_first [] rest w may = tt
-allowed_first (h ∷ first) rest w may = (may.0, allowed_first first rest (happens w h) may.1)
 
 -- no later line lets rings start elsewhere
 one_start : (start : ℕ) (line : Line) → is_begin line ≡ false → start_told start line ≡ start
@@ -48,7 +44,7 @@ same_start start (line ∷ ls) all = ap (λ (n : ℕ). fold start_told n ls) (on
 report_start : (config : Options) (detail : Detail) (history : List Happening) → start_of (report_of config detail history) ≡ config.start
 report_start config detail history = same_start config.start (lines_of history (world.start_of config)) (all_behind history (world.start_of config))
 
-served_where_quiet : (config : Options) (history : List Happening) → IsPlain config → AreAllowed history (world.start_of config) → is_quiet (after history (world.start_of config)) ≡ true → IsServedRing (report_of config Moves history)
+served_where_quiet : (config : Options) (history : List Happening) → IsPlain config → AreServed history (world.start_of config) → is_quiet (after history (world.start_of config)) ≡ true → IsServedRing (report_of config Moves history)
 served_where_quiet config history plain may quiet = record {
   served = requests ∙ (rest.served ∙ sym responses);
   read = responses ∙ (sym rest.read ∙ (taken ∙ ap (λ (n : ℕ). (n + answers_told report) % 2 ^ 32) (sym (report_start config Moves history))));
@@ -85,21 +81,21 @@ quiet_free : SpeaksOfQuiet IsQuietRingAt
 quiet_free before lines.Quiet e = absurd (true≢false e)
 quiet_free before line e = tt
 
-quiet_where_quiet : (config : Options) (history : List Happening) → IsPlain config → AreAllowed history (world.start_of config) → HoldsWhereQuiet IsQuietRingAt config Moves history
+quiet_where_quiet : (config : Options) (history : List Happening) → IsPlain config → AreServed history (world.start_of config) → HoldsWhereQuiet IsQuietRingAt config Moves history
 quiet_where_quiet config history plain may first rest e quiet =
-    served_where_quiet config first plain (allowed_first first rest (world.start_of config) (subst (λ (hs : List Happening). AreAllowed hs (world.start_of config)) e may)) quiet
+    served_where_quiet config first plain (served_first first rest (world.start_of config) (subst (λ (hs : List Happening). AreServed hs (world.start_of config)) e may)) quiet
 
-report_quiet_moves : (config : Options) (history : List Happening) → IsPlain config → AreAllowed history (world.start_of config) → IsQuietRing (kept_of Moves (report_of config Moves history))
+report_quiet_moves : (config : Options) (history : List Happening) → IsPlain config → AreServed history (world.start_of config) → IsQuietRing (kept_of Moves (report_of config Moves history))
 report_quiet_moves config history plain may =
     subst IsQuietRing (sym (report_kept config history)) (reports_obey IsQuietRingAt quiet_free config Moves history (quiet_where_quiet config history plain may))
 
-ended_quiet_moves : (config : Options) (history : List Happening) → IsPlain config → AreAllowed history (world.start_of config) → IsQuietRing (kept_of Moves (ended_report_of config Moves history))
+ended_quiet_moves : (config : Options) (history : List Happening) → IsPlain config → AreServed history (world.start_of config) → IsQuietRing (kept_of Moves (ended_report_of config Moves history))
 ended_quiet_moves config history plain may =
     subst IsQuietRing (sym (ended_kept config history)) (ended_obey IsQuietRingAt quiet_free config Moves history (quiet_where_quiet config history plain may))
 
 -- of each report that shows the moves
-pub report_quiet : (config : Options) (detail : Detail) (history : List Happening) → IsPlain config → AreAllowed history (world.start_of config) → detail ≡ Moves → IsQuietRing (kept_of detail (report_of config detail history))
+pub report_quiet : (config : Options) (detail : Detail) (history : List Happening) → IsPlain config → AreServed history (world.start_of config) → detail ≡ Moves → IsQuietRing (kept_of detail (report_of config detail history))
 report_quiet config detail history plain may same = subst (λ (d : Detail). IsQuietRing (kept_of d (report_of config d history))) (sym same) (report_quiet_moves config history plain may)
 
-pub ended_quiet : (config : Options) (detail : Detail) (history : List Happening) → IsPlain config → AreAllowed history (world.start_of config) → detail ≡ Moves → IsQuietRing (kept_of detail (ended_report_of config detail history))
+pub ended_quiet : (config : Options) (detail : Detail) (history : List Happening) → IsPlain config → AreServed history (world.start_of config) → detail ≡ Moves → IsQuietRing (kept_of detail (ended_report_of config detail history))
 ended_quiet config detail history plain may same = subst (λ (d : Detail). IsQuietRing (kept_of d (ended_report_of config d history))) (sym same) (ended_quiet_moves config history plain may)

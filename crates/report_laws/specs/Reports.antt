@@ -8,7 +8,7 @@ use Rattle.split_model.specs.Happening.{Happening, after}
 use Rattle.schedule_text.specs.Recorder.{kept_of}
 use Rattle.split_model.specs.Report.{report_of, ended_report_of}
 use Rattle.machine_pipeline.specs.Plain.{IsPlain}
-use Rattle.machine_pipeline.specs.Allowed.{AreAllowed}
+use Rattle.machine_pipeline.specs.Allowed.{AreServed}
 
 -- of the report of each history
 abbrev pub OfEachReport : (Options → Detail → List Line → Type 0) → Type 0
@@ -18,20 +18,20 @@ OfEachReport Rule = (config : Options) (detail : Detail) (history : List Happeni
 abbrev pub OfEachEnded : (Options → Detail → List Line → Type 0) → Type 0
 OfEachEnded Rule = (config : Options) (detail : Detail) (history : List Happening) → Rule config detail (kept_of detail (ended_report_of config detail history))
 
--- of the report of each history that is allowed, on a ring of one page over a disk that may be written
+-- of the report of each history of reads and writes of one sector, on a ring of one page over a disk that may be written
 abbrev pub OfPlainReports : (Options → Detail → List Line → Type 0) → Type 0
 OfPlainReports Rule =
-    (config : Options) (detail : Detail) (history : List Happening) → IsPlain config → AreAllowed history (start_of config)
+    (config : Options) (detail : Detail) (history : List Happening) → IsPlain config → AreServed history (start_of config)
     → Rule config detail (kept_of detail (report_of config detail history))
 
 -- of each of these with its last line
 abbrev pub OfPlainEnded : (Options → Detail → List Line → Type 0) → Type 0
 OfPlainEnded Rule =
-    (config : Options) (detail : Detail) (history : List Happening) → IsPlain config → AreAllowed history (start_of config)
+    (config : Options) (detail : Detail) (history : List Happening) → IsPlain config → AreServed history (start_of config)
     → Rule config detail (kept_of detail (ended_report_of config detail history))
 
 -- of the machine after each such history
 abbrev pub OfPlainMachines : (World → Type 0) → Type 0
 OfPlainMachines Holds =
-    (config : Options) (history : List Happening) → IsPlain config → AreAllowed history (start_of config)
+    (config : Options) (history : List Happening) → IsPlain config → AreServed history (start_of config)
     → Holds (after history (start_of config))

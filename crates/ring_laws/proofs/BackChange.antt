@@ -182,4 +182,5 @@ pub front_told_by : (t : Option Told) → AreBystanders (front_lines t)
 front_told_by None = tt
 front_told_by (Some front_told.Ready) = (record { plain = refl; unstepped = refl }, tt)
 front_told_by (Some (front_told.Answer id status)) = (record { plain = refl; unstepped = refl }, tt)
+front_told_by (Some (front_told.Sector id index words)) = (record { plain = refl; unstepped = refl }, tt)
 front_told_by (Some (front_told.Broken word)) = (record { plain = refl; unstepped = refl }, tt)

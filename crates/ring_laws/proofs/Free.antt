@@ -135,6 +135,7 @@ pub free_front : (over : Bool) (t : Option Told) → AreFree over (front_lines t
 free_front over None = tt
 free_front over (Some front_told.Ready) = (free over lines.Ready refl refl refl refl, tt)
 free_front over (Some (front_told.Answer id status)) = (free over (lines.Answer id status) refl refl refl refl, tt)
+free_front over (Some (front_told.Sector id index words)) = (free over (lines.Data id index words) refl refl refl refl, tt)
 free_front over (Some (front_told.Broken word)) = (free over (lines.Broken word) refl refl refl refl, tt)
 
 free_effect : (over : Bool) (id index : ℕ) (a : BackAnswer) → over ≡ false → IsFree over (effect_line id index a)

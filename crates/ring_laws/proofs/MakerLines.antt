@@ -104,6 +104,7 @@ front_open : (t : Option Told) → AllByRecursion IsOpen (front_lines t)
 front_open None = tt
 front_open (Some front_told.Ready) = (λ before. record { unmap = tt; touch = tt }, tt)
 front_open (Some (front_told.Answer id status)) = (λ before. record { unmap = tt; touch = tt }, tt)
+front_open (Some (front_told.Sector id index words)) = (λ before. record { unmap = tt; touch = tt }, tt)
 front_open (Some (front_told.Broken word)) = (λ before. record { unmap = tt; touch = tt }, tt)
 
 submit_open : (job : Job) (r : Result ℕ Refusal) → IsOpen (submit_line job r)

@@ -19,20 +19,20 @@ use Rattle.pipeline_laws.specs.Run.{IsRun}
 use Rattle.disk_laws.specs.Run.{IsRunSoFar}
 use Rattle.pipeline_laws.specs.Answered.{AreAnsweredOnce, IsQuietAnswered}
 use Rattle.pipeline_laws.proofs.AnsweredRuns.{run_answers_once, run_answers_at_quiet}
-use Rattle.disk_laws.proofs.Before.{unbroken_before, states_before}
 use Rattle.split_model.specs.World.{start_of}
 use Rattle.split_model.specs.Happening.{Happening, DiskRuns}
 use Rattle.schedule_text.specs.Recorder.{kept_of, line_bytes, report_text}
 use Rattle.split_model.specs.Report.{report_of, ended_report_of}
 use Rattle.split_model.proofs.Running.{kept_of-append}
 use Rattle.machine_pipeline.specs.Plain.{IsPlain}
-use Rattle.machine_pipeline.specs.Allowed.{AreAllowed}
+use Rattle.machine_pipeline.specs.Allowed.{AreServed}
 use Rattle.machine_pipeline.specs.Submissions.{submitted_of}
 use Rattle.pipeline_laws.specs.Submissions.{IsAnswerAt}
 use Rattle.pipeline_laws.specs.Unbroken.{is_breach, IsUnbroken}
 use Rattle.pipeline_laws.specs.States.{IsStateAt, AreStates}
 use Rattle.disk_laws.proofs.Reports.{reports_run, ended_reports_run}
-use Rattle.disk_laws.proofs.Before.{begun_run}
+use Rattle.disk_laws.proofs.Before.{HasRunSoFar, begun_run, begun_answered, begun_once, begun_at_quiet, begun_unbroken, begun_states}
+use Rattle.pipeline_laws.specs.Effects.{IsOfADisk}
 use Rattle.disk_laws.proofs.Reports.{reports_answered, ended_answered, reports_unbroken, ended_unbroken, reports_states, ended_states}
 use Rattle.schedule_text.specs.Range.{AreOptions, IsInRange}
 use Rattle.schedule_text.specs.Plain.{plain}
@@ -48,7 +48,7 @@ use Rattle.report_laws.proofs.Grammar.{report_grammar, ended_grammar}
 use Rattle.report_laws.proofs.Texts.{grammar_before}
 use Rattle.report_laws.proofs.Ready.{report_ready, ended_ready}
 use Rattle.report_laws.proofs.QuietRing.{report_quiet, ended_quiet}
-use Rattle.schedule_run.specs.Lawful.{ObeysMoves, ShowsWork, IsLawful, IsLawfulSoFar}
+use Rattle.schedule_run.specs.Lawful.{ObeysMoves, ShowsWork, ServesRequestsSoFar, IsLawful, IsLawfulSoFar}
 
 -- the moves, where they are shown
 whole_moves : (config : Options) (history : List Happening) → IsPlain config → ObeysMoves (report_of config Moves history)
@@ -140,23 +140,26 @@ quiet_of sectors before now report h = run_answers_at_quiet report h.first h.dis
 pub record IsTold (config : Options) (detail : Detail) (history : List Happening) : Type 0 where
   pub plain : IsPlain config
   pub options : AreOptions config
-  pub allowed : AreAllowed history (start_of config)
+  pub allowed : AreServed history (start_of config)
   pub short : length (report_of config detail history) < 2 ^ 64
 
 pub report_lawful : (config : Options) (detail : Detail) (history : List Happening) (before now : DiskSeen) → IsTold config detail history → HasLength before.content config.sectors → DiskRuns history (start_of config) before now → IsLawful config detail (submitted_of history) before.content now.content (kept_of detail (report_of config detail history))
 report_lawful config detail history before now h long runs =
     let report = kept_of detail (report_of config detail history) in
-    let run = reports_run config detail history before now h.plain h.allowed long runs in
     record {
       begun = report_begun config detail history;
       grammar = report_grammar config detail history h.plain h.allowed h.options;
-      disk = run;
-      submissions = reports_answered config detail history h.plain h.allowed;
-      once = once_of config.sectors before.content now.content report run;
-      quiet = quiet_of config.sectors before.content now.content report run;
+      requests = λ of.
+          let run = reports_run config detail history before now h.plain h.allowed long runs of in
+          record {
+            disk = run;
+            submissions = reports_answered config detail history before now h.plain h.allowed long runs of;
+            once = once_of config.sectors before.content now.content report run;
+            quiet = quiet_of config.sectors before.content now.content report run;
+            unbroken = reports_unbroken config detail history before now h.plain h.allowed long runs of;
+            states = reports_states config detail history before now h.plain h.allowed long runs of;
+          };
       ready = report_ready config detail history;
-      unbroken = reports_unbroken config detail history h.plain h.allowed;
-      states = reports_states config detail history h.plain h.allowed;
       ring = λ same. report_quiet config detail history h.plain h.allowed same;
       moves = shown detail config history h.plain;
       work = λ same. worked detail config history same h.short;
@@ -166,40 +169,50 @@ report_lawful config detail history before now h long runs =
 pub ended_lawful : (config : Options) (detail : Detail) (history : List Happening) (before now : DiskSeen) → IsTold config detail history → HasLength before.content config.sectors → DiskRuns history (start_of config) before now → IsLawful config detail (submitted_of history) before.content now.content (kept_of detail (ended_report_of config detail history))
 ended_lawful config detail history before now h long runs =
     let report = kept_of detail (ended_report_of config detail history) in
-    let run = ended_reports_run config detail history before now h.plain h.allowed long runs in
     record {
       begun = ended_begun config detail history;
       grammar = ended_grammar config detail history h.plain h.allowed h.options;
-      disk = run;
-      submissions = ended_answered config detail history h.plain h.allowed;
-      once = once_of config.sectors before.content now.content report run;
-      quiet = quiet_of config.sectors before.content now.content report run;
+      requests = λ of.
+          let run = ended_reports_run config detail history before now h.plain h.allowed long runs of in
+          record {
+            disk = run;
+            submissions = ended_answered config detail history before now h.plain h.allowed long runs of;
+            once = once_of config.sectors before.content now.content report run;
+            quiet = quiet_of config.sectors before.content now.content report run;
+            unbroken = ended_unbroken config detail history before now h.plain h.allowed long runs of;
+            states = ended_states config detail history before now h.plain h.allowed long runs of;
+          };
       ready = ended_ready config detail history;
-      unbroken = ended_unbroken config detail history h.plain h.allowed;
-      states = ended_states config detail history h.plain h.allowed;
       ring = λ same. ended_quiet config detail history h.plain h.allowed same;
       moves = ended_shown detail config history h.plain;
       work = λ same. ended_worked detail config history same h.short;
     }
 
+-- what the beginning of a report tells of its requests, where a run has that report
+so_far_served : (jobs : List Job) (before : Option (List (List ℕ))) (report : List Line) → HasRunSoFar jobs before report → ServesRequestsSoFar jobs before report
+so_far_served jobs before report h = record {
+  disk = begun_run jobs before report h;
+  submissions = begun_answered jobs before report h;
+  once = begun_once jobs before report h;
+  quiet = begun_at_quiet jobs before report h;
+  unbroken = begun_unbroken jobs before report h;
+  states = begun_states jobs before report h;
+}
+
 -- and the beginning of one
-pub begun_lawful : (config : Options) (detail : Detail) (history : List Happening) (before : Option (List (List ℕ))) (said rest : List Line) → IsTold config detail history → HasLength before config.sectors → said ++ rest ≡ ended_report_of config detail history → IsLawfulSoFar config detail (submitted_of history) before (kept_of detail said)
-begun_lawful config detail history before said rest h long all =
+pub begun_lawful : (config : Options) (detail : Detail) (history : List Happening) (before : Option (List (List ℕ))) (said rest : List Line) → IsTold config detail history
+    → said ++ rest ≡ ended_report_of config detail history
+    → (IsOfADisk config.sectors before (kept_of detail said) → HasRunSoFar (submitted_of history) before (kept_of detail said))
+    → IsLawfulSoFar config detail (submitted_of history) before (kept_of detail said)
+begun_lawful config detail history before said rest h all run =
     let one = kept_of detail said in
     let other = kept_of detail rest in
     let split : one ++ other ≡ kept_of detail (ended_report_of config detail history) = sym (kept_of-append detail said rest) ∙ ap (kept_of detail) all in
-    let answered = ended_answered config detail history h.plain h.allowed in
-    let run = begun_run config detail history before said rest h.plain h.allowed long all in
     record {
       begun = begun_before config detail one other (subst (IsBegun config detail) (sym split) (ended_begun config detail history));
       grammar = grammar_before one other (subst IsInGrammar (sym split) (ended_grammar config detail history h.plain h.allowed h.options));
-      disk = run;
-      submissions = obeys_before (IsAnswerAt (submitted_of history)) one other (subst (Obeys (IsAnswerAt (submitted_of history))) (sym split) answered.rightly);
-      once = run_answers_once one run.first run.disk run.run;
-      quiet = run_answers_at_quiet one run.first run.disk run.run;
+      requests = λ of. so_far_served (submitted_of history) before one (run of);
       ready = obeys_before IsReadyAt one other (subst (Obeys IsReadyAt) (sym split) (ended_ready config detail history));
-      unbroken = unbroken_before one other (subst IsUnbroken (sym split) (ended_unbroken config detail history h.plain h.allowed));
-      states = states_before one other (subst AreStates (sym split) (ended_states config detail history h.plain h.allowed));
       ring = λ same. obeys_before IsQuietRingAt one other (subst (Obeys IsQuietRingAt) (sym split) (ended_quiet config detail history h.plain h.allowed same));
       moves = λ same. moves_before one other (subst ObeysMoves (sym split) (ended_shown detail config history h.plain same));
       work = λ same. work_before one other (subst ShowsWork (sym split) (ended_worked detail config history same h.short));
@@ -220,13 +233,15 @@ nothing_lawful config detail jobs before =
     record {
       begun = tt;
       grammar = record { lines = All-nil IsInRange; exact = λ other all same. none_read_otherwise other same };
-      disk = run;
-      submissions = obeys_none (IsAnswerAt jobs);
-      once = run_answers_once [] run.first run.disk run.run;
-      quiet = run_answers_at_quiet [] run.first run.disk run.run;
+      requests = λ of. record {
+        disk = run;
+        submissions = obeys_none (IsAnswerAt jobs);
+        once = run_answers_once [] run.first run.disk run.run;
+        quiet = run_answers_at_quiet [] run.first run.disk run.run;
+        unbroken = All-nil (λ (line : Line). is_breach line ≡ false);
+        states = obeys_none IsStateAt;
+      };
       ready = obeys_none IsReadyAt;
-      unbroken = All-nil (λ (line : Line). is_breach line ≡ false);
-      states = obeys_none IsStateAt;
       ring = λ same. obeys_none IsQuietRingAt;
       moves = λ same. record { coherent = obeys_none _; answered = obeys_none _; touched = obeys_none _; grantable = obeys_none _; overruns = obeys_none _; stretches = obeys_none _ };
       work = λ same. record { steps = obeys_none _; data_given = obeys_none _; effects = obeys_none _; unmaps = obeys_none _; own = obeys_none _; replies = obeys_none _ };

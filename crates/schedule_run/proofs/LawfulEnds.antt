@@ -19,6 +19,7 @@ use Rattle.split_model.specs.Report.{report_of, ended_report_of}
 use Rattle.split_model.proofs.Running.{kept_of-append}
 use Rattle.split_model.proofs.Echo.{echo_of, schedule_echo, kept_echo}
 use Rattle.disk_laws.proofs.SubmissionsOf.{events_submit}
+use Rattle.disk_laws.proofs.Before.{ended_report}
 use Rattle.schedule_run.specs.Outcome.{Outside, outside, HasCarriedOut, EndsWhole, IsCut, IsUnsent, HasRead, StandsAtStop, StopsWith, EndsUnsent, Runs}
 use Rattle.schedule_run.specs.Reading.{IsWholeSchedule, HasBegun, HasComeTo, IsReadSoFar, Tells}
 use Rattle.schedule_run.specs.Lawful.{IsLawful, IsLawfulSoFar, HasLawfulReport, IsToldSoFar, HasLawfulBeginning, IsLawfulRun, ToldOf, IsLawfulStop, RunsLawfully}
@@ -110,14 +111,16 @@ unsent_lawful config limit a b old new long h =
     let carried = (let c = done.carried in c.1) in
     let leads = carried.leads in
     let detail = old.recorder.detail in
-    let report = ended_report_of config detail leads.history in (
+    let report = ended_report_of config detail leads.history in
+    let told = is_told config done.events old (moment (let c = done.carried in c.0) new.disk done.before) carried in (
       done.events,
       read_whole limit done.events a.left done.schedule,
       record {
         report = kept_of detail report;
         told = inl (h.told ∙ done_told config done.events old (outside new.disk h.before) done.before done.carried ended.told);
         lawful = subst (λ (jobs : List Job). IsLawfulSoFar config detail jobs old.disk.content (kept_of detail report)) (events_submit done.events (start_of config) leads.history leads.is_kind)
-            (begun_lawful config detail leads.history old.disk.content report [] (is_told config done.events old (moment (let c = done.carried in c.0) new.disk done.before) carried) long (append-nil report));
+            (begun_lawful config detail leads.history old.disk.content report [] told (append-nil report)
+            (ended_report config detail leads.history old.disk new.disk told.plain told.allowed long leads.disk));
       },
     )
 

@@ -21,13 +21,14 @@ use Rattle.split_model.specs.Kind.{AreOfAll, AreOfSoFar}
 use Rattle.split_model.specs.Report.{report_of}
 use Rattle.machine_pipeline.specs.Plain.{IsPlain}
 use Rattle.machine_pipeline.proofs.KindsFront.{start_connects}
-use Rattle.machine_pipeline.proofs.KindsEvents.{events_allowed}
+use Rattle.machine_pipeline.proofs.KindsEvents.{events_served}
 use Rattle.schedule_run.proofs.Counts.{event_so_far_few, events_few}
 
 front_few : (told : Option Told) → length (front_lines told) ≤ 1
 front_few None = omega arith
 front_few (Some front_told.Ready) = omega arith
 front_few (Some (front_told.Answer id status)) = omega arith
+front_few (Some (front_told.Sector id index words)) = omega arith
 front_few (Some (front_told.Broken word)) = omega arith
 
 back_few : (told : Option BackTold) (answer : BackAnswer) → length (back_lines told answer) ≤ 1
@@ -97,7 +98,7 @@ report_short config detail es history plain are few =
 pub report_so_far_short : (config : Options) (detail : Detail) (es : List Event) (e : Event) (first more : List Happening) → IsPlain config → AreOfAll es (start_of config) first → AreOfSoFar e (after first (start_of config)) more → length es ≤ 10 ^ 9 → length (report_of config detail (first ++ more)) < 2 ^ 64
 report_so_far_short config detail es e first more plain are far few =
     let all = events_few config [] es first plain tt are in
-    let last = event_so_far_few config first e more plain (events_allowed es (start_of config) first (start_connects config) are) far in
+    let last = event_so_far_few config first e more plain (events_served es (start_of config) first (start_connects config) are) far in
     let both = length-append first more in
     let lines = begun_by config detail (first ++ more) (10 ^ 8 * length es + 10 ^ 8) (omega arith) in
     omega arith

@@ -65,11 +65,16 @@ two_words w a = simp (length-append {A = ℕ}) (omega arith)
 three_words : (w a b : List ℕ) → length (joined (w ∷ a ∷ b ∷ [])) ≡ length w + length a + length b + 2
 three_words w a b = simp (length-append {A = ℕ}) (omega arith)
 
+four_words : (v w a b : List ℕ) → length (joined (v ∷ w ∷ a ∷ b ∷ [])) ≡ length v + length w + length a + length b + 3
+four_words v w a b = simp (length-append {A = ℕ}) (omega arith)
+
 five_words : (v w a b c : List ℕ) → length (joined (v ∷ w ∷ a ∷ b ∷ c ∷ [])) ≡ length v + length w + length a + length b + length c + 4
 five_words v w a b c = simp (length-append {A = ℕ}) (omega arith)
 
 -- the text of an event that is carried out is short
 carried_short : (event : Event) → EventHasWidths event → is_carried event ≡ true → length (event_text event) ≤ 128
+carried_short (events.Submit (jobs.Read s c)) h e =
+    omega (arith, four_words (codes "submit") (codes "read") (decimal s) (decimal c), long_short s h.0, word_short c h.1.1)
 carried_short (events.Submit (jobs.Write s c t)) h e =
     omega (arith, five_words (codes "submit") (codes "write") (decimal s) (decimal c) (hex8 t), long_short s h.0, word_short c h.1.1, hex_short t)
 carried_short (events.Submit job) h e = cc

@@ -20,8 +20,10 @@ use Rattle.split_model.proofs.Running.{lines_of-append, leads_as, stops_on}
 use Rattle.split_model.proofs.Echo.{schedule_echo, kept_echo}
 use Rattle.machine_pipeline.specs.Submissions.{submitted_of}
 use Rattle.machine_pipeline.proofs.KindsFront.{start_connects, connects_after}
-use Rattle.machine_pipeline.proofs.KindsEvents.{allowed_append, event_so_far_allowed, events_allowed}
+use Rattle.machine_pipeline.proofs.KindsEvents.{served_append, event_so_far_served, events_served}
 use Rattle.disk_laws.proofs.SubmissionsOf.{events_submit, events_so_far_submit}
+use Rattle.disk_laws.proofs.Before.{HasRunSoFar, begun_report, whole_report}
+use Rattle.pipeline_laws.specs.Effects.{IsOfADisk}
 use Rattle.schedule_run.specs.Outcome.{Outside, outside, IsServed, HasCarried}
 use Rattle.schedule_run.specs.Lawful.{IsLawful, IsLawfulSoFar, HasLawfulReport, HasLawfulBeginning, EventLeaves}
 use Rattle.schedule_run.proofs.Lengths.{report_short, report_so_far_short}
@@ -42,7 +44,7 @@ is_told config events old now h =
     record {
       plain = plain_of config served;
       options = served.options;
-      allowed = events_allowed events (start_of config) leads.history (start_connects config) leads.is_kind;
+      allowed = events_served events (start_of config) leads.history (start_connects config) leads.is_kind;
       short = report_short config old.recorder.detail events leads.history (plain_of config served) leads.is_kind h.few;
     }
 
@@ -72,7 +74,8 @@ carried_so_far config events old now long h =
       report = kept_of detail report;
       told = inl told.told;
       lawful = subst (λ (jobs : List Job). IsLawfulSoFar config detail jobs old.disk.content (kept_of detail report)) (events_submit events (start_of config) leads.history leads.is_kind)
-          (begun_lawful config detail leads.history old.disk.content report (End ∷ []) (is_told config events old now h) long refl);
+          (begun_lawful config detail leads.history old.disk.content report (End ∷ []) (is_told config events old now h) refl
+          (whole_report config detail leads.history old.disk now.disk (plain_of config h.served) (events_served events (start_of config) leads.history (start_connects config) leads.is_kind) long leads.disk));
     }
 
 -- nothing was told whole: the recorder stopped at the first line
@@ -110,12 +113,12 @@ both_told : (config : Options) (detail : Detail) (events : List Event) (event : 
 both_told config detail events event hs served few k =
     let start = start_of config in
     let plain = plain_of config served in
-    let first = events_allowed events start k.0 (start_connects config) k.3 in
-    let next = event_so_far_allowed event (after k.0 start) k.1 (connects_after k.0 start (start_connects config)) k.4 in
+    let first = events_served events start k.0 (start_connects config) k.3 in
+    let next = event_so_far_served event (after k.0 start) k.1 (connects_after k.0 start (start_connects config)) k.4 in
     subst (IsTold config detail) (sym k.2) (record {
       plain = plain;
       options = served.options;
-      allowed = allowed_append k.0 k.1 start first next;
+      allowed = served_append k.0 k.1 start first next;
       short = report_so_far_short config detail events event k.0 k.1 plain k.3 k.4 few;
     })
 
@@ -129,12 +132,14 @@ stopped_in_event config events event why old middle new long h stopped =
     let k = whole.is_kind in
     let all = whole.history ++ whole.last ∷ [] in
     let said = report_of config detail whole.history ++ told.said in
+    let both = both_told config detail events event all h.served h.few k in
     record {
       report = kept_of detail said;
       told = inr (told.cut, told.stops);
       lawful = subst (λ (jobs : List Job). IsLawfulSoFar config detail jobs old.disk.content (kept_of detail said)) (ap submitted_of k.2 ∙ events_so_far_submit events event start k.0 k.1 k.3 k.4)
-          (begun_lawful config detail all old.disk.content said ((told.cut ∷ told.rest) ++ End ∷ []) (both_told config detail events event all h.served h.few k) long
-          (cut_report config detail whole.history whole.last told.said told.rest told.cut told.all));
+          (begun_lawful config detail all old.disk.content said ((told.cut ∷ told.rest) ++ End ∷ []) both
+          (cut_report config detail whole.history whole.last told.said told.rest told.cut told.all)
+          (begun_report config detail whole.history whole.last told.said (told.cut ∷ told.rest) old.disk new.disk both.plain both.allowed long whole.disk (sym told.all)));
     }
 
 -- or at the last line
@@ -149,11 +154,15 @@ stopped_at_end config events why old before new long h s =
     append_assoc (report ++ []) told.said (told.cut ∷ told.rest)
     ∙ (ap (λ (x : List Line). (report ++ []) ++ x) (sym told.all)
     ∙ ap (λ (x : List Line). x ++ End ∷ []) (append-nil report)) in
+    let same : said ≡ report = ap (λ (x : List Line). (report ++ []) ++ x) (nothing_before End told.said told.cut told.rest told.all) ∙ (append-nil (report ++ []) ∙ append-nil report) in
+    let whole = is_told config events old before h in
     record {
       report = kept_of detail said;
       told = inr (told.cut, told.stops);
       lawful = subst (λ (jobs : List Job). IsLawfulSoFar config detail jobs old.disk.content (kept_of detail said)) (events_submit events (start_of config) leads.history leads.is_kind)
-          (begun_lawful config detail leads.history old.disk.content said (told.cut ∷ told.rest) (is_told config events old before h) long all);
+          (begun_lawful config detail leads.history old.disk.content said (told.cut ∷ told.rest) whole all
+          (subst (λ (ls : List Line). IsOfADisk config.sectors old.disk.content (kept_of detail ls) → HasRunSoFar (submitted_of leads.history) old.disk.content (kept_of detail ls)) (sym same)
+          (whole_report config detail leads.history old.disk before.disk whole.plain whole.allowed long leads.disk)));
     }
 
 -- one event more

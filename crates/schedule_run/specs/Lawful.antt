@@ -24,6 +24,7 @@ use Rattle.report_rules.specs.Reply.{AreReplies}
 use Rattle.move_laws.specs.Grantable.{AreGrantable}
 use Rattle.plain_disk.specs.Echo.{is_echo, AnswersAll, Echoes}
 use Rattle.pipeline_laws.specs.Run.{IsRun}
+use Rattle.pipeline_laws.specs.Effects.{IsOfADisk}
 use Rattle.disk_laws.specs.Run.{IsRunSoFar}
 use Rattle.machine_pipeline.specs.Submissions.{jobs_of}
 use Rattle.pipeline_laws.specs.Submissions.{IsAnswerAt, AreAnswered}
@@ -58,17 +59,30 @@ pub record ShowsWork (report : List Line) : Type 0 where
   pub own : AreOwn report
   pub replies : AreReplies report
 
--- a report begins with the options, is lines of the grammar that its text gives back, and is a run of the plain disk, from what the disk held to what it holds; it answers these submissions, one line each, as the lines before say; each request has at most one answer; at each `quiet` line all have theirs, and the front was connected; no line of it is a breach of the protocol, and the front connects and closes in order; and where it shows the moves, they obey the rules, and at each `quiet` line the ring is served and read
-pub record IsLawful (config : Options) (detail : Detail) (jobs : List Job) (before now : Option (List (List ℕ))) (report : List Line) : Type 0 where
-  pub begun : IsBegun config detail report
-  pub grammar : IsInGrammar report
+-- a report is a run of the plain disk, from what the disk held to what it holds; it answers these submissions, one line each, as the lines before say; each request has at most one answer; at each `quiet` line all have theirs; no line of it is a breach of the protocol, and the front connects and closes in order
+pub record ServesRequests (config : Options) (jobs : List Job) (before now : Option (List (List ℕ))) (report : List Line) : Type 0 where
   pub disk : IsRun config.sectors before now report
   pub submissions : AreAnswered jobs report
   pub once : AreAnsweredOnce report
   pub quiet : IsQuietAnswered report
-  pub ready : IsReadyFirst report
   pub unbroken : IsUnbroken report
   pub states : AreStates report
+
+-- so is the beginning of one, as far as it was written
+pub record ServesRequestsSoFar (jobs : List Job) (before : Option (List (List ℕ))) (report : List Line) : Type 0 where
+  pub disk : IsRunSoFar before report
+  pub submissions : Obeys (IsAnswerAt jobs) report
+  pub once : AreAnsweredOnce report
+  pub quiet : IsQuietAnswered report
+  pub unbroken : IsUnbroken report
+  pub states : AreStates report
+
+-- a report begins with the options, and is lines of the grammar that its text gives back; it serves its requests as the plain disk does, where the disk tells what it holds, or what the report shows of it are the calls of a disk; the front was connected before the first `quiet` line; and where it shows the moves, they obey the rules, and at each `quiet` line the ring is served and read
+pub record IsLawful (config : Options) (detail : Detail) (jobs : List Job) (before now : Option (List (List ℕ))) (report : List Line) : Type 0 where
+  pub begun : IsBegun config detail report
+  pub grammar : IsInGrammar report
+  pub requests : IsOfADisk config.sectors before report → ServesRequests config jobs before now report
+  pub ready : IsReadyFirst report
   pub ring : detail ≡ Moves → IsQuietRing report
   pub moves : detail ≡ Moves → ObeysMoves report
   pub work : detail ≡ Moves → ShowsWork report
@@ -77,13 +91,8 @@ pub record IsLawful (config : Options) (detail : Detail) (jobs : List Job) (befo
 pub record IsLawfulSoFar (config : Options) (detail : Detail) (jobs : List Job) (before : Option (List (List ℕ))) (report : List Line) : Type 0 where
   pub begun : IsBegunSoFar config detail report
   pub grammar : IsInGrammar report
-  pub disk : IsRunSoFar before report
-  pub submissions : Obeys (IsAnswerAt jobs) report
-  pub once : AreAnsweredOnce report
-  pub quiet : IsQuietAnswered report
+  pub requests : IsOfADisk config.sectors before report → ServesRequestsSoFar jobs before report
   pub ready : IsReadyFirst report
-  pub unbroken : IsUnbroken report
-  pub states : AreStates report
   pub ring : detail ≡ Moves → IsQuietRing report
   pub moves : detail ≡ Moves → ObeysMoves report
   pub work : detail ≡ Moves → ShowsWork report

@@ -85,11 +85,11 @@ impl Machine {
             → HasCarried config events begin (moment self.old.world (D.seen disk.old) (R.seen recorder.old))
             → EventLeaves config (events ++ event ∷ []) begin result (moment self.new.world (D.seen disk.new) (R.seen recorder.new)) }
     {
-        self.carry_out(event, disk, recorder)
+        self.do_event(event, disk, recorder)
     }
 
     // Moves both ends as an event says.
-    fn carry_out<D: SectorDisk, R: Recorder>(
+    fn do_event<D: SectorDisk, R: Recorder>(
         &mut self,
         event: Event,
         disk: &mut D,
@@ -140,13 +140,13 @@ pub fn can_serve(config: &Config) -> bool
 }
 
 /// Whether an event is one that the machine carries out yet, with the numbers of the grammar: a
-/// submission of a write of one sector, moves of the front, of the back or of a job, rounds,
+/// submission of a read or a write of one sector, moves of the front, of the back or of a job, rounds,
 /// settling, a look, and a spurious event.
 pub fn can_carry_out(event: &Event) -> bool
     ensures { result ≡ is_carried event.now }
 {
     match *event {
-        Event::Submit(Job::Write { count, .. }) => count.get() == 1,
+        Event::Submit(Job::Read { count, .. } | Job::Write { count, .. }) => count.get() == 1,
         Event::Submit(_) => false,
         Event::Front(n) | Event::Back(n) | Event::Turn(n) => is_number(n),
         Event::Job { number, moves } => is_number(number) && is_number(moves),

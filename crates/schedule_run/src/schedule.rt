@@ -69,11 +69,11 @@ pub fn run<S: Source, D: SectorDisk, R: Recorder>(
         → RunsLawfully config bytes_limit result (S.seen source.old) (S.seen source.new)
         (outside (D.seen disk.old) (R.seen recorder.old)) (outside (D.seen disk.new) (R.seen recorder.new)) }
 {
-    carry_out(alloc, config, bytes_limit, source, disk, recorder)
+    run_and_hand_on(alloc, config, bytes_limit, source, disk, recorder)
 }
 
 // Carries out a schedule, and hands on what the recorder kept back, whatever ended it.
-fn carry_out<S: Source, D: SectorDisk, R: Recorder>(
+fn run_and_hand_on<S: Source, D: SectorDisk, R: Recorder>(
     alloc: Global,
     config: Config,
     bytes_limit: u64,
@@ -85,7 +85,7 @@ fn carry_out<S: Source, D: SectorDisk, R: Recorder>(
     ensures { Runs config bytes_limit result (S.seen source.old) (S.seen source.new)
         (outside (D.seen disk.old) (R.seen recorder.old)) (outside (D.seen disk.new) (R.seen recorder.new)) }
 {
-    let ended = tell(alloc, config, bytes_limit, source, disk, recorder);
+    let ended = report(alloc, config, bytes_limit, source, disk, recorder);
     // The first reason stands, whatever comes after it.
     match (recorder.flush(), ended) {
         (Err(Failed), Ok(())) => Err(RunStop::Sink),
@@ -94,7 +94,7 @@ fn carry_out<S: Source, D: SectorDisk, R: Recorder>(
 }
 
 // Carries out a schedule from its first line to its last, with the first and the last line of its report.
-fn tell<S: Source, D: SectorDisk, R: Recorder>(
+fn report<S: Source, D: SectorDisk, R: Recorder>(
     alloc: Global,
     config: Config,
     bytes_limit: u64,

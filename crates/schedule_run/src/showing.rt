@@ -9,7 +9,7 @@ ghost use Rattle.split_model.specs.Shown.{front_lines, back_lines, halt_lines, h
 
 use blk_back::{BackTold, Halt};
 use blk_base::{BackAnswer, BackAsk, BackMover, FrontAnswer, FrontAsk, Job, Move};
-use blk_front::{Refusal, Told};
+use blk_front::{Front, Refusal, Told};
 use hypervisor::{Hypervisor, front_shown};
 use schedule_text::{Halt as HaltLine, Line, RecordStop, Recorder, Refusal as RefusalWord, Shown};
 
@@ -86,9 +86,8 @@ pub fn show_back<R: Recorder>(
     })
 }
 
-/// Shows what a move of the front made happen there, after the move.
-#[inline(always)]
-pub fn follow_front<R: Recorder>(
+// Shows what a move of the front made happen there, after the move.
+fn follow_front<R: Recorder>(
     recorder: &mut R,
     shown: Result<(), RecordStop>,
     told: Option<Told>,
@@ -100,6 +99,36 @@ pub fn follow_front<R: Recorder>(
         None => Ok(()),
         Some(told) => say_front(recorder, told),
     }
+}
+
+/// Shows what a move of the front made happen there, where it told something: a sector that is told is
+/// long, so it is handed over by few moves.
+#[inline(always)]
+pub fn follow_told<R: Recorder>(
+    front: &mut Front,
+    recorder: &mut R,
+    shown: Result<(), RecordStop>,
+) -> Result<(), RecordStop>
+    ensures taken { front.new ≡ record front.old { told = None } }
+    ensures lines { Follows (front_lines front.old.told) shown result (R.seen recorder.old) (R.seen recorder.new) }
+{
+    if front.has_told() {
+        return take_told(front, recorder, shown);
+    }
+    shown
+}
+
+#[inline(never)]
+fn take_told<R: Recorder>(
+    front: &mut Front,
+    recorder: &mut R,
+    shown: Result<(), RecordStop>,
+) -> Result<(), RecordStop>
+    ensures taken { front.new ≡ record front.old { told = None } }
+    ensures lines { Follows (front_lines front.old.told) shown result (R.seen recorder.old) (R.seen recorder.new) }
+{
+    let told = front.take_told();
+    follow_front(recorder, shown, told)
 }
 
 /// Shows what a move of the back made happen there, after the move, and the halt where it made the
@@ -174,6 +203,11 @@ fn front_line(told: Told) -> Line
         Told::Answer { id, status } => Line::Answer {
             id: u64::from(id),
             status,
+        },
+        Told::Sector { id, index, words } => Line::Data {
+            id: u64::from(id),
+            index,
+            words,
         },
         Told::Broken(word) => Line::Broken(word),
     }

@@ -12,7 +12,7 @@ ghost use Rattle.split_model.specs.Kind.{IsJobMove};
 ghost use Rattle.split_model.specs.Leads.{Goes, Is, IsReadyFor, moment};
 ghost use Rattle.schedule_run.specs.Going.{FrontGoes, BackGoes, JobGoes};
 
-use crate::showing::{follow_back, follow_front, follow_job, show_back, show_front, submit_line};
+use crate::showing::{follow_back, follow_job, follow_told, show_back, show_front, submit_line};
 use blk_back::Back;
 use blk_base::{
     BackAnswer, BackAsk, BackMover, Config, End, Endpoint, FrontAnswer, FrontAsk, Job, Mapping,
@@ -88,10 +88,9 @@ impl Split {
         let answer = FrontAnswer::Done;
         // A front takes no memory once it is made.
         let _ = self.front.tell(&answer);
-        let told = self.front.take_told();
         self.under.write_front(frame, word, value);
         let shown = show_front(recorder, &FrontAsk::Write { frame, word, value }, &answer);
-        follow_front(recorder, shown, told)
+        follow_told(&mut self.front, recorder, shown)
     }
 
     // The front's move, whatever it asks.
@@ -106,8 +105,7 @@ impl Split {
         let shown = show_front(recorder, &ask, &answer);
         // A front takes no memory once it is made.
         let _ = self.front.tell(&answer);
-        let told = self.front.take_told();
-        follow_front(recorder, shown, told)
+        follow_told(&mut self.front, recorder, shown)
     }
 
     /// A move of the back, if it has one.

@@ -171,6 +171,68 @@ fn a_write_that_the_disk_fails_is_answered_with_an_error(rt: HostRuntime) -> Res
 }
 
 #[test]
+fn a_read_shows_what_the_disk_holds(rt: HostRuntime) -> Result<(), Fail> {
+    let alloc = rt.alloc();
+    let schedule = "settle\nsubmit write 0 1 00000007\nsettle\nsubmit read 0 1\nsettle\n";
+    let sink = report(alloc, schedule, zeros(alloc)?, Detail::Lines)?;
+    assert_eq!(rt;
+        sink.bytes().ends_with(
+            b"\nquiet\nsubmit 2 read 0 1\neffect 2 0 fill 00000007\nreply 2 ok\nanswer 2 ok\ndata 2 0 fill 00000007\nquiet\nend\n"
+        ),
+        true
+    );
+    Ok(())
+}
+
+#[test]
+fn a_read_shows_each_byte_of_its_sector(rt: HostRuntime) -> Result<(), Fail> {
+    let alloc = rt.alloc();
+    let mut words = [0; 128];
+    words[0] = 1;
+    let disk = MemoryDisk::new(alloc, [words].to_vec(alloc)?)?;
+    let schedule = "settle\nsubmit read 0 1\nsettle\n";
+    let sink = report(alloc, schedule, disk, Detail::Lines)?;
+    let sector = format!(in alloc; "01{:0>1022}", "")?;
+    let wanted = format!(in alloc;
+        "begin 64 0 0 0 0 rw 1 lines\nready\nquiet\nsubmit 1 read 0 1\neffect 1 0 {sector}\nreply 1 ok\nanswer 1 ok\ndata 1 0 {sector}\nquiet\nend\n"
+    )?;
+    assert_eq!(rt; sink.bytes(), wanted.as_bytes());
+    Ok(())
+}
+
+#[test]
+fn a_read_past_the_end_of_the_disk_is_refused(rt: HostRuntime) -> Result<(), Fail> {
+    let alloc = rt.alloc();
+    let schedule = "settle\nsubmit read 7 1\nsubmit read 8 1\nsettle\n";
+    let sink = report(alloc, schedule, zeros(alloc)?, Detail::Lines)?;
+    assert_eq!(rt;
+        sink.bytes(),
+        b"begin 64 0 0 0 0 rw 8 lines\nready\nquiet\nsubmit 1 read 7 1\nrefuse range\neffect 1 0 fill 00000000\nreply 1 ok\nanswer 1 ok\ndata 1 0 fill 00000000\nquiet\nend\n".as_slice()
+    );
+    Ok(())
+}
+
+#[test]
+fn a_read_that_the_disk_fails_shows_no_data(rt: HostRuntime) -> Result<(), Fail> {
+    let alloc = rt.alloc();
+    let listed = ListedCalls {
+        attaches: Vec::new(alloc),
+        reads: [1].to_vec(alloc)?,
+        writes: Vec::new(alloc),
+        flushes: Vec::new(alloc),
+        trims: Vec::new(alloc),
+    };
+    let disk = FailsAtCalls::new(zeros(alloc)?, listed);
+    let schedule = "settle\nsubmit read 0 1\nsettle\nsubmit read 0 1\nsettle\n";
+    let sink = report(alloc, schedule, disk, Detail::Lines)?;
+    assert_eq!(rt;
+        sink.bytes(),
+        b"begin 64 0 0 0 0 rw 8 lines\nready\nquiet\nsubmit 1 read 0 1\nfault 1 0\nreply 1 error\nanswer 1 error\nquiet\nsubmit 2 read 0 1\neffect 2 0 fill 00000000\nreply 2 ok\nanswer 2 ok\ndata 2 0 fill 00000000\nquiet\nend\n".as_slice()
+    );
+    Ok(())
+}
+
+#[test]
 fn the_first_push_sends_an_event_and_the_second_none(rt: HostRuntime) -> Result<(), Fail> {
     let alloc = rt.alloc();
     let schedule = "settle\nsubmit write 0 1 00000001\nfront 163\n";
@@ -261,6 +323,11 @@ fn a_machine_carries_out_events_and_counts_them(rt: HostRuntime) -> Result<(), F
         lines.lines.as_slice(),
         [Line::Busy, Line::Ready, Line::Quiet].as_slice()
     );
+    let Some(count) = SectorCount::new(2) else {
+        return Err(Fail::from("count"));
+    };
+    let read = Job::Read { sector: 0, count };
+    assert_eq!(rt; can_carry_out(&Event::Submit(read)), false);
     assert_eq!(rt; can_carry_out(&Event::Submit(Job::Flush)), false);
     assert_eq!(rt; can_carry_out(&Event::Turn(1000001)), false);
     Ok(())

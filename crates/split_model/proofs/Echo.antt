@@ -52,6 +52,7 @@ front_told_silent : (t : Option Told) → echo_of (front_lines t) ≡ []
 front_told_silent None = refl
 front_told_silent (Some front_told.Ready) = refl
 front_told_silent (Some (front_told.Answer id status)) = refl
+front_told_silent (Some (front_told.Sector id index words)) = refl
 front_told_silent (Some (front_told.Broken word)) = refl
 
 effect_silent : (id index : ℕ) (a : BackAnswer) → is_echo (effect_line id index a) ≡ false
@@ -139,11 +140,11 @@ back_are_moves false n = tt
 
 pub job_are_moves : (number : ℕ) (hs : List Happening) → AreJobMoves number hs → AllByRecursion (λ h. is_move h ≡ true) hs
 job_are_moves number [] j = tt
-job_are_moves number (h ∷ hs) j = (ap is_move j.1, job_are_moves number hs j.2)
+job_are_moves number (h ∷ hs) j = (ap is_move j.1, job_are_moves number hs j.3)
 
 pub each_are_moves : (from to : ℕ) (w : World) (hs : List Happening) → AreEachJobs from to w hs → AllByRecursion (λ h. is_move h ≡ true) hs
 each_are_moves from to w [] j = tt
-each_are_moves from to w (h ∷ hs) j = (ap is_move j.2, each_are_moves j.0 to (happens w h) hs j.4)
+each_are_moves from to w (h ∷ hs) j = (ap is_move j.2, each_are_moves j.0 to (happens w h) hs j.5)
 
 pub start_are_moves : (w : World) → AllByRecursion (λ h. is_move h ≡ true) (round_start w)
 start_are_moves w = are_moves-append (front_move w) (BackMoves ∷ []) (turn_moves (front_submit.is_connected w.front.stage)) (refl, tt)

@@ -11,6 +11,7 @@ use Rattle.blk_back.specs.Step.{next_job_of}
 use Rattle.split_model.specs.World.{World, is_quiet}
 use Rattle.split_model.specs.Happening.{Happening, FrontMoves, BackMoves, JobMoves, Settles, happens, after, job_after, job_turn}
 use Rattle.split_model.specs.Kind.{front_move, front_moves, back_moves, AreJobMoves, AreSomeJobMoves, AreFewJobMoves, AreEachJobs, AreAllJobs, HasEachJobs, round_start, IsRound, IsBeginning, IsRoundSoFar, AreRounds, AreRoundsSoFar, AreRoundsUntilQuiet, settle_bound, IsSettling, IsSettlingSoFar, IsJobMove}
+use Rattle.hypervisor.specs.Act.{IsGiven}
 use Rattle.split_model.specs.Leads.{Moment, Leads}
 use Rattle.split_model.specs.Safe.{above}
 use Rattle.split_model.proofs.Running.{after-append}
@@ -81,15 +82,15 @@ pub back_moves_all : (w : World) (count : ℕ) → is_connected w.front.stage �
 back_moves_all w count e = rw e refl
 
 -- one more move of a job
-job_moves_behind : (number : ℕ) (outcome : Outcome) (hs : List Happening) → AreJobMoves number hs → AreJobMoves number (hs ++ JobMoves number outcome ∷ [])
-job_moves_behind number outcome [] m = (outcome, refl, tt)
-job_moves_behind number outcome (h ∷ hs) m = (m.0, m.1, job_moves_behind number outcome hs m.2)
+job_moves_behind : (number : ℕ) (outcome : Outcome) (hs : List Happening) → IsGiven outcome → AreJobMoves number hs → AreJobMoves number (hs ++ JobMoves number outcome ∷ [])
+job_moves_behind number outcome [] given m = (outcome, refl, given, tt)
+job_moves_behind number outcome (h ∷ hs) given m = (m.0, m.1, m.2, job_moves_behind number outcome hs given m.3)
 
 pub job_moves_more : (number moved n : ℕ) (xs ys : List Happening) → moved ≡ number → AreSomeJobMoves number n xs → IsJobMove moved ys → AreSomeJobMoves number (n + 1) (xs ++ ys)
 job_moves_more number moved n xs ys same m j =
     let longer : length (xs ++ ys) ≡ n + 1 = length-append xs ys ∙ (ap (λ l. length xs + length l) j.1 ∙ ap (λ k. k + 1) m.1) in
     let this : ys ≡ JobMoves number j.0 ∷ [] = j.1 ∙ ap (λ k. JobMoves k j.0 ∷ []) same in
-    (subst (λ l. AreJobMoves number (xs ++ l)) (sym this) (job_moves_behind number j.0 xs m.0), longer)
+    (subst (λ l. AreJobMoves number (xs ++ l)) (sym this) (job_moves_behind number j.0 xs j.2 m.0), longer)
 
 pub few_job_moves : (number n count : ℕ) (xs : List Happening) → n ≤ count → AreSomeJobMoves number n xs → AreFewJobMoves number count xs
 few_job_moves number n count xs le m =
@@ -97,14 +98,14 @@ few_job_moves number n count xs le m =
     (m.0, omega arith)
 
 -- a move of the next job, behind those of the jobs before it
-each_behind : (from mid next : ℕ) (outcome : Outcome) (w : World) (hs : List Happening) → AreEachJobs from mid w hs → next_job_of (let v : World = after hs w in v.back) mid ≡ Some next → AreEachJobs from next w (hs ++ JobMoves next outcome ∷ [])
-each_behind from mid next outcome w [] e n = (next, outcome, refl, subst (λ (m : ℕ). next_job_of w.back m ≡ Some next) e n, refl)
-each_behind from mid next outcome w (h ∷ hs) e n = (e.0, e.1, e.2, e.3, each_behind e.0 mid next outcome (happens w h) hs e.4 n)
+each_behind : (from mid next : ℕ) (outcome : Outcome) (w : World) (hs : List Happening) → IsGiven outcome → AreEachJobs from mid w hs → next_job_of (let v : World = after hs w in v.back) mid ≡ Some next → AreEachJobs from next w (hs ++ JobMoves next outcome ∷ [])
+each_behind from mid next outcome w [] given e n = (next, outcome, refl, given, subst (λ (m : ℕ). next_job_of w.back m ≡ Some next) e n, refl)
+each_behind from mid next outcome w (h ∷ hs) given e n = (e.0, e.1, e.2, e.3, e.4, each_behind e.0 mid next outcome (happens w h) hs given e.5 n)
 
 pub each_more : (last next : ℕ) (w v : World) (xs ys : List Happening) → next_job_of v.back last ≡ Some next → AreEachJobs 0 last w xs → v ≡ after xs w → IsJobMove next ys → AreEachJobs 0 next w (xs ++ ys)
 each_more last next w v xs ys n e here j =
     subst (λ l. AreEachJobs 0 next w (xs ++ l)) (sym j.1)
-    (each_behind 0 last next j.0 w xs e (subst (λ (u : World). next_job_of u.back last ≡ Some next) here n))
+    (each_behind 0 last next j.0 w xs j.2 e (subst (λ (u : World). next_job_of u.back last ≡ Some next) here n))
 
 -- a move of a job leaves as many jobs above each number
 pub job_above : (last number : ℕ) (w : World) (act : Option BackAct) → above last (let v : World = job_after w number act in v.back) ≡ above last w.back

@@ -41,6 +41,7 @@ use Rattle.split_model.specs.World.{World}
 use Rattle.split_model.specs.Shown.{front_lines, back_lines, halt_lines}
 use Rattle.split_model.specs.Happening.{Happening, FrontMoves, BackMoves, JobMoves, Submits, submit_line, happens, lines_at, DiskGoes, front_after, front_shows, back_after, back_shows, job_after, job_shows, front_turn, back_turn, job_turn}
 use Rattle.split_model.specs.Kind.{IsJobMove}
+use Rattle.hypervisor.specs.Act.{IsGiven}
 use Rattle.split_model.specs.Leads.{moment, Goes, Is}
 use Rattle.split_model.specs.Safe.{IsSafe}
 use Rattle.split_model.proofs.Keeping.{no_call}
@@ -215,17 +216,17 @@ back_goes w seen b u more halts c c' r s result e under does stepped said halted
     (back_moved w seen b u c c' e under does stepped) (back_made w Back (back_ends.ask_of w.back) (outcome_told seen.0) u under) refl none.1
     (subst (λ (l : List Line). Adds l result r s) (back_shows_did w (back_turn w Took) seen more halts (back_did w seen none.0 e) said halted) shown)
 
-pub job_goes : (w : World) (k : ℕ) (seen : BackAnswer × Shown) (b : back.View) (u : Hypervisor) (more : List Line) (c c' : DiskSeen) (r s : RecorderSeen) (result : Result (Unit {0}) RecordStop) → Some seen ≡ back_seen (job_turn w k (outcome_told seen.0)) → u ≡ back_under w.under (job_turn w k (outcome_told seen.0)) → DiskDoes (back_step.job_ask_of w.back k) (outcome_told seen.0) c c' → b ≡ record (back_step.job_step w.back k seen.0) { told = None } → more ≡ back_lines (let g : back.View = back_step.job_step w.back k seen.0 in g.told) seen.0 → Adds (Move seen.1 ∷ (more ++ [])) result r s → Goes (IsJobMove k) (IsJobMove k) 1 result (moment w c r) (moment (record { front = w.front; back = b; under = u }) c' s)
-job_goes w k seen b u more c c' r s result e under does stepped said shown =
+pub job_goes : (w : World) (k : ℕ) (seen : BackAnswer × Shown) (b : back.View) (u : Hypervisor) (more : List Line) (c c' : DiskSeen) (r s : RecorderSeen) (result : Result (Unit {0}) RecordStop) → IsGiven (outcome_told seen.0) → Some seen ≡ back_seen (job_turn w k (outcome_told seen.0)) → u ≡ back_under w.under (job_turn w k (outcome_told seen.0)) → DiskDoes (back_step.job_ask_of w.back k) (outcome_told seen.0) c c' → b ≡ record (back_step.job_step w.back k seen.0) { told = None } → more ≡ back_lines (let g : back.View = back_step.job_step w.back k seen.0 in g.told) seen.0 → Adds (Move seen.1 ∷ (more ++ [])) result r s → Goes (IsJobMove k) (IsJobMove k) 1 result (moment w c r) (moment (record { front = w.front; back = b; under = u }) c' s)
+job_goes w k seen b u more c c' r s result given e under does stepped said shown =
     let o = outcome_told seen.0 in
-    goes_here (IsJobMove k) (IsJobMove k) 1 (JobMoves k o) w (record { front = w.front; back = b; under = u }) c c' r s result (o, refl) (o, refl)
+    goes_here (IsJobMove k) (IsJobMove k) 1 (JobMoves k o) w (record { front = w.front; back = b; under = u }) c c' r s result (o, refl, given) (o, refl, given)
     (job_moved w k seen b u e under stepped) (back_made w (JobOf k) (back_step.job_ask_of w.back k) o u under) refl does
     (subst (λ (l : List Line). Adds l result r s) (job_shows_did w k (job_turn w k o) seen more (back_did_at (job_turn w k o) seen e) said) shown)
 
 -- a move that makes no call of the disk and leaves what lies under the ends
-pub job_goes_still : (w : World) (k : ℕ) (seen : BackAnswer × Shown) (b : back.View) (u : Hypervisor) (more : List Line) (c : DiskSeen) (r s : RecorderSeen) (result : Result (Unit {0}) RecordStop) → Some seen ≡ back_seen (job_turn w k (outcome_told seen.0)) → u ≡ back_under w.under (job_turn w k (outcome_told seen.0)) → DiskDoes (back_step.job_ask_of w.back k) (outcome_told seen.0) c c → u ≡ w.under → b ≡ record (back_step.job_step w.back k seen.0) { told = None } → more ≡ back_lines (let g : back.View = back_step.job_step w.back k seen.0 in g.told) seen.0 → Adds (Move seen.1 ∷ (more ++ [])) result r s → Goes (IsJobMove k) (IsJobMove k) 0 result (moment w c r) (moment (record { front = w.front; back = b; under = u }) c s)
-job_goes_still w k seen b u more c r s result e under does still stepped said shown =
-    let gone = job_goes w k seen b u more c c r s result e under does stepped said shown in
+pub job_goes_still : (w : World) (k : ℕ) (seen : BackAnswer × Shown) (b : back.View) (u : Hypervisor) (more : List Line) (c : DiskSeen) (r s : RecorderSeen) (result : Result (Unit {0}) RecordStop) → IsGiven (outcome_told seen.0) → Some seen ≡ back_seen (job_turn w k (outcome_told seen.0)) → u ≡ back_under w.under (job_turn w k (outcome_told seen.0)) → DiskDoes (back_step.job_ask_of w.back k) (outcome_told seen.0) c c → u ≡ w.under → b ≡ record (back_step.job_step w.back k seen.0) { told = None } → more ≡ back_lines (let g : back.View = back_step.job_step w.back k seen.0 in g.told) seen.0 → Adds (Move seen.1 ∷ (more ++ [])) result r s → Goes (IsJobMove k) (IsJobMove k) 0 result (moment w c r) (moment (record { front = w.front; back = b; under = u }) c s)
+job_goes_still w k seen b u more c r s result given e under does still stepped said shown =
+    let gone = job_goes w k seen b u more c c r s result given e under does stepped said shown in
     let same : u.grants.made ≡ w.under.grants.made = ap (λ (h : Hypervisor). h.grants.made) still in
     record { ends = gone.ends; keeps = record { made = omega arith; sectors = gone.keeps.sectors; attachment = gone.keeps.attachment } }
 
@@ -256,7 +257,7 @@ back_waits w c r e =
 pub job_rests : (w : World) (k : ℕ) (u : Hypervisor) (c c' : DiskSeen) (r : RecorderSeen) → None ≡ back_seen (job_turn w k Took) → u ≡ back_under w.under (job_turn w k Took) → DiskDoes (back_step.job_ask_of w.back k) Took c c' → Goes (IsJobMove k) (IsJobMove k) 1 (Ok tt) (moment w c r) (moment (record { front = w.front; back = w.back; under = u }) c' r)
 job_rests w k u c c' r e under does =
     let rests = job_rests_at w k (job_turn w k Took) u (back_nothing_at (job_turn w k Took) e) under in
-    goes_here (IsJobMove k) (IsJobMove k) 1 (JobMoves k Took) w (record { front = w.front; back = w.back; under = u }) c c' r r (Ok tt) (Took, refl) (Took, refl)
+    goes_here (IsJobMove k) (IsJobMove k) 1 (JobMoves k Took) w (record { front = w.front; back = w.back; under = u }) c c' r r (Ok tt) (Took, refl, tt) (Took, refl, tt)
     rests.0 (back_made w (JobOf k) (back_step.job_ask_of w.back k) Took u under) refl does
     (subst (λ (l : List Line). Gained l r r) (sym rests.1) (gained_none r))
 

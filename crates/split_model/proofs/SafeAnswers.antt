@@ -21,6 +21,8 @@ use Rattle.event_channel.specs.Channels.{ChannelState, fresh_channels, state_of,
 use Rattle.hypervisor.specs.Hypervisor.{Hypervisor}
 use Rattle.hypervisor.specs.Act.{FrontAct, BackAct, Outcome, Gave, Took, Failed, front_act, back_act, map_act, bind_act, read_act, disk_act}
 use Rattle.blk_front.specs.declared.request.Request.{Request}
+use Rattle.blk_front.specs.declared.request.Transfer.{Transfer}
+use Rattle.blk_front.specs.declared.request.Transfer.TheVariants as transfer
 use Rattle.blk_front.specs.declared.stage.Stage.{Stage as FrontStage}
 use Rattle.blk_front.specs.declared.stage.Stage.TheVariants as front_stage
 use Rattle.blk_front.specs.View as front
@@ -51,8 +53,12 @@ either_fronts : (c : ChannelState) (b : Bool) (x y : FrontAsk) → IsFronts c x 
 either_fronts c true x y p q = p
 either_fronts c false x y p q = q
 
+issue_fronts : (c : ChannelState) (r : Request) (way : Transfer) → IsFronts c (front_ends.issue_ask r way)
+issue_fronts c r transfer.Read = tt
+issue_fronts c r (transfer.Write tag) = tt
+
 loop_fronts : (c : ChannelState) (v : front.View) (r : Option Request) → IsFronts c (front_ends.loop_ask v r)
-loop_fronts c v (Some r) = tt
+loop_fronts c v (Some r) = issue_fronts c r r.transfer
 loop_fronts c v None = either_fronts c v.asleep front_ask.Wait _ tt (either_fronts c (responses_of v.ring v.seen == 0) (front_ask.Read front.ring_frame 2) (front_ask.Read (front.slot_frame v.ring.cons 0) (front.slot_word v.ring.cons 0)) tt tt)
 
 pub fronts_at : (c : ChannelState) (s : FrontStage) (v : front.View) → IsPorted s c → IsFronts c (front_ends.ask_at s v)
@@ -75,6 +81,7 @@ fronts_at c (front_stage.ResponseHigh low) v ported = tt
 fronts_at c (front_stage.ResponseLast low high) v ported = tt
 fronts_at c (front_stage.GrantRead e) v ported = tt
 fronts_at c (front_stage.GrantEnd e seen) v ported = tt
+fronts_at c (front_stage.ReadData e k) v ported = tt
 fronts_at c front_stage.StoreEvent v ported = tt
 fronts_at c front_stage.EventFence v ported = tt
 fronts_at c front_stage.LookAgain v ported = tt

@@ -14,13 +14,17 @@ use Rattle.hypervisor.specs.Hypervisor.{Hypervisor}
 use Rattle.hypervisor.specs.Act.{FrontAct, front_act}
 use Rattle.blk_front.specs.declared.stage.Stage.{Stage}
 use Rattle.blk_front.specs.declared.stage.Stage.TheVariants as stage
+use Rattle.blk_front.specs.declared.stage.Ending.{Ending}
 use Rattle.blk_front.specs.declared.request.Request.{Request}
+use Rattle.blk_front.specs.declared.request.Transfer.{Transfer}
+use Rattle.blk_front.specs.declared.request.Transfer.TheVariants as transfer
 use Rattle.blk_front.specs.declared.told.Refusal.{Refusal}
 use Rattle.blk_front.specs.declared.told.Refusal.TheVariants as refusal
 use Rattle.blk_front.specs.Pool.{lowest_of}
+use Rattle.blk_front.specs.Request.{has_data}
 use Rattle.blk_front.specs.View.{View, next_request, shape}
 use Rattle.blk_front.specs.Ask.{ask_at}
-use Rattle.blk_front.specs.Step.{at, broken, looked, loop_step, issued, response_at, is_mapped, ended, step_at, step_of}
+use Rattle.blk_front.specs.Step.{at, broken, looked, issue_stage, loop_step, issued, response_at, is_mapped, ended, data_step, step_at, step_of}
 use Rattle.blk_front.specs.Submit.{is_ready, unfinished, one_sector, submit_with, submit_one, submit_of}
 use Rattle.split_model.specs.Safe.{IsPorted}
 use Rattle.split_model.proofs.SafeActs.{of_front}
@@ -58,8 +62,12 @@ looked_fits v word otherwise c h =
     either (nat_lt (distance_of v.ring.cons v.ring.prod) (distance_of v.ring.cons word)) (broken word v) (if word == v.ring.cons then otherwise else record v { seen = word; stage = stage.Loop }) v.sectors c (tt, refl)
     (either (word == v.ring.cons) otherwise (record v { seen = word; stage = stage.Loop }) v.sectors c h (tt, refl))
 
+issue_fits : (r : Request) (way : Transfer) (c : ChannelState) → IsPorted (issue_stage r way) c
+issue_fits r transfer.Read c = tt
+issue_fits r (transfer.Write tag) c = tt
+
 loop_fits : (v : View) (r : Option Request) (x : FrontAnswer) (c : ChannelState) → v.stage ≡ stage.Loop → Fits v.sectors c (loop_step v r x)
-loop_fits v (Some r) x c here = (tt, refl)
+loop_fits v (Some r) x c here = (issue_fits r r.transfer c, refl)
 loop_fits v None (answer.Word word) c here =
     either (responses_of v.ring v.seen == 0) (looked v word (record v { seen = word; stage = stage.StoreEvent })) (at (stage.ResponseHigh word) v) v.sectors c
     (looked_fits v word (record v { seen = word; stage = stage.StoreEvent }) c (tt, refl)) (tt, refl)
@@ -70,6 +78,12 @@ response_fits : (v : View) (response : Result Response ℕ) (low : ℕ) (found :
 response_fits v response low None c = (tt, refl)
 response_fits v (Err word) low (Some found) c = (tt, refl)
 response_fits v (Ok response) low (Some found) c = (tt, refl)
+
+ended_fits : (v : View) (e : Ending) (c : ChannelState) → Fits v.sectors c (ended v e)
+ended_fits v e c = either (has_data e.transfer e.status) _ _ v.sectors c (tt, refl) (tt, refl)
+
+data_fits : (v : View) (e : Ending) (k word : ℕ) (c : ChannelState) → Fits v.sectors c (data_step v e k word)
+data_fits v e k word c = either (k == 127) _ _ v.sectors c (tt, refl) (tt, refl)
 
 step_fits_at : (s : Stage) (v : View) (x : FrontAnswer) (c : ChannelState) → v.stage ≡ s → IsUnported s c → Fits v.sectors c (step_at s v x)
 step_fits_at (stage.RingWord k) v x c here p = (either_stage (k == 15) stage.RingFrame (stage.RingWord (k + 1)) c p p, refl)
@@ -90,7 +104,8 @@ step_fits_at stage.Send v x c here p = (tt, refl)
 step_fits_at (stage.ResponseHigh low) v (answer.Word high) c here p = (tt, refl)
 step_fits_at (stage.ResponseLast low high) v (answer.Word last) c here p = response_fits v (response_of (low ∷ high ∷ last ∷ [])) low (issued v (low + high * 2 ^ 32)) c
 step_fits_at (stage.GrantRead e) v (answer.Word word) c here p = either (is_mapped word) (broken word v) (at (stage.GrantEnd e word) v) v.sectors c (tt, refl) (tt, refl)
-step_fits_at (stage.GrantEnd e before) v (answer.Word word) c here p = either (word == before) (ended v e) (broken word v) v.sectors c (tt, refl) (tt, refl)
+step_fits_at (stage.GrantEnd e before) v (answer.Word word) c here p = either (word == before) (ended v e) (broken word v) v.sectors c (ended_fits v e c) (tt, refl)
+step_fits_at (stage.ReadData e k) v (answer.Word word) c here p = data_fits v e k word c
 step_fits_at stage.StoreEvent v x c here p = (tt, refl)
 step_fits_at stage.EventFence v x c here p = (tt, refl)
 step_fits_at stage.LookAgain v (answer.Word word) c here p = looked_fits v word (record v { seen = word; stage = stage.Loop; asleep = true }) c (tt, refl)
@@ -124,11 +139,11 @@ either_submit : (b : Bool) (v : View) (x y : Result ℕ Refusal × View) → IsU
 either_submit true v x y p q = p
 either_submit false v x y p q = q
 
-submit_with_frame : (v : View) (what : ℕ × ℕ) (frame : Option ℕ) → IsUndisturbed v (submit_with v what frame).1
+submit_with_frame : (v : View) (what : ℕ × Transfer) (frame : Option ℕ) → IsUndisturbed v (submit_with v what frame).1
 submit_with_frame v what None = undisturbed v
 submit_with_frame v what (Some frame) = record { stage = refl; sectors = refl; told = refl }
 
-submit_sector : (v : View) (what : Option (ℕ × ℕ)) → IsUndisturbed v (submit_one v what).1
+submit_sector : (v : View) (what : Option (ℕ × Transfer)) → IsUndisturbed v (submit_one v what).1
 submit_sector v None = undisturbed v
 submit_sector v (Some what) =
     either_submit (nat_le v.sectors what.0) v (Err refusal.Range, v) (if nat_le (entries_of shape.order) (unfinished v) then (Err refusal.Full, v) else submit_with v what (lowest_of v.pool)) (undisturbed v)

@@ -5,7 +5,7 @@ use Rattle.blk_base.specs.declared.operation.Abi.{Abi}
 use Rattle.blk_base.specs.declared.operation.Abi.TheVariants.{X64, X32}
 use Rattle.blk_base.specs.declared.config.Job.{Job}
 use Rattle.blk_base.specs.declared.config.Job.TheVariants as jobs
-use Rattle.hypervisor.specs.Act.{Outcome}
+use Rattle.hypervisor.specs.Act.{Outcome, IsGiven}
 use Rattle.schedule_text.specs.Event.{is_number}
 use Rattle.schedule_text.specs.Range.{JobHasWidths}
 use Rattle.schedule_text.specs.declared.event.Event.{Event}
@@ -23,8 +23,9 @@ is_x64 X32 = false
 abbrev pub are_carried : Options → Bool
 are_carried o = is_x64 o.abi && (o.order == 0) && (o.persistent == 0) && (o.indirect == 0) && not o.read_only
 
--- a write of one sector, the only submission that is carried out yet
+-- a read or a write of one sector, the only submissions that are carried out yet
 abbrev pub is_carried_job : Job → Bool
+is_carried_job (jobs.Read sector count) = count == 1
 is_carried_job (jobs.Write sector count tag) = count == 1
 is_carried_job job = false
 
@@ -59,7 +60,7 @@ back_moves w n = if is_connected w.front.stage then replicate n BackMoves else [
 -- moves of one job, each with what the disk answers it
 abbrev pub AreJobMoves : ℕ → List Happening → Type 0
 AreJobMoves number [] = Unit {0}
-AreJobMoves number (h ∷ hs) = (outcome : Outcome) × (h ≡ JobMoves number outcome) × AreJobMoves number hs
+AreJobMoves number (h ∷ hs) = (outcome : Outcome) × (h ≡ JobMoves number outcome) × IsGiven outcome × AreJobMoves number hs
 
 -- that many of them, and at most that many
 abbrev pub AreSomeJobMoves : (number count : ℕ) → List Happening → Type 0
@@ -72,7 +73,7 @@ AreFewJobMoves number count hs = AreJobMoves number hs × (length hs ≤ count)
 abbrev pub AreEachJobs : (from to : ℕ) → World → List Happening → Type 0
 AreEachJobs from to w [] = to ≡ from
 AreEachJobs from to w (h ∷ hs) =
-    (number : ℕ) × (outcome : Outcome) × (h ≡ JobMoves number outcome) × (next_job_of w.back from ≡ Some number) × AreEachJobs number to (happens w h) hs
+    (number : ℕ) × (outcome : Outcome) × (h ≡ JobMoves number outcome) × IsGiven outcome × (next_job_of w.back from ≡ Some number) × AreEachJobs number to (happens w h) hs
 
 -- a round: a move of the front, one of the back, then one of each job
 abbrev pub round_start : World → List Happening
@@ -186,4 +187,4 @@ AreOfAll (e ∷ es) w hs =
 
 -- one move of the job of a number
 abbrev pub IsJobMove : ℕ → List Happening → Type 0
-IsJobMove number hs = (outcome : Outcome) × (hs ≡ JobMoves number outcome ∷ [])
+IsJobMove number hs = (outcome : Outcome) × (hs ≡ JobMoves number outcome ∷ []) × IsGiven outcome

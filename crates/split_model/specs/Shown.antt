@@ -21,6 +21,7 @@ abbrev pub front_lines : Option Told → List Line
 front_lines None = []
 front_lines (Some front_told.Ready) = lines.Ready ∷ []
 front_lines (Some (front_told.Answer id status)) = lines.Answer id status ∷ []
+front_lines (Some (front_told.Sector id index words)) = lines.Data id index words ∷ []
 front_lines (Some (front_told.Broken word)) = lines.Broken word ∷ []
 
 -- an effect shows the words of a sector that was read

@@ -73,7 +73,7 @@ impl Reader {
         if self.part.is_empty() {
             return Ok(());
         }
-        self.carry_out(disk, recorder)
+        self.end_line(disk, recorder)
     }
 
     // Takes bytes as they come.
@@ -107,7 +107,7 @@ impl Reader {
             (read_so_far self.new.machine self.new.part.items self.new.lines (D.seen disk.new) (R.seen recorder.new)) }
     {
         if byte == b'\n' {
-            return self.carry_out(disk, recorder);
+            return self.end_line(disk, recorder);
         }
         if self.part.is_full() {
             return Err(RunStop::BadLine(self.lines + 1));
@@ -117,7 +117,7 @@ impl Reader {
     }
 
     // Carries out the line.
-    fn carry_out<D: SectorDisk, R: Recorder>(
+    fn end_line<D: SectorDisk, R: Recorder>(
         &mut self,
         disk: &mut D,
         recorder: &mut R,

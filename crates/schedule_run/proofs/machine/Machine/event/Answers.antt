@@ -4,9 +4,9 @@ use Rattle.schedule_run.proofs.Told.{event_lawful}
 use Rattle.schedule_run.proofs.machine.Machine.event.Goals as goal
 
 pub returns-clause-goes : goal.returns-clause-goes
-returns-clause-goes g c = goes_as _ _ _ _ (10 ^ 10) (10 ^ 10) _ _ _ (omega arith) (λ hs k. (c.requires.carried, k)) (λ hs k. (c.requires.carried, k)) c.carry_out.ensures.goes
+returns-clause-goes g c = goes_as _ _ _ _ (10 ^ 10) (10 ^ 10) _ _ _ (omega arith) (λ hs k. (c.requires.carried, k)) (λ hs k. (c.requires.carried, k)) c.do_event.ensures.goes
 
 pub returns-clause-lawful : goal.returns-clause-lawful
 returns-clause-lawful g c config events begin few long carried =
-    let goes = goes_as _ _ _ _ (10 ^ 10) (10 ^ 10) _ _ _ (omega arith) (λ hs k. (c.requires.carried, k)) (λ hs k. (c.requires.carried, k)) c.carry_out.ensures.goes in
+    let goes = goes_as _ _ _ _ (10 ^ 10) (10 ^ 10) _ _ _ (omega arith) (λ hs k. (c.requires.carried, k)) (λ hs k. (c.requires.carried, k)) c.do_event.ensures.goes in
     event_lawful config events c.args.event begin (10 ^ 10) _ _ _ few long carried goes

@@ -27,17 +27,17 @@ tell-requires g c =
 pub invariant_of-self-2 : goal.invariant_of-self-2
 invariant_of-self-2 g c =
     let w : World = record { front = c.self.inside.front; back = c.self.inside.back; under = c.self.inside.under } in
-    front_safe w (c.in-Some.answer, front_shown c.ask-ask.result c.in-Some.answer) c.take_told-told.new.self c.front.new.self c.self.invariant
+    front_safe w (c.in-Some.answer, front_shown c.ask-ask.result c.in-Some.answer) c.follow_told.new.front c.front.new.self c.self.invariant
     (front_asked w _ _ c.ask-ask.ensures.value c.in-Some.ensures.acted)
     (front_left w _ _ c.ask-ask.ensures.value c.in-Some.ensures.under)
-    (front_stepped c.self.inside.front _ _ c.in-Some.answer c.tell.ensures.told c.take_told-told.ensures.taken)
+    (front_stepped c.self.inside.front _ _ c.in-Some.answer c.tell.ensures.told c.follow_told.ensures.taken)
 
 pub returns : goal.returns
 returns g c =
     let w : World = record { front = c.self.inside.front; back = c.self.inside.back; under = c.self.inside.under } in
-    rw (← c.self.view_is) (λ disk. front_goes w (c.in-Some.answer, front_shown c.ask-ask.result c.in-Some.answer) c.take_told-told.new.self c.front.new.self (front_lines c.take_told-told.result) disk _ _ c.follow_front.result
+    rw (← c.self.view_is) (λ disk. front_goes w (c.in-Some.answer, front_shown c.ask-ask.result c.in-Some.answer) c.follow_told.new.front c.front.new.self (front_lines c.tell.new.self.told) disk _ _ c.follow_told.result
     (front_asked w _ _ c.ask-ask.ensures.value c.in-Some.ensures.acted)
     (front_left w _ _ c.ask-ask.ensures.value c.in-Some.ensures.under)
-    (front_stepped c.self.inside.front _ _ c.in-Some.answer c.tell.ensures.told c.take_told-told.ensures.taken)
-    (front_said c.self.inside.front _ c.in-Some.answer _ _ c.tell.ensures.told c.take_told-told.ensures.told refl)
-    (rw (append-nil (front_lines c.take_told-told.result)) (c.follow_front.ensures (Move (front_shown c.ask-ask.result c.in-Some.answer) ∷ []) _ c.show_front-shown.ensures)))
+    (front_stepped c.self.inside.front _ _ c.in-Some.answer c.tell.ensures.told c.follow_told.ensures.taken)
+    (front_said c.self.inside.front _ c.in-Some.answer _ _ c.tell.ensures.told refl refl)
+    (rw (append-nil (front_lines c.tell.new.self.told)) (c.follow_told.ensures.lines (Move (front_shown c.ask-ask.result c.in-Some.answer) ∷ []) _ c.show_front-shown.ensures)))

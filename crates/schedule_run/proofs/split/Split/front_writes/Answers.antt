@@ -16,9 +16,9 @@ returns g c =
     let ask = Write c.args.frame c.args.word c.args.value in
     let shown = FrontWrite c.args.frame c.args.word c.args.value in
     let asked = subst (λ (x : World). ask ≡ ask_of x.front) (sym c.self.view_is) c.requires.asked in
-    rw (← c.self.view_is) (λ disk. front_goes w (Done, shown) c.take_told-told.new.self c.write_front.new.self (front_lines c.take_told-told.result) disk _ _ c.follow_front.result
+    rw (← c.self.view_is) (λ disk. front_goes w (Done, shown) c.follow_told.new.front c.write_front.new.self (front_lines c.tell.new.self.told) disk _ _ c.follow_told.result
     (front_asked w ask (Done, shown) asked refl)
     (front_left w ask c.write_front.new.self asked c.write_front.ensures)
-    (front_stepped c.self.inside.front _ _ Done c.tell.ensures.told c.take_told-told.ensures.taken)
-    (front_said c.self.inside.front _ Done _ _ c.tell.ensures.told c.take_told-told.ensures.told refl)
-    (rw (append-nil (front_lines c.take_told-told.result)) (c.follow_front.ensures (Move shown ∷ []) _ c.show_front-shown.ensures)))
+    (front_stepped c.self.inside.front _ _ Done c.tell.ensures.told c.follow_told.ensures.taken)
+    (front_said c.self.inside.front _ Done _ _ c.tell.ensures.told refl refl)
+    (rw (append-nil (front_lines c.tell.new.self.told)) (c.follow_told.ensures.lines (Move shown ∷ []) _ c.show_front-shown.ensures)))

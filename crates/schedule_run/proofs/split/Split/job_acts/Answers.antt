@@ -39,7 +39,7 @@ invariant_of-self-2 g c =
 pub returns : goal.returns
 returns g c =
     let w : World = record { front = c.self.inside.front; back = c.self.inside.back; under = c.self.inside.under } in
-    rw (← c.self.view_is) (job_goes w c.args.number (c.in-Some.answer, back_shown c.back.new.self (Job c.args.number) c.job_ask-ask.result c.in-Some.answer) c.take_told-told.new.self c.back.new.self (back_lines c.take_told-told.result c.in-Some.answer) _ _ _ _ c.follow_job.result
+    rw (← c.self.view_is) (job_goes w c.args.number (c.in-Some.answer, back_shown c.back.new.self (Job c.args.number) c.job_ask-ask.result c.in-Some.answer) c.take_told-told.new.self c.back.new.self (back_lines c.take_told-told.result c.in-Some.answer) _ _ _ _ c.follow_job.result c.in-Some.ensures.given
     (back_asked w.under (Job c.args.number) c.job_ask-ask.result (job_ask_of w.back c.args.number) (c.in-Some.answer, back_shown c.back.new.self (Job c.args.number) c.job_ask-ask.result c.in-Some.answer) c.job_ask-ask.ensures.value c.in-Some.ensures.acted)
     (back_left w.under (Job c.args.number) c.job_ask-ask.result (job_ask_of w.back c.args.number) (outcome_told c.in-Some.answer) c.back.new.self c.job_ask-ask.ensures.value c.in-Some.ensures.under)
     (back_did_disk c.job_ask-ask.result (job_ask_of w.back c.args.number) (outcome_told c.in-Some.answer) _ _ c.job_ask-ask.ensures.value c.in-Some.ensures.disk)

@@ -19,7 +19,7 @@ returns g c =
     let is_asked = subst (λ (x : World). ask ≡ job_ask_of x.back c.args.number) (sym c.self.view_is) c.requires.asked in
     let answer = Word c.read.result in
     let shown = back_shown w.under (Job c.args.number) ask answer in
-    rw (← c.self.view_is) (λ disk. job_goes_still w c.args.number (answer, shown) c.take_told-told.new.self w.under (back_lines c.take_told-told.result answer) disk _ _ c.follow_job.result
+    rw (← c.self.view_is) (λ disk. job_goes_still w c.args.number (answer, shown) c.take_told-told.new.self w.under (back_lines c.take_told-told.result answer) disk _ _ c.follow_job.result tt
     (back_asked w.under (Job c.args.number) ask asked (answer, shown) is_asked (rw c.read.ensures refl))
     (back_left w.under (Job c.args.number) ask asked Took w.under is_asked refl)
     (back_did_disk ask asked Took disk disk is_asked refl) refl

@@ -15,4 +15,4 @@ returns g c =
     let t = c.if-is_empty.false in
     let v = c.is_empty.ensures in
     let some : 1 ≤ length c.args.self.now.part.items = grind (arith, nat_tests) in
-    last_fed _ _ _ c.requires.unbroken some c.carry_out.ensures
+    last_fed _ _ _ c.requires.unbroken some c.end_line.ensures

@@ -3,11 +3,11 @@ use Rattle.std.proofs.lemmas.Bool.Decides.{nat_tests}
 use Rattle.schedule_run.proofs.Carrying.{fed, byte_refused, byte_taken, ready_less}
 use Rattle.schedule_run.proofs.schedule.reading.Reader.take_byte.Goals as goal
 
-pub carry_out-requires : goal.carry_out-requires
-carry_out-requires g c = ready_less 0 1 _ (omega arith) c.requires
+pub end_line-requires : goal.end_line-requires
+end_line-requires g c = ready_less 0 1 _ (omega arith) c.requires
 
 pub returns-then-byte-eq10 : goal.returns-then-byte-eq10
-returns-then-byte-eq10 g c = fed _ _ _ _ c.if-byte-eq10.true c.requires.unbroken c.carry_out.ensures
+returns-then-byte-eq10 g c = fed _ _ _ _ c.if-byte-eq10.true c.requires.unbroken c.end_line.ensures
 
 pub returns-then-is_full : goal.returns-then-is_full
 returns-then-is_full g c =

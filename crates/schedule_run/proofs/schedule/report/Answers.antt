@@ -7,7 +7,7 @@ use Rattle.schedule_run.specs.Machine.{Run}
 use Rattle.schedule_run.specs.Carrying.{ReadsAll}
 use Rattle.schedule_run.specs.Outcome.{outside}
 use Rattle.schedule_run.proofs.Ending.{begun_by, reading_stopped, end_stopped, all_told}
-use Rattle.schedule_run.proofs.schedule.tell.Goals as goal
+use Rattle.schedule_run.proofs.schedule.report.Goals as goal
 
 pub returns-in_err-read_all : goal.returns-in_err-read_all
 returns-in_err-read_all g c =

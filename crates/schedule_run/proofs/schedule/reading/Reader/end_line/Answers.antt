@@ -1,7 +1,7 @@
 use Rattle.std.proofs.Common.{◌^◌, refl}
 use Rattle.schedule_run.proofs.Carrying.{line_goes, line_silent}
-use Rattle.schedule_run.proofs.schedule.reading.Reader.carry_out.Goals.{in-Some+in_default-event, in_default}
-use Rattle.schedule_run.proofs.schedule.reading.Reader.carry_out.Goals as goal
+use Rattle.schedule_run.proofs.schedule.reading.Reader.end_line.Goals.{in-Some+in_default-event, in_default}
+use Rattle.schedule_run.proofs.schedule.reading.Reader.end_line.Goals as goal
 
 pub returns : goal.returns
 returns g c = elim c.match-event.branch [

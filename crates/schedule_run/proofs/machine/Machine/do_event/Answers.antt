@@ -4,7 +4,7 @@ use Rattle.split_model.proofs.Running.{goes_as, goes_one}
 use Rattle.schedule_text.proofs.Adding.{gained_none}
 use Rattle.schedule_run.specs.Machine.{Run}
 use Rattle.schedule_run.proofs.Within.{within_on}
-use Rattle.schedule_run.proofs.machine.Machine.carry_out.Goals as goal
+use Rattle.schedule_run.proofs.machine.Machine.do_event.Goals as goal
 
 pub invariant_of-self : goal.invariant_of-self
 invariant_of-self g c =

@@ -1,0 +1,182 @@
+-- The first lines of what happens last: with those of what happened before they are the lines of a run of the pipeline too.
+use Rattle.std.proofs.Common.{◌≡◌, ℕ, inl, inr, ◌⊎◌, ◌&&◌, Bool, true, false, List, [], ◌∷◌, ◌++◌, refl, ap, sym, ◌∙◌, subst, append_assoc}
+use Rattle.std.specs.Prelude.{Option, Some, None}
+use Rattle.std.specs.Option.{option_to_list}
+use Rattle.std.specs.List.{list_all}
+use Rattle.std.proofs.lemmas.List.{append-nil}
+use Rattle.std.proofs.lemmas.List.Elements.{filter_map-append}
+use Rattle.blk_base.specs.Options.{Options}
+use Rattle.blk_base.specs.declared.config.Job.{Job}
+use Rattle.blk_io.specs.Disk.{DiskSeen, HasLength}
+use Rattle.schedule_text.specs.declared.line.Line.{Line}
+use Rattle.split_model.specs.World.{World, start_of}
+use Rattle.split_model.specs.Happening.{Happening, happens, after, lines_at, lines_of as shown_by, DiskRuns as MachineRuns}
+use Rattle.pipeline_laws.specs.Pipeline.{Pipeline, Step, Submits, Refuses, Moves, Connects, StartsToClose, Closes, Leaves, Resumes, Rests, Shows, step_lines, after_steps, lines_of, pipeline_of}
+use Rattle.pipeline_laws.specs.Allowed.{is_aside, AreAllowed as StepsAllowed}
+use Rattle.pipeline_laws.specs.Disk.{DiskRuns, AreConsistent}
+use Rattle.pipeline_laws.specs.Effects.{IsOfADisk}
+use Rattle.pipeline_laws.specs.Submissions.{submitted_of as steps_submit}
+use Rattle.pipeline_laws.proofs.Joining.{allowed_append, lines_append, runs_append, submitted_append}
+use Rattle.pipeline_laws.proofs.Running.{move_shows}
+use Rattle.machine_pipeline.specs.Plain.{IsPlain}
+use Rattle.machine_pipeline.specs.Allowed.{AreServed}
+use Rattle.machine_pipeline.specs.Submissions.{submitted_at, submitted_of}
+use Rattle.machine_pipeline.specs.Step.{shown_of, IsAllowedStep, StepGoes, CallAt, submitted_by, Does}
+use Rattle.machine_pipeline.proofs.Sectors.{SectorsGo, SectorsRun, sectors_run}
+use Rattle.machine_pipeline.proofs.Together.{always_steps}
+use Rattle.machine_pipeline.proofs.Runs.{steps_of, allowed_of, lines_shown, submits_of, disk_of, IsRunFrom, goes_none, called, submitted_first, IsRunUpTo, run_up_to, shown_calls}
+
+-- a step shows a line at most
+abbrev IsShort : List Line → Type 0
+IsShort shown = (shown ≡ []) ⊎ ((line : Line) × (shown ≡ line ∷ []))
+
+step_short : (p : Pipeline) (s : Step) → IsShort (step_lines p s)
+step_short p (Moves k x move) = elim (move_shows k move) [
+  | inl none ↦ inl none
+  | inr one ↦ inr (one.0, one.1)
+]
+step_short p (Submits job) = inr (_, refl)
+step_short p (Refuses job refusal) = inr (_, refl)
+step_short p Connects = inr (_, refl)
+step_short p StartsToClose = inr (_, refl)
+step_short p Closes = inr (_, refl)
+step_short p (Leaves why) = inr (_, refl)
+step_short p Resumes = inr (_, refl)
+step_short p Rests = inr (_, refl)
+step_short p (Shows line) = inr (_, refl)
+
+shown_short : (p : Pipeline) (step : Option Step) → IsShort (shown_of p step)
+shown_short p None = inl refl
+shown_short p (Some s) = step_short p s
+
+-- so what begins the lines of a happening are asides, or all of them
+first_of_one : (x : Line) (part rest shown : List Line) → IsShort shown → x ∷ (part ++ rest) ≡ shown → x ∷ part ≡ shown
+first_of_one x [] rest shown (inl none) e = absurd (cc)
+first_of_one x (y ∷ part) rest shown (inl none) e = absurd (cc)
+first_of_one x [] rest shown (inr one) e = let head : x ≡ one.0 = cc in ap (λ (y : Line). y ∷ []) head ∙ sym one.1
+first_of_one x (y ∷ part) rest shown (inr one) e = absurd (cc)
+
+both_asides : (line : Line) (part : List Line) → is_aside line ≡ true → list_all is_aside part ≡ true → list_all is_aside (line ∷ part) ≡ true
+both_asides line part one others = rw one others
+
+aside_first : (line : Line) (asides : List Line) → list_all is_aside (line ∷ asides) ≡ true → is_aside line ≡ true
+aside_first line asides all = by_test (is_aside line) refl
+  where
+    by_test : (b : Bool) → is_aside line ≡ b → is_aside line ≡ true
+    by_test true e = e
+    by_test false e = absurd (cc)
+
+aside_others : (line : Line) (asides : List Line) → list_all is_aside (line ∷ asides) ≡ true → list_all is_aside asides ≡ true
+aside_others line asides all = subst (λ (b : Bool). (b && list_all is_aside asides) ≡ true) (aside_first line asides all) all
+
+part_of : (asides shown part rest : List Line) → IsShort shown → list_all is_aside asides ≡ true → part ++ rest ≡ asides ++ shown → (list_all is_aside part ≡ true) ⊎ (part ≡ asides ++ shown)
+part_of asides shown [] rest short all e = inl refl
+part_of [] shown (x ∷ part) rest short all e = inr (first_of_one x part rest shown short e)
+part_of (line ∷ asides) shown (x ∷ part) rest short all e =
+    let heads : x ≡ line = cc in
+    let tails : part ++ rest ≡ asides ++ shown = cc in
+    elim (part_of asides shown part rest short (aside_others line asides all) tails) [
+      | inl are ↦ inl (both_asides x part (ap is_aside heads ∙ aside_first line asides all) are)
+      | inr whole ↦ inr (ap (λ (y : Line). y ∷ part) heads ∙ ap (λ (ls : List Line). line ∷ ls) whole)
+    ]
+
+-- steps that show what happened, and these lines of what happens last
+record HasPart (hs : List Happening) (last : Happening) (w : World) (p : Pipeline) (part : List Line) : Type 0 where
+  steps : List Step
+  allowed : StepsAllowed steps p
+  shows : lines_of steps p ≡ shown_by hs w ++ part
+  more : List Job
+  submits : steps_submit steps ++ more ≡ submitted_of (hs ++ last ∷ [])
+  disk : (a : List (List ℕ)) (now : Option (List (List ℕ))) → SectorsRun (hs ++ last ∷ []) w (Some a) now → (b : List (List ℕ)) × DiskRuns steps a b
+
+-- a disk that exposes its sectors does so all along
+first_runs : (hs : List Happening) (last : Happening) (w : World) (a : List (List ℕ)) (now : Option (List (List ℕ))) → SectorsRun (hs ++ last ∷ []) w (Some a) now
+    → (b : List (List ℕ)) × SectorsRun hs w (Some a) (Some b) × ((c : List (List ℕ)) × SectorsGo (after hs w) last (Some b) (Some c))
+first_runs [] last w a now runs = by_between runs.0 runs.1
+  where
+    by_between : (x : Option (List (List ℕ))) → SectorsGo w last (Some a) x → (b : List (List ℕ)) × (Some b ≡ Some a) × ((c : List (List ℕ)) × SectorsGo w last (Some b) (Some c))
+    by_between None goes = absurd (goes_none w last a goes)
+    by_between (Some c) goes = (a, refl, (c, goes))
+first_runs (h ∷ hs) last w a now runs = by_between runs.0 runs.1 (λ d rest. first_runs hs last (happens w h) d now rest) runs.2
+  where
+    by_between : (x : Option (List (List ℕ))) → SectorsGo w h (Some a) x
+        → ((d : List (List ℕ)) → SectorsRun (hs ++ last ∷ []) (happens w h) (Some d) now → (b : List (List ℕ)) × SectorsRun hs (happens w h) (Some d) (Some b) × ((c : List (List ℕ)) × SectorsGo (after hs (happens w h)) last (Some b) (Some c)))
+        → SectorsRun (hs ++ last ∷ []) (happens w h) x now
+        → (b : List (List ℕ)) × SectorsRun (h ∷ hs) w (Some a) (Some b) × ((c : List (List ℕ)) × SectorsGo (after hs (happens w h)) last (Some b) (Some c))
+    by_between None goes later rest = absurd (goes_none w h a goes)
+    by_between (Some d) goes later rest = let its = later d rest in (its.0, (Some d, goes, its.1), its.2)
+
+-- asides, and maybe the step
+has_part : (hs : List Happening) (last : Happening) (w : World) (p : Pipeline) (part asides : List Line) (step : Option Step) (more : List Job) (r : IsRunFrom hs w p)
+    → list_all is_aside asides ≡ true
+    → IsAllowedStep (after_steps r.steps p) step
+    → part ≡ asides ++ shown_of (after_steps r.steps p) step
+    → option_to_list (submitted_by step) ++ more ≡ option_to_list (submitted_at last)
+    → ((b c : List (List ℕ)) → CallAt (after hs w) last b c → (d : List (List ℕ)) × StepGoes step b d)
+    → HasPart hs last w p part
+has_part hs last w p part asides step more r aside allowed is asks goes = record {
+  steps = r.steps ++ steps_of asides step;
+  allowed = allowed_append r.steps (steps_of asides step) p r.allowed (allowed_of asides step (after_steps r.steps p) aside allowed);
+  shows =
+      lines_append r.steps (steps_of asides step) p
+      ∙ (ap (λ (ls : List Line). ls ++ lines_of (steps_of asides step) (after_steps r.steps p)) r.shows
+      ∙ ap (λ (ls : List Line). shown_by hs w ++ ls) (lines_shown asides step (after_steps r.steps p) ∙ sym is));
+  more = more;
+  submits =
+      ap (λ (js : List Job). js ++ more) (submitted_append r.steps (steps_of asides step) ∙ (ap (λ (js : List Job). js ++ steps_submit (steps_of asides step)) r.submits ∙ ap (λ (js : List Job). submitted_of hs ++ js) (submits_of asides step)))
+      ∙ (append_assoc (submitted_of hs) (option_to_list (submitted_by step)) more
+      ∙ (ap (λ (js : List Job). submitted_of hs ++ js) (asks ∙ (sym (append-nil (option_to_list (submitted_at last))) ∙ sym (submitted_first last [])))
+      ∙ sym (filter_map-append submitted_at hs (last ∷ []))));
+  disk = λ a now runs.
+      let its = first_runs hs last w a now runs in
+      let one = goes its.0 its.2.0 (called (after hs w) last its.0 its.2.0 its.2.1) in
+      (one.0, runs_append r.steps (steps_of asides step) a its.0 one.0 (r.disk a its.0 its.1) (disk_of asides step its.0 one.0 one.1));
+}
+
+part_shown : (hs : List Happening) (last : Happening) (w : World) (p : Pipeline) (part rest : List Line) → IsRunUpTo hs last w p → part ++ rest ≡ lines_at (after hs w) last → HasPart hs last w p part
+part_shown hs last w p part rest u e = elim (part_of does.asides (shown_of d u.step) part rest (shown_short d u.step) does.aside (e ∙ does.shows)) [
+  | inl are ↦ has_part hs last w p part part None (option_to_list (submitted_at last)) u.run are tt (sym (append-nil part)) refl (λ b c call. (b, refl))
+  | inr whole ↦ has_part hs last w p part does.asides u.step [] u.run does.aside does.allowed whole (append-nil (option_to_list (submitted_by u.step)) ∙ ap option_to_list does.asks) (λ b c call. (c, does.disk b c call))
+]
+  where
+    d : Pipeline
+    d = (let r = u.run in after_steps r.steps p)
+
+    does : Does (submitted_at last) (CallAt (after hs w) last) (lines_at (after hs w) last) d u.step
+    does = u.does
+
+-- over what the disk exposes, or the disk that the lines are of
+part_consistent : (config : Options) (hs : List Happening) (last : Happening) (part : List Line) (before now : Option (List (List ℕ))) (h : HasPart hs last (start_of config) (pipeline_of config) part) → HasLength before config.sectors → SectorsRun (hs ++ last ∷ []) (start_of config) before now
+    → IsOfADisk config.sectors before (shown_by hs (start_of config) ++ part)
+    → AreConsistent config.sectors h.steps before None
+part_consistent config hs last part None now h long runs of = shown_calls config h.steps (shown_by hs (start_of config) ++ part) h.allowed h.shows of
+part_consistent config hs last part (Some a) now h long runs of = let its = h.disk a now runs in record { content = a; sized = long; begins = refl; later = its.0; runs = its.1; ends = tt }
+
+-- steps that the pipeline allows from its start, which show what the history shows and these lines of what happens last; what they submit begins what all this submits
+pub record IsPartRun (config : Options) (history : List Happening) (last : Happening) (part : List Line) (before : Option (List (List ℕ))) : Type 0 where
+  pub steps : List Step
+  pub allowed : StepsAllowed steps (pipeline_of config)
+  pub shows : lines_of steps (pipeline_of config) ≡ shown_by history (start_of config) ++ part
+  pub more : List Job
+  pub submits : steps_submit steps ++ more ≡ submitted_of (history ++ last ∷ [])
+  pub disk : AreConsistent config.sectors steps before None
+
+pub part_run : (config : Options) (history : List Happening) (last : Happening) (part rest : List Line) (before now : DiskSeen)
+    → IsPlain config
+    → AreServed (history ++ last ∷ []) (start_of config)
+    → HasLength before.content config.sectors
+    → MachineRuns (history ++ last ∷ []) (start_of config) before now
+    → part ++ rest ≡ lines_at (after history (start_of config)) last
+    → IsOfADisk config.sectors before.content (shown_by history (start_of config) ++ part)
+    → IsPartRun config history last part before.content
+part_run config history last part rest before now plain may long runs e of =
+    let u = run_up_to history last (start_of config) (pipeline_of config) (always_steps config (history ++ last ∷ []) plain may) in
+    let h = part_shown history last (start_of config) (pipeline_of config) part rest u e in
+    record {
+      steps = h.steps;
+      allowed = h.allowed;
+      shows = h.shows;
+      more = h.more;
+      submits = h.submits;
+      disk = part_consistent config history last part before.content now.content h long (sectors_run (history ++ last ∷ []) (start_of config) before now runs) of;
+    }
