@@ -1,5 +1,5 @@
 -- Requests whose numbers ascend: what a binary search finds among them, and how they go on ascending.
-use Rattle.std.proofs.Common.{◌≡◌, ◌≢◌, ℕ, ◌+◌, ◌<◌, ◌≤◌, Bool, List, [], ◌∷◌, ◌++◌, length, get_or, take, Result, Ok, Err, refl, sym, ap, arith}
+use Rattle.std.proofs.Common.{◌≡◌, ◌≢◌, ℕ, suc, ◌+◌, ◌<◌, ◌≤◌, Bool, List, [], ◌∷◌, ◌++◌, length, get_or, take, Result, Ok, Err, refl, sym, ap, arith}
 use Rattle.std.specs.Prelude.{Some, None, All, position, remove, ◌==◌}
 use Rattle.std.specs.Result.{result_ok}
 use Rattle.std.specs.Ordering.{nat_cmp, ordering_index}
@@ -10,16 +10,17 @@ use Rattle.std.proofs.lemmas.Bool.Decides.{nat_tests}
 use Rattle.std.proofs.lemmas.Cmp.{ranked}
 use Rattle.std.proofs.lemmas.List.{get_or-take, length-take}
 use Rattle.std.proofs.lemmas.List.Edits.{length-remove, get_or-remove_below, get_or-remove_above}
-use Rattle.std.proofs.lemmas.List.Elements.{All-push}
+use Rattle.std.proofs.lemmas.List.Elements.{All-append, All-drop, All-push, All-take}
 use Rattle.std.proofs.lemmas.List.Quantifiers.{all_pairs_push, all_pairs_remove}
 use Rattle.std.proofs.lemmas.List.Sums.{position_or_len_is}
 use Rattle.blk_front.specs.declared.request.Request.{Request}
 use Rattle.blk_front.specs.declared.request.Transfer.TheVariants.{Read}
+use Rattle.blk_front.specs.Request.{IsShaped}
 use Rattle.blk_front.specs.Sound.{AreAscending}
 
 -- some request
-blank : Request
-blank = record { number = 0; sector = 0; transfer = Read; frame = 18 }
+pub blank : Request
+blank = record { number = 0; sector = 0; count = 1; transfer = Read; frames = record { items = [] } }
 
 -- the request of the number stands there
 stands : (l : List Request) (id place : ℕ) → AreAscending l → place < length l → (get_or l place blank).number ≡ id → Some place ≡ position (λ (r : Request). r.number == id) l
@@ -39,7 +40,7 @@ stands_nowhere l id others =
     (λ h. absurd (omega arith)) in
     rw (there, le-ltb (length l) (length l) (omega arith)) refl
 
--- no number is above one behind it
+-- no number is above one after it
 rises : (l : List Request) → AreAscending l → IsNonDecreasingBy (λ (r : Request). r.number) l
 rises l up i j d le within = grind (arith, up i j d, λ (same : i ≡ j). ap (λ k. (get_or l k d).number) same)
 
@@ -63,7 +64,7 @@ first_ascending l n up i j d lt within =
     let j_is = get_or-take n l j d (omega arith) in
     rw (i_is, j_is) (up i j d lt (omega arith))
 
--- one with the next number comes behind them
+-- one with the next number comes after them
 pub push_ascending : (l : List Request) (r : Request) (last : ℕ) → AreAscending l → All (λ (s : Request). s.number ≤ last) l → r.number ≡ last + 1 → AreAscending (l ++ r ∷ [])
 push_ascending l r last up given next = all_pairs_push (λ (s t : Request). s.number < t.number) l r up (λ k d within. let low = given k d within in omega arith)
 
@@ -81,3 +82,6 @@ remove_given l place last within given k d lt =
     let below : k < place → (get_or (remove l place) k d).number ≡ (get_or l k d).number = λ h. ap number (get_or-remove_below l place d k h within) in
     let above : place ≤ k → (get_or (remove l place) k d).number ≡ (get_or l (k + 1) d).number = λ h. ap number (get_or-remove_above l place d k h within) in
     grind (arith, below, above, given k d, given (k + 1) d)
+
+pub remove_shaped : (l : List Request) (place : ℕ) → All IsShaped l → All IsShaped (remove l place)
+remove_shaped l place all = All-append IsShaped _ _ (All-take IsShaped place l all) (All-drop IsShaped (suc place) l all)

@@ -1,5 +1,5 @@
 -- What the front asks.
-use Rattle.std.specs.Prelude.{ℕ, ◌+◌, ◌<◌, Option, Some, None, if◌then◌else◌, ◌==◌, slice_index}
+use Rattle.std.specs.Prelude.{ℕ, ◌+◌, ◌/◌, ◌%◌, ◌<◌, Option, Some, None, if◌then◌else◌, ◌==◌, slice_index}
 use Rattle.blk_base.specs.declared.ask.FrontAsk.{FrontAsk}
 use Rattle.blk_base.specs.declared.ask.FrontAsk.TheVariants.{Wait, Fence, Read, Write, Cas, NewPort, Send}
 use Rattle.blk_base.specs.declared.ask.FrontAnswer.{FrontAnswer}
@@ -7,16 +7,43 @@ use Rattle.blk_base.specs.declared.ask.FrontAnswer.TheVariants as answer
 use Rattle.ring_words.specs.Ring.{next_of, responses_of}
 use Rattle.blk_front.specs.declared.stage.Stage.{Stage}
 use Rattle.blk_front.specs.declared.stage.Stage.TheVariants as stage
+use Rattle.blk_front.specs.declared.stage.Ending.{Ending}
 use Rattle.blk_front.specs.declared.request.Request.{Request}
 use Rattle.blk_front.specs.declared.request.Transfer.{Transfer}
 use Rattle.blk_front.specs.declared.request.Transfer.TheVariants as transfer
-use Rattle.blk_front.specs.Request.{tag_of, grant_flags}
+use Rattle.blk_front.specs.Request.{grant_flags, frame_at, filling_at}
 use Rattle.blk_front.specs.View.{View, ring_frame, entry_frame, entry_word, slot_frame, slot_word, fresh_word, next_request}
 
--- a request is begun: a write with its data, a read with its grant
+-- word n of a write's data is written; the frame of this place is named in its grant entry, and granted
+abbrev pub data_ask : Option Request → ℕ → FrontAsk
+data_ask None n = Wait
+data_ask (Some r) n = Write (frame_at r (n / 1024)) (n % 1024) (filling_at r.transfer n)
+
+abbrev pub name_ask : Option Request → ℕ → FrontAsk
+name_ask None place = Wait
+name_ask (Some r) place = Write (entry_frame (frame_at r place)) (entry_word (frame_at r place) + 1) (frame_at r place)
+
+abbrev pub grant_ask : Option Request → ℕ → FrontAsk
+grant_ask None place = Wait
+grant_ask (Some r) place = Write (entry_frame (frame_at r place)) (entry_word (frame_at r place)) (grant_flags r.transfer)
+
+-- the grant of an ending request's frame of this place is looked at, and ended; and word n of its data is read
+abbrev pub revoke_ask : Option Ending → ℕ → FrontAsk
+revoke_ask None place = Wait
+revoke_ask (Some e) place = Read (entry_frame (frame_at e.request place)) (entry_word (frame_at e.request place))
+
+abbrev pub end_ask : Option Ending → (place before : ℕ) → FrontAsk
+end_ask None place before = Wait
+end_ask (Some e) place before = Cas (entry_frame (frame_at e.request place)) (entry_word (frame_at e.request place)) before 0
+
+abbrev pub read_ask : Option Ending → ℕ → FrontAsk
+read_ask None n = Wait
+read_ask (Some e) n = Read (frame_at e.request (n / 1024)) (n % 1024)
+
+-- a request is begun: a write with its data, a read with its grants
 abbrev pub issue_ask : Request → Transfer → FrontAsk
-issue_ask r (transfer.Write tag) = Write r.frame 0 tag
-issue_ask r transfer.Read = Write (entry_frame r.frame) (entry_word r.frame + 1) r.frame
+issue_ask r (transfer.Write tag) = data_ask (Some r) 0
+issue_ask r transfer.Read = name_ask (Some r) 0
 
 -- in the loop: a request that waits is issued; else sleep; else the next response; else the responses' producer
 abbrev pub loop_ask : View → Option Request → FrontAsk
@@ -33,10 +60,10 @@ ask_at stage.RingFence v = Fence
 ask_at stage.RingFlags v = Write (entry_frame ring_frame) (entry_word ring_frame) 1
 ask_at stage.NewPort v = NewPort
 ask_at stage.Loop v = loop_ask v (next_request v)
-ask_at (stage.Data r k) v = Write r.frame k (tag_of r.transfer)
-ask_at (stage.GrantFrame r) v = Write (entry_frame r.frame) (entry_word r.frame + 1) r.frame
-ask_at (stage.GrantFence r) v = Fence
-ask_at (stage.GrantFlags r) v = Write (entry_frame r.frame) (entry_word r.frame) (grant_flags r.transfer)
+ask_at (stage.Data n) v = data_ask (next_request v) n
+ask_at (stage.GrantFrame place) v = name_ask (next_request v) place
+ask_at (stage.GrantFence place) v = Fence
+ask_at (stage.GrantFlags place) v = grant_ask (next_request v) place
 ask_at (stage.Slot k) v = Write (slot_frame v.ring.prod k) (slot_word v.ring.prod k) (slice_index v.entry k)
 ask_at stage.Producer v = Write ring_frame 0 (next_of v.ring.prod)
 ask_at (stage.ProducerFence old) v = Fence
@@ -44,9 +71,9 @@ ask_at (stage.RequestEvent old) v = Read ring_frame 1
 ask_at stage.Send v = Send
 ask_at (stage.ResponseHigh low) v = Read (slot_frame v.ring.cons 1) (slot_word v.ring.cons 1)
 ask_at (stage.ResponseLast low high) v = Read (slot_frame v.ring.cons 2) (slot_word v.ring.cons 2)
-ask_at (stage.GrantRead e) v = Read (entry_frame e.frame) (entry_word e.frame)
-ask_at (stage.GrantEnd e seen) v = Cas (entry_frame e.frame) (entry_word e.frame) seen 0
-ask_at (stage.ReadData e k) v = Read e.frame k
+ask_at (stage.GrantRead place) v = revoke_ask v.ending place
+ask_at (stage.GrantEnd place seen) v = end_ask v.ending place seen
+ask_at (stage.ReadData n) v = read_ask v.ending n
 ask_at stage.StoreEvent v = Write ring_frame 3 (next_of v.ring.cons)
 ask_at stage.EventFence v = Fence
 ask_at stage.LookAgain v = Read ring_frame 2

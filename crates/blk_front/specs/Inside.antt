@@ -13,6 +13,7 @@ view_of f = record {
   last = f.last;
   waiting = f.waiting;
   requests = f.requests.items;
+  ending = f.ending;
   pool = f.pool;
   entry = f.entry.items;
   words = f.words;

@@ -1,5 +1,5 @@
 -- The pool of frames for the requests' data: 1000 frames from 18 on.
-use Rattle.std.specs.Prelude.{ℕ, ◌+◌, ◌-◌, Bool, true, false, not, List, Option, position, option_map, replicate, slice_set}
+use Rattle.std.specs.Prelude.{ℕ, zero, suc, ◌+◌, ◌-◌, Bool, true, false, not, List, [], ◌∷◌, ◌++◌, fold, Option, Some, position, option_map, option_and_then, replicate, slice_set}
 
 abbrev pub first_frame : ℕ
 first_frame = 18
@@ -16,3 +16,12 @@ with_taken taken frame = slice_set taken (frame - 18) true
 
 abbrev pub with_free : List Bool → ℕ → List Bool
 with_free taken frame = slice_set taken (frame - 18) false
+
+-- so many frames more are taken into use, each the lowest that isn't: all that were taken, and the pool then; none where fewer are left
+abbrev pub taking : ℕ → List Bool → List ℕ → Option (List ℕ × List Bool)
+taking zero taken frames = Some (frames, taken)
+taking (suc n) taken frames = option_and_then (λ frame. taking n (with_taken taken frame) (frames ++ frame ∷ [])) (lowest_of taken)
+
+-- these frames are given back
+abbrev pub with_all_free : List Bool → List ℕ → List Bool
+with_all_free taken frames = fold with_free taken frames

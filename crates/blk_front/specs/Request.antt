@@ -1,7 +1,10 @@
--- What a request's way says of its data, its grant and its entry (`io/blkif.h`, `grant_table.h`).
-use Rattle.std.specs.Prelude.{ℕ, Bool, true, false}
+-- What a request's way says of its data, its grant and its entry, and where its sectors lie (`io/blkif.h`, `grant_table.h`).
+use Rattle.std.specs.Prelude.{◌≡◌, ℕ, ◌+◌, ◌-◌, ◌*◌, ◌/◌, ◌%◌, ◌^◌, ◌≤◌, min, Bool, true, false, List, length, map, slice_get, slice_index_or, Option, Some, None}
+use Rattle.std.specs.List.{range_with_len}
 use Rattle.blk_base.specs.declared.operation.Status.{Status}
 use Rattle.blk_base.specs.declared.operation.Status.TheVariants.{Okay}
+use Rattle.blk_layout.specs.declared.segment.Segment.{Segment}
+use Rattle.blk_front.specs.declared.request.Request.{Request}
 use Rattle.blk_front.specs.declared.request.Transfer.{Transfer}
 use Rattle.blk_front.specs.declared.request.Transfer.TheVariants.{Read, Write}
 
@@ -9,7 +12,7 @@ abbrev pub is_write : Transfer → Bool
 is_write Read = false
 is_write (Write tag) = true
 
--- the word that fills the sector of a write
+-- the word that fills the first sector of a write
 abbrev pub tag_of : Transfer → ℕ
 tag_of Read = 0
 tag_of (Write tag) = tag
@@ -19,7 +22,7 @@ abbrev pub operation_of : Transfer → ℕ
 operation_of Read = 0
 operation_of (Write tag) = 1
 
--- GTF_permit_access, with GTF_readonly for the frame of a write
+-- GTF_permit_access, with GTF_readonly for the frames of a write
 abbrev pub grant_flags : Transfer → ℕ
 grant_flags Read = 1
 grant_flags (Write tag) = 5
@@ -28,3 +31,40 @@ grant_flags (Write tag) = 5
 abbrev pub has_data : Transfer → Status → Bool
 has_data Read Okay = true
 has_data transfer status = false
+
+-- so many sectors, eight to a frame, lie in so many frames, which are as many segments
+abbrev pub frames_for : ℕ → ℕ
+frames_for count = (count + 7) / 8
+
+-- a request of so many words of data: 128 for each sector
+abbrev pub words_in : Request → ℕ
+words_in r = 128 * r.count
+
+-- its frame of this place; word n of its data is word n % 1024 of frame n / 1024, and of sector n / 128
+abbrev pub frame_at : Request → ℕ → ℕ
+frame_at r place = slice_index_or r.frames.items place 18
+
+-- sector i of a write is 128 words of its tag and i
+abbrev pub filling_at : Transfer → ℕ → ℕ
+filling_at way n = (tag_of way + n / 128) % 2 ^ 32
+
+abbrev pub no_segment : Segment
+no_segment = record { gref = 0; first = 0; last = 0 }
+
+-- the segment of a frame: its sectors from the first on, all eight but in the last frame
+abbrev pub segment_in : ℕ → ℕ → Option ℕ → Segment
+segment_in count place None = no_segment
+segment_in count place (Some frame) = record { gref = frame + 6; first = 0; last = min 7 (count - 1 - 8 * place) }
+
+abbrev pub segment_at : Request → ℕ → Segment
+segment_at r place = segment_in r.count place (slice_get r.frames.items place)
+
+-- the segments of its entry, of which the first are its own
+abbrev pub segments_of : Request → List Segment
+segments_of r = map (segment_at r) (range_with_len 0 11)
+
+-- a request has a sector, and no more than one entry can name: 11 segments (BLKIF_MAX_SEGMENTS_PER_REQUEST)
+pub record IsShaped (r : Request) : Type 0 where
+  pub some : 1 ≤ r.count
+  pub few : r.count ≤ 88
+  pub frames : length r.frames.items ≡ frames_for r.count

@@ -1,5 +1,5 @@
 -- What an answer makes of the front.
-use Rattle.std.specs.Prelude.{ℕ, ◌+◌, ◌-◌, ◌*◌, ◌/◌, ◌%◌, ◌^◌, Bool, true, false, List, [], ◌∷◌, length, take, remove, position, replicate, Option, Some, None, slice_get, slice_set, Result, Ok, Err, if◌then◌else◌, ◌==◌, nat_lt}
+use Rattle.std.specs.Prelude.{ℕ, ◌+◌, ◌-◌, ◌*◌, ◌/◌, ◌%◌, ◌^◌, Bool, true, false, List, [], ◌∷◌, length, take, remove, position, Option, Some, None, slice_get, slice_set, Result, Ok, Err, if◌then◌else◌, ◌==◌, nat_lt}
 use Rattle.std.specs.Option.{option_map}
 use Rattle.blk_base.specs.Distance.{distance_of}
 use Rattle.blk_base.specs.declared.operation.Abi.TheVariants.{X64}
@@ -7,7 +7,6 @@ use Rattle.blk_base.specs.declared.operation.Status.{Status}
 use Rattle.blk_base.specs.declared.ask.FrontAnswer.{FrontAnswer}
 use Rattle.blk_base.specs.declared.ask.FrontAnswer.TheVariants.{Event, Word}
 use Rattle.ring_words.specs.Ring.{next_of, responses_of, notifies}
-use Rattle.blk_layout.specs.declared.segment.Segment.{Segment}
 use Rattle.blk_layout.specs.declared.response.Response.{Response}
 use Rattle.blk_layout.specs.declared.request.RawRequest.{RawRequest}
 use Rattle.blk_layout.specs.declared.request.RawRequest.TheVariants.{Direct}
@@ -19,10 +18,10 @@ use Rattle.blk_front.specs.declared.stage.Ending.{Ending}
 use Rattle.blk_front.specs.declared.request.Request.{Request}
 use Rattle.blk_front.specs.declared.request.Transfer.{Transfer}
 use Rattle.blk_front.specs.declared.request.Transfer.TheVariants as transfer
-use Rattle.blk_front.specs.Request.{operation_of, has_data}
+use Rattle.blk_front.specs.Request.{operation_of, has_data, frames_for, words_in, segments_of}
 use Rattle.blk_front.specs.declared.told.Told.TheVariants as told
-use Rattle.blk_front.specs.Pool.{with_free}
-use Rattle.blk_front.specs.View.{View, reference_of, next_request}
+use Rattle.blk_front.specs.Pool.{with_all_free}
+use Rattle.blk_front.specs.View.{View, next_request}
 
 abbrev pub at : Stage → View → View
 at s v = record v { stage = s }
@@ -31,16 +30,9 @@ at s v = record v { stage = s }
 abbrev pub broken : ℕ → View → View
 broken word v = record v { stage = stage.Broken word; told = Some (told.Broken word) }
 
-abbrev pub no_segment : Segment
-no_segment = record { gref = 0; first = 0; last = 0 }
-
--- the one segment of a request of one sector: the first sector of its frame
-abbrev pub segments_of : Request → List Segment
-segments_of r = record { gref = reference_of r.frame; first = 0; last = 0 } ∷ replicate 10 no_segment
-
--- the request as its entry has it: a READ (0) or a WRITE (1) of one segment, of device 51712
+-- the request as its entry has it: a READ (0) or a WRITE (1) of as many segments as it has frames, of device 51712
 abbrev pub entry_request : Request → RawRequest
-entry_request r = Direct (operation_of r.transfer) 1 51712 r.number r.sector (segments_of r)
+entry_request r = Direct (operation_of r.transfer) (frames_for r.count) 51712 r.number r.sector (segments_of r)
 
 -- the words of the request's entry
 abbrev pub entry_of : Request → List ℕ
@@ -58,14 +50,24 @@ loop_word v word =
     then looked v word (record v { seen = word; stage = stage.StoreEvent })
     else at (stage.ResponseHigh word) v
 
--- a request was begun: of a write a word of its data was written, of a read the first word of its grant
-abbrev pub issue_stage : Request → Transfer → Stage
-issue_stage r (transfer.Write tag) = stage.Data r 1
-issue_stage r transfer.Read = stage.GrantFence r
+-- a request was begun: of a write a word of its data was written, of a read a word of its first grant
+abbrev pub issue_stage : Transfer → Stage
+issue_stage (transfer.Write tag) = stage.Data 1
+issue_stage transfer.Read = stage.GrantFence 0
+
+-- a word of its data was written: the next one is, or its frames are granted
+abbrev pub data_stage : Option Request → ℕ → Stage
+data_stage None n = stage.Data n
+data_stage (Some r) n = if nat_lt (n + 1) (words_in r) then stage.Data (n + 1) else stage.GrantFrame 0
+
+-- a frame of it was granted: the next one is, or its entry is written
+abbrev pub granted : Option Request → ℕ → View → View
+granted None place v = v
+granted (Some r) place v = if nat_lt (place + 1) (length r.frames.items) then at (stage.GrantFrame (place + 1)) v else record v { stage = stage.Slot 0; entry = entry_of r }
 
 -- an event ends sleep; a watch has nothing to tell where there are no keys
 abbrev pub loop_step : View → Option Request → FrontAnswer → View
-loop_step v (Some r) answer = at (issue_stage r r.transfer) v
+loop_step v (Some r) answer = at (issue_stage r.transfer) v
 loop_step v None (Word word) = loop_word v word
 loop_step v None Event = record v { asleep = false }
 loop_step v None answer = v
@@ -78,12 +80,13 @@ found_at requests (Some place) = option_map (λ r. (place, r)) (slice_get reques
 abbrev pub issued : View → ℕ → Option (ℕ × Request)
 issued v id = found_at v.requests (position (λ (r : Request). r.number == id) (take (length v.requests - v.waiting) v.requests))
 
--- the response is taken: its request's grant is ended next
+-- the response is taken: its request's grants are ended next
 abbrev pub taken : View → ℕ → Request → Status → View
 taken v place r status = record v {
   ring = record v.ring { cons = next_of v.ring.cons };
   requests = remove v.requests place;
-  stage = stage.GrantRead (record { number = r.number; transfer = r.transfer; frame = r.frame; status = status });
+  ending = Some (record { request = r; status = status });
+  stage = stage.GrantRead 0;
 }
 
 -- a response was read whole: its id is looked at first, then its status
@@ -99,25 +102,40 @@ response_step v low high last = response_at v (response_of (low ∷ high ∷ las
 abbrev pub is_mapped : ℕ → Bool
 is_mapped word = nat_lt 0 (word / 8 % 4)
 
--- the grant ended: the answer is told; the data of a read that went well are read next, and else the frame is free
-abbrev pub ended : View → Ending → View
-ended v e =
-    if has_data e.transfer e.status then record v { stage = stage.ReadData e 0; told = Some (told.Answer e.number e.status) }
-    else record v { stage = stage.Loop; pool = with_free v.pool e.frame; told = Some (told.Answer e.number e.status) }
+-- all of a request was told: its frames are free
+abbrev pub finished : Ending → View → View
+finished e v = record v { stage = stage.Loop; ending = None; pool = with_all_free v.pool e.request.frames.items }
 
--- a word of the data was read: after the last one the sector is told, and the frame is free
-abbrev pub data_step : View → Ending → ℕ → ℕ → View
-data_step v e k word =
-    if k == 127
-    then record v { words = slice_set v.words k word; stage = stage.Loop; pool = with_free v.pool e.frame; told = Some (told.Sector e.number 0 (slice_set v.words k word)) }
-    else record v { words = slice_set v.words k word; stage = stage.ReadData e (k + 1) }
+-- its last grant was ended: the answer is told; the data of a read that went well are read next, and else it is finished
+abbrev pub ended : Ending → View → View
+ended e v =
+    if has_data e.request.transfer e.status then record v { stage = stage.ReadData 0; told = Some (told.Answer e.request.number e.status) }
+    else record (finished e v) { told = Some (told.Answer e.request.number e.status) }
+
+-- one of its grants was ended: the next one is, or that was the last
+abbrev pub revoked : Option Ending → ℕ → View → View
+revoked None place v = v
+revoked (Some e) place v = if nat_lt (place + 1) (length e.request.frames.items) then at (stage.GrantRead (place + 1)) v else ended e v
+
+-- the words of a sector so far, and what is told once it was read whole
+abbrev pub sector_told : Ending → ℕ → List ℕ → View → View
+sector_told e n words v =
+    if n % 128 == 127 then record v { words = words; told = Some (told.Sector e.request.number (n / 128) words) }
+    else record v { words = words }
+
+-- word n of its data was read: after the last one of a sector that is told, and after the last one of all it is finished
+abbrev pub data_step : Option Ending → ℕ → ℕ → View → View
+data_step None n word v = v
+data_step (Some e) n word v =
+    if nat_lt (n + 1) (words_in e.request) then at (stage.ReadData (n + 1)) (sector_told e n (slice_set v.words (n % 128) word) v)
+    else finished e (sector_told e n (slice_set v.words (n % 128) word) v)
 
 -- the grant entry was read: it may be ended where the back has no mapping of it
-abbrev pub end_step : View → Ending → ℕ → View
-end_step v e word = if is_mapped word then broken word v else at (stage.GrantEnd e word) v
+abbrev pub end_step : View → ℕ → ℕ → View
+end_step v place word = if is_mapped word then broken word v else at (stage.GrantEnd place word) v
 
-abbrev pub exchanged : View → Ending → ℕ → ℕ → View
-exchanged v e before word = if word == before then ended v e else broken word v
+abbrev pub exchanged : View → (place before word : ℕ) → View
+exchanged v place before word = if word == before then revoked v.ending place v else broken word v
 
 -- the request is pushed
 abbrev pub pushed : View → View
@@ -134,10 +152,10 @@ step_at stage.RingFence v answer = at stage.RingFlags v
 step_at stage.RingFlags v answer = at stage.NewPort v
 step_at stage.NewPort v answer = record v { stage = stage.Loop; told = Some told.Ready }
 step_at stage.Loop v answer = loop_step v (next_request v) answer
-step_at (stage.Data r k) v answer = at (if k == 127 then stage.GrantFrame r else stage.Data r (k + 1)) v
-step_at (stage.GrantFrame r) v answer = at (stage.GrantFence r) v
-step_at (stage.GrantFence r) v answer = at (stage.GrantFlags r) v
-step_at (stage.GrantFlags r) v answer = record v { stage = stage.Slot 0; entry = entry_of r }
+step_at (stage.Data n) v answer = at (data_stage (next_request v) n) v
+step_at (stage.GrantFrame place) v answer = at (stage.GrantFence place) v
+step_at (stage.GrantFence place) v answer = at (stage.GrantFlags place) v
+step_at (stage.GrantFlags place) v answer = granted (next_request v) place v
 step_at (stage.Slot k) v answer = at (if k == 27 then stage.Producer else stage.Slot (k + 1)) v
 step_at stage.Producer v answer = pushed v
 step_at (stage.ProducerFence old) v answer = at (stage.RequestEvent old) v
@@ -145,9 +163,9 @@ step_at (stage.RequestEvent old) v (Word event) = at (if notifies old v.ring.pro
 step_at stage.Send v answer = at stage.Loop v
 step_at (stage.ResponseHigh low) v (Word high) = at (stage.ResponseLast low high) v
 step_at (stage.ResponseLast low high) v (Word last) = response_step v low high last
-step_at (stage.GrantRead e) v (Word word) = end_step v e word
-step_at (stage.GrantEnd e before) v (Word word) = exchanged v e before word
-step_at (stage.ReadData e k) v (Word word) = data_step v e k word
+step_at (stage.GrantRead place) v (Word word) = end_step v place word
+step_at (stage.GrantEnd place before) v (Word word) = exchanged v place before word
+step_at (stage.ReadData n) v (Word word) = data_step v.ending n word v
 step_at stage.StoreEvent v answer = at stage.EventFence v
 step_at stage.EventFence v answer = at stage.LookAgain v
 step_at stage.LookAgain v (Word word) = looked v word (record v { seen = word; stage = stage.Loop; asleep = true })
@@ -160,3 +178,14 @@ step_of v answer = step_at v.stage v answer
 abbrev pub IsTaking : Stage → Type 0
 IsTaking (stage.ResponseLast low high) = Unit {0}
 IsTaking s = ⊥
+
+-- a grant is ended now
+abbrev pub IsRevoking : Stage → Type 0
+IsRevoking (stage.GrantEnd place before) = Unit {0}
+IsRevoking s = ⊥
+
+-- and a word of data may be read
+abbrev pub IsEndingStage : Stage → Type 0
+IsEndingStage (stage.GrantEnd place before) = Unit {0}
+IsEndingStage (stage.ReadData n) = Unit {0}
+IsEndingStage s = ⊥

@@ -1,16 +1,19 @@
 -- When the front refuses a submission, and what an accepted one makes of it.
-use Rattle.std.specs.Prelude.{ℕ, ◌+◌, Bool, true, false, not, [], ◌∷◌, ◌++◌, length, Option, Some, None, Result, Ok, Err, if◌then◌else◌, ◌==◌, nat_le}
+use Rattle.std.specs.Prelude.{ℕ, ◌+◌, Bool, true, false, not, List, [], ◌∷◌, ◌++◌, length, sum_by, Option, Some, None, Result, Ok, Err, if◌then◌else◌, ◌==◌, nat_lt, nat_le}
 use Rattle.blk_base.specs.declared.ask.FrontAsk.{FrontAsk}
 use Rattle.blk_base.specs.declared.ask.FrontAsk.TheVariants.{Wait}
 use Rattle.blk_base.specs.declared.config.Job.{Job}
 use Rattle.blk_base.specs.declared.config.Job.TheVariants as jobs
-use Rattle.blk_front.specs.declared.request.Transfer.{Transfer}
+use Rattle.blk_front.specs.declared.request.Request.{Request}
+use Rattle.blk_front.specs.declared.request.Wish.{Wish}
 use Rattle.blk_front.specs.declared.request.Transfer.TheVariants as transfer
+use Rattle.blk_front.specs.declared.stage.Ending.{Ending}
 use Rattle.blk_front.specs.declared.stage.Stage.{Stage}
 use Rattle.blk_front.specs.declared.stage.Stage.TheVariants as stage
 use Rattle.blk_front.specs.declared.told.Refusal.{Refusal}
 use Rattle.blk_front.specs.declared.told.Refusal.TheVariants as refusal
-use Rattle.blk_front.specs.Pool.{lowest_of, with_taken}
+use Rattle.blk_front.specs.Pool.{taking}
+use Rattle.blk_front.specs.Request.{frames_for}
 use Rattle.ring_words.specs.Shape.{entries_of}
 use Rattle.blk_front.specs.View.{View, shape}
 
@@ -33,50 +36,63 @@ is_connected stage.RingFlags = false
 is_connected stage.NewPort = false
 is_connected s = true
 
--- a request whose grant is being ended, or whose data are told, is unfinished still
+-- a request whose grants are being ended, or whose data are told, is unfinished still
 abbrev pub ending_of : Stage → ℕ
-ending_of (stage.GrantRead e) = 1
-ending_of (stage.GrantEnd e before) = 1
-ending_of (stage.ReadData e k) = 1
+ending_of (stage.GrantRead place) = 1
+ending_of (stage.GrantEnd place before) = 1
+ending_of (stage.ReadData n) = 1
 ending_of s = 0
 
 abbrev pub unfinished : View → ℕ
 unfinished v = length v.requests + ending_of v.stage
 
--- the sector of a read or a write of one sector, and which way it goes
-abbrev pub one_sector : Job → Option (ℕ × Transfer)
-one_sector (jobs.Read sector count) = if count == 1 then Some (sector, transfer.Read) else None
-one_sector (jobs.Write sector count tag) = if count == 1 then Some (sector, transfer.Write tag) else None
-one_sector job = None
+-- the sectors that all unfinished requests move
+abbrev pub ending_sectors : Option Ending → ℕ
+ending_sectors None = 0
+ending_sectors (Some e) = e.request.count
+
+abbrev pub sectors_owed : View → ℕ
+sectors_owed v = sum_by (λ (r : Request). r.count) v.requests + (if ending_of v.stage == 0 then 0 else ending_sectors v.ending)
+
+-- the sectors of a read or a write, and which way they go
+abbrev pub wish_of : Job → Option Wish
+wish_of (jobs.Read sector count) = Some (record { sector = sector; count = count; transfer = transfer.Read })
+wish_of (jobs.Write sector count tag) = Some (record { sector = sector; count = count; transfer = transfer.Write tag })
+wish_of job = None
 
 -- nothing is to be done until an event comes
 abbrev pub is_wait : FrontAsk → Bool
 is_wait Wait = true
 is_wait ask = false
 
--- accepted: the next number, the lowest free frame, last in the queue
-abbrev pub accepted : View → ℕ → Transfer → ℕ → View
-accepted v sector way frame = record v {
+-- the next request, with these frames
+abbrev pub request_with : View → Wish → List ℕ → Request
+request_with v wish frames = record { number = v.last + 1; sector = wish.sector; count = wish.count; transfer = wish.transfer; frames = record { items = frames } }
+
+-- accepted: the next number, the lowest free frames, last in the queue
+abbrev pub accepted : View → Wish → (List ℕ × List Bool) → View
+accepted v wish taken = record v {
   last = v.last + 1;
   waiting = v.waiting + 1;
-  requests = v.requests ++ record { number = v.last + 1; sector = sector; transfer = way; frame = frame } ∷ [];
-  pool = with_taken v.pool frame;
+  requests = v.requests ++ request_with v wish taken.0 ∷ [];
+  pool = taken.1;
 }
 
-abbrev pub submit_with : View → ℕ × Transfer → Option ℕ → Result ℕ Refusal × View
-submit_with v what None = (Err refusal.Buffers, v)
-submit_with v what (Some frame) = (Ok (v.last + 1), accepted v what.0 what.1 frame)
+abbrev pub submit_with : View → Wish → Option (List ℕ × List Bool) → Result ℕ Refusal × View
+submit_with v wish None = (Err refusal.Buffers, v)
+submit_with v wish (Some taken) = (Ok (v.last + 1), accepted v wish taken)
 
-abbrev pub submit_one : View → Option (ℕ × Transfer) → Result ℕ Refusal × View
+abbrev pub submit_one : View → Option Wish → Result ℕ Refusal × View
 submit_one v None = (Err refusal.Unsupported, v)
-submit_one v (Some what) =
-    if nat_le v.sectors what.0 then (Err refusal.Range, v)
+submit_one v (Some wish) =
+    if nat_lt v.sectors (wish.sector + wish.count) then (Err refusal.Range, v)
+    else (if nat_lt 11 (frames_for wish.count) then (Err refusal.Long, v)
     else (if nat_le (entries_of shape.order) (unfinished v) then (Err refusal.Full, v)
-    else submit_with v what (lowest_of v.pool))
+    else submit_with v wish (taking (frames_for wish.count) v.pool [])))
 
 -- the answer to a submission, and the front after it
 abbrev pub submit_of : View → Job → Result ℕ Refusal × View
 submit_of v job =
     if v.last == 4294967295 then (Err refusal.Spent, v)
     else (if not (is_ready v.stage) then (Err refusal.NotReady, v)
-    else submit_one v (one_sector job))
+    else submit_one v (wish_of job))

@@ -8,9 +8,10 @@ use Rattle.blk_front.specs.declared.stage.Stage.{Stage}
 use Rattle.blk_front.specs.declared.stage.Stage.TheVariants as stage
 use Rattle.blk_front.specs.Pool.{empty_pool}
 use Rattle.blk_front.specs.declared.request.Request.{Request}
+use Rattle.blk_front.specs.declared.stage.Ending.{Ending}
 use Rattle.blk_front.specs.declared.told.Told.{Told}
 
--- The front: the disk's sectors and the ring's first index; its own indices and what it does; whether it sleeps; the responses' producer as last read; the last number given; the unfinished requests in order of number, of which the last `waiting` aren't issued yet; the frames in use; the words of the entry being written, and those of the sector being read; what is to be told.
+-- The front: the disk's sectors and the ring's first index; its own indices and what it does; whether it sleeps; the responses' producer as last read; the last number given; the unfinished requests in order of number, of which the last `waiting` aren't issued yet; the request whose response was taken, until it is finished; the frames in use; the words of the entry being written, and those of the sector being read; what is to be told.
 pub record View : Type 0 where
   pub sectors : ℕ
   pub start : ℕ
@@ -21,6 +22,7 @@ pub record View : Type 0 where
   pub last : ℕ
   pub waiting : ℕ
   pub requests : List Request
+  pub ending : Option Ending
   pub pool : List Bool
   pub entry : List ℕ
   pub words : List ℕ
@@ -76,6 +78,7 @@ start_of config = record {
   last = 0;
   waiting = 0;
   requests = [];
+  ending = None;
   pool = empty_pool;
   entry = [];
   words = replicate 128 0;

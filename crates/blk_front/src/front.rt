@@ -1,8 +1,9 @@
 // The front end.
-ghost use Rattle.std.specs.Prelude.{◌≡◌, ◌<◌, ◌+◌, None, IfOk, IsOk, OnErr, slice_index};
+ghost use Rattle.std.specs.Prelude.{◌≡◌, ◌<◌, ◌+◌, Some, None, IfOk, IsOk, OnErr, slice_index, option_map};
 ghost use Rattle.blk_base.specs.declared.ask.FrontAsk.TheVariants.{Wait};
+ghost use Rattle.std.specs.Option.{option_copied};
 ghost use Rattle.blk_front.specs.View.{start_of, next_request, slot_frame, slot_word, entry_frame, entry_word};
-ghost use Rattle.blk_front.specs.Ask.{ask_of, loop_ask, issue_ask, IsAnswer, IsPlace, StaysInMemory};
+ghost use Rattle.blk_front.specs.Ask.{ask_of, loop_ask, issue_ask, data_ask, name_ask, grant_ask, revoke_ask, end_ask, read_ask, IsAnswer, IsPlace, StaysInMemory};
 ghost use Rattle.blk_front.specs.Step.{step_of, step_at};
 ghost use Rattle.blk_front.specs.Submit.{submit_of, unfinished};
 
@@ -12,7 +13,7 @@ mod submit;
 use crate::place;
 use crate::pool::{Pool, PoolFrame};
 use crate::request::{Request, Transfer};
-use crate::stage::Stage;
+use crate::stage::{Ending, Stage};
 use crate::told::{Refusal, Told};
 use arrayvec::ArrayVec;
 use blk_base::{Abi, Config, Endpoint, FrontAnswer, FrontAsk, Job, OutOfMemory};
@@ -22,7 +23,7 @@ use std::alloc::Global;
 use std::marker::Model;
 
 /// The front end of a ring of one page under the layout of 64-bit guests, which issues reads and
-/// writes of one sector. After `new` it takes no memory.
+/// writes of up to 88 sectors. After `new` it takes no memory.
 #[derive(Drop)]
 pub struct Front {
     sectors: u64,
@@ -34,6 +35,7 @@ pub struct Front {
     last: u32,
     waiting: u32,
     requests: Vec<Request>,
+    ending: Option<Ending>,
     pool: Pool,
     entry: ArrayVec<u32, 28>,
     words: [u32; 128],
@@ -69,6 +71,7 @@ impl Front {
             last: 0,
             waiting: 0,
             requests,
+            ending: None,
             pool: Pool::new(),
             entry: ArrayVec::new(),
             words: [0; 128],
@@ -79,14 +82,14 @@ impl Front {
 
 impl Front {
     // The request that is issued next.
-    fn next_request(&self) -> Option<Request>
-        ensures { result ≡ next_request self.now }
+    fn next_request(&self) -> Option<&Request>
+        ensures { option_copied result ≡ next_request self.now }
     {
         if self.waiting == 0 {
             return None;
         }
         let first = self.requests.len() - self.waiting as usize;
-        self.requests.get(first).copied()
+        self.requests.get(first)
     }
 
     // What is asked where nothing was begun.
@@ -95,7 +98,7 @@ impl Front {
         ensures within { StaysInMemory result }
     {
         if let Some(r) = self.next_request() {
-            return issue(&r);
+            return issue(r);
         }
         if self.asleep {
             FrontAsk::Wait
@@ -131,17 +134,91 @@ impl Front {
             .unwrap_or(0);
         write(frame, place, value)
     }
+
+    // Writes a word of the data of the request that is issued next.
+    fn issue_data(&self, n: u32) -> FrontAsk<'_>
+        ensures value { result ≡ data_ask (next_request self.now) n }
+        ensures within { StaysInMemory result }
+    {
+        match self.next_request() {
+            Some(r) => write_data(r, n),
+            None => FrontAsk::Wait,
+        }
+    }
+
+    // Names its frame of this place in the frame's grant entry.
+    fn name_frame(&self, place: u32) -> FrontAsk<'_>
+        ensures value { result ≡ name_ask (next_request self.now) place }
+        ensures within { StaysInMemory result }
+    {
+        match self.next_request() {
+            Some(r) => write_frame(&r.frame(place)),
+            None => FrontAsk::Wait,
+        }
+    }
+
+    // Grants its frame of this place.
+    fn grant_frame(&self, place: u32) -> FrontAsk<'_>
+        ensures value { result ≡ grant_ask (next_request self.now) place }
+        ensures within { StaysInMemory result }
+    {
+        match self.next_request() {
+            Some(r) => write_flags(&r.frame(place), r.transfer.grant_flags()),
+            None => FrontAsk::Wait,
+        }
+    }
+
+    // Reads the flags of the ending request's frame of this place.
+    fn read_grant(&self, place: u32) -> FrontAsk<'_>
+        ensures value { result ≡ revoke_ask self.now.ending place }
+        ensures within { StaysInMemory result }
+    {
+        match &self.ending {
+            Some(ending) => read_flags(&ending.request.frame(place)),
+            None => FrontAsk::Wait,
+        }
+    }
+
+    // Ends the grant of its frame of this place.
+    fn end_grant_of(&self, place: u32, seen: u32) -> FrontAsk<'_>
+        ensures value { result ≡ end_ask self.now.ending place seen }
+        ensures within { StaysInMemory result }
+    {
+        match &self.ending {
+            Some(ending) => end_grant(&ending.request.frame(place), seen),
+            None => FrontAsk::Wait,
+        }
+    }
+
+    // Reads a word of its data.
+    fn read_word(&self, n: u32) -> FrontAsk<'_>
+        ensures value { result ≡ read_ask self.now.ending n }
+        ensures within { StaysInMemory result }
+    {
+        match &self.ending {
+            Some(ending) => read(ending.request.frame(n / 1024).number(), n % 1024),
+            None => FrontAsk::Wait,
+        }
+    }
 }
 
-// A request is begun: a write with its data, a read with its grant.
+// A request is begun: a write with its data, a read with its grants.
 fn issue<'a>(r: &Request) -> FrontAsk<'a>
     ensures value { result ≡ issue_ask r.now r.now.transfer }
     ensures within { StaysInMemory result }
 {
     match r.transfer {
-        Transfer::Write(tag) => write(r.frame.number(), 0, tag),
-        Transfer::Read => write_frame(&r.frame),
+        Transfer::Write(_) => write_data(r, 0),
+        Transfer::Read => write_frame(&r.frame(0)),
     }
+}
+
+// A word of a write's data is written.
+fn write_data<'a>(r: &Request, n: u32) -> FrontAsk<'a>
+    ensures value { result ≡ data_ask (Some r.now) n }
+    ensures within { StaysInMemory result }
+{
+    write(r.frame(n / 1024).number(), n % 1024, r.transfer.filling(n))
 }
 
 // One word of memory is read.
@@ -227,10 +304,10 @@ impl<'a> Endpoint<'a> for Front {
             Stage::RingFlags => write(0, 16, GTF_PERMIT_ACCESS),
             Stage::NewPort => FrontAsk::NewPort,
             Stage::Loop => self.ask_in_loop(),
-            Stage::Data(r, word) => write(r.frame.number(), word, r.transfer.tag()),
-            Stage::GrantFrame(r) => write_frame(&r.frame),
+            Stage::Data(n) => self.issue_data(n),
+            Stage::GrantFrame(place) => self.name_frame(place),
             Stage::GrantFence(_) => FrontAsk::Fence,
-            Stage::GrantFlags(r) => write_flags(&r.frame, r.transfer.grant_flags()),
+            Stage::GrantFlags(place) => self.grant_frame(place),
             Stage::Slot(word) => self.write_slot(word),
             Stage::Producer => write(
                 place::RING_FRAME,
@@ -242,9 +319,9 @@ impl<'a> Endpoint<'a> for Front {
             Stage::Send => FrontAsk::Send,
             Stage::ResponseHigh(_) => self.read_response(1),
             Stage::ResponseLast(_, _) => self.read_response(2),
-            Stage::GrantRead(ending) => read_flags(&ending.frame),
-            Stage::GrantEnd(ending, seen) => end_grant(&ending.frame, seen),
-            Stage::ReadData(ending, word) => read(ending.frame.number(), word),
+            Stage::GrantRead(place) => self.read_grant(place),
+            Stage::GrantEnd(place, seen) => self.end_grant_of(place, seen),
+            Stage::ReadData(n) => self.read_word(n),
             Stage::StoreEvent => write(
                 place::RING_FRAME,
                 RSP_EVENT,
@@ -270,10 +347,10 @@ impl<'a> Endpoint<'a> for Front {
             (Stage::RingFlags, _) => self.stage = Stage::NewPort,
             (Stage::NewPort, _) => self.connected(),
             (Stage::Loop, answer) => self.begin(answer),
-            (Stage::Data(r, word), _) => self.wrote_data(r, word),
-            (Stage::GrantFrame(r), _) => self.stage = Stage::GrantFence(r),
-            (Stage::GrantFence(r), _) => self.stage = Stage::GrantFlags(r),
-            (Stage::GrantFlags(r), _) => self.granted(r),
+            (Stage::Data(n), _) => self.wrote_data(n),
+            (Stage::GrantFrame(place), _) => self.stage = Stage::GrantFence(place),
+            (Stage::GrantFence(place), _) => self.stage = Stage::GrantFlags(place),
+            (Stage::GrantFlags(place), _) => self.granted(place),
             (Stage::Slot(word), _) => self.wrote_slot(word),
             (Stage::Producer, _) => self.pushed(),
             (Stage::ProducerFence(old), _) => self.stage = Stage::RequestEvent(old),
@@ -285,13 +362,11 @@ impl<'a> Endpoint<'a> for Front {
             (Stage::ResponseLast(low, high), FrontAnswer::Word(last)) => {
                 self.take_response(low, high, *last);
             }
-            (Stage::GrantRead(ending), FrontAnswer::Word(word)) => self.end_grant(ending, *word),
-            (Stage::GrantEnd(ending, before), FrontAnswer::Word(word)) => {
-                self.ended_grant(ending, before, *word);
+            (Stage::GrantRead(place), FrontAnswer::Word(word)) => self.end_grant(place, *word),
+            (Stage::GrantEnd(place, before), FrontAnswer::Word(word)) => {
+                self.ended_grant(place, before, *word);
             }
-            (Stage::ReadData(ending, place), FrontAnswer::Word(word)) => {
-                self.read_data(ending, place, *word);
-            }
+            (Stage::ReadData(n), FrontAnswer::Word(word)) => self.read_data(n, *word),
             (Stage::StoreEvent, _) => self.stage = Stage::EventFence,
             (Stage::EventFence, _) => self.stage = Stage::LookAgain,
             (Stage::LookAgain, FrontAnswer::Word(word)) => self.look_again(*word),

@@ -1,6 +1,6 @@
 // The frames that the front's requests use.
 ghost use Rattle.std.specs.Prelude.{◌≡◌, ◌+◌, ◌≤◌, ◌<◌, IfSome, length, not, position};
-ghost use Rattle.blk_front.specs.Pool.{lowest_of, with_taken, with_free, empty_pool};
+ghost use Rattle.blk_front.specs.Pool.{lowest_of, with_taken, with_free, with_all_free, empty_pool};
 
 use std::marker::Model;
 
@@ -20,6 +20,15 @@ impl Model for PoolFrame {
     ghost invariant = { λ f. (18 ≤ f.number) × (f.number < 1018) };
 
     ghost inverse = { λ n. record { number = n } };
+}
+
+impl Default for PoolFrame {
+    ghost is_default = { λ frame. frame ≡ 18 };
+
+    /// The lowest frame of the pool.
+    fn default() -> Self {
+        PoolFrame { number: 18 }
+    }
 }
 
 impl PoolFrame {
@@ -42,7 +51,7 @@ impl PoolFrame {
 }
 
 /// Which of the 1000 frames are in use, from frame 18 on.
-#[derive(Drop)]
+#[derive(Clone, Copy)]
 pub struct Pool {
     taken: [bool; 1000],
 }
@@ -53,6 +62,8 @@ impl Model for Pool {
     ghost Value = { List Bool };
 
     ghost view = { λ p. p.taken };
+
+    ghost inverse = { λ taken. record { taken = taken } };
 }
 
 impl Pool {
@@ -91,6 +102,15 @@ impl Pool {
     {
         let number = frame.number();
         self.taken[(number - 18) as usize] = false;
+    }
+
+    /// Gives these frames back.
+    pub fn free_all(&mut self, frames: &[PoolFrame])
+        ensures { self.new ≡ with_all_free self.old frames.now }
+    {
+        for frame in frames {
+            self.free(frame);
+        }
     }
 }
 

@@ -1,11 +1,15 @@
 // How the front begins, sleeps, refuses, reads and writes, held against a guest's memory.
 mod answers;
 mod guest;
+mod long;
 mod reads;
 
 use crate::{Refusal, Told};
 use blk_base::{FrontAsk, Job, SectorCount};
-use guest::{Memory, asks, asleep, connected, front_of, one_move, quiet_moves, read, write};
+use guest::{
+    Memory, asks, asleep, connected, front_of, one_move, quiet_moves, read, read_of, untold_move,
+    write, write_of,
+};
 use std::test::Fail;
 
 // The entry of a write of sector 0 with id 1 whose data are granted by reference 24, up to its
@@ -186,47 +190,40 @@ fn the_second_write_sends_no_event_where_none_is_waited_for(rt: HostRuntime) -> 
 fn what_it_cannot_do_is_refused_and_changes_nothing(rt: HostRuntime) -> Result<(), Fail> {
     let mut memory = Memory::new(rt.alloc())?;
     let mut front = asleep(&rt, rt.alloc(), &mut memory, 0)?;
-    let one = SectorCount::new(1).ok_or("a count above 0")?;
-    let two = SectorCount::new(2).ok_or("a count above 0")?;
+    let sector = 0;
+    let count = SectorCount::new(1).ok_or("a count above 0")?;
+    let barrier = Job::Barrier {
+        sector,
+        count,
+        tag: 7,
+    };
     for (job, refusal) in [
-        (
-            Job::Read {
-                sector: 0,
-                count: two,
-            },
-            Refusal::Unsupported,
-        ),
-        (
-            Job::Write {
-                sector: 0,
-                count: two,
-                tag: 7,
-            },
-            Refusal::Unsupported,
-        ),
-        (
-            Job::Barrier {
-                sector: 0,
-                count: one,
-                tag: 7,
-            },
-            Refusal::Unsupported,
-        ),
+        (barrier, Refusal::Unsupported),
         (Job::Flush, Refusal::Unsupported),
-        (
-            Job::Discard {
-                sector: 0,
-                count: one,
-            },
-            Refusal::Unsupported,
-        ),
+        (Job::Discard { sector, count }, Refusal::Unsupported),
         (read(8)?, Refusal::Range),
         (write(8, 7)?, Refusal::Range),
+        (read_of(7, 2)?, Refusal::Range),
+        (write_of(0, 9, 7)?, Refusal::Range),
+        (read_of(0, 89)?, Refusal::Range),
         (write(18446744073709551615, 7)?, Refusal::Range),
+        (
+            write_of(18446744073709551615, 4294967295, 7)?,
+            Refusal::Range,
+        ),
     ] {
         assert_eq!(rt; front.submit(job), Err(refusal));
         assert_eq!(rt; (front.owed(), front.idle()), ((0, 0), true));
     }
+    assert_eq!(rt; front.submit(read_of(7, 1)?), Ok(1));
+    assert_eq!(rt; front.submit(write_of(0, 8, 7)?), Ok(2));
+    Ok(())
+}
+
+#[test]
+fn a_33rd_request_is_refused(rt: HostRuntime) -> Result<(), Fail> {
+    let mut memory = Memory::new(rt.alloc())?;
+    let mut front = asleep(&rt, rt.alloc(), &mut memory, 0)?;
     for number in 1..33 {
         assert_eq!(rt; front.submit(write(7, 7)?), Ok(number));
     }
@@ -238,5 +235,21 @@ fn what_it_cannot_do_is_refused_and_changes_nothing(rt: HostRuntime) -> Result<(
     assert_eq!(rt; (memory.read(49, 127), memory.read(0, 111)), (7, 49));
     assert_eq!(rt; (memory.read(2, 886), memory.read(2, 0)), (32, 32));
     assert!(rt; front.idle());
+    Ok(())
+}
+
+#[test]
+fn has_told_says_whether_something_is_left_to_tell(rt: HostRuntime) -> Result<(), Fail> {
+    let mut memory = Memory::new(rt.alloc())?;
+    let mut front = front_of(rt.alloc(), 0)?;
+    quiet_moves(&rt, &mut front, &mut memory, 19)?;
+    assert_eq!(rt; front.has_told(), false);
+    assert_eq!(rt;
+        untold_move(&rt, &mut front, &mut memory)?,
+        FrontAsk::NewPort
+    );
+    assert_eq!(rt; front.has_told(), true);
+    assert_eq!(rt; front.take_told(), Some(Told::Ready));
+    assert_eq!(rt; front.has_told(), false);
     Ok(())
 }

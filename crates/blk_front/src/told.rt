@@ -28,12 +28,14 @@ pub enum Refusal {
     Spent,
     /// The front isn't connected, or is broken.
     NotReady,
-    /// Not a read or a write of one sector: this front issues nothing else.
+    /// Neither a read nor a write: this front issues nothing else.
     Unsupported,
-    /// The sector is past the disk's end.
+    /// A sector is past the disk's end.
     Range,
+    /// More sectors than 11 segments have, which are 88.
+    Long,
     /// As many requests are unfinished as the ring has entries.
     Full,
-    /// No frame of the pool is free.
+    /// Fewer frames of the pool are free than its sectors take.
     Buffers,
 }

@@ -5,7 +5,7 @@
 //! laws of every run of the pipeline (`pipeline_laws`).
 //!
 //! The premises: a ring of one page and a disk that may be written (`IsPlain`); the back moves only
-//! once the front is connected, and what is submitted are reads and writes of one sector (`AreServed`).
+//! once the front is connected, and what is submitted are reads and writes (`AreServed`).
 //! The happenings that the events of a schedule make are such. Where the disk doesn't tell what it
 //! holds, the laws speak of a report whose effects are the calls of some disk (`IsOfADisk`): two reads
 //! of a sector with no write between them give the same words.

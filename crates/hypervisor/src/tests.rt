@@ -94,6 +94,7 @@ fn a_word_is_written_read_and_exchanged(rt: HostRuntime) -> Result<(), Fail> {
         seen: 7,
     };
     assert_eq!(rt; of_front(&ask, &seen), Some(shown));
+    assert_eq!(rt; under.read_front(frame, word), 9);
     let ask = FrontAsk::Read { frame, word };
     let read = under.front(&ask);
     assert_eq!(rt; read, Some(FrontAnswer::Word(9)));
@@ -152,5 +153,25 @@ fn a_mapped_word_is_read_and_shown_with_its_frame(rt: HostRuntime) -> Result<(),
     if let Some(BackAnswer::Mapped(mapping)) = mapped {
         assert_eq!(rt; under.read(mapping, 3), 7);
     }
+    Ok(())
+}
+
+#[test]
+fn a_word_is_written_through_a_mapping(rt: HostRuntime) -> Result<(), Fail> {
+    let alloc = rt.alloc();
+    let mut under = Hypervisor::new(alloc)?;
+    let mut disk = MemoryDisk::new(alloc, Vec::new(alloc))?;
+    let mut room = [0; 128];
+    // Reference 24 grants frame 18: words 48 and 49 of frame 0.
+    under.write_front(0, 49, 18);
+    under.write_front(0, 48, 1);
+    let (gref, mode) = (24, Mode::ReadWrite);
+    let ask = BackAsk::Map { gref, mode };
+    let mapped = under.back(BackMover::Job(1), &ask, &mut disk, &mut room);
+    if let Some(BackAnswer::Mapped(mapping)) = mapped {
+        under.write(mapping, 3, 7);
+        assert_eq!(rt; under.read(mapping, 3), 7);
+    }
+    assert_eq!(rt; (under.read_front(18, 3), under.read_front(18, 4)), (7, 0));
     Ok(())
 }

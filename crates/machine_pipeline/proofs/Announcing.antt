@@ -16,25 +16,24 @@ use Rattle.blk_back.specs.declared.stage.Stage.{Stage as BackStage}
 use Rattle.blk_back.specs.declared.stage.Stage.TheVariants as back
 use Rattle.split_model.specs.World.{World}
 use Rattle.split_model.specs.Safe.{IsSafe}
-use Rattle.machine_pipeline.proofs.Flow.{Flow, wrapped, filled, is_named, is_granted, entered, may_back_sleep, is_bound_back, may_front_sleep, is_issuing}
+use Rattle.machine_pipeline.proofs.Flow.{Flow, wrapped, filled, named_frames, granted_frames, entered, may_back_sleep, is_bound_back, may_front_sleep, is_issuing}
 use Rattle.machine_pipeline.proofs.Holds.{FrontAt, FrontSends, PortsAt, Holds}
 use Rattle.machine_pipeline.proofs.Turns.{FrontGoes, said_nothing}
-use Rattle.machine_pipeline.proofs.Resting.{data_rests}
 use Rattle.machine_pipeline.proofs.Issuing.{ring_turned, slots_turned, frames_turned, entries_turned, with_front, issue_kept}
 
 -- a step that changes the stage alone, between two at which nothing of a request is begun
 turned_on : (config : Options) (w : World) (g : Flow) (d : Pipeline) (s s' : FrontStage)
     → may_front_sleep s ≡ true → may_front_sleep s' ≡ true → is_issuing s' ≡ is_issuing s
     → Holds config w g d s w.back.stage
-    → FrontAt g.start g.pushed g.taken g.front_seen g.submitted g.replies (next_request w.front) w.front.entry s'
-    → filled s ≡ 0 → filled s' ≡ 0 → entered s ≡ 0 → entered s' ≡ 0 → is_named s' ≡ false → is_granted s' ≡ false
+    → FrontAt g.start g.pushed g.taken g.front_seen g.submitted g.replies (next_request w.front) w.front.entry w.front.ending s'
+    → filled s ≡ 0 → filled s' ≡ 0 → entered s ≡ 0 → entered s' ≡ 0 → named_frames s' ≡ 0 → granted_frames s' ≡ 0
     → (w.back.asleep ≡ true → FrontSends s g.pushed g.fetched → FrontSends s' g.pushed g.fetched)
     → Holds config (with_front w s' w.front.entry w.under.pages) g d s' w.back.stage
 turned_on config w g d s s' i i' same h at full full' few few' unnamed ungranted sends =
     issue_kept config w g d s s' w.front.entry w.under.pages i i' same h at h.memory (λ f low high x lt. refl) (λ x lt. refl) (record { flags = refl; frame = refl })
     (slots_turned g.start g.fetched g.pushed g.taken g.replied g.submitted g.replies w.under.pages w.under.pages s s' w.back.stage (λ x from to. refl) (omega arith) few' h.slots)
-    (frames_turned g.pushed w.under.pages w.under.pages s s' w.front.requests (omega arith) (omega arith) (λ n x lt i l. refl) h.frames)
-    (entries_turned g.pushed w.under.pages w.under.pages w.under.grants.live s s' w.front.requests i' (λ t. absurd (cc)) (λ t. absurd (cc)) (λ n x lt. record { flags = refl; frame = refl }) h.entries)
+    (frames_turned g.pushed w.under.pages w.under.pages s s' w.front.requests (omega arith) (λ n x lt i l. refl) h.frames)
+    (entries_turned g.pushed w.under.pages w.under.pages w.under.grants.live s s' w.front.ending w.front.requests i' (omega arith) (omega arith) (λ n x lt a in_it. record { flags = refl; frame = refl }) h.entries)
     sends
 
 pub producer_fence_goes : (config : Options) (w : World) (g : Flow) (d : Pipeline) (old : ℕ) → IsSafe w → Holds config w g d (front.ProducerFence old) w.back.stage → FrontGoes config w d (front.ProducerFence old)
@@ -105,9 +104,9 @@ send_goes config w g d safe h =
         memory = h.memory;
         ring = ring_turned g.start g.pushed g.replied w.under.pages w.under.pages front.Send front.Loop w.back.stage refl refl (λ x lt. refl) (record { flags = refl; frame = refl }) h.ring;
         slots = slots_turned g.start g.fetched g.pushed g.taken g.replied g.submitted g.replies w.under.pages w.under.pages front.Send front.Loop w.back.stage (λ x from to. refl) (omega arith) refl h.slots;
-        frames = frames_turned g.pushed w.under.pages w.under.pages front.Send front.Loop w.front.requests (omega arith) (omega arith) (λ n x lt i l. refl) h.frames;
-        telling = data_rests w.under.pages w.under.pages w.front.words front.Send front.Loop refl h.telling;
-        entries = entries_turned g.pushed w.under.pages w.under.pages w.under.grants.live front.Send front.Loop w.front.requests refl (λ t. absurd (cc)) (λ t. absurd (cc)) (λ n x lt. record { flags = refl; frame = refl }) h.entries;
+        frames = frames_turned g.pushed w.under.pages w.under.pages front.Send front.Loop w.front.requests (omega arith) (λ n x lt i l. refl) h.frames;
+        telling = record { size = h.telling.size; so_far = tt };
+        entries = entries_turned g.pushed w.under.pages w.under.pages w.under.grants.live front.Send front.Loop w.front.ending w.front.requests refl (omega arith) (omega arith) (λ n x lt a in_it. record { flags = refl; frame = refl }) h.entries;
         mapped = h.mapped;
         page = h.page;
         front_sleep = record { arming = λ t. absurd (cc); armed = z.armed; may = λ t. absurd (cc); woken = z.woken };

@@ -22,7 +22,7 @@ use Rattle.blk_back.specs.declared.stage.Stage.TheVariants as stage
 use Rattle.blk_back.specs.Step.{fetched}
 use Rattle.split_model.specs.World.{World}
 use Rattle.machine_pipeline.proofs.Lists.{get_within}
-use Rattle.machine_pipeline.proofs.Flow.{Flow, wrapped, is_issuing, ending_at, is_telling}
+use Rattle.machine_pipeline.proofs.Flow.{Flow, wrapped, is_issuing, ending_at, telling_at}
 use Rattle.machine_pipeline.proofs.Holds.{Holds}
 use Rattle.machine_pipeline.proofs.BackStill.{BackStands}
 use Rattle.machine_pipeline.proofs.BackQuiet.{IsBetween, goes_moved, quiet_with, front_sleep_at, back_sleep_at}
@@ -86,7 +86,7 @@ goes_first config w g d shown given word read awake some p =
     let i : IsBetween stage.Loop w.back = between stage.Loop w.back refl refl refl refl in
     let more : g.fetched < g.back_seen = some_requests g.start g.fetched g.back_seen w.back.seen w.back.ring x.fetched x.back_saw x.back_from some in
     let n : IsNext w g = next_pushed config w g d stage.Loop p i more in
-    let s = begins_fetch config g d (is_connected w.front.stage) (is_issuing w.front.stage) (ending_at w.front.stage) (is_telling w.front.stage) None w.front.requests w.back.jobs.works w.under.pages (omega (arith, more, x.back_to)) h.stations in
+    let s = begins_fetch config g d (is_connected w.front.stage) (is_issuing w.front.stage) (ending_at w.front.stage w.front.ending) (telling_at w.front.stage) None w.front.requests w.back.jobs.works w.under.pages (omega (arith, more, x.back_to)) h.stations in
     goes_moved config w g d (Some s.step) stage.Loop (stage.Fetch 1) (record w.back { entry = word ∷ [] }) w.under.pages w.under.channels g.back_seen shown given (does_step shown (back_lines w.back.told given ++ halt_lines w.back.halted w.back.halted) (rw (p.untold, h.unhalted) refl) s) p
     (quiet_with config w g d stage.Loop (stage.Fetch 1) w.back.asleep w.back.seen (word ∷ []) w.under.channels g.back_seen h i (between (stage.Fetch 1) w.back refl refl refl refl) s.now x
     (omega arith, omega arith, more, (n.r, n.known, one_more n.r 0 word [] (omega arith) refl (read ∙ n.words 0 (omega arith))))

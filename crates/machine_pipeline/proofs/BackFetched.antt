@@ -1,7 +1,7 @@
 -- The last word of an entry is read: its job is begun.
 use Rattle.std.proofs.Common.{◌≡◌, ◌≢◌, ℕ, ◌+◌, ◌%◌, ◌^◌, ◌<◌, ◌==◌, Bool, true, false, if◌then◌else◌, List, [], ◌∷◌, ◌++◌, length, take, refl, ap, sym, subst, ◌∙◌, arith, length-append}
 use Rattle.std.specs.Prelude.{Some, None, slice_get, slice_index, count_by}
-use Rattle.std.proofs.lemmas.Option.{same_Some}
+use Rattle.std.proofs.lemmas.Option.{none-some, same_Some}
 use Rattle.std.proofs.lemmas.Bool.{false≢true}
 use Rattle.std.proofs.lemmas.Bool.Decides.{nat_tests}
 use Rattle.blk_base.specs.Options.{Options}
@@ -26,7 +26,8 @@ use Rattle.blk_back.specs.Step.{fetched}
 use Rattle.split_model.specs.World.{World}
 use Rattle.split_model.specs.Shown.{back_lines, halt_lines}
 use Rattle.machine_pipeline.specs.Step.{IsSame}
-use Rattle.machine_pipeline.proofs.Flow.{Flow, segment_for, worked, is_issuing, ending_at, is_telling}
+use Rattle.machine_pipeline.proofs.Flow.{Flow, own_segments, worked, is_issuing, ending_at, telling_at}
+use Rattle.machine_pipeline.proofs.ReadBack.{ReadAt}
 use Rattle.machine_pipeline.proofs.Stations.{AreStations}
 use Rattle.machine_pipeline.proofs.StationsBack.{fetches}
 use Rattle.machine_pipeline.proofs.Holds.{Holds, AreIndices, IsSubmitted, IsWork, AreReplies, AreSlots}
@@ -145,14 +146,19 @@ goes_fetched config w g d k shown given r words p known e = subst (λ (ws : List
     sub : IsSubmitted config.sectors g.fetched r
     sub = subst (λ (sectors : ℕ). IsSubmitted sectors g.fetched r) h.sized (h.submitted.each g.fetched r known)
 
-    made : t ≡ moving (next_number w.back) (entry_request r) w.back.jobs.info.sectors (is_write r.transfer) r.sector (segment_for r ∷ [])
+    made : t ≡ moving (next_number w.back) (entry_request r) w.back.jobs.info.sectors (is_write r.transfer) r.sector (own_segments r)
     made = ap (λ (i : DiskInfo). begun (next_number w.back) (request_of X64 (entry_of r)) w.back.jobs.info.sectors (verdict_of (request_of X64 (entry_of r)) i)) h.info ∙ entry_job config (next_number w.back) w.back.jobs.info.sectors g.fetched r p.plain (omega (arith, x.few, x.all, x.fetched_pushed)) sub
 
     is : IsWork g.submitted (g.fetched + 1) t
     is = subst (λ (u : Work). IsWork g.submitted (g.fetched + 1) u) (sym made) (is_work g.submitted g.fetched w.back.jobs.info.sectors config.sectors (next_number w.back) r number known sub)
 
-    s : Stepped None IsSame d [] (λ p. AreStations config (record g { fetched = g.fetched + 1 }) p (is_connected w.front.stage) (is_issuing w.front.stage) false (ending_at w.front.stage) (is_telling w.front.stage) None w.front.requests (w.back.jobs.works ++ t ∷ []) w.under.pages)
-    s = fetches config g d (is_connected w.front.stage) (is_issuing w.front.stage) (ending_at w.front.stage) (is_telling w.front.stage) None w.front.requests w.back.jobs.works w.under.pages t (omega (arith, x.back_to, h.back_at.2)) (ap (λ (u : Work). u.number) made ∙ number) (ap (λ (u : Work). worked u.stage) made) (λ frame. rw made refl) h.stations
+    -- it has read nothing
+    unread : (y : Request) → ReadAt w.under.pages y t.moved t.words [] t.stage
+    unread y = subst (λ (u : Work). ReadAt w.under.pages y u.moved u.words [] u.stage) (sym made)
+        (record { counted = refl; few = omega arith; sectors = λ i ws none. absurd (none-some ws none) })
+
+    s : Stepped None IsSame d [] (λ p. AreStations config (record g { fetched = g.fetched + 1 }) p (is_connected w.front.stage) (is_issuing w.front.stage) false (ending_at w.front.stage w.front.ending) (telling_at w.front.stage) None w.front.requests (w.back.jobs.works ++ t ∷ []) w.under.pages)
+    s = fetches config g d (is_connected w.front.stage) (is_issuing w.front.stage) (ending_at w.front.stage w.front.ending) (telling_at w.front.stage) None w.front.requests w.back.jobs.works w.under.pages t (omega (arith, x.back_to, h.back_at.2)) (ap (λ (u : Work). u.number) made ∙ number) (ap (λ (u : Work). worked u.stage u.moved) made) unread h.stations
 
 goes_further : (config : Options) (w : World) (g : Flow) (d : Pipeline) (k word : ℕ) (shown : Shown) (given : BackAnswer) (last : Bool)
     → (k == 27) ≡ last

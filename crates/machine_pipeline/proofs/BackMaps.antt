@@ -1,6 +1,6 @@
 -- The back maps the ring's page, and is bound to the front's port.
-use Rattle.std.proofs.Common.{◌≡◌, ◌≢◌, ℕ, ◌+◌, ◌*◌, ◌==◌, cond, Bool, true, false, List, [], ◌∷◌, ◌++◌, refl, ap, sym, subst, ◌∙◌, arith, length-set}
-use Rattle.std.specs.Prelude.{Some, None}
+use Rattle.std.proofs.Common.{◌≡◌, ◌≢◌, ℕ, ◌+◌, ◌*◌, ◌<◌, ◌==◌, cond, Bool, true, false, List, [], ◌∷◌, ◌++◌, refl, ap, sym, subst, ◌∙◌, arith, length-set}
+use Rattle.std.specs.Prelude.{All, Some, None}
 use Rattle.std.proofs.lemmas.Bool.{false≢true}
 use Rattle.std.proofs.lemmas.Bool.Decides.{nat_tests}
 use Rattle.blk_base.specs.Options.{Options}
@@ -19,17 +19,20 @@ use Rattle.back_jobs.specs.Hands.{hands_in}
 use Rattle.blk_front.specs.declared.request.Request.{Request}
 use Rattle.blk_front.specs.declared.stage.Stage.{Stage as FrontStage}
 use Rattle.blk_front.specs.declared.stage.Stage.TheVariants as front
+use Rattle.blk_front.specs.Request.{frame_at}
 use Rattle.blk_front.specs.Submit.{is_connected}
 use Rattle.blk_back.specs.declared.stage.Stage.TheVariants as stage
 use Rattle.blk_back.specs.View.{View}
 use Rattle.split_model.specs.World.{World}
-use Rattle.machine_pipeline.proofs.Flow.{Flow, is_ring_granted, is_ring_named, is_issuing, ending_at, is_telling}
-use Rattle.machine_pipeline.proofs.Holds.{Holds, PortsAt}
+use Rattle.machine_pipeline.proofs.Flow.{Flow, frames_of, is_ring_granted, is_ring_named, is_issuing, ending_at, telling_at}
+use Rattle.machine_pipeline.proofs.Holds.{Holds, IsPooled, PortsAt}
 use Rattle.machine_pipeline.proofs.Turns.{BackGoes, silent}
-use Rattle.machine_pipeline.proofs.Kept.{SameFrame, SameEntry, other_frame, slots_kept, frames_kept, data_kept, front_sleep_kept, back_sleep_kept}
+use Rattle.machine_pipeline.proofs.Kept.{SameFrame, SameGrants, other_frame, slots_kept, front_sleep_kept, back_sleep_kept}
 use Rattle.machine_pipeline.proofs.ReadsKept.{stations_elsewhere}
-use Rattle.machine_pipeline.proofs.Frames.{filled_few, entered_few}
-use Rattle.machine_pipeline.proofs.BackStill.{BackStands, pooled, ending_pooled, revoking_ends}
+use Rattle.machine_pipeline.proofs.Frames.{is_submitted, entered_few}
+use Rattle.machine_pipeline.proofs.Lists.{all_at, all_from}
+use Rattle.machine_pipeline.proofs.Data.{pooled_at}
+use Rattle.machine_pipeline.proofs.BackStill.{BackStands, ending_submitted, revoking_ends, frames_elsewhere, told_elsewhere}
 use Rattle.machine_pipeline.proofs.BackQuiet.{goes_still, ring_at, slots_at, front_sleep_at, back_sleep_at}
 use Rattle.std.specs.Prelude.{Result, Ok}
 use Rattle.std.proofs.lemmas.List.Sums.{sum_by_push}
@@ -69,14 +72,24 @@ mapped_beside live h gref apart =
     let none : as_mapped gref h ≡ 0 = grind (arith, nat_tests) in
     omega (arith, sum, none)
 
--- an entry stays as it is where a mapping of the ring's page is made
-granted_still : (pushed : ℕ) (old new : List ℕ) (live : List Held) (h : Held) (s : FrontStage) (r : Request) → h.mapping.gref ≢ r.frame + 6 → SameEntry old new (r.frame + 6) → IsGranted pushed old live s r → IsGranted pushed new (live ++ h ∷ []) s r
+-- the entries of a request stay as they are where a mapping of the ring's page is made
+granted_still : (pushed : ℕ) (old new : List ℕ) (live : List Held) (h : Held) (s : FrontStage) (r : Request)
+    → ((place : ℕ) → place < frames_of r → h.mapping.gref ≢ frame_at r place + 6)
+    → SameGrants old new r
+    → IsGranted pushed old live s r
+    → IsGranted pushed new (live ++ h ∷ []) s r
 granted_still pushed old new live h s r apart same was = record {
-  named = λ le. same.frame ∙ was.named le;
-  named_next = λ e t. same.frame ∙ was.named_next e t;
-  flags = λ le. same.flags ∙ was.flags le ∙ ap (λ (n : ℕ). flags_with r.transfer n) (sym (mapped_beside live h (r.frame + 6) apart));
-  flags_next = λ e t. same.flags ∙ was.flags_next e t;
+  named = λ le place lt. let entry = same place lt in entry.frame ∙ was.named le place lt;
+  named_next = λ e place t lt. let entry = same place lt in entry.frame ∙ was.named_next e place t lt;
+  flags = λ le place lt. let entry = same place lt in entry.flags
+      ∙ (was.flags le place lt ∙ ap (λ (n : ℕ). flags_with r.transfer n) (sym (mapped_beside live h (frame_at r place + 6) (apart place lt))));
+  flags_next = λ e place t lt. let entry = same place lt in entry.flags ∙ was.flags_next e place t lt;
 }
+
+-- what a write of the ring's entry leaves of a request's
+entry_beside : (pages : List ℕ) (value : ℕ) (r : Request) → All IsPooled r.frames.items → SameGrants pages (with_entry_word0 pages 8 value) r
+entry_beside pages value r all place lt = let pooled = pooled_at r all place in
+    other_entry pages 8 (frame_at r place + 6) value (omega arith) (omega (arith, pooled.1)) (omega (arith, pooled.0))
 
 -- the view with the page in hand
 abbrev with_page : View → Mapping → View
@@ -94,7 +107,7 @@ maps config w g d verdict p e = subst (λ (x : Result ℕ MapRefusal). ActGoes c
     queue = h.queue;
     submitted = h.submitted;
     pool = h.pool;
-    stations = stations_elsewhere config g d (is_connected w.front.stage) (is_issuing w.front.stage) false (ending_at w.front.stage) (is_telling w.front.stage) None w.front.requests w.back.jobs.works w.under.pages new w.front.sectors w.front.last h.submitted (λ f low high. others f (omega arith)) h.stations;
+    stations = stations_elsewhere config g d (is_connected w.front.stage) (is_issuing w.front.stage) false (ending_at w.front.stage w.front.ending) (telling_at w.front.stage) None w.front.requests w.back.jobs.works w.under.pages new w.front.sectors w.front.last h.submitted (λ f low high. others f (omega arith)) h.stations;
     works = h.works;
     counted = h.counted;
     info = h.info;
@@ -105,17 +118,20 @@ maps config w g d verdict p e = subst (λ (x : Result ℕ MapRefusal). ActGoes c
     unhalted = h.unhalted;
     memory = length-set w.under.pages (0 * 1024 + 16) value ∙ h.memory;
     ring = record { begun = begun g.start new w.front.stage p.connected; requests = λ t. others 2 (omega arith) 0 (omega arith) ∙ h.ring.requests t; responses = λ t. others 2 (omega arith) 2 (omega arith) ∙ h.ring.responses t; named = λ t u. cc; granted = λ t u. cc };
-    slots = slots_at g.start g.fetched g.pushed g.taken g.replied g.submitted g.replies new w.front.stage stage.MapRing stage.Bind (λ rep t i lt. cc) (slots_kept g.start g.fetched g.pushed g.taken g.replied g.submitted g.replies w.under.pages new w.front.stage stage.MapRing (λ i from to. others 2 (omega arith) i to) (entered_few g.start g.pushed g.taken g.front_seen g.submitted g.replies _ w.front.entry w.front.stage h.front_at) h.slots);
-    frames = frames_kept g.pushed w.under.pages new w.front.stage w.front.requests (filled_few g.start g.pushed g.taken g.front_seen g.submitted g.replies _ w.front.entry w.front.stage h.front_at) (λ k x lt. let frame = pooled config w g d w.front.stage stage.MapRing h k x lt in others _ (omega (arith, frame.0))) h.frames;
-    telling = data_kept w.under.pages new w.front.words w.front.stage (λ f low high. others f (omega arith)) h.telling;
+    slots = slots_at g.start g.fetched g.pushed g.taken g.replied g.submitted g.replies new w.front.stage stage.MapRing stage.Bind (λ rep t i lt. cc) (slots_kept g.start g.fetched g.pushed g.taken g.replied g.submitted g.replies w.under.pages new w.front.stage stage.MapRing (λ i from to. others 2 (omega arith) i to) (entered_few g.start g.pushed g.taken g.front_seen g.submitted g.replies _ w.front.entry w.front.ending w.front.stage h.front_at) h.slots);
+    frames = frames_elsewhere config w g d w.front.stage stage.MapRing new h (λ f low high. others f (omega arith));
+    telling = told_elsewhere config w g d w.front.stage stage.MapRing new h (λ f low high. others f (omega arith));
     entries = record {
-      each = λ k x lt.
-          let frame = pooled config w g d w.front.stage stage.MapRing h k x lt in
-          granted_still g.pushed w.under.pages new w.under.grants.live made w.front.stage _ (omega (arith, frame.0)) (other_entry w.under.pages 8 _ value (omega arith) (omega (arith, frame.1)) (omega (arith, frame.0))) (h.entries.each k x lt);
-      ending = λ e same.
-          let frame = ending_pooled config w g d w.front.stage stage.MapRing e h (revoking_ends w.front.stage e same) in
-          let entry : SameEntry w.under.pages new (e.frame + 6) = other_entry w.under.pages 8 (e.frame + 6) value (omega arith) (omega (arith, frame.1)) (omega (arith, frame.0)) in
-          entry.flags ∙ h.entries.ending e same;
+      each = all_from (IsGranted g.pushed new (w.under.grants.live ++ made ∷ []) w.front.stage) w.front.requests (λ i r at.
+          let is = is_submitted config w g d w.front.stage stage.MapRing h i r at in
+          granted_still g.pushed w.under.pages new w.under.grants.live made w.front.stage r
+          (λ place lt. let pooled = pooled_at r is.frames place in omega (arith, pooled.0))
+          (entry_beside w.under.pages value r is.frames)
+          (all_at (IsGranted g.pushed w.under.pages w.under.grants.live w.front.stage) w.front.requests i r h.entries.each at));
+      ending = λ e at place from lt.
+          let is = ending_submitted config w g d w.front.stage stage.MapRing e h (revoking_ends w.front.stage w.front.ending e at) in
+          let entry = entry_beside w.under.pages value e.request is.frames place lt in
+          entry.flags ∙ h.entries.ending e at place from lt;
     };
     mapped = mapped_more w.under.grants.live (hands_in w.back.jobs.works ++ []) (hands_in w.back.jobs.works ++ mapping ∷ []) mapping 2 refl (record { front = hands_in w.back.jobs.works; rest = []; without = refl; with_it = refl }) h.mapped;
     page = record { gref = λ t. refl; mode = λ t. refl };

@@ -21,7 +21,7 @@ use Rattle.blk_back.specs.Ask.{response_word}
 use Rattle.blk_back.specs.Hands.{hands_at}
 use Rattle.split_model.specs.World.{World}
 use Rattle.split_model.specs.Shown.{back_lines, halt_lines}
-use Rattle.machine_pipeline.proofs.Flow.{Flow, wrapped, is_back_arming, may_back_sleep, is_bound_back, has_page, reply_at, reply_count, responded, ending_at, is_issuing, is_fetching, is_telling}
+use Rattle.machine_pipeline.proofs.Flow.{Flow, wrapped, is_back_arming, may_back_sleep, is_bound_back, has_page, reply_at, reply_count, responded, ending_at, is_issuing, is_fetching, telling_at}
 use Rattle.machine_pipeline.proofs.Stations.{AreStations}
 use Rattle.machine_pipeline.proofs.Holds.{Holds, AreIndices, AreRingWords, AreSlots, IsFrontSleep, IsBackSleep, BackSends, BackAt, PortsAt}
 use Rattle.pipeline_laws.specs.Pipeline.{Pipeline, Step}
@@ -101,7 +101,7 @@ pub quiet_with : {d' : Pipeline} (config : Options) (w : World) (g : Flow) (d : 
     → Holds config w g d w.front.stage b
     → IsBetween b w.back
     → IsBetween b' w.back
-    → AreStations config g d' (is_connected w.front.stage) (is_issuing w.front.stage) (is_fetching b') (ending_at w.front.stage) (is_telling w.front.stage) (reply_at b') w.front.requests w.back.jobs.works w.under.pages
+    → AreStations config g d' (is_connected w.front.stage) (is_issuing w.front.stage) (is_fetching b') (ending_at w.front.stage w.front.ending) (telling_at w.front.stage) (reply_at b') w.front.requests w.back.jobs.works w.under.pages
     → AreIndices (record g { back_seen = seen }) w.front.ring w.back.ring w.front.seen word w.back.fetched w.front.last w.front.waiting (length w.front.requests) (ending_of w.front.stage)
     → BackAt g.start g.fetched seen g.replied g.submitted w.back.jobs.works entry b'
     → IsFrontSleep g.start g.taken g.replied w.under.pages w.front.asleep channels.front_pending w.front.stage b'
@@ -133,7 +133,7 @@ pub quiet : (config : Options) (w : World) (g : Flow) (d : Pipeline) (b b' : Bac
     → Holds config w g d w.front.stage b
     → IsBetween b w.back
     → IsBetween b' w.back
-    → AreStations config g d (is_connected w.front.stage) (is_issuing w.front.stage) (is_fetching b') (ending_at w.front.stage) (is_telling w.front.stage) (reply_at b') w.front.requests w.back.jobs.works w.under.pages
+    → AreStations config g d (is_connected w.front.stage) (is_issuing w.front.stage) (is_fetching b') (ending_at w.front.stage w.front.ending) (telling_at w.front.stage) (reply_at b') w.front.requests w.back.jobs.works w.under.pages
     → BackAt g.start g.fetched g.back_seen g.replied g.submitted w.back.jobs.works w.back.entry b'
     → (w.front.asleep ≡ true → BackSends b g.replied g.taken → (g.replied ≡ g.taken) ⊎ (w.under.channels.front_pending ≡ true) ⊎ BackSends b' g.replied g.taken)
     → (is_back_arming b' ≡ true → is_back_arming b ≡ true)
@@ -147,7 +147,7 @@ quiet config w g d b b' h i j stations at sends arming may =
 
 -- the stations where no entry is being copied and no response written
 pub stations_between : (config : Options) (w : World) (g : Flow) (d : Pipeline) (b : BackStage) → Holds config w g d w.front.stage b → is_fetching b ≡ false → reply_at b ≡ None
-    → AreStations config g d (is_connected w.front.stage) (is_issuing w.front.stage) false (ending_at w.front.stage) (is_telling w.front.stage) None w.front.requests w.back.jobs.works w.under.pages
+    → AreStations config g d (is_connected w.front.stage) (is_issuing w.front.stage) false (ending_at w.front.stage w.front.ending) (telling_at w.front.stage) None w.front.requests w.back.jobs.works w.under.pages
 stations_between config w g d b h unfetching none =
-    subst (λ (fetching : Bool). AreStations config g d (is_connected w.front.stage) (is_issuing w.front.stage) fetching (ending_at w.front.stage) (is_telling w.front.stage) None w.front.requests w.back.jobs.works w.under.pages) unfetching
-    (subst (λ (replying : Option Reply). AreStations config g d (is_connected w.front.stage) (is_issuing w.front.stage) (is_fetching b) (ending_at w.front.stage) (is_telling w.front.stage) replying w.front.requests w.back.jobs.works w.under.pages) none h.stations)
+    subst (λ (fetching : Bool). AreStations config g d (is_connected w.front.stage) (is_issuing w.front.stage) fetching (ending_at w.front.stage w.front.ending) (telling_at w.front.stage) None w.front.requests w.back.jobs.works w.under.pages) unfetching
+    (subst (λ (replying : Option Reply). AreStations config g d (is_connected w.front.stage) (is_issuing w.front.stage) (is_fetching b) (ending_at w.front.stage w.front.ending) (telling_at w.front.stage) replying w.front.requests w.back.jobs.works w.under.pages) none h.stations)

@@ -22,13 +22,13 @@ use Rattle.blk_back.specs.Ask.{response_word}
 use Rattle.blk_back.specs.Step.{fetched}
 use Rattle.split_model.specs.World.{World}
 use Rattle.split_model.specs.Shown.{halt_lines}
-use Rattle.machine_pipeline.proofs.Flow.{Flow, wrapped, ending_at, is_issuing, is_telling}
+use Rattle.machine_pipeline.proofs.Flow.{Flow, wrapped, ending_at, is_issuing, telling_at}
 use Rattle.machine_pipeline.proofs.Holds.{Holds, AreIndices, IsReplying, IsReply, AreReplies, IsEnding, IsTaken, FrontAt, AreRingWords, AreSlots, IsFrontSleep}
 use Rattle.machine_pipeline.proofs.Turns.{BackGoes, Stepped, does_step}
-use Rattle.machine_pipeline.proofs.Kept.{slots_kept, data_kept, front_sleep_kept, back_sleep_kept}
+use Rattle.machine_pipeline.proofs.Kept.{slots_kept, front_sleep_kept, back_sleep_kept}
 use Rattle.machine_pipeline.proofs.ReadsKept.{stations_elsewhere}
 use Rattle.machine_pipeline.proofs.Frames.{entered_few}
-use Rattle.machine_pipeline.proofs.BackStill.{BackStands, frames_beside, entries_beside}
+use Rattle.machine_pipeline.proofs.BackStill.{BackStands, told_elsewhere, frames_beside, entries_beside}
 use Rattle.machine_pipeline.proofs.BackQuiet.{back_sleep_at}
 use Rattle.machine_pipeline.proofs.BackFences.{page_frame}
 use Rattle.schedule_text.specs.declared.line.Line.TheVariants as lines
@@ -113,26 +113,31 @@ replies_more fetched taken replied replies rep positive reached op others h = re
   distinct = all_pairs_push (λ (a b : Reply). a.id ≢ b.id) replies rep h.distinct (λ i x lt. others i _ (slice_get-get_or replies i x lt));
 }
 
-ending_still : (submitted : List Request) (replies : List Reply) (rep : Reply) (e : Ending) → rep.id ≢ e.number → IsEnding submitted replies e → IsEnding submitted (replies ++ rep ∷ []) e
-ending_still submitted replies rep e other h = record {
-  r = h.r;
+ending_still : (submitted : List Request) (replies : List Reply) (rep : Reply) (e : Ending) → rep.id ≢ e.request.number → IsEnding submitted replies e → IsEnding submitted (replies ++ rep ∷ []) e
+ending_still submitted before rep e other h = record {
   known = h.known;
   positive = h.positive;
-  transfer = h.transfer;
-  frame = h.frame;
-  alone = All-push (λ (x : Reply). x.id ≢ e.number) replies rep h.alone other;
+  alone = All-push (λ (x : Reply). x.id ≢ e.request.number) before rep h.alone other;
 }
 
 abbrev taken_still : (taken seen : ℕ) (replies : List Reply) (rep : Reply) → IsTaken taken seen replies → IsTaken taken seen (replies ++ rep ∷ [])
 taken_still taken seen replies rep t = record { rep = t.rep; oldest = get_append replies (rep ∷ []) 0 t.rep t.oldest; seen = t.seen }
 
-front_still : (start pushed taken seen : ℕ) (submitted : List Request) (replies : List Reply) (next : Option Request) (entry : List ℕ) (s : FrontStage) (rep : Reply) → ((e : Ending) → ending_at s ≡ Some e → rep.id ≢ e.number) → FrontAt start pushed taken seen submitted replies next entry s → FrontAt start pushed taken seen submitted (replies ++ rep ∷ []) next entry s
-front_still start pushed taken seen submitted replies next entry (front.ResponseHigh low) rep other h = (taken_still taken seen replies rep h.0, h.1)
-front_still start pushed taken seen submitted replies next entry (front.ResponseLast low high) rep other h = (taken_still taken seen replies rep h.0, h.1, h.2)
-front_still start pushed taken seen submitted replies next entry (front.GrantRead e) rep other h = ending_still submitted replies rep e (other e refl) h
-front_still start pushed taken seen submitted replies next entry (front.GrantEnd e before) rep other h = (ending_still submitted replies rep e (other e refl) h.0, h.1)
-front_still start pushed taken seen submitted replies next entry (front.ReadData e k) rep other h = (ending_still submitted replies rep e (other e refl) h.0, h.1, h.2, h.3)
-front_still start pushed taken seen submitted replies next entry s rep other h = h
+front_still : (start pushed taken seen : ℕ) (submitted : List Request) (replies : List Reply) (next : Option Request) (entry : List ℕ)
+    (ending : Option Ending) (s : FrontStage) (rep : Reply)
+    → ((e : Ending) → ending_at s ending ≡ Some e → rep.id ≢ e.request.number)
+    → FrontAt start pushed taken seen submitted replies next entry ending s
+    → FrontAt start pushed taken seen submitted (replies ++ rep ∷ []) next entry ending s
+front_still start pushed taken seen submitted before next entry ending (front.ResponseHigh low) rep other h = (taken_still taken seen before rep h.0, h.1)
+front_still start pushed taken seen submitted before next entry ending (front.ResponseLast low high) rep other h =
+    (taken_still taken seen before rep h.0, h.1, h.2)
+front_still start pushed taken seen submitted before next entry ending (front.GrantRead place) rep other h =
+    (h.0, h.1, ending_still submitted before rep h.0 (other h.0 h.1) h.2, h.3)
+front_still start pushed taken seen submitted before next entry ending (front.GrantEnd place old) rep other h =
+    (h.0, h.1, ending_still submitted before rep h.0 (other h.0 h.1) h.2, h.3)
+front_still start pushed taken seen submitted before next entry ending (front.ReadData n) rep other h =
+    (h.0, h.1, ending_still submitted before rep h.0 (other h.0 h.1) h.2, h.3)
+front_still start pushed taken seen submitted before next entry ending s rep other h = h
 
 pub goes_producer : (config : Options) (w : World) (g : Flow) (d : Pipeline) (rep : Reply) → BackStands config w g d (stage.Producer rep) → BackGoes config w d (stage.Producer rep)
 goes_producer config w g d rep p = record {
@@ -146,20 +151,20 @@ goes_producer config w g d rep p = record {
     queue = h.queue;
     submitted = h.submitted;
     pool = h.pool;
-    stations = stations_elsewhere config flow (after_step d (Some s.step)) (is_connected w.front.stage) (is_issuing w.front.stage) false (ending_at w.front.stage) (is_telling w.front.stage) None w.front.requests w.back.jobs.works w.under.pages new w.front.sectors w.front.last h.submitted (λ f low high. wrote.others f (omega arith)) s.now;
+    stations = stations_elsewhere config flow (after_step d (Some s.step)) (is_connected w.front.stage) (is_issuing w.front.stage) false (ending_at w.front.stage w.front.ending) (telling_at w.front.stage) None w.front.requests w.back.jobs.works w.under.pages new w.front.sectors w.front.last h.submitted (λ f low high. wrote.others f (omega arith)) s.now;
     works = h.works;
     counted = omega (arith, h.counted);
     info = h.info;
     replies = replies_more g.fetched g.taken g.replied g.replies rep a.positive a.reached a.op others h.replies;
-    front_at = front_still g.start g.pushed g.taken g.front_seen g.submitted g.replies (next_request w.front) w.front.entry w.front.stage rep ending_other h.front_at;
+    front_at = front_still g.start g.pushed g.taken g.front_seen g.submitted g.replies (next_request w.front) w.front.entry w.front.ending w.front.stage rep ending_other h.front_at;
     unused = h.unused;
     back_at = (omega arith, x.replied ∙ ap (λ (i : ℕ). wrapped g.start i) (omega arith));
     unhalted = h.unhalted;
     memory = wrote.memory;
     ring = ring_replied g.start g.pushed g.replied word w.back.ring.prod w.under.pages new w.front.stage rep wrote next p.connected h.ring;
-    slots = slots_replied g.start g.fetched g.pushed g.taken g.replied w.back.ring.prod g.submitted g.replies new w.front.stage rep h.replies.counted (slots_kept g.start g.fetched g.pushed g.taken g.replied g.submitted g.replies w.under.pages new w.front.stage (stage.Producer rep) (λ i from to. wrote.words i (omega arith)) (entered_few g.start g.pushed g.taken g.front_seen g.submitted g.replies _ w.front.entry w.front.stage h.front_at) h.slots);
+    slots = slots_replied g.start g.fetched g.pushed g.taken g.replied w.back.ring.prod g.submitted g.replies new w.front.stage rep h.replies.counted (slots_kept g.start g.fetched g.pushed g.taken g.replied g.submitted g.replies w.under.pages new w.front.stage (stage.Producer rep) (λ i from to. wrote.words i (omega arith)) (entered_few g.start g.pushed g.taken g.front_seen g.submitted g.replies _ w.front.entry w.front.ending w.front.stage h.front_at) h.slots);
     frames = frames_beside config w g d w.front.stage (stage.Producer rep) new h wrote.others;
-    telling = data_kept w.under.pages new w.front.words w.front.stage (λ f low high. wrote.others f (omega arith)) h.telling;
+    telling = told_elsewhere config w g d w.front.stage (stage.Producer rep) new h (λ f low high. wrote.others f (omega arith));
     entries = entries_beside config w g d w.front.stage (stage.Producer rep) new h wrote.others;
     mapped = h.mapped;
     page = record { gref = λ t. h.page.gref refl; mode = λ t. h.page.mode refl };
@@ -181,15 +186,15 @@ goes_producer config w g d rep p = record {
     a : IsReplying g.fetched w.back.jobs.works rep
     a = h.back_at
 
-    s : Stepped None IsSame d (lines.Reply rep.id rep.status ∷ []) (λ x. AreStations config (record g { replied = g.replied + 1; replies = g.replies ++ rep ∷ [] }) x (is_connected w.front.stage) (is_issuing w.front.stage) false (ending_at w.front.stage) (is_telling w.front.stage) None w.front.requests w.back.jobs.works w.under.pages)
-    s = replies config g d (is_connected w.front.stage) (is_issuing w.front.stage) false (ending_at w.front.stage) (is_telling w.front.stage) w.front.requests w.back.jobs.works w.under.pages rep a.positive h.replies.counted h.stations
+    s : Stepped None IsSame d (lines.Reply rep.id rep.status ∷ []) (λ x. AreStations config (record g { replied = g.replied + 1; replies = g.replies ++ rep ∷ [] }) x (is_connected w.front.stage) (is_issuing w.front.stage) false (ending_at w.front.stage w.front.ending) (telling_at w.front.stage) None w.front.requests w.back.jobs.works w.under.pages)
+    s = replies config g d (is_connected w.front.stage) (is_issuing w.front.stage) false (ending_at w.front.stage w.front.ending) (telling_at w.front.stage) w.front.requests w.back.jobs.works w.under.pages rep a.positive h.replies.counted h.stations
 
     -- no response that waits names its request, nor is its grant being ended
     others : (i : ℕ) (other : Reply) → slice_get g.replies i ≡ Some other → other.id ≢ rep.id
     others i other at same = apart d.requests (other.id - 1) (rep.id - 1) (Replied other.status) (Replying rep.status) (h.stations.replied i other at) (h.stations.replying rep refl) (omega arith) (ap (λ (id : ℕ). id - 1) same)
 
-    ending_other : (e : Ending) → ending_at w.front.stage ≡ Some e → rep.id ≢ e.number
-    ending_other e at same = apart d.requests (e.number - 1) (rep.id - 1) (finishing (is_telling w.front.stage) e.status) (Replying rep.status) (h.stations.taking e at) (h.stations.replying rep refl) (omega (arith, finishing_kind (is_telling w.front.stage) e.status)) (ap (λ (id : ℕ). id - 1) (sym same))
+    ending_other : (e : Ending) → ending_at w.front.stage w.front.ending ≡ Some e → rep.id ≢ e.request.number
+    ending_other e at same = apart d.requests (e.request.number - 1) (rep.id - 1) (finishing (telling_at w.front.stage) e.status) (Replying rep.status) (h.stations.taking e at) (h.stations.replying rep refl) (omega (arith, finishing_kind (telling_at w.front.stage) e.status)) (ap (λ (id : ℕ). id - 1) (sym same))
 
     owed : g.replied < g.fetched
     owed = omega (arith, h.counted)

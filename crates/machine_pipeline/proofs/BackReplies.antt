@@ -27,7 +27,7 @@ use Rattle.blk_back.specs.Step.{fetched}
 use Rattle.blk_back.specs.Hands.{hands_at}
 use Rattle.split_model.specs.World.{World}
 use Rattle.split_model.specs.Shown.{back_lines, halt_lines}
-use Rattle.machine_pipeline.proofs.Flow.{Flow, wrapped, entered, is_back_arming, may_back_sleep, is_bound_back, has_page, reply_at, reply_count, responded, is_issuing, is_fetching, ending_at, is_telling}
+use Rattle.machine_pipeline.proofs.Flow.{Flow, wrapped, entered, is_back_arming, may_back_sleep, is_bound_back, has_page, reply_at, reply_count, responded, is_issuing, is_fetching, ending_at, telling_at}
 use Rattle.machine_pipeline.proofs.Holds.{Holds, AreIndices, AreWorks, AreSlots, BackSends, BackAt, PortsAt}
 use Rattle.machine_pipeline.proofs.Turns.{BackGoes, Goes, silent}
 use Rattle.machine_pipeline.proofs.Kept.{slot_from, slot_to, slots_apart, front_sleep_kept, back_sleep_kept}
@@ -97,7 +97,7 @@ pub goes_word : (config : Options) (w : World) (g : Flow) (d : Pipeline) (step :
     → frame ≡ 2
     → (BackSends b g.replied g.taken → ⊥)
     → ((j : ℕ) → j < i → word_of w.under.pages 2 (slot_word (wrapped g.start g.replied) j) ≡ response_word rep j)
-    → AreStations config g (after_step d step) (is_connected w.front.stage) (is_issuing w.front.stage) (is_fetching b') (ending_at w.front.stage) (is_telling w.front.stage) (reply_at b') w.front.requests jobs.works w.under.pages
+    → AreStations config g (after_step d step) (is_connected w.front.stage) (is_issuing w.front.stage) (is_fetching b') (ending_at w.front.stage w.front.ending) (telling_at w.front.stage) (reply_at b') w.front.requests jobs.works w.under.pages
     → AreWorks g.submitted g.fetched jobs.works
     → length jobs.works + 1 + g.replied ≡ g.fetched
     → jobs.info ≡ w.back.jobs.info
@@ -116,7 +116,7 @@ goes_word config w g d step b b' rep i jobs frame shown given does p a in_two un
       memory = r.memory;
       others = r.others;
       ring = ring_beside g.start g.pushed g.replied (slot_word index i) (response_word rep i) w.under.pages new w.front.stage b b' r (omega arith) (omega arith) p.connected a.paged_still h.ring;
-      slots = slots_written g.start g.fetched g.pushed g.taken g.replied w.front.last i rep g.submitted g.replies w.under.pages new w.front.stage b b' r few a.here a.upto before (omega arith) x.fetched_pushed (omega (arith, x.all)) (omega (arith, x.held, x.room)) h.submitted.counted h.replies.counted (entered_few g.start g.pushed g.taken g.front_seen g.submitted g.replies _ w.front.entry w.front.stage h.front_at) h.slots;
+      slots = slots_written g.start g.fetched g.pushed g.taken g.replied w.front.last i rep g.submitted g.replies w.under.pages new w.front.stage b b' r few a.here a.upto before (omega arith) x.fetched_pushed (omega (arith, x.all)) (omega (arith, x.held, x.room)) h.submitted.counted h.replies.counted (entered_few g.start g.pushed g.taken g.front_seen g.submitted g.replies _ w.front.entry w.front.ending w.front.stage h.front_at) h.slots;
       hands = hands;
       page = record { gref = λ t. h.page.gref a.paged; mode = λ t. h.page.mode a.paged };
       front_sleep = front_sleep_at g.start g.taken g.replied new w.front.asleep w.under.channels.front_pending w.front.stage b b' (λ t s. absurd (unsent s)) (front_sleep_kept g.start g.taken g.replied w.under.pages new w.front.asleep w.under.channels.front_pending w.front.stage b (r.words 3 (omega arith)) h.front_sleep);

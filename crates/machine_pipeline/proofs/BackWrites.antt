@@ -108,7 +108,7 @@ goes_store_event config w g d p =
       memory = r.memory;
       others = r.others;
       ring = ring_beside g.start g.pushed g.replied 1 (next_of w.back.ring.cons) w.under.pages new w.front.stage stage.StoreEvent stage.EventFence r (omega arith) (omega arith) p.connected refl h.ring;
-      slots = slots_at g.start g.fetched g.pushed g.taken g.replied g.submitted g.replies new w.front.stage stage.StoreEvent stage.EventFence (λ rep t i lt. cc) (slots_kept g.start g.fetched g.pushed g.taken g.replied g.submitted g.replies w.under.pages new w.front.stage stage.StoreEvent (λ k from to. r.words k (omega arith)) (entered_few g.start g.pushed g.taken g.front_seen g.submitted g.replies _ w.front.entry w.front.stage h.front_at) h.slots);
+      slots = slots_at g.start g.fetched g.pushed g.taken g.replied g.submitted g.replies new w.front.stage stage.StoreEvent stage.EventFence (λ rep t i lt. cc) (slots_kept g.start g.fetched g.pushed g.taken g.replied g.submitted g.replies w.under.pages new w.front.stage stage.StoreEvent (λ k from to. r.words k (omega arith)) (entered_few g.start g.pushed g.taken g.front_seen g.submitted g.replies _ w.front.entry w.front.ending w.front.stage h.front_at) h.slots);
       hands = refl;
       page = record { gref = λ t. h.page.gref t; mode = λ t. h.page.mode t };
       front_sleep = front_sleep_at g.start g.taken g.replied new w.front.asleep w.under.channels.front_pending w.front.stage stage.StoreEvent stage.EventFence (λ t s. absurd s) (front_sleep_kept g.start g.taken g.replied w.under.pages new w.front.asleep w.under.channels.front_pending w.front.stage stage.StoreEvent (r.words 3 (omega arith)) h.front_sleep);

@@ -1,12 +1,13 @@
 -- The front reads a grant entry, ends it, and tells the answer: what all that holds becomes.
 use Rattle.std.proofs.Common.{◌≡◌, ◌≢◌, ℕ, ◌+◌, ◌-◌, ◌*◌, ◌<◌, ◌≤◌, ◌==◌, ◌⊎◌, inl, inr, if◌then◌else◌, Bool, true, List, [], ◌∷◌, refl, ap, sym, ◌∙◌, subst, arith, true≢false, length-set, false, length}
-use Rattle.std.specs.Prelude.{Option, Some, None}
-use Rattle.std.proofs.lemmas.Option.{none-some}
+use Rattle.std.specs.Prelude.{Option, Some, None, slice_get, nat_lt}
+use Rattle.std.proofs.lemmas.Option.{none-some, same_Some}
 use Rattle.std.proofs.lemmas.Bool.Decides.{nat_tests}
 use Rattle.blk_base.specs.Options.{Options}
+use Rattle.blk_base.specs.declared.ask.FrontAsk.{FrontAsk}
 use Rattle.blk_base.specs.declared.moves.Move.TheVariants as moves
 use Rattle.schedule_text.specs.declared.line.Line.TheVariants as lines
-use Rattle.hypervisor.specs.Act.{exchanged as swapped}
+use Rattle.hypervisor.specs.Act.{front_act, exchanged as swapped}
 use Rattle.pipeline_laws.specs.Pipeline.{Pipeline, next}
 use Rattle.xen_pages.specs.Pages.{word_of, with_word}
 use Rattle.grant_table.specs.Table.{entry_word0}
@@ -15,59 +16,56 @@ use Rattle.blk_base.specs.declared.operation.Status.TheVariants.{Okay}
 use Rattle.blk_front.specs.declared.request.Request.{Request}
 use Rattle.blk_front.specs.declared.request.Transfer.{Transfer}
 use Rattle.blk_front.specs.declared.request.Transfer.TheVariants as transfer
-use Rattle.blk_front.specs.Request.{grant_flags, has_data}
-use Rattle.blk_front.specs.Pool.{with_free}
+use Rattle.blk_front.specs.Request.{grant_flags, has_data, frame_at, words_in, IsShaped}
+use Rattle.blk_front.specs.Ask.{revoke_ask, end_ask}
+use Rattle.blk_front.specs.Pool.{with_all_free}
 use Rattle.blk_front.specs.Submit.{is_connected, ending_of}
 use Rattle.blk_front.specs.declared.told.Told.TheVariants as told
 use Rattle.blk_front.specs.declared.stage.Ending.{Ending}
 use Rattle.blk_front.specs.declared.stage.Stage.{Stage as FrontStage}
 use Rattle.blk_front.specs.declared.stage.Stage.TheVariants as front
 use Rattle.blk_front.specs.View.{View, entry_frame, entry_word, next_request}
-use Rattle.blk_front.specs.Step.{at, broken, is_mapped, end_step, ended, exchanged}
+use Rattle.blk_front.specs.Step.{at as at_stage, broken, is_mapped, end_step, finished, ended, revoked as revoked_by, exchanged}
 use Rattle.split_model.specs.World.{World}
 use Rattle.split_model.specs.Shown.{front_lines}
-use Rattle.machine_pipeline.proofs.Flow.{Flow, is_fetching, reply_at, ending_at, revoking_at, is_telling, is_issuing, is_bound_back, may_front_sleep, is_front_arming}
-use Rattle.machine_pipeline.proofs.Holds.{Holds, FrontAt, FrontSends, IsUnused, PortsAt, ArePooled, IsSubmitted, IsEnding, AreEntries, AreDataWords}
-use Rattle.machine_pipeline.proofs.Turns.{Goes, FrontGoes, said_nothing, does_step}
+use Rattle.machine_pipeline.proofs.Flow.{Flow, frames_of, is_fetching, reply_at, ending_at, telling_at, is_issuing, is_bound_back, may_front_sleep, is_front_arming}
+use Rattle.machine_pipeline.proofs.Holds.{Holds, FrontAt, FrontSends, IsUnused, PortsAt, IsPooled, ArePooled, IsSubmitted, IsEnding, IsEndingAt, AreEntries, AreRevoked, AreDataWords}
+use Rattle.machine_pipeline.proofs.Turns.{Goes, FrontGoes, front_says, front_next, said_nothing, does_step}
 use Rattle.machine_pipeline.proofs.Lists.{all_from}
-use Rattle.machine_pipeline.proofs.Kept.{SameFrame, SameEntry, other_frame, other_entry, slots_kept, frames_kept, entries_kept}
-use Rattle.machine_pipeline.proofs.Hands.{ending_apart}
+use Rattle.machine_pipeline.proofs.Data.{SameData, pooled_at}
+use Rattle.machine_pipeline.proofs.Kept.{SameFrame, SameEntry, SameGrants, data_same, other_frame, other_entry, slots_kept, frames_kept, entries_kept}
+use Rattle.machine_pipeline.proofs.Hands.{ending_apart, ending_own_apart}
 use Rattle.machine_pipeline.proofs.Frames.{is_submitted}
 use Rattle.machine_pipeline.proofs.Resting.{IsResting, at_loop, at_read, at_end, at_data, data_rests, slots_rest, frames_rest, entries_rest}
-use Rattle.machine_pipeline.proofs.Issuing.{frames_elsewhere}
 use Rattle.machine_pipeline.proofs.Ending.{pooled_free}
 use Rattle.machine_pipeline.proofs.Stations.{AreStations}
 use Rattle.machine_pipeline.proofs.StationsFront.{answers, answers_read}
 use Rattle.machine_pipeline.proofs.ReadsKept.{stations_elsewhere}
 use Rattle.machine_pipeline.proofs.Indices.{indices_room}
 
--- where no grant is being ended, no entry is that of one
-pub no_entry : (s : FrontStage) (pages : List ℕ) → revoking_at s ≡ None → (e : Ending) → revoking_at s ≡ Some e → entry_word0 pages (e.frame + 6) ≡ grant_flags e.transfer
-no_entry s pages none e same = absurd (none-some e (sym none ∙ same))
-
--- the machine with the front at another stage, with that pool, those words of data, and that memory
-abbrev pub finishing_at : World → FrontStage → List Bool → (words pages : List ℕ) → World
-finishing_at w s pool words pages = record {
-  front = let v : View = w.front in record v { stage = s; pool = pool; words = words; told = None };
+-- the machine with the front at another stage, with that ending request, that pool, those words of data, and that memory
+abbrev pub finishing_at : World → FrontStage → Option Ending → List Bool → (words pages : List ℕ) → World
+finishing_at w s ending pool words pages = record {
+  front = let v : View = w.front in record v { stage = s; ending = ending; pool = pool; words = words; told = None };
   back = w.back;
   under = record w.under { pages = pages };
 }
 
 -- while a request ends, at most a grant entry changes
-pub ends_on : (config : Options) (w : World) (g : Flow) (d d' : Pipeline) (s s' : FrontStage) (pool : List Bool) (words pages : List ℕ)
+pub ends_on : (config : Options) (w : World) (g : Flow) (d d' : Pipeline) (s s' : FrontStage) (ending : Option Ending) (pool : List Bool) (words pages : List ℕ)
     → IsResting s → IsResting s'
     → may_front_sleep s ≡ false → is_front_arming s' ≡ false → ending_of s' ≤ ending_of s
     → Holds config w g d s w.back.stage
-    → AreStations config g d' (is_connected s') (is_issuing s') (is_fetching w.back.stage) (ending_at s') (is_telling s') (reply_at w.back.stage) w.front.requests w.back.jobs.works pages
-    → ArePooled pool w.front.requests (ending_at s')
-    → FrontAt g.start g.pushed g.taken g.front_seen g.submitted g.replies (next_request w.front) w.front.entry s'
-    → AreDataWords pages words s'
-    → AreEntries g.pushed pages w.under.grants.live s' w.front.requests
+    → AreStations config g d' (is_connected s') (is_issuing s') (is_fetching w.back.stage) (ending_at s' ending) (telling_at s') (reply_at w.back.stage) w.front.requests w.back.jobs.works pages
+    → ArePooled pool w.front.requests (ending_at s' ending)
+    → FrontAt g.start g.pushed g.taken g.front_seen g.submitted g.replies (next_request w.front) w.front.entry ending s'
+    → AreDataWords pages words ending s'
+    → AreEntries g.pushed pages w.under.grants.live s' ending w.front.requests
     → length pages ≡ 1114112
     → ((f : ℕ) → 2 ≤ f → SameFrame w.under.pages pages f)
     → SameEntry w.under.pages pages 8
-    → Holds config (finishing_at w s' pool words pages) g d' s' w.back.stage
-ends_on config w g d d' s s' pool words pages i i' restless unarmed fewer h stations pooled at told entries sized frames entry = record {
+    → Holds config (finishing_at w s' ending pool words pages) g d' s' w.back.stage
+ends_on config w g d d' s s' ending pool words pages i i' restless unarmed fewer h stations pooled at told entries sized frames entry = record {
   started = h.started;
   sized = h.sized;
   indices = indices_room g w.front.ring w.back.ring w.front.seen w.back.seen w.back.fetched w.front.last w.front.waiting (length w.front.requests) (ending_of s) (ending_of s') (let was = h.indices in let room = was.room in omega arith) h.indices;
@@ -92,7 +90,10 @@ ends_on config w g d d' s s' pool words pages i i' restless unarmed fewer h stat
     granted = λ t u. entry.flags ∙ was.granted i.granted u;
   });
   slots = slots_rest g.start g.fetched g.pushed g.taken g.replied g.submitted g.replies pages s s' w.back.stage i' (slots_kept g.start g.fetched g.pushed g.taken g.replied g.submitted g.replies w.under.pages pages s w.back.stage (λ x from to. frames 2 (omega arith) x to) (let few = i.entered_none in omega arith) h.slots);
-  frames = frames_rest g.pushed pages s s' w.front.requests i' (frames_kept g.pushed w.under.pages pages s w.front.requests (let few = i.filled_none in omega arith) (frames_elsewhere config w g d s w.back.stage h pages (λ f from. frames f (omega arith))) h.frames);
+  frames = frames_rest g.pushed pages s s' w.front.requests i' (frames_kept g.pushed w.under.pages pages s w.front.requests
+      (all_from (SameData w.under.pages pages) w.front.requests
+      (λ j r e. let is = is_submitted config w g d s w.back.stage h j r e in data_same w.under.pages pages r is.frames
+      (λ f low high. frames f (omega arith)))) h.frames);
   telling = told;
   entries = entries;
   mapped = h.mapped;
@@ -112,34 +113,58 @@ unmapped_flags : (way : Transfer) → is_mapped (grant_flags way) ≡ false
 unmapped_flags transfer.Read = refl
 unmapped_flags (transfer.Write tag) = refl
 
+-- the moves at these stages, by the request that is ending
+abbrev pub ActGoes : Options → World → Pipeline → FrontStage → FrontAsk → Type 0
+ActGoes config w d s ask = Goes config (front_says s w (front_act w.under ask)) (front_next s w (front_act w.under ask)) d
+
 -- the entry is read: the frame isn't mapped
-pub grant_read_goes : (config : Options) (w : World) (g : Flow) (d : Pipeline) (e : Ending)
+pub grant_read_goes : (config : Options) (w : World) (g : Flow) (d : Pipeline) (place : ℕ)
     → w.front.told ≡ None
-    → Holds config w g d (front.GrantRead e) w.back.stage
-    → FrontGoes config w d (front.GrantRead e)
-grant_read_goes config w g d e told h =
-    subst (λ (x : View). Goes config (lines.Move (moves.FrontRead (entry_frame e.frame) (entry_word e.frame) word) ∷ front_lines x.told) (record { front = record x { told = None }; back = w.back; under = w.under }) d) (sym stepped)
+    → Holds config w g d (front.GrantRead place) w.back.stage
+    → FrontGoes config w d (front.GrantRead place)
+grant_read_goes config w g d place told h =
+    subst (λ (x : Option Ending). ActGoes config w d (front.GrantRead place) (revoke_ask x place)) (sym here)
+    (subst (λ (x : View). Goes config (lines.Move (moves.FrontRead (entry_frame frame) (entry_word frame) word) ∷ front_lines x.told) (record { front = record x { told = None }; back = w.back; under = w.under }) d) (sym stepped)
     (record {
       flow = g;
       step = None;
-      does = said_nothing d (moves.FrontRead (entry_frame e.frame) (entry_word e.frame) word) w.front.told told;
-      holds = ends_on config w g d d (front.GrantRead e) (front.GrantEnd e flags) w.front.pool w.front.words w.under.pages (at_read e) (at_end e flags) refl refl (omega arith) h
-          h.stations h.pool (h.front_at, refl) (data_rests w.under.pages w.under.pages w.front.words (front.GrantRead e) (front.GrantEnd e flags) refl h.telling)
-          (entries_rest g.pushed w.under.pages w.under.grants.live (front.GrantRead e) (front.GrantEnd e flags) w.front.requests (at_end e flags) entries.ending entries)
+      does = said_nothing d (moves.FrontRead (entry_frame frame) (entry_word frame) word) w.front.told told;
+      holds = ends_on config w g d d (front.GrantRead place) (front.GrantEnd place flags) w.front.ending w.front.pool w.front.words w.under.pages (at_read place) (at_end place flags) refl refl (omega arith) h
+          h.stations h.pool (e, here, at.2, (at.3, refl)) (data_rests w.under.pages w.under.pages w.front.words w.front.ending w.front.ending
+          (front.GrantRead place) (front.GrantEnd place flags) refl h.telling)
+          (entries_rest g.pushed w.under.pages w.under.grants.live (front.GrantRead place)
+          (front.GrantEnd place flags) w.front.ending w.front.ending w.front.requests (at_end place flags) entries.ending entries)
           h.memory (λ f from x lt. refl) (record { flags = refl; frame = refl });
-    })
+    }))
   where
+    at : IsEndingAt g.submitted g.replies w.front.ending (λ x. place < frames_of x.request)
+    at = h.front_at
+
+    e : Ending
+    e = at.0
+
+    here : w.front.ending ≡ Some e
+    here = at.1
+
+    frame : ℕ
+    frame = frame_at e.request place
+
     word : ℕ
-    word = word_of w.under.pages (entry_frame e.frame) (entry_word e.frame)
+    word = word_of w.under.pages (entry_frame frame) (entry_word frame)
 
     flags : ℕ
-    flags = grant_flags e.transfer
+    flags = grant_flags e.request.transfer
 
-    entries : AreEntries g.pushed w.under.pages w.under.grants.live (front.GrantRead e) w.front.requests
+    entries : AreEntries g.pushed w.under.pages w.under.grants.live (front.GrantRead place) w.front.ending w.front.requests
     entries = h.entries
 
-    stepped : end_step w.front e word ≡ at (front.GrantEnd e flags) w.front
-    stepped = ap (end_step w.front e) (entries.ending e refl) ∙ ap (λ (b : Bool). if b then broken flags w.front else at (front.GrantEnd e flags) w.front) (unmapped_flags e.transfer)
+    stepped : end_step w.front place word ≡ at_stage (front.GrantEnd place flags) w.front
+    stepped = ap (end_step w.front place) (entries.ending e here place (omega arith) at.3)
+        ∙ ap (λ (b : Bool). if b then broken flags w.front else at_stage (front.GrantEnd place flags) w.front) (unmapped_flags e.request.transfer)
+
+-- a request has a word of data
+some_word : (r : Request) → IsShaped r → 0 < words_in r
+some_word r shaped = let some = shaped.some in omega arith
 
 -- a read that went well has data, and nothing else has
 data_are : (way : Transfer) (status : Status) → has_data way status ≡ true → (way ≡ transfer.Read) × (status ≡ Okay)
@@ -147,32 +172,52 @@ data_are transfer.Read Okay t = (refl, refl)
 data_are transfer.Read status t = absurd (true≢false (sym t))
 data_are (transfer.Write tag) status t = absurd (true≢false (sym t))
 
--- the entry is exchanged for none, and the answer told; the data of a read that went well are told next
-pub grant_end_goes : (config : Options) (w : World) (g : Flow) (d : Pipeline) (e : Ending) (before : ℕ)
-    → Holds config w g d (front.GrantEnd e before) w.back.stage
-    → FrontGoes config w d (front.GrantEnd e before)
-grant_end_goes config w g d e before h =
-    subst (λ (x : View). Goes config (lines.Move (moves.FrontCas (entry_frame e.frame) (entry_word e.frame) before 0 word) ∷ front_lines x.told) (record { front = record x { told = None }; back = w.back; under = record w.under { pages = swapped w.under.pages (entry_frame e.frame) (entry_word e.frame) before 0 } }) d) (sym stepped)
-    (subst (λ (ps : List ℕ). let x : View = ended w.front e in Goes config (lines.Move (moves.FrontCas (entry_frame e.frame) (entry_word e.frame) before 0 word) ∷ front_lines x.told) (record { front = record x { told = None }; back = w.back; under = record w.under { pages = ps } }) d) (sym changed)
-    (by_data (has_data e.transfer e.status) refl))
+-- the entry is exchanged for none: the next grant is ended, or the answer told, and the data of a read that went well are told next
+pub grant_end_goes : (config : Options) (w : World) (g : Flow) (d : Pipeline) (place before : ℕ)
+    → w.front.told ≡ None
+    → Holds config w g d (front.GrantEnd place before) w.back.stage
+    → FrontGoes config w d (front.GrantEnd place before)
+grant_end_goes config w g d place before untold h =
+    subst (λ (x : Option Ending). ActGoes config w d (front.GrantEnd place before) (end_ask x place before)) (sym here)
+    (subst (λ (x : View). Becomes x (swapped w.under.pages (entry_frame frame) (entry_word frame) before 0)) (sym stepped)
+    (subst (λ (ps : List ℕ). Becomes (revoked_by (Some e) place w.front) ps) (sym changed)
+    (by_more (nat_lt (place + 1) (frames_of e.request)) refl)))
   where
+    at : IsEndingAt g.submitted g.replies w.front.ending (λ x. (place < frames_of x.request) × (before ≡ grant_flags x.request.transfer))
+    at = h.front_at
+
+    e : Ending
+    e = at.0
+
+    here : w.front.ending ≡ Some e
+    here = at.1
+
     is : IsEnding g.submitted g.replies e
-    is = h.front_at.0
+    is = at.2
 
-    number : IsSubmitted w.front.sectors (e.number - 1) is.r
-    number = let submitted = h.submitted in submitted.each (e.number - 1) is.r is.known
+    within : place < frames_of e.request
+    within = at.3.0
 
-    low : 18 ≤ e.frame
-    low = let frame = is.frame in let from = number.low in omega arith
+    its : IsSubmitted w.front.sectors (e.request.number - 1) e.request
+    its = let submitted = h.submitted in submitted.each (e.request.number - 1) e.request is.known
 
-    high : e.frame < 1018
-    high = let frame = is.frame in let to = number.high in omega arith
+    frame : ℕ
+    frame = frame_at e.request place
+
+    pooled : IsPooled frame
+    pooled = pooled_at e.request its.frames place
 
     word : ℕ
-    word = word_of w.under.pages (entry_frame e.frame) (entry_word e.frame)
+    word = word_of w.under.pages (entry_frame frame) (entry_word frame)
+
+    Becomes : View → List ℕ → Type 0
+    Becomes x ps = Goes config (lines.Move (moves.FrontCas (entry_frame frame) (entry_word frame) before 0 word) ∷ front_lines x.told) (record { front = record x { told = None }; back = w.back; under = record w.under { pages = ps } }) d
+
+    entries : AreEntries g.pushed w.under.pages w.under.grants.live (front.GrantEnd place before) w.front.ending w.front.requests
+    entries = h.entries
 
     same_word : word ≡ before
-    same_word = let entries = h.entries in entries.ending e refl ∙ sym h.front_at.1
+    same_word = entries.ending e here place (omega arith) within ∙ sym at.3.1
 
     tested : (word == before) ≡ true
     tested = same_test word before same_word
@@ -181,60 +226,108 @@ grant_end_goes config w g d e before h =
         same_test a b same = grind (arith, nat_tests)
 
     pages : List ℕ
-    pages = with_word w.under.pages (entry_frame e.frame) (entry_word e.frame) 0
+    pages = with_word w.under.pages (entry_frame frame) (entry_word frame) 0
 
-    changed : swapped w.under.pages (entry_frame e.frame) (entry_word e.frame) before 0 ≡ pages
+    changed : swapped w.under.pages (entry_frame frame) (entry_word frame) before 0 ≡ pages
     changed = ap (λ (b : Bool). if b then pages else w.under.pages) tested
 
-    stepped : exchanged w.front e before word ≡ ended w.front e
-    stepped = ap (λ (b : Bool). if b then ended w.front e else broken word w.front) tested
+    stepped : exchanged w.front place before word ≡ revoked_by (Some e) place w.front
+    stepped = ap (λ (b : Bool). if b then revoked_by w.front.ending place w.front else broken word w.front) tested
+        ∙ ap (λ (x : Option Ending). revoked_by x place w.front) here
 
     sized : length pages ≡ 1114112
-    sized = length-set w.under.pages (entry_frame e.frame * 1024 + entry_word e.frame) 0 ∙ h.memory
+    sized = length-set w.under.pages (entry_frame frame * 1024 + entry_word frame) 0 ∙ h.memory
 
     words : (f : ℕ) → 2 ≤ f → SameFrame w.under.pages pages f
-    words f from = other_frame w.under.pages (entry_frame e.frame) (entry_word e.frame) 0 f (omega arith) (let top = high in omega arith)
+    words f from = other_frame w.under.pages (entry_frame frame) (entry_word frame) 0 f (omega arith) (let top = pooled.1 in omega arith)
 
-    apart_entry : (gref : ℕ) → gref < 1024 → gref ≢ e.frame + 6 → SameEntry w.under.pages pages gref
-    apart_entry gref few apart = other_entry w.under.pages (e.frame + 6) gref 0 (let top = high in omega arith) few apart
+    apart_entry : (gref : ℕ) → gref < 1024 → gref ≢ frame + 6 → SameEntry w.under.pages pages gref
+    apart_entry gref few apart = other_entry w.under.pages (frame + 6) gref 0 (let top = pooled.1 in omega arith) few apart
+
+    owned : ArePooled w.front.pool w.front.requests (Some e)
+    owned = subst (ArePooled w.front.pool w.front.requests) here h.pool
 
     -- the entries of the front's requests are others
-    entries_end : (s : FrontStage) → IsResting s → revoking_at s ≡ None → AreEntries g.pushed pages w.under.grants.live s w.front.requests
-    entries_end s i none = entries_kept g.pushed w.under.pages pages w.under.grants.live s w.front.requests
-        (all_from (λ (r : Request). SameEntry w.under.pages pages (r.frame + 6)) w.front.requests (λ j r at.
-        let its = is_submitted config w g d (front.GrantEnd e before) w.back.stage h j r at in
-        let apart = ending_apart w.front.pool w.front.requests e j r h.pool its.low its.high at in
-        apart_entry (r.frame + 6) (let top = its.high in omega arith) (λ same. apart (omega arith))))
-        (λ x same. absurd (none-some x (sym none ∙ same)))
-        (entries_rest g.pushed w.under.pages w.under.grants.live (front.GrantEnd e before) s w.front.requests i (no_entry s w.under.pages none) h.entries)
+    same_grants : (j : ℕ) (r : Request) → slice_get w.front.requests j ≡ Some r → SameGrants w.under.pages pages r
+    same_grants j r there a lt =
+        let theirs = is_submitted config w g d (front.GrantEnd place before) w.back.stage h j r there in
+        let in_pool = pooled_at r theirs.frames a in
+        let apart = ending_apart w.front.pool w.front.requests e j r owned there a place lt within in_pool in
+        apart_entry (frame_at r a + 6) (let top = in_pool.1 in omega arith) (λ same. apart (omega arith))
 
-    elsewhere : (p : Pipeline) (ending : Option Ending) (telling : Bool) → AreStations config g p true false (is_fetching w.back.stage) ending telling (reply_at w.back.stage) w.front.requests w.back.jobs.works w.under.pages → AreStations config g p true false (is_fetching w.back.stage) ending telling (reply_at w.back.stage) w.front.requests w.back.jobs.works pages
+    entries_end : (s : FrontStage) (ending : Option Ending) → IsResting s → AreRevoked pages s ending
+        → AreEntries g.pushed pages w.under.grants.live s ending w.front.requests
+    entries_end s ending i left =
+        entries_rest g.pushed pages w.under.grants.live front.Loop s w.front.ending ending w.front.requests i left
+        (entries_kept g.pushed w.under.pages pages w.under.grants.live front.Loop w.front.ending w.front.requests
+        (all_from (SameGrants w.under.pages pages) w.front.requests same_grants) (λ x same. absurd (none-some x same))
+        (entries_rest g.pushed w.under.pages w.under.grants.live
+        (front.GrantEnd place before) front.Loop w.front.ending w.front.ending w.front.requests at_loop (λ x same. absurd (none-some x same)) h.entries))
+
+    -- and so are those of its own frames that are left
+    left : AreRevoked pages (front.GrantRead (place + 1)) w.front.ending
+    left x same = subst (λ (y : Ending). (a : ℕ) → place + 1 ≤ a → a < frames_of y.request
+        → entry_word0 pages (frame_at y.request a + 6) ≡ grant_flags y.request.transfer) (same_Some e x (sym here ∙ same)) (λ a le lt.
+        let in_pool = pooled_at e.request its.frames a in
+        let apart = ending_own_apart w.front.pool w.front.requests e owned a place (omega arith) lt within in_pool in
+        let kept = apart_entry (frame_at e.request a + 6) (let top = in_pool.1 in omega arith) (λ same. apart (omega arith)) in
+        kept.flags ∙ entries.ending e here a (omega arith) lt)
+
+    elsewhere : (p : Pipeline) (ending : Option Ending) (telling : Option ℕ) → AreStations config g p true false (is_fetching w.back.stage) ending telling (reply_at w.back.stage) w.front.requests w.back.jobs.works w.under.pages → AreStations config g p true false (is_fetching w.back.stage) ending telling (reply_at w.back.stage) w.front.requests w.back.jobs.works pages
     elsewhere p ending telling = stations_elsewhere config g p true false (is_fetching w.back.stage) ending telling (reply_at w.back.stage) w.front.requests w.back.jobs.works w.under.pages pages w.front.sectors w.front.last h.submitted (λ f from to. words f (omega arith))
 
     eighth : SameEntry w.under.pages pages 8
-    eighth = let from = low in apart_entry 8 (omega arith) (omega arith)
+    eighth = let from = pooled.0 in apart_entry 8 (omega arith) (omega arith)
 
-    by_data : (b : Bool) → has_data e.transfer e.status ≡ b
-        → (let x : View = (if b then record w.front { stage = front.ReadData e 0; told = Some (told.Answer e.number e.status) } else record w.front { stage = front.Loop; pool = with_free w.front.pool e.frame; told = Some (told.Answer e.number e.status) }) in
-        Goes config (lines.Move (moves.FrontCas (entry_frame e.frame) (entry_word e.frame) before 0 word) ∷ front_lines x.told) (record { front = record x { told = None }; back = w.back; under = record w.under { pages = pages } }) d)
+    stations : AreStations config g d true false (is_fetching w.back.stage) (Some e) None
+        (reply_at w.back.stage) w.front.requests w.back.jobs.works w.under.pages
+    stations = subst (λ (x : Option Ending). AreStations config g d true false (is_fetching w.back.stage) x None
+        (reply_at w.back.stage) w.front.requests w.back.jobs.works w.under.pages) here h.stations
+
+    by_data : (b : Bool) → has_data e.request.transfer e.status ≡ b
+        → Becomes (if b then record w.front { stage = front.ReadData 0; told = Some (told.Answer e.request.number e.status) }
+        else record (finished e w.front) { told = Some (told.Answer e.request.number e.status) }) pages
     by_data false t =
-        let s = answers config g d true false (is_fetching w.back.stage) (reply_at w.back.stage) w.front.requests w.back.jobs.works w.under.pages is.r e is.known is.positive (subst (λ (way : Transfer). has_data way e.status ≡ false) is.transfer t) h.stations in
+        let s = answers config g d true false (is_fetching w.back.stage)
+        (reply_at w.back.stage) w.front.requests w.back.jobs.works w.under.pages e is.known is.positive t stations in
         record {
           flow = g;
           step = Some s.step;
-          does = does_step (moves.FrontCas (entry_frame e.frame) (entry_word e.frame) before 0 word) (lines.Answer e.number e.status ∷ []) refl s;
-          holds = ends_on config w g d (next d s.step) (front.GrantEnd e before) front.Loop (with_free w.front.pool e.frame) w.front.words pages (at_end e before) at_loop refl refl (omega arith) h
-              (elsewhere (next d s.step) None false s.now) (pooled_free w.front.pool w.front.requests e low high h.pool) tt (data_rests w.under.pages pages w.front.words (front.GrantEnd e before) front.Loop refl h.telling)
-              (entries_end front.Loop at_loop refl) sized words eighth;
+          does = does_step (moves.FrontCas (entry_frame frame) (entry_word frame) before 0 word) (lines.Answer e.request.number e.status ∷ []) refl s;
+          holds = ends_on config w g d (next d s.step) (front.GrantEnd place before) front.Loop None (with_all_free w.front.pool e.request.frames.items) w.front.words pages (at_end place before) at_loop refl refl (omega arith) h
+              (elsewhere (next d s.step) None None s.now) (pooled_free w.front.pool w.front.requests e its.frames owned) tt
+              (data_rests w.under.pages pages w.front.words w.front.ending None (front.GrantEnd place before) front.Loop refl h.telling)
+              (entries_end front.Loop None at_loop (λ x same. absurd (none-some x same))) sized words eighth;
         }
     by_data true t =
-        let read = data_are e.transfer e.status t in
-        let s = answers_read config g d true false (is_fetching w.back.stage) (reply_at w.back.stage) w.front.requests w.back.jobs.works w.under.pages is.r e is.known is.positive (sym is.transfer ∙ read.0) read.1 h.stations in
+        let read = data_are e.request.transfer e.status t in
+        let s = answers_read config g d true false (is_fetching w.back.stage) (reply_at w.back.stage) w.front.requests w.back.jobs.works w.under.pages e is.known is.positive read.0 read.1 stations in
         record {
           flow = g;
           step = Some s.step;
-          does = does_step (moves.FrontCas (entry_frame e.frame) (entry_word e.frame) before 0 word) (lines.Answer e.number e.status ∷ []) refl s;
-          holds = ends_on config w g d (next d s.step) (front.GrantEnd e before) (front.ReadData e 0) w.front.pool w.front.words pages (at_end e before) (at_data e 0) refl refl (omega arith) h
-              (elsewhere (next d s.step) (Some e) true s.now) h.pool (is, omega arith, read.0, read.1) (let was = h.telling in record { size = was.size; so_far = (low, high, λ i lt few. absurd (omega arith)) })
-              (entries_end (front.ReadData e 0) (at_data e 0) refl) sized words eighth;
+          does = does_step (moves.FrontCas (entry_frame frame) (entry_word frame) before 0 word) (lines.Answer e.request.number e.status ∷ []) refl s;
+          holds = ends_on config w g d (next d s.step) (front.GrantEnd place before) (front.ReadData 0) w.front.ending w.front.pool w.front.words pages (at_end place before) (at_data 0) refl refl (omega arith) h
+              (subst (λ (x : Option Ending). AreStations config g (next d s.step) true false (is_fetching w.back.stage) x (Some 0)
+              (reply_at w.back.stage) w.front.requests w.back.jobs.works pages) (sym here) (elsewhere (next d s.step) (Some e) (Some 0) s.now))
+              h.pool (e, here, is, (some_word e.request its.shaped, read.0, read.1))
+              (let was = h.telling in record { size = was.size; so_far = λ x same k lt. absurd (omega arith) })
+              (entries_end (front.ReadData 0) w.front.ending (at_data 0) (λ x same. absurd (none-some x same))) sized words eighth;
         }
+
+    by_more : (b : Bool) → nat_lt (place + 1) (frames_of e.request) ≡ b
+        → Becomes (if b then at_stage (front.GrantRead (place + 1)) w.front else ended e w.front) pages
+    by_more true t = record {
+      flow = g;
+      step = None;
+      does = said_nothing d (moves.FrontCas (entry_frame frame) (entry_word frame) before 0 word) w.front.told untold;
+      holds = ends_on config w g d d (front.GrantEnd place before) (front.GrantRead (place + 1)) w.front.ending w.front.pool w.front.words pages
+          (at_end place before) (at_read (place + 1)) refl refl (omega arith) h
+          (elsewhere d w.front.ending None h.stations) h.pool (e, here, is, further)
+          (data_rests w.under.pages pages w.front.words w.front.ending w.front.ending (front.GrantEnd place before)
+          (front.GrantRead (place + 1)) refl h.telling)
+          (entries_end (front.GrantRead (place + 1)) w.front.ending (at_read (place + 1)) left) sized words eighth;
+    }
+      where
+        further : place + 1 < frames_of e.request
+        further = grind (arith, nat_tests)
+    by_more false t = by_data (has_data e.request.transfer e.status) refl

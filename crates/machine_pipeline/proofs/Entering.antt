@@ -16,7 +16,7 @@ use Rattle.blk_back.specs.declared.stage.Stage.{Stage as BackStage}
 use Rattle.blk_back.specs.declared.stage.Stage.TheVariants as back
 use Rattle.split_model.specs.World.{World}
 use Rattle.split_model.specs.Safe.{IsSafe}
-use Rattle.machine_pipeline.proofs.Flow.{Flow, wrapped, filled, entered, reply_at, reply_count, responded, may_front_sleep, is_issuing}
+use Rattle.machine_pipeline.proofs.Flow.{Flow, wrapped, filled, entered, named_frames, granted_frames, reply_at, reply_count, responded, may_front_sleep, is_issuing}
 use Rattle.machine_pipeline.proofs.Holds.{FrontAt, AreSlots, Holds}
 use Rattle.machine_pipeline.proofs.Kept.{SameFrame, written, other_word, other_frame, same_entry, slot_from, slot_to, slots_apart}
 use Rattle.machine_pipeline.proofs.Next.{IsNext, next_is}
@@ -68,10 +68,10 @@ slots_entered start fetched pushed taken replied submitted replies old k s' b r 
 entered_on : (config : Options) (w : World) (g : Flow) (d : Pipeline) (k : ℕ) (s' : FrontStage) (r : Request)
     → may_front_sleep s' ≡ true → is_issuing s' ≡ true
     → Holds config w g d (front.Slot k) w.back.stage
-    → next_request w.front ≡ Some r → k < 28 → entered s' ≡ k + 1 → filled s' ≡ 128
-    → FrontAt g.start g.pushed g.taken g.front_seen g.submitted g.replies (next_request w.front) w.front.entry s'
+    → next_request w.front ≡ Some r → k < 28 → entered s' ≡ k + 1 → filled s' ≡ 11264 → named_frames s' ≤ 11 → granted_frames s' ≤ 11
+    → FrontAt g.start g.pushed g.taken g.front_seen g.submitted g.replies (next_request w.front) w.front.entry w.front.ending s'
     → Holds config (with_front w s' w.front.entry (with_word w.under.pages 2 (slot_word (wrapped g.start g.pushed) k) (slice_index (entry_of r) k))) g d s' w.back.stage
-entered_on config w g d k s' r i' same h e within more full at =
+entered_on config w g d k s' r i' same h e within more full named granted at =
     let next : IsNext g.submitted w.front.requests g.pushed w.front.waiting r = next_is w.front g.submitted w.front.sectors w.front.last g.pushed _ r h.queue h.submitted h.pool e in
     let x = h.indices in
     let y = h.replies in
@@ -91,9 +91,9 @@ entered_on config w g d k s' r i' same h e within more full at =
     (order x.taken_replied x.replied_fetched) (room g.pushed w.front.waiting (length w.front.requests) g.taken w.front.last all held few waits)
     (counted y.counted x.replied_fetched x.fetched_pushed) x.taken_replied
     (λ rep at_reply. behind _ (ap reply_count at_reply) h.counted x.fetched_pushed) h.slots)
-    (frames_turned g.pushed w.under.pages new (front.Slot k) s' w.front.requests (omega arith) (omega arith)
+    (frames_turned g.pushed w.under.pages new (front.Slot k) s' w.front.requests (omega arith)
     (frames_elsewhere config w g d (front.Slot k) w.back.stage h new (λ f from. elsewhere f (omega arith))) h.frames)
-    (entries_turned g.pushed w.under.pages new w.under.grants.live (front.Slot k) s' w.front.requests i' (λ t. refl) (λ t. refl)
+    (entries_turned g.pushed w.under.pages new w.under.grants.live (front.Slot k) s' w.front.ending w.front.requests i' named granted
     (entries_elsewhere config w g d (front.Slot k) w.back.stage h new (λ gref lt. same_entry w.under.pages new gref lt (elsewhere 0 (omega arith)) (elsewhere 1 (omega arith)))) h.entries)
     (λ t sends. absurd sends)
   where
@@ -133,11 +133,11 @@ slot_goes config w g d k safe h = record {
     same = let x = h.indices in slot_same w.under.pages w.front.entry (entry_of r) w.front.ring.prod (wrapped g.start g.pushed) k h.front_at.0 x.pushed h.front_at.1.2
 
     by_test : (b : Bool) → (k == 27) ≡ b → Holds config (with_front w (if b then front.Producer else front.Slot (k + 1)) w.front.entry (with_word w.under.pages (slot_frame w.front.ring.prod k) (slot_word w.front.ring.prod k) (slice_index w.front.entry k))) g d (if b then front.Producer else front.Slot (k + 1)) w.back.stage
-    by_test true t = rw same (entered_on config w g d k front.Producer r refl refl h e (h.front_at.0) (last k t) refl (r, e))
+    by_test true t = rw same (entered_on config w g d k front.Producer r refl refl h e (h.front_at.0) (last k t) refl (omega arith) (omega arith) (r, e, tt))
       where
         last : (n : ℕ) → (n == 27) ≡ true → 28 ≡ n + 1
         last n t = grind (arith, nat_tests)
-    by_test false t = rw same (entered_on config w g d k (front.Slot (k + 1)) r refl refl h e (h.front_at.0) refl refl (further k (h.front_at.0) t, h.front_at.1))
+    by_test false t = rw same (entered_on config w g d k (front.Slot (k + 1)) r refl refl h e (h.front_at.0) refl refl (omega arith) (omega arith) (further k (h.front_at.0) t, h.front_at.1))
       where
         further : (n : ℕ) → n < 28 → (n == 27) ≡ false → n + 1 < 28
         further n lt t = grind (arith, nat_tests)

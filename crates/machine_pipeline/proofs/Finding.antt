@@ -1,6 +1,6 @@
 -- The front finds the request that a response names.
 use Rattle.std.proofs.Common.{◌≡◌, ℕ, ◌+◌, ◌-◌, ◌*◌, ◌/◌, ◌^◌, ◌<◌, ◌≤◌, ◌==◌, ◌⊎◌, inl, inr, Bool, true, false, List, [], ◌∷◌, length, take, refl, ap, sym, ◌∙◌, subst, arith}
-use Rattle.std.specs.Prelude.{Option, Some, None, slice_get, option_map, Result, Ok, Err, nat_lt}
+use Rattle.std.specs.Prelude.{Option, Some, None, slice_get, option_map, position, Result, Ok, Err, nat_lt}
 use Rattle.std.specs.List.{list_any}
 use Rattle.std.proofs.lemmas.Option.{none-some, slice_get_within}
 use Rattle.std.proofs.lemmas.Bool.Decides.{nat_tests}
@@ -15,6 +15,7 @@ use Rattle.blk_front.specs.declared.request.Request.{Request}
 use Rattle.blk_front.specs.declared.stage.Ending.{Ending}
 use Rattle.blk_front.specs.declared.stage.Stage.{Stage as FrontStage}
 use Rattle.blk_front.specs.Step.{found_at, issued}
+use Rattle.blk_front.specs.View.{View}
 use Rattle.blk_back.specs.declared.stage.Reply.{Reply}
 use Rattle.blk_back.specs.Ask.{response_word}
 use Rattle.split_model.specs.World.{World}
@@ -51,6 +52,11 @@ first_two low high last r e = by_status (status_of (last / 2 ^ 16)) e
     by_status None e = absurd (subst IsOkay (sym e) tt)
     by_status (Some status) e = ap id_of e
 
+found_with : (v : View) (id place : ℕ) (r : Request)
+    → position (λ (x : Request). x.number == id) (take (length v.requests - v.waiting) v.requests) ≡ Some place
+    → slice_get v.requests place ≡ Some r → issued v id ≡ Some (place, r)
+found_with v id place r at here = ap (found_at v.requests) at ∙ ap (option_map (λ (x : Request). (place, x))) here
+
 pub record IsFound (w : World) (g : Flow) (id : ℕ) : Type 0 where
   pub place : ℕ
   pub r : Request
@@ -61,7 +67,7 @@ pub record IsFound (w : World) (g : Flow) (id : ℕ) : Type 0 where
 
 pub finds : (config : Options) (w : World) (g : Flow) (d : Pipeline) (s : FrontStage) (rep : Reply)
     → Holds config w g d s w.back.stage
-    → ending_at s ≡ None
+    → ending_at s w.front.ending ≡ None
     → IsReply g.fetched rep
     → StandsAt d.requests (rep.id - 1) (Replied rep.status)
     → IsFound w g rep.id
@@ -84,7 +90,7 @@ finds config w g d s rep h none is was = by_place (h.stations.opened.held (rep.i
             let number = queue.next (i - (length w.front.requests - w.front.waiting)) r (omega arith) (ap (slice_get w.front.requests) (omega arith) ∙ e) in
             absurd (omega arith)
 
-    by_place : (list_any (λ (r : Request). r.number == rep.id - 1 + 1) w.front.requests ≡ true) ⊎ ((e : Ending) × (ending_at s ≡ Some e) × (e.number ≡ rep.id - 1 + 1)) → IsFound w g rep.id
+    by_place : (list_any (λ (r : Request). r.number == rep.id - 1 + 1) w.front.requests ≡ true) ⊎ ((e : Ending) × (ending_at s w.front.ending ≡ Some e) × (e.request.number ≡ rep.id - 1 + 1)) → IsFound w g rep.id
     by_place (inl any) =
         let at = place_of_any (λ (r : Request). r.number == rep.id - 1 + 1) w.front.requests any in
         let positive = is.positive in
@@ -101,7 +107,7 @@ finds config w g d s rep h none is was = by_place (h.stations.opened.held (rep.i
           here = whole.1;
           early = whole.0;
           number = tested (let r : Request = it.0 in r.number) rep.id it.2;
-          found = ap (found_at w.front.requests) first.1 ∙ ap (option_map (λ (r : Request). (first.0, r))) whole.1;
+          found = found_with w.front rep.id first.0 it.0 first.1 whole.1;
         }
       where
         numbers : (n id : ℕ) → 1 ≤ id → (n == id - 1 + 1) ≡ true → n ≡ id

@@ -1,5 +1,5 @@
 -- What passes through the ring, by whole indices in place of its wrapped words: whole indices, each request that was ever submitted, and the responses on their way.
-use Rattle.std.specs.Prelude.{ℕ, ◌+◌, ◌%◌, ◌^◌, ◌==◌, Bool, true, false, List, [], Option, Some, None, if◌then◌else◌}
+use Rattle.std.specs.Prelude.{ℕ, ◌+◌, ◌/◌, ◌%◌, ◌^◌, ◌==◌, Bool, true, false, List, [], length, take, count_by, Option, Some, None}
 use Rattle.blk_base.specs.declared.config.Job.{Job}
 use Rattle.blk_base.specs.declared.config.Job.TheVariants as jobs
 use Rattle.blk_layout.specs.declared.segment.Segment.{Segment}
@@ -9,6 +9,8 @@ use Rattle.blk_front.specs.declared.request.Transfer.TheVariants as transfer
 use Rattle.blk_front.specs.declared.stage.Ending.{Ending}
 use Rattle.blk_front.specs.declared.stage.Stage.{Stage as FrontStage}
 use Rattle.blk_front.specs.declared.stage.Stage.TheVariants as front
+use Rattle.blk_front.specs.Request.{frames_for, frame_at, segments_of}
+use Rattle.xen_pages.specs.Pages.{word_of}
 use Rattle.back_jobs.specs.declared.stage.Stage.{Stage as JobStage}
 use Rattle.back_jobs.specs.declared.stage.Stage.TheVariants as job
 use Rattle.blk_back.specs.declared.stage.Reply.{Reply}
@@ -55,66 +57,87 @@ is_ring_granted s = true
 
 -- a request is being issued: its data, its grant, its entry, and then the producer
 abbrev pub is_issuing : FrontStage → Bool
-is_issuing (front.Data r k) = true
-is_issuing (front.GrantFrame r) = true
-is_issuing (front.GrantFence r) = true
-is_issuing (front.GrantFlags r) = true
+is_issuing (front.Data n) = true
+is_issuing (front.GrantFrame place) = true
+is_issuing (front.GrantFence place) = true
+is_issuing (front.GrantFlags place) = true
 is_issuing (front.Slot k) = true
 is_issuing front.Producer = true
 is_issuing s = false
 
--- of the request that is being issued: how many words of its data were written, whether its frame stands in its grant entry and is granted, and how many words of its entry were written
+-- of the request that is being issued: how many words of its data were written (all are, once its frames are granted), how many of its frames stand in their grant entries, and how many are granted
 abbrev pub filled : FrontStage → ℕ
-filled (front.Data r k) = k
-filled (front.GrantFrame r) = 128
-filled (front.GrantFence r) = 128
-filled (front.GrantFlags r) = 128
-filled (front.Slot k) = 128
-filled front.Producer = 128
+filled (front.Data n) = n
+filled (front.GrantFrame place) = 11264
+filled (front.GrantFence place) = 11264
+filled (front.GrantFlags place) = 11264
+filled (front.Slot k) = 11264
+filled front.Producer = 11264
 filled s = 0
 
-abbrev pub is_named : FrontStage → Bool
-is_named (front.GrantFence r) = true
-is_named (front.GrantFlags r) = true
-is_named (front.Slot k) = true
-is_named front.Producer = true
-is_named s = false
+abbrev pub named_frames : FrontStage → ℕ
+named_frames (front.GrantFrame place) = place
+named_frames (front.GrantFence place) = place + 1
+named_frames (front.GrantFlags place) = place + 1
+named_frames (front.Slot k) = 11
+named_frames front.Producer = 11
+named_frames s = 0
 
-abbrev pub is_granted : FrontStage → Bool
-is_granted (front.Slot k) = true
-is_granted front.Producer = true
-is_granted s = false
+abbrev pub granted_frames : FrontStage → ℕ
+granted_frames (front.GrantFrame place) = place
+granted_frames (front.GrantFence place) = place
+granted_frames (front.GrantFlags place) = place
+granted_frames (front.Slot k) = 11
+granted_frames front.Producer = 11
+granted_frames s = 0
 
 abbrev pub entered : FrontStage → ℕ
 entered (front.Slot k) = k
 entered front.Producer = 28
 entered s = 0
 
--- the request whose grant is being ended, or whose data are told
-abbrev pub ending_at : FrontStage → Option Ending
-ending_at (front.GrantRead e) = Some e
-ending_at (front.GrantEnd e before) = Some e
-ending_at (front.ReadData e k) = Some e
-ending_at s = None
+-- the request whose grants are being ended, or whose data are told
+abbrev pub ending_at : FrontStage → Option Ending → Option Ending
+ending_at (front.GrantRead place) ending = ending
+ending_at (front.GrantEnd place before) ending = ending
+ending_at (front.ReadData n) ending = ending
+ending_at s ending = None
 
--- the request whose grant is being ended
-abbrev pub revoking_at : FrontStage → Option Ending
-revoking_at (front.GrantRead e) = Some e
-revoking_at (front.GrantEnd e before) = Some e
-revoking_at s = None
+-- the request whose grants are being ended
+abbrev pub revoking_at : FrontStage → Option Ending → Option Ending
+revoking_at (front.GrantRead place) ending = ending
+revoking_at (front.GrantEnd place before) ending = ending
+revoking_at s ending = None
 
--- the data of an answered read are told
-abbrev pub is_telling : FrontStage → Bool
-is_telling (front.ReadData e k) = true
-is_telling s = false
+-- how many of its grants were ended
+abbrev pub revoked : FrontStage → ℕ
+revoked (front.GrantRead place) = place
+revoked (front.GrantEnd place before) = place
+revoked s = 0
+
+-- the sector that is told next, of an answered read
+abbrev pub telling_at : FrontStage → Option ℕ
+telling_at (front.ReadData n) = Some (n / 128)
+telling_at s = None
 
 abbrev pub count_of : Option Ending → ℕ
 count_of None = 0
 count_of (Some e) = 1
 
-abbrev pub frame_count : Option Ending → ℕ → ℕ
-frame_count None frame = 0
-frame_count (Some e) frame = if e.frame == frame then 1 else 0
+-- how many frames a request has, and how often it has this one
+abbrev pub frames_of : Request → ℕ
+frames_of r = length r.frames.items
+
+abbrev pub uses : ℕ → Request → ℕ
+uses frame r = count_by (λ (f : ℕ). f == frame) r.frames.items
+
+abbrev pub ending_frames : Option Ending → ℕ
+ending_frames None = 0
+ending_frames (Some e) = frames_of e.request
+
+abbrev pub ending_uses : ℕ → Option Ending → ℕ
+ending_uses frame None = 0
+ending_uses frame (Some e) = uses frame e.request
 
 -- the front stored its event word and goes to sleep, or sleeps and does nothing else than issue requests
 abbrev pub is_front_arming : FrontStage → Bool
@@ -124,10 +147,10 @@ is_front_arming s = false
 
 abbrev pub may_front_sleep : FrontStage → Bool
 may_front_sleep front.Loop = true
-may_front_sleep (front.Data r k) = true
-may_front_sleep (front.GrantFrame r) = true
-may_front_sleep (front.GrantFence r) = true
-may_front_sleep (front.GrantFlags r) = true
+may_front_sleep (front.Data n) = true
+may_front_sleep (front.GrantFrame place) = true
+may_front_sleep (front.GrantFence place) = true
+may_front_sleep (front.GrantFlags place) = true
 may_front_sleep (front.Slot k) = true
 may_front_sleep front.Producer = true
 may_front_sleep (front.ProducerFence old) = true
@@ -172,13 +195,11 @@ abbrev pub is_fetching : BackStage → Bool
 is_fetching (back.Fetch k) = true
 is_fetching s = false
 
--- the station of a job's request, by the job's stage
-abbrev pub worked : JobStage → Station
-worked (job.WriteWord m k) = Working 1
-worked (job.Unmap m) = Working 1
-worked (job.GiveUp m) = Failed
-worked (job.Done status) = Ended status
-worked s = Working 0
+-- the station of a job's request, by the job's stage and how many sectors it moved
+abbrev pub worked : JobStage → ℕ → Station
+worked (job.GiveUp m) moved = Failed
+worked (job.Done status) moved = Ended status
+worked s moved = Working moved
 
 -- the back holds the ring's page, and is bound to the front's port
 abbrev pub has_page : BackStage → Bool
@@ -191,10 +212,14 @@ is_bound_back back.Bind = false
 is_bound_back s = true
 
 -- a request as the pipeline has it
-abbrev pub job_of : Transfer → ℕ → Job
-job_of transfer.Read sector = jobs.Read sector 1
-job_of (transfer.Write tag) sector = jobs.Write sector 1 tag
+abbrev pub job_of : Transfer → (sector count : ℕ) → Job
+job_of transfer.Read sector count = jobs.Read sector count
+job_of (transfer.Write tag) sector count = jobs.Write sector count tag
 
--- the one segment of a request: the first sector of its frame
-abbrev pub segment_for : Request → Segment
-segment_for r = record { gref = r.frame + 6; first = 0; last = 0 }
+-- its own segments
+abbrev pub own_segments : Request → List Segment
+own_segments r = take (frames_for r.count) (segments_of r)
+
+-- word n of its data, as memory has it
+abbrev pub data_word : List ℕ → Request → ℕ → ℕ
+data_word pages r n = word_of pages (frame_at r (n / 1024)) (n % 1024)

@@ -7,7 +7,10 @@ use Rattle.blk_base.specs.Options.{Options}
 use Rattle.blk_base.specs.declared.parts.Mapping.{Mapping}
 use Rattle.grant_table.specs.declared.held.Held.{Held}
 use Rattle.pipeline_laws.specs.Pipeline.{Pipeline}
+use Rattle.blk_base.specs.declared.operation.Status.TheVariants.{Okay}
 use Rattle.blk_front.specs.declared.request.Request.{Request}
+use Rattle.blk_front.specs.declared.request.Transfer.TheVariants as transfer
+use Rattle.blk_front.specs.Request.{frame_at, words_in}
 use Rattle.blk_front.specs.declared.stage.Ending.{Ending}
 use Rattle.blk_front.specs.declared.stage.Stage.{Stage as FrontStage}
 use Rattle.blk_front.specs.declared.stage.Stage.TheVariants as front
@@ -19,18 +22,19 @@ use Rattle.blk_back.specs.declared.stage.Stage.{Stage as BackStage}
 use Rattle.blk_back.specs.declared.stage.Stage.TheVariants as back
 use Rattle.blk_back.specs.Hands.{given_up, page_at, hands_at}
 use Rattle.split_model.specs.World.{World}
-use Rattle.machine_pipeline.proofs.Flow.{Flow, ending_at, is_telling, reply_at, filled, entered, worked}
+use Rattle.machine_pipeline.proofs.Flow.{Flow, ending_at, telling_at, reply_at, entered, worked, frames_of}
 use Rattle.machine_pipeline.proofs.Stations.{worked_kind}
-use Rattle.machine_pipeline.proofs.Holds.{Holds, FrontAt, BackAt, IsReplying, IsEnding, IsSubmitted, IsWork}
+use Rattle.machine_pipeline.proofs.Holds.{Holds, FrontAt, IsEndingAt, BackAt, IsReplying, IsEnding, IsSubmitted, IsWork}
+use Rattle.machine_pipeline.proofs.Data.{pooled_at}
 use Rattle.machine_pipeline.proofs.Lists.{all_at}
 use Rattle.machine_pipeline.proofs.Hands.{IsQueued, queued, frames_apart, work_hand, hands_none, page_none, nothing_given_up}
 
 -- the request whose grant is being ended
-pub ending_is : (start pushed taken front_seen : ℕ) (submitted : List Request) (replies : List Reply) (next : Option Request) (entry : List ℕ) (s : FrontStage) (e : Ending) → FrontAt start pushed taken front_seen submitted replies next entry s → ending_at s ≡ Some e → IsEnding submitted replies e
-ending_is start pushed taken front_seen submitted replies next entry (front.GrantRead f) e h same = subst (IsEnding submitted replies) (same_Some f e same) h
-ending_is start pushed taken front_seen submitted replies next entry (front.GrantEnd f before) e h same = subst (IsEnding submitted replies) (same_Some f e same) h.0
-ending_is start pushed taken front_seen submitted replies next entry (front.ReadData f k) e h same = subst (IsEnding submitted replies) (same_Some f e same) h.0
-ending_is start pushed taken front_seen submitted replies next entry s e h same = absurd (none-some e same)
+pub ending_is : (start pushed taken front_seen : ℕ) (submitted : List Request) (replies : List Reply) (next : Option Request) (entry : List ℕ) (ending : Option Ending) (s : FrontStage) (e : Ending) → FrontAt start pushed taken front_seen submitted replies next entry ending s → ending_at s ending ≡ Some e → IsEnding submitted replies e
+ending_is start pushed taken front_seen submitted replies next entry ending (front.GrantRead place) e h same = subst (IsEnding submitted replies) (same_Some h.0 e (sym h.1 ∙ same)) h.2
+ending_is start pushed taken front_seen submitted replies next entry ending (front.GrantEnd place before) e h same = subst (IsEnding submitted replies) (same_Some h.0 e (sym h.1 ∙ same)) h.2
+ending_is start pushed taken front_seen submitted replies next entry ending (front.ReadData n) e h same = subst (IsEnding submitted replies) (same_Some h.0 e (sym h.1 ∙ same)) h.2
+ending_is start pushed taken front_seen submitted replies next entry ending s e h same = absurd (none-some e same)
 
 -- the response that is being written
 pub reply_is : (start fetched back_seen replied : ℕ) (submitted : List Request) (works : List Work) (entry : List ℕ) (b : BackStage) (rep : Reply) → BackAt start fetched back_seen replied submitted works entry b → reply_at b ≡ Some rep → IsReplying fetched works rep
@@ -40,18 +44,20 @@ reply_is start fetched back_seen replied submitted works entry (back.Producer r)
 reply_is start fetched back_seen replied submitted works entry b rep h same = absurd (none-some rep same)
 
 -- how far the words of the ring, of data and of an entry that are being written go
-pub few_words : (start pushed taken front_seen : ℕ) (submitted : List Request) (replies : List Reply) (next : Option Request) (entry : List ℕ) (s : FrontStage) → FrontAt start pushed taken front_seen submitted replies next entry s → (k : ℕ) → s ≡ front.RingWord k → k ≤ 16
-few_words start pushed taken front_seen submitted replies next entry s h k e =
-    let within : k < 16 = subst (λ (x : FrontStage). FrontAt start pushed taken front_seen submitted replies next entry x) e h in
+pub few_words : (start pushed taken front_seen : ℕ) (submitted : List Request) (replies : List Reply) (next : Option Request) (entry : List ℕ) (ending : Option Ending) (s : FrontStage) → FrontAt start pushed taken front_seen submitted replies next entry ending s → (k : ℕ) → s ≡ front.RingWord k → k ≤ 16
+few_words start pushed taken front_seen submitted replies next entry ending s h k e =
+    let within : k < 16 = subst (λ (x : FrontStage). FrontAt start pushed taken front_seen submitted replies next entry ending x) e h in
     omega arith
 
-pub filled_few : (start pushed taken front_seen : ℕ) (submitted : List Request) (replies : List Reply) (next : Option Request) (entry : List ℕ) (s : FrontStage) → FrontAt start pushed taken front_seen submitted replies next entry s → filled s ≤ 128
-filled_few start pushed taken front_seen submitted replies next entry (front.Data r k) h = omega (arith, h.2)
-filled_few start pushed taken front_seen submitted replies next entry s h = omega arith
+pub entered_few : (start pushed taken front_seen : ℕ) (submitted : List Request) (replies : List Reply) (next : Option Request) (entry : List ℕ) (ending : Option Ending) (s : FrontStage) → FrontAt start pushed taken front_seen submitted replies next entry ending s → entered s ≤ 28
+entered_few start pushed taken front_seen submitted replies next entry ending (front.Slot k) h = omega (arith, h.0)
+entered_few start pushed taken front_seen submitted replies next entry ending s h = omega arith
 
-pub entered_few : (start pushed taken front_seen : ℕ) (submitted : List Request) (replies : List Reply) (next : Option Request) (entry : List ℕ) (s : FrontStage) → FrontAt start pushed taken front_seen submitted replies next entry s → entered s ≤ 28
-entered_few start pushed taken front_seen submitted replies next entry (front.Slot k) h = omega (arith, h.0)
-entered_few start pushed taken front_seen submitted replies next entry s h = omega arith
+-- the data of the ending request that are told have so many words
+pub told_few : (start pushed taken front_seen : ℕ) (submitted : List Request) (replies : List Reply) (next : Option Request) (entry : List ℕ) (ending : Option Ending) (s : FrontStage) → FrontAt start pushed taken front_seen submitted replies next entry ending s → (n : ℕ) → s ≡ front.ReadData n → (e : Ending) → ending ≡ Some e → n < words_in e.request
+told_few start pushed taken front_seen submitted replies next entry ending s h n is e here =
+    let at : IsEndingAt submitted replies ending (λ x. (n < words_in x.request) × (x.request.transfer ≡ transfer.Read) × (x.status ≡ Okay)) = subst (λ (x : FrontStage). FrontAt start pushed taken front_seen submitted replies next entry ending x) is h in
+    subst (λ (x : Ending). n < words_in x.request) (same_Some at.0 e (sym at.1 ∙ here)) at.3.0
 
 -- one of the front's requests is a submitted one
 pub is_submitted : (config : Options) (w : World) (g : Flow) (d : Pipeline) (s : FrontStage) (b : BackStage) → Holds config w g d s b → (i : ℕ) (r : Request) → slice_get w.front.requests i ≡ Some r → IsSubmitted w.front.sectors (r.number - 1) r
@@ -60,21 +66,23 @@ is_submitted config w g d s b h i r e = h.submitted.each (r.number - 1) r (all_a
 -- the request of a job is one of the front's
 pub work_queued : (config : Options) (w : World) (g : Flow) (d : Pipeline) (s : FrontStage) (b : BackStage) → Holds config w g d s b → (i : ℕ) (t : Work) → slice_get w.back.jobs.works i ≡ Some t → (is : IsWork g.submitted g.fetched t) → IsQueued w.front.requests is.r
 work_queued config w g d s b h i t here is =
-    queued g.submitted w.front.requests g.pushed w.front.waiting (t.number - 1) is.r d.requests (ending_at s) (is_telling s) (worked t.stage) h.queue h.stations.opened h.stations.taking
-    (omega (arith, worked_kind t.stage)) is.known (h.stations.works i t here)
+    queued g.submitted w.front.requests g.pushed w.front.waiting (t.number - 1) is.r d.requests (ending_at s w.front.ending) (telling_at s) (worked t.stage t.moved) h.queue h.stations.opened h.stations.taking
+    (omega (arith, worked_kind t.stage t.moved)) is.known (h.stations.works i t here)
 
 -- no hand has a mapping of a request's frame where none of the jobs that have one has its number
 pub none_in_hands : (config : Options) (w : World) (g : Flow) (d : Pipeline) (s : FrontStage) (b : BackStage) → Holds config w g d s b
     → (j : ℕ) (r : Request) → slice_get w.front.requests j ≡ Some r
+    → (a : ℕ) → a < frames_of r
     → (works : List Work)
     → ((i : ℕ) (t : Work) (m : Mapping) → slice_get works i ≡ Some t → mapping_at t.stage ≡ Some m → (k : ℕ) × (slice_get w.back.jobs.works k ≡ Some t) × (t.number ≢ r.number))
-    → (test : Mapping → Bool) → ((m : Mapping) → m.gref ≢ r.frame + 6 → test m ≡ false)
+    → (test : Mapping → Bool) → ((m : Mapping) → m.gref ≢ frame_at r a + 6 → test m ≡ false)
     → count_by test (hands_at b (record w.back { jobs = record w.back.jobs { works = works } })) ≡ 0
-none_in_hands config w g d s b h j r here works others test apart =
+none_in_hands config w g d s b h j r here a in_r works others test apart =
     let is = is_submitted config w g d s b h j r here in
+    let in_pool = pooled_at r is.frames a in
     let given : given_up b ≡ [] = nothing_given_up b g.start g.fetched g.back_seen g.replied g.submitted w.back.jobs.works w.back.entry h.back_at in
     let jobs : count_by test (hands_in works) ≡ 0 = hands_none test works one in
-    let page : count_by test (page_at b w.back.page) ≡ 0 = page_none test b w.back.page (λ t. apart w.back.page (let low = is.low in let gref = h.page.gref t in omega arith)) in
+    let page : count_by test (page_at b w.back.page) ≡ 0 = page_none test b w.back.page (λ t. apart w.back.page (let gref = h.page.gref t in omega (arith, in_pool.0))) in
     let split = sum_by-append (λ (x : Mapping). cond (test x) 1 0) (hands_in works) (page_at b w.back.page) in
     rw given (omega arith)
   where
@@ -87,8 +95,8 @@ none_in_hands config w g d s b h j r here works others test apart =
         let number = h.submitted.each (t.number - 1) work.r work.known in
         let differs = other.2 in
         let places : its.place ≢ j = λ same. differs (numbers work.r.number t.number r.number number.number work.positive (ap (λ (x : Request). x.number) (same_Some work.r r (sym its.at ∙ (ap (slice_get w.front.requests) same ∙ here))))) in
-        let frames = frames_apart w.front.pool w.front.requests (ending_at s) its.place j work.r r h.pool number.low number.high places its.at here in
-        apart m (λ same. frames (let gref = hand.gref in omega arith))
+        let frames = frames_apart w.front.pool w.front.requests (ending_at s w.front.ending) its.place j work.r r h.pool places its.at here hand.place a hand.here in_r (pooled_at work.r number.frames hand.place) in
+        apart m (λ same. frames (let gref = hand.hand.gref in omega arith))
       where
         numbers : (n t r : ℕ) → n ≡ t - 1 + 1 → 1 ≤ t → n ≡ r → t ≡ r
         numbers n t r e le same = omega arith
@@ -96,8 +104,9 @@ none_in_hands config w g d s b h j r here works others test apart =
 -- so such a request isn't mapped, whichever of its mappings are counted
 pub unmapped : (config : Options) (w : World) (g : Flow) (d : Pipeline) (s : FrontStage) (b : BackStage) → Holds config w g d s b
     → (j : ℕ) (r : Request) → slice_get w.front.requests j ≡ Some r
+    → (a : ℕ) → a < frames_of r
     → ((i : ℕ) (t : Work) → slice_get w.back.jobs.works i ≡ Some t → t.number ≡ r.number → mapping_at t.stage ≡ None)
-    → (test : Mapping → Bool) → ((m : Mapping) → m.gref ≢ r.frame + 6 → test m ≡ false)
+    → (test : Mapping → Bool) → ((m : Mapping) → m.gref ≢ frame_at r a + 6 → test m ≡ false)
     → count_by (λ (x : Held). test x.mapping) w.under.grants.live ≡ 0
-unmapped config w g d s b h j r here none test apart =
-    h.mapped.counted test ∙ none_in_hands config w g d s b h j r here w.back.jobs.works (λ i t m e f. (i, e, λ same. none-some m (sym (none i t e same) ∙ f))) test apart
+unmapped config w g d s b h j r here a in_r none test apart =
+    h.mapped.counted test ∙ none_in_hands config w g d s b h j r here a in_r w.back.jobs.works (λ i t m e f. (i, e, λ same. none-some m (sym (none i t e same) ∙ f))) test apart

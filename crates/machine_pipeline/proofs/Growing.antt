@@ -1,6 +1,6 @@
 -- What one request more makes of the front's queue and pool, and of what the pipeline knows.
 use Rattle.std.proofs.Common.{◌≡◌, ◌≢◌, ℕ, zero, suc, ◌+◌, ◌-◌, ◌^◌, ◌<◌, ◌≤◌, ◌==◌, ◌⊎◌, ◌||◌, Bool, true, false, not, cond, List, [], ◌∷◌, ◌++◌, length, get_or, refl, ap, sym, ◌∙◌, subst, inl, inr, arith, length-append, length-set, get_or-set_other}
-use Rattle.std.specs.Prelude.{Option, Some, slice_get, slice_index_or, count_by}
+use Rattle.std.specs.Prelude.{All, Option, Some, None, option_and_then, option_map, position, slice_get, slice_index_or, count_by, sum_by}
 use Rattle.std.specs.List.{list_any}
 use Rattle.std.proofs.lemmas.Bool.Decides.{nat_tests}
 use Rattle.std.proofs.lemmas.Option.{none-some, same_Some, slice_get_within, get_or_from_slice_get}
@@ -12,13 +12,13 @@ use Rattle.std.proofs.lemmas.List.Quantifiers.{all_pairs_push}
 use Rattle.std.proofs.lemmas.List.Folds.{list_any-append}
 use Rattle.pipeline_laws.specs.Station.{Request as Asked, is_finished}
 use Rattle.blk_front.specs.declared.request.Request.{Request}
-use Rattle.blk_front.specs.Request.{tag_of}
+use Rattle.blk_front.specs.Request.{tag_of, IsShaped}
 use Rattle.blk_front.specs.declared.stage.Ending.{Ending}
-use Rattle.blk_front.specs.Pool.{with_taken}
-use Rattle.machine_pipeline.proofs.Flow.{frame_count, job_of}
-use Rattle.machine_pipeline.proofs.Holds.{AreQueued, IsSubmitted, AreSubmitted, ArePooled}
+use Rattle.blk_front.specs.Pool.{with_taken, taking}
+use Rattle.machine_pipeline.proofs.Flow.{frames_of, uses, ending_frames, ending_uses, job_of}
+use Rattle.machine_pipeline.proofs.Holds.{IsPooled, AreQueued, IsSubmitted, AreSubmitted, ArePooled}
 use Rattle.machine_pipeline.proofs.Stations.{AreKnown, AreOpen}
-use Rattle.machine_pipeline.proofs.Lists.{get_append, get_last, get_within, count_set}
+use Rattle.machine_pipeline.proofs.Lists.{found_at, get_append, get_last, get_within, count_set}
 
 pub longer : {X : Type 0} (xs : List X) (y : X) → length (xs ++ y ∷ []) ≡ length xs + 1
 longer xs y = length-append xs (y ∷ [])
@@ -33,14 +33,17 @@ push_was (z ∷ xs) y (suc k) x e = elim (push_was xs y k x e) [ inl was ↦ inl
 pub same_before : {X : Type 0} (xs : List X) (y : X) (k : ℕ) → k < length xs → slice_get (xs ++ y ∷ []) k ≡ slice_get xs k
 same_before xs y k lt = let was = get_within xs k lt in get_append xs (y ∷ []) k was.0 was.1 ∙ sym was.1
 
-pub submitted_more : (submitted : List Request) (sectors last : ℕ) (x : Request) → x.number ≡ last + 1 → x.sector < sectors → tag_of x.transfer < 2 ^ 32 → 18 ≤ x.frame → x.frame < 1018 → AreSubmitted submitted sectors last → AreSubmitted (submitted ++ x ∷ []) sectors (last + 1)
-submitted_more submitted sectors last x number on_disk small low high h = record {
+pub submitted_more : (submitted : List Request) (sectors last : ℕ) (x : Request) → x.number ≡ last + 1 → x.sector + x.count ≤ sectors
+    → tag_of x.transfer < 2 ^ 32 → IsShaped x → All IsPooled x.frames.items
+    → AreSubmitted submitted sectors last → AreSubmitted (submitted ++ x ∷ []) sectors (last + 1)
+submitted_more submitted sectors last x number on_disk small shaped pooled h = record {
   counted = longer submitted x ∙ ap (λ (n : ℕ). n + 1) h.counted;
   each = λ k r e. elim (push_was submitted x k r e) [
     | inl was ↦ h.each k r was
     | inr new ↦
         let counted = h.counted in
-        subst (IsSubmitted sectors k) (sym new.1) (record { number = (let at = new.0 in omega arith); sector = on_disk; tag = small; low = low; high = high })
+        subst (IsSubmitted sectors k) (sym new.1)
+        (record { number = (let at = new.0 in omega arith); sector = on_disk; tag = small; shaped = shaped; frames = pooled })
   ];
   sized = h.sized;
 }
@@ -68,39 +71,111 @@ queue_more submitted pushed sectors last requests waiting x number all few are h
       ];
     }
 
+-- while the frames of a request are taken: each frame of the pool that is in use is that of one unfinished request, or was taken
+pub record AreHeld (requests : List Request) (ending : Option Ending) (frames : List ℕ) (pool : List Bool) : Type 0 where
+  pub size : length pool ≡ 1000
+  pub each : (f : ℕ) → f < 1000
+      → sum_by (uses (18 + f)) requests + ending_uses (18 + f) ending + count_by (λ (x : ℕ). x == 18 + f) frames ≡ cond (slice_index_or pool f false) 1 0
+  pub used : count_by (λ (b : Bool). b) pool ≡ sum_by frames_of requests + ending_frames ending + length frames
+  pub pooled : All IsPooled frames
+
 -- a free frame is taken
-pub pooled_more : (pool : List Bool) (requests : List Request) (ending : Option Ending) (x : Request) → 18 ≤ x.frame → x.frame < 1018 → slice_get pool (x.frame - 18) ≡ Some false → ArePooled pool requests ending → ArePooled (with_taken pool x.frame) (requests ++ x ∷ []) ending
-pooled_more pool requests ending x low high free h =
-    let long = longer requests x in
+held_more : (requests : List Request) (ending : Option Ending) (frames : List ℕ) (pool : List Bool) (frame : ℕ) → 18 ≤ frame → frame < 1018
+    → slice_get pool (frame - 18) ≡ Some false
+    → AreHeld requests ending frames pool → AreHeld requests ending (frames ++ frame ∷ []) (with_taken pool frame)
+held_more requests ending frames pool frame low high free h =
+    let long = longer frames frame in
     let used = h.used in
-    let counted = count_set (λ (b : Bool). b) pool (x.frame - 18) false true free in
+    let counted = count_set (λ (b : Bool). b) pool (frame - 18) false true free in
     record {
-      size = length-set pool (x.frame - 18) true ∙ h.size;
-      each = λ f lt. by_test f lt (x.frame == 18 + f) refl;
+      size = length-set pool (frame - 18) true ∙ h.size;
+      each = λ f lt. by_test f lt (frame == 18 + f) refl;
       used = (omega arith);
+      pooled = All-push IsPooled frames frame h.pooled (low, high);
     }
   where
-    free_at : (f : ℕ) → x.frame - 18 ≡ f → slice_index_or pool f false ≡ false
-    free_at f e = ap (λ (n : ℕ). slice_index_or pool n false) (sym e) ∙ get_or_from_slice_get pool (x.frame - 18) false false free
+    free_at : (f : ℕ) → frame - 18 ≡ f → slice_index_or pool f false ≡ false
+    free_at f e = ap (λ (n : ℕ). slice_index_or pool n false) (sym e) ∙ get_or_from_slice_get pool (frame - 18) false false free
 
-    by_test : (f : ℕ) → f < 1000 → (b : Bool) → (x.frame == 18 + f) ≡ b → count_by (λ (r : Request). r.frame == 18 + f) (requests ++ x ∷ []) + frame_count ending (18 + f) ≡ cond (slice_index_or (with_taken pool x.frame) f false) 1 0
+    by_test : (f : ℕ) → f < 1000 → (b : Bool) → (frame == 18 + f) ≡ b
+        → sum_by (uses (18 + f)) requests + ending_uses (18 + f) ending + count_by (λ (x : ℕ). x == 18 + f) (frames ++ frame ∷ [])
+        ≡ cond (slice_index_or (with_taken pool frame) f false) 1 0
     by_test f lt true t =
-        let more = sum_by_push (λ (r : Request). cond (r.frame == 18 + f) 1 0) requests x in
-        let here : x.frame - 18 ≡ f = grind (arith, nat_tests) in
-        let was : count_by (λ (r : Request). r.frame == 18 + f) requests + frame_count ending (18 + f) ≡ 0 = h.each f lt ∙ rw (free_at f here) refl in
+        let more = sum_by_push (λ (x : ℕ). cond (x == 18 + f) 1 0) frames frame in
+        let here : frame - 18 ≡ f = grind (arith, nat_tests) in
+        let was : sum_by (uses (18 + f)) requests + ending_uses (18 + f) ending + count_by (λ (x : ℕ). x == 18 + f) frames ≡ 0 =
+        h.each f lt ∙ rw (free_at f here) refl in
         let size = h.size in
-        let now : slice_index_or (with_taken pool x.frame) f false ≡ true = get_or-set_at pool (x.frame - 18) f true false (omega arith) (omega arith) in
-        let one : ◌≡◌ {A = ℕ} (cond (x.frame == 18 + f) 1 0) 1 = rw t refl in
+        let now : slice_index_or (with_taken pool frame) f false ≡ true = get_or-set_at pool (frame - 18) f true false (omega arith) (omega arith) in
+        let one : ◌≡◌ {A = ℕ} (cond (frame == 18 + f) 1 0) 1 = rw t refl in
         rw now (omega arith)
     by_test f lt false t =
-        let more = sum_by_push (λ (r : Request). cond (r.frame == 18 + f) 1 0) requests x in
-        let apart : x.frame - 18 ≢ f = grind (arith, nat_tests) in
+        let more = sum_by_push (λ (x : ℕ). cond (x == 18 + f) 1 0) frames frame in
+        let apart : frame - 18 ≢ f = grind (arith, nat_tests) in
         let was = h.each f lt in
-        let now : slice_index_or (with_taken pool x.frame) f false ≡ slice_index_or pool f false = get_or-set_other pool (x.frame - 18) f true false (omega arith) in
-        let none : ◌≡◌ {A = ℕ} (cond (x.frame == 18 + f) 1 0) 0 = rw t refl in
+        let now : slice_index_or (with_taken pool frame) f false ≡ slice_index_or pool f false = get_or-set_other pool (frame - 18) f true false (omega arith) in
+        let none : ◌≡◌ {A = ℕ} (cond (frame == 18 + f) 1 0) 0 = rw t refl in
         rw now (omega arith)
 
-pub known_more : (submitted : List Request) (asked : List Asked) (x : Request) (q : Asked) → q.job ≡ job_of x.transfer x.sector → AreKnown submitted asked → AreKnown (submitted ++ x ∷ []) (asked ++ q ∷ [])
+-- so many are taken, one by one
+taking_held : (requests : List Request) (ending : Option Ending) (n : ℕ) (pool : List Bool) (frames : List ℕ) (taken : List ℕ × List Bool)
+    → taking n pool frames ≡ Some taken → AreHeld requests ending frames pool
+    → AreHeld requests ending taken.0 taken.1 × (length taken.0 ≡ length frames + n)
+taking_held requests ending zero pool frames taken e h =
+    subst (λ (x : List ℕ × List Bool). AreHeld requests ending x.0 x.1 × (length x.0 ≡ length frames + 0)) (same_Some (frames, pool) taken e) (h, omega arith)
+taking_held requests ending (suc n) pool frames taken e h = by_place (position not pool) refl e
+    (λ place f held. taking_held requests ending n (with_taken pool (18 + place)) (frames ++ (18 + place) ∷ []) taken f held)
+  where
+    back_to : (n : ℕ) → 18 + n - 18 ≡ n
+    back_to n = omega arith
+
+    is_false : (b : Bool) → not b ≡ true → b ≡ false
+    is_false true t = cc
+    is_false false t = refl
+
+    Rest : ℕ → Type 0
+    Rest place = taking n (with_taken pool (18 + place)) (frames ++ (18 + place) ∷ []) ≡ Some taken
+        → AreHeld requests ending (frames ++ (18 + place) ∷ []) (with_taken pool (18 + place))
+        → AreHeld requests ending taken.0 taken.1 × (length taken.0 ≡ length (frames ++ (18 + place) ∷ []) + n)
+
+    by_place : (o : Option ℕ) → position not pool ≡ o
+        → option_and_then (λ (frame : ℕ). taking n (with_taken pool frame) (frames ++ frame ∷ [])) (option_map (λ (place : ℕ). 18 + place) o) ≡ Some taken
+        → ((place : ℕ) → Rest place)
+        → AreHeld requests ending taken.0 taken.1 × (length taken.0 ≡ length frames + suc n)
+    by_place None at f next = absurd (none-some taken f)
+    by_place (Some place) at f next =
+        let found = found_at not pool place at in
+        let free : slice_get pool place ≡ Some false = found.1 ∙ ap Some (is_false found.0 found.2) in
+        let within = slice_get_within pool place false free in
+        let size = h.size in
+        let rest = next place f
+        (held_more requests ending frames pool (18 + place) (omega arith) (omega arith) (ap (slice_get pool) (back_to place) ∙ free) h) in
+        let long = longer frames (18 + place) in
+        let counted = rest.1 in
+        (rest.0, omega arith)
+
+-- a request more has the frames that were taken: as many as were asked for, all of the pool
+pub pooled_more : (pool taken : List Bool) (requests : List Request) (ending : Option Ending) (n : ℕ) (x : Request)
+    → taking n pool [] ≡ Some (x.frames.items, taken) → ArePooled pool requests ending
+    → ArePooled taken (requests ++ x ∷ []) ending × All IsPooled x.frames.items × (length x.frames.items ≡ n)
+pooled_more pool taken requests ending n x e h =
+    let used = h.used in
+    let held = taking_held requests ending n pool [] (x.frames.items, taken) e
+    (record { size = h.size; each = λ f lt. let was = h.each f lt in omega arith; used = omega arith; pooled = λ k d lt. absurd (omega arith) }) in
+    let its : AreHeld requests ending x.frames.items taken = held.0 in
+    let counted = held.1 in
+    let more = sum_by_push frames_of requests x in
+    let used_now = its.used in (
+      record {
+        size = its.size;
+        each = λ f lt. let was = its.each f lt in let one = sum_by_push (uses (18 + f)) requests x in omega arith;
+        used = omega arith;
+      },
+      its.pooled,
+      omega arith,
+    )
+
+pub known_more : (submitted : List Request) (asked : List Asked) (x : Request) (q : Asked) → q.job ≡ job_of x.transfer x.sector x.count → AreKnown submitted asked → AreKnown (submitted ++ x ∷ []) (asked ++ q ∷ [])
 known_more submitted asked x q job h =
     let as_many = h.as_many in
     record {

@@ -1,8 +1,8 @@
 -- The mappings in the hands of the back and its jobs, and those of one request's frame among them.
 use Rattle.std.proofs.Common.{◌≡◌, ◌≢◌, ℕ, zero, suc, ◌+◌, ◌-◌, ◌<◌, ◌≤◌, ◌==◌, ◌⊎◌, inl, inr, Bool, true, false, cond, List, [], ◌∷◌, refl, ap, sym, ◌∙◌, subst, arith}
-use Rattle.std.specs.Prelude.{Option, Some, None, slice_get, count_by, nat_lt}
+use Rattle.std.specs.Prelude.{Option, Some, None, slice_get, count_by, sum_by, nat_lt}
 use Rattle.std.specs.List.{list_any}
-use Rattle.std.proofs.lemmas.Option.{none-some, same_Some}
+use Rattle.std.proofs.lemmas.Option.{none-some, same_Some, slice_get-get_or}
 use Rattle.std.proofs.lemmas.List.Sums.{sum_by-append}
 use Rattle.std.proofs.lemmas.Bool.Decides.{nat_tests}
 use Rattle.blk_base.specs.declared.parts.Mapping.{Mapping}
@@ -17,10 +17,11 @@ use Rattle.back_jobs.specs.Hands.{hands_in}
 use Rattle.blk_back.specs.declared.stage.Stage.{Stage as BackStage}
 use Rattle.blk_back.specs.declared.stage.Stage.TheVariants as back
 use Rattle.blk_back.specs.Hands.{given_up, page_at}
-use Rattle.machine_pipeline.proofs.Flow.{frame_count, has_page}
-use Rattle.machine_pipeline.proofs.Holds.{AreQueued, ArePooled, IsHand, AtWork, IsWork, BackAt}
+use Rattle.blk_front.specs.Request.{frame_at}
+use Rattle.machine_pipeline.proofs.Flow.{frames_of, uses, ending_uses, has_page}
+use Rattle.machine_pipeline.proofs.Holds.{AreQueued, IsPooled, ArePooled, IsHand, AtWork, IsWork, BackAt}
 use Rattle.machine_pipeline.proofs.Stations.{StandsAt, AreOpen, IsTaking, finishing, finishing_kind, kind_of, early_open, apart}
-use Rattle.machine_pipeline.proofs.Lists.{all_at, place_of_any, count_two, count_one, count_none}
+use Rattle.machine_pipeline.proofs.Lists.{all_at, place_of_any, count_two, count_one, count_none, sum_one, sum_two}
 
 -- a submitted request stands at a place of the front's
 pub record IsQueued (requests : List Request) (r : Request) : Type 0 where
@@ -36,7 +37,7 @@ same_request submitted requests pushed waiting k r queue known any =
     record { place = found.0; at = found.2 ∙ ap Some same }
 
 -- a request on its way, whose grant isn't being ended, is one of the front's
-pub queued : (submitted requests : List Request) (pushed waiting k : ℕ) (r : Request) (asked : List Asked) (ending : Option Ending) (telling : Bool) (station : Station)
+pub queued : (submitted requests : List Request) (pushed waiting k : ℕ) (r : Request) (asked : List Asked) (ending : Option Ending) (telling : Option ℕ) (station : Station)
     → AreQueued submitted pushed requests waiting
     → AreOpen asked requests ending
     → IsTaking ending telling asked
@@ -46,62 +47,106 @@ pub queued : (submitted requests : List Request) (pushed waiting k : ℕ) (r : R
     → IsQueued requests r
 queued submitted requests pushed waiting k r asked ending telling station queue opened taking early known here = by_place (opened.held k here.q here.at (ap is_finished here.there ∙ early_open station (omega arith)))
   where
-    by_place : (list_any (λ (x : Request). x.number == k + 1) requests ≡ true) ⊎ ((e : Ending) × (ending ≡ Some e) × (e.number ≡ k + 1)) → IsQueued requests r
+    by_place : (list_any (λ (x : Request). x.number == k + 1) requests ≡ true) ⊎ ((e : Ending) × (ending ≡ Some e) × (e.request.number ≡ k + 1)) → IsQueued requests r
     by_place (inl any) = same_request submitted requests pushed waiting k r queue known any
     by_place (inr other) =
         let e : Ending = other.0 in
-        let number : e.number - 1 ≡ k = omega (arith, other.2) in
-        absurd (apart asked (e.number - 1) k (finishing telling e.status) station (taking e other.1) here (omega (arith, finishing_kind telling e.status)) number)
+        let number : e.request.number - 1 ≡ k = omega (arith, other.2) in
+        absurd (apart asked (e.request.number - 1) k (finishing telling e.status) station (taking e other.1) here (omega (arith, finishing_kind telling e.status)) number)
 
 few_of : (b : Bool) (n : ℕ) → n ≡ cond b 1 0 → n ≤ 1
 few_of true n e = omega arith
 few_of false n e = omega arith
 
--- at most one of the front's requests has a frame
-once : (pool : List Bool) (requests : List Request) (ending : Option Ending) (frame : ℕ) → ArePooled pool requests ending → 18 ≤ frame → frame < 1018 → count_by (λ (x : Request). x.frame == frame) requests + frame_count ending frame ≤ 1
-once pool requests ending frame pooled low high =
-    let f : 18 + (frame - 18) ≡ frame = omega arith in
-    subst (λ (n : ℕ). count_by (λ (x : Request). x.frame == n) requests + frame_count ending n ≤ 1) f (few_of _ _ (pooled.each (frame - 18) (omega arith)))
+-- all uses of a frame of the pool are one at most
+once : (pool : List Bool) (requests : List Request) (ending : Option Ending) (frame : ℕ) → ArePooled pool requests ending → IsPooled frame → sum_by (uses frame) requests + ending_uses frame ending ≤ 1
+once pool requests ending frame pooled in_pool =
+    let f : 18 + (frame - 18) ≡ frame = omega (arith, in_pool.0) in
+    subst (λ (n : ℕ). sum_by (uses n) requests + ending_uses n ending ≤ 1) f (few_of _ _ (pooled.each (frame - 18) (omega (arith, in_pool.0, in_pool.1))))
+
+-- a request uses its frames
+place_of : (r : Request) (place : ℕ) → place < frames_of r → slice_get r.frames.items place ≡ Some (frame_at r place)
+place_of r place within = slice_get-get_or r.frames.items place 18 within
+
+same_frame : (f g : ℕ) → f ≡ g → (f == g) ≡ true
+same_frame f g e = grind (arith, nat_tests)
+
+uses_one : (r : Request) (place frame : ℕ) → place < frames_of r → frame_at r place ≡ frame → 1 ≤ uses frame r
+uses_one r place frame within same = count_one (λ (f : ℕ). f == frame) r.frames.items place (frame_at r place) (place_of r place within) (same_frame (frame_at r place) frame same)
+
+uses_two : (r : Request) (a b frame : ℕ) → a ≢ b → a < frames_of r → b < frames_of r → frame_at r a ≡ frame → frame_at r b ≡ frame → 2 ≤ uses frame r
+uses_two r a b frame other first second same too = by_order (nat_lt a b) refl
+  where
+    by_order : (t : Bool) → nat_lt a b ≡ t → 2 ≤ uses frame r
+    by_order true t = let lt : a < b = grind (arith, nat_tests) in count_two (λ (f : ℕ). f == frame) r.frames.items a b (frame_at r a) (frame_at r b) lt (place_of r a first) (place_of r b second) (same_frame _ _ same) (same_frame _ _ too)
+    by_order false t = let lt : b < a = grind (arith, nat_tests) in count_two (λ (f : ℕ). f == frame) r.frames.items b a (frame_at r b) (frame_at r a) lt (place_of r b second) (place_of r a first) (same_frame _ _ too) (same_frame _ _ same)
 
 -- two of the front's requests have different frames
-pub frames_apart : (pool : List Bool) (requests : List Request) (ending : Option Ending) (i j : ℕ) (r s : Request) → ArePooled pool requests ending → 18 ≤ r.frame → r.frame < 1018 → i ≢ j → slice_get requests i ≡ Some r → slice_get requests j ≡ Some s → r.frame ≢ s.frame
-frames_apart pool requests ending i j r s pooled low high other first second = λ same.
-    let few = once pool requests ending r.frame pooled low high in
-    let here : (r.frame == r.frame) ≡ true = grind (arith, nat_tests) in
-    let there : (s.frame == r.frame) ≡ true = grind (arith, nat_tests) in
-    by_order (nat_lt i j) refl few here there
+pub frames_apart : (pool : List Bool) (requests : List Request) (ending : Option Ending) (i j : ℕ) (r s : Request) → ArePooled pool requests ending → i ≢ j → slice_get requests i ≡ Some r → slice_get requests j ≡ Some s
+    → (a b : ℕ) → a < frames_of r → b < frames_of s → IsPooled (frame_at r a) → frame_at r a ≢ frame_at s b
+frames_apart pool requests ending i j r s pooled other first second a b in_r in_s in_pool = λ same.
+    let few = once pool requests ending (frame_at r a) pooled in_pool in
+    let one = uses_one r a (frame_at r a) in_r refl in
+    let too = uses_one s b (frame_at r a) in_s (sym same) in
+    by_order (nat_lt i j) refl few one too
   where
-    by_order : (b : Bool) → nat_lt i j ≡ b → count_by (λ (x : Request). x.frame == r.frame) requests + frame_count ending r.frame ≤ 1 → (r.frame == r.frame) ≡ true → (s.frame == r.frame) ≡ true → ⊥
-    by_order true t few here there =
+    by_order : (t : Bool) → nat_lt i j ≡ t → sum_by (uses (frame_at r a)) requests + ending_uses (frame_at r a) ending ≤ 1 → 1 ≤ uses (frame_at r a) r → 1 ≤ uses (frame_at r a) s → ⊥
+    by_order true t few one too =
         let lt : i < j = grind (arith, nat_tests) in
-        let two = count_two (λ (x : Request). x.frame == r.frame) requests i j r s lt first second here there in
+        let two = sum_two (uses (frame_at r a)) requests i j r s lt first second in
         omega arith
-    by_order false t few here there =
+    by_order false t few one too =
         let lt : j < i = grind (arith, nat_tests) in
-        let two = count_two (λ (x : Request). x.frame == r.frame) requests j i s r lt second first there here in
+        let two = sum_two (uses (frame_at r a)) requests j i s r lt second first in
         omega arith
 
-pub ending_apart : (pool : List Bool) (requests : List Request) (e : Ending) (i : ℕ) (r : Request) → ArePooled pool requests (Some e) → 18 ≤ r.frame → r.frame < 1018 → slice_get requests i ≡ Some r → r.frame ≢ e.frame
-ending_apart pool requests e i r pooled low high first = λ same.
-    let few = once pool requests (Some e) r.frame pooled low high in
-    let here : (r.frame == r.frame) ≡ true = grind (arith, nat_tests) in
-    let there : (e.frame == r.frame) ≡ true = grind (arith, nat_tests) in
-    let one = count_one (λ (x : Request). x.frame == r.frame) requests i r first here in
-    let counted : frame_count (Some e) r.frame ≡ 1 = rw there refl in
+-- and each of them has each of its frames once
+pub own_apart : (pool : List Bool) (requests : List Request) (ending : Option Ending) (i : ℕ) (r : Request) → ArePooled pool requests ending → slice_get requests i ≡ Some r
+    → (a b : ℕ) → a ≢ b → a < frames_of r → b < frames_of r → IsPooled (frame_at r a) → frame_at r a ≢ frame_at r b
+own_apart pool requests ending i r pooled first a b other in_a in_b in_pool = λ same.
+    let few = once pool requests ending (frame_at r a) pooled in_pool in
+    let two = uses_two r a b (frame_at r a) other in_a in_b refl (sym same) in
+    let all = sum_one (uses (frame_at r a)) requests i r first in
+    omega arith
+
+-- so it is with the ending one
+pub ending_apart : (pool : List Bool) (requests : List Request) (e : Ending) (i : ℕ) (r : Request) → ArePooled pool requests (Some e) → slice_get requests i ≡ Some r
+    → (a b : ℕ) → a < frames_of r → b < frames_of e.request → IsPooled (frame_at r a) → frame_at r a ≢ frame_at e.request b
+ending_apart pool requests e i r pooled first a b in_r in_e in_pool = λ same.
+    let few = once pool requests (Some e) (frame_at r a) pooled in_pool in
+    let one = uses_one r a (frame_at r a) in_r refl in
+    let too = uses_one e.request b (frame_at r a) in_e (sym same) in
+    let all = sum_one (uses (frame_at r a)) requests i r first in
+    omega arith
+
+pub ending_own_apart : (pool : List Bool) (requests : List Request) (e : Ending) → ArePooled pool requests (Some e)
+    → (a b : ℕ) → a ≢ b → a < frames_of e.request → b < frames_of e.request → IsPooled (frame_at e.request a) → frame_at e.request a ≢ frame_at e.request b
+ending_own_apart pool requests e pooled a b other in_a in_b in_pool = λ same.
+    let few = once pool requests (Some e) (frame_at e.request a) pooled in_pool in
+    let two = uses_two e.request a b (frame_at e.request a) other in_a in_b refl (sym same) in
     omega arith
 
 -- a request whose number no job with a mapping has is not mapped, nor is the ring's page its frame
-hand_at : (r : Request) (t : Work) (s : JobStage) (m : Mapping) → AtWork r t s → mapping_at s ≡ Some m → IsHand m r
+-- the mapping in a job's hand is that of one of its request's frames
+pub record IsHandOf (m : Mapping) (r : Request) : Type 0 where
+  pub place : ℕ
+  pub here : place < frames_of r
+  pub hand : IsHand m r place
+
+hand_of : (n m : Mapping) (r : Request) (place : ℕ) → n ≡ m → place < frames_of r → IsHand n r place → IsHandOf m r
+hand_of n m r place same here hand = record { place = place; here = here; hand = subst (λ (x : Mapping). IsHand x r place) same hand }
+
+hand_at : (r : Request) (t : Work) (s : JobStage) (m : Mapping) → AtWork r t s → mapping_at s ≡ Some m → IsHandOf m r
 hand_at r t job.Map m h e = absurd (none-some m e)
-hand_at r t (job.ReadWord n j) m h e = subst (λ (x : Mapping). IsHand x r) (same_Some n m e) h.1
-hand_at r t (job.DiskWrite n) m h e = subst (λ (x : Mapping). IsHand x r) (same_Some n m e) h.1
-hand_at r t (job.DiskRead n) m h e = subst (λ (x : Mapping). IsHand x r) (same_Some n m e) h.1
-hand_at r t (job.WriteWord n j) m h e = subst (λ (x : Mapping). IsHand x r) (same_Some n m e) h.1
-hand_at r t (job.Unmap n) m h e = subst (λ (x : Mapping). IsHand x r) (same_Some n m e) h.1
-hand_at r t (job.GiveUp n) m h e = subst (λ (x : Mapping). IsHand x r) (same_Some n m e) h
+hand_at r t (job.ReadWord n j) m h e = hand_of n m r h.0.place (same_Some n m e) h.0.here h.1
+hand_at r t (job.DiskWrite n) m h e = hand_of n m r h.0.place (same_Some n m e) h.0.here h.1
+hand_at r t (job.DiskRead n) m h e = hand_of n m r h.0.place (same_Some n m e) h.0.here h.1
+hand_at r t (job.WriteWord n j) m h e = hand_of n m r h.0.place (same_Some n m e) h.0.here h.1
+hand_at r t (job.Unmap n) m h e = hand_of n m r h.0.place (same_Some n m e) h.0.here h.1
+hand_at r t (job.GiveUp n) m h e = hand_of n m r h.0 (same_Some n m e) h.1 h.2
 hand_at r t (job.Done status) m h e = absurd (none-some m e)
 
-pub work_hand : (submitted : List Request) (fetched : ℕ) (t : Work) (m : Mapping) → (h : IsWork submitted fetched t) → mapping_at t.stage ≡ Some m → IsHand m h.r
+pub work_hand : (submitted : List Request) (fetched : ℕ) (t : Work) (m : Mapping) → (h : IsWork submitted fetched t) → mapping_at t.stage ≡ Some m → IsHandOf m h.r
 work_hand submitted fetched t m h e = hand_at h.r t t.stage m h.at e
 
 pub hands_none : (test : Mapping → Bool) (works : List Work) → ((i : ℕ) (t : Work) (m : Mapping) → slice_get works i ≡ Some t → mapping_at t.stage ≡ Some m → test m ≡ false) → count_by test (hands_in works) ≡ 0

@@ -1,5 +1,5 @@
 -- What holds between both ends, memory, and the pipeline that they stand for, one subject a record.
-use Rattle.std.specs.Prelude.{◌≡◌, ◌≢◌, ℕ, ◌+◌, ◌-◌, ◌^◌, ◌<◌, ◌≤◌, ◌==◌, ◌⊎◌, Bool, true, false, cond, List, [], ◌∷◌, length, take, count_by, replicate, slice_get, slice_index, slice_index_or, Option, Some, None, All, AllPairs, if◌then◌else◌}
+use Rattle.std.specs.Prelude.{◌≡◌, ◌≢◌, ℕ, ◌+◌, ◌-◌, ◌*◌, ◌/◌, ◌%◌, ◌^◌, ◌<◌, ◌≤◌, ◌==◌, ◌⊎◌, min, Bool, true, false, cond, List, [], ◌∷◌, length, take, drop, count_by, sum_by, replicate, slice_get, slice_index, slice_index_or, Option, Some, None, All, AllPairs, if◌then◌else◌}
 use Rattle.blk_base.specs.declared.parts.Mapping.{Mapping}
 use Rattle.blk_base.specs.declared.parts.Mode.TheVariants.{ReadWrite}
 use Rattle.blk_base.specs.declared.operation.Status.TheVariants.{Okay}
@@ -13,7 +13,7 @@ use Rattle.pipeline_laws.specs.Pipeline.{Pipeline}
 use Rattle.blk_front.specs.declared.request.Request.{Request}
 use Rattle.blk_front.specs.declared.request.Transfer.{Transfer}
 use Rattle.blk_front.specs.declared.request.Transfer.TheVariants as transfer
-use Rattle.blk_front.specs.Request.{is_write, tag_of, operation_of, grant_flags}
+use Rattle.blk_front.specs.Request.{is_write, tag_of, operation_of, grant_flags, words_in, frame_at, filling_at, IsShaped}
 use Rattle.blk_front.specs.declared.stage.Ending.{Ending}
 use Rattle.blk_front.specs.declared.stage.Stage.{Stage as FrontStage}
 use Rattle.blk_front.specs.declared.stage.Stage.TheVariants as front
@@ -32,7 +32,7 @@ use Rattle.blk_back.specs.Hands.{hands_at}
 use Rattle.blk_base.specs.Options.{Options}
 use Rattle.split_model.specs.World.{World}
 use Rattle.split_model.specs.Safe.{IsSafe}
-use Rattle.machine_pipeline.proofs.Flow.{Flow, wrapped, has_ring, is_ring_named, is_ring_granted, filled, is_named, is_granted, entered, ending_at, revoking_at, is_telling, count_of, frame_count, is_front_arming, may_front_sleep, reply_at, reply_count, responded, is_back_arming, may_back_sleep, has_page, is_bound_back, segment_for, is_issuing, is_fetching}
+use Rattle.machine_pipeline.proofs.Flow.{Flow, wrapped, has_ring, is_ring_named, is_ring_granted, filled, named_frames, granted_frames, entered, ending_at, revoking_at, revoked, telling_at, frames_of, uses, ending_frames, ending_uses, is_front_arming, may_front_sleep, reply_at, reply_count, responded, is_back_arming, may_back_sleep, has_page, is_bound_back, own_segments, data_word, is_issuing, is_fetching}
 use Rattle.machine_pipeline.proofs.Stations.{AreStations}
 
 -- the indices of both ends are whole ones, wrapped, in the order of a request's way; `held` requests are unfinished, `waiting` of them not issued, and `ending` more have their grant ended
@@ -65,13 +65,17 @@ pub record AreQueued (submitted : List Request) (pushed : ℕ) (requests : List 
   pub issued : All (λ (r : Request). r.number ≤ pushed) (take (length requests - waiting) requests)
   pub next : (j : ℕ) (r : Request) → j < waiting → slice_get requests (length requests - waiting + j) ≡ Some r → r.number ≡ pushed + 1 + j
 
--- a submitted request: number k + 1, of one sector of the disk, in a frame of the pool
+-- a frame of the pool
+abbrev pub IsPooled : ℕ → Type 0
+IsPooled frame = (18 ≤ frame) × (frame < 1018)
+
+-- a submitted request: number k + 1, of sectors of the disk, in frames of the pool
 pub record IsSubmitted (sectors k : ℕ) (r : Request) : Type 0 where
   pub number : r.number ≡ k + 1
-  pub sector : r.sector < sectors
+  pub sector : r.sector + r.count ≤ sectors
   pub tag : tag_of r.transfer < 2 ^ 32
-  pub low : 18 ≤ r.frame
-  pub high : r.frame < 1018
+  pub shaped : IsShaped r
+  pub frames : All IsPooled r.frames.items
 
 pub record AreSubmitted (submitted : List Request) (sectors last : ℕ) : Type 0 where
   pub counted : length submitted ≡ last
@@ -81,38 +85,48 @@ pub record AreSubmitted (submitted : List Request) (sectors last : ℕ) : Type 0
 -- each frame of the pool is that of one unfinished request where it is in use, and else of none
 pub record ArePooled (pool : List Bool) (requests : List Request) (ending : Option Ending) : Type 0 where
   pub size : length pool ≡ 1000
-  pub each : (f : ℕ) → f < 1000 → count_by (λ (r : Request). r.frame == 18 + f) requests + frame_count ending (18 + f) ≡ cond (slice_index_or pool f false) 1 0
-  pub used : count_by (λ (b : Bool). b) pool ≡ length requests + count_of ending
+  pub each : (f : ℕ) → f < 1000 → sum_by (uses (18 + f)) requests + ending_uses (18 + f) ending ≡ cond (slice_index_or pool f false) 1 0
+  pub used : count_by (λ (b : Bool). b) pool ≡ sum_by frames_of requests + ending_frames ending
 
--- a job that moves the one sector of a request, and hasn't yet
-pub record IsMoving (t : Work) (r : Request) : Type 0 where
+-- the last sector of its frame of this place
+abbrev pub last_in : Request → ℕ → ℕ
+last_in r place = min 7 (r.count - 1 - 8 * place)
+
+-- a job is at the segment of this place: `ahead` is 1 where its sector wasn't moved yet, and 0 where it was
+pub record IsInSegment (t : Work) (r : Request) (ahead : ℕ) : Type 0 where
+  pub place : ℕ
+  pub here : place < frames_of r
   pub writes : t.writes ≡ is_write r.transfer
-  pub within : t.within ≡ 0
-  pub rest : t.rest ≡ segment_for r ∷ []
-  pub moved : t.moved ≡ 0
-  pub disk : t.disk ≡ r.sector
+  pub rest : t.rest ≡ drop place (own_segments r)
+  pub within : t.within ≤ last_in r place
+  pub moved : t.moved + ahead ≡ 8 * place + t.within + 1
+  pub disk : t.disk ≡ r.sector + t.moved
   pub words : length t.words ≡ 128
 
--- a job that read the one sector of a request, and writes its words to the frame
-pub record IsReturning (t : Work) (r : Request) : Type 0 where
-  pub writes : t.writes ≡ false
-  pub within : t.within ≡ 0
-  pub rest : t.rest ≡ segment_for r ∷ []
-  pub words : length t.words ≡ 128
+-- a job that moves a sector of a request next, or that read one and writes its words to the frame
+abbrev pub IsMoving : Work → Request → Type 0
+IsMoving t r = IsInSegment t r 1
 
--- a mapping of the request's frame, for reading alone where it is a write
-pub record IsHand (m : Mapping) (r : Request) : Type 0 where
-  pub gref : m.gref ≡ r.frame + 6
+abbrev pub IsReturning : Work → Request → Type 0
+IsReturning t r = IsInSegment t r 0
+
+-- a mapping of the request's frame of this place, for reading alone where it is a write
+pub record IsHand (m : Mapping) (r : Request) (place : ℕ) : Type 0 where
+  pub gref : m.gref ≡ frame_at r place + 6
   pub mode : m.mode ≡ mode_of (is_write r.transfer)
 
+-- the word that fills the sector that is moved next
+abbrev pub sector_word : Request → Work → ℕ
+sector_word r t = (tag_of r.transfer + t.moved) % 2 ^ 32
+
 abbrev pub AtWork : Request → Work → JobStage → Type 0
-AtWork r t job.Map = IsMoving t r
-AtWork r t (job.ReadWord m j) = IsMoving t r × IsHand m r × (j < 128) × (is_write r.transfer ≡ true) × ((i : ℕ) → i < j → slice_index t.words i ≡ tag_of r.transfer)
-AtWork r t (job.DiskWrite m) = IsMoving t r × IsHand m r × (is_write r.transfer ≡ true) × (t.words ≡ replicate 128 (tag_of r.transfer))
-AtWork r t (job.DiskRead m) = IsMoving t r × IsHand m r × (is_write r.transfer ≡ false)
-AtWork r t (job.WriteWord m j) = IsReturning t r × IsHand m r × (j < 128) × (is_write r.transfer ≡ false)
-AtWork r t (job.Unmap m) = (t.rest ≡ segment_for r ∷ []) × IsHand m r
-AtWork r t (job.GiveUp m) = IsHand m r
+AtWork r t job.Map = (x : IsMoving t r) × (t.within ≡ 0)
+AtWork r t (job.ReadWord m j) = (x : IsMoving t r) × IsHand m r x.place × (j < 128) × (is_write r.transfer ≡ true) × ((i : ℕ) → i < j → slice_index t.words i ≡ sector_word r t)
+AtWork r t (job.DiskWrite m) = (x : IsMoving t r) × IsHand m r x.place × (is_write r.transfer ≡ true) × (t.words ≡ replicate 128 (sector_word r t))
+AtWork r t (job.DiskRead m) = (x : IsMoving t r) × IsHand m r x.place × (is_write r.transfer ≡ false)
+AtWork r t (job.WriteWord m j) = (x : IsReturning t r) × IsHand m r x.place × (j < 128) × (is_write r.transfer ≡ false)
+AtWork r t (job.Unmap m) = (x : IsReturning t r) × IsHand m r x.place × (t.within ≡ last_in r x.place)
+AtWork r t (job.GiveUp m) = (place : ℕ) × (place < frames_of r) × IsHand m r place
 AtWork r t (job.Done status) = Unit {0}
 
 -- the job of a fetched request, as far as its stage says
@@ -140,14 +154,11 @@ pub record AreReplies (fetched taken replied : ℕ) (replies : List Reply) : Typ
   pub each : All (IsReply fetched) replies
   pub distinct : AllPairs (λ (a b : Reply). a.id ≢ b.id) replies
 
--- the request whose grant is being ended was replied to with the status that is told next, and no other response names it
+-- the request whose grants are being ended is a submitted one, and no response that is left names it
 pub record IsEnding (submitted : List Request) (replies : List Reply) (e : Ending) : Type 0 where
-  pub r : Request
-  pub known : slice_get submitted (e.number - 1) ≡ Some r
-  pub positive : 1 ≤ e.number
-  pub transfer : e.transfer ≡ r.transfer
-  pub frame : e.frame ≡ r.frame
-  pub alone : All (λ (rep : Reply). rep.id ≢ e.number) replies
+  pub known : slice_get submitted (e.request.number - 1) ≡ Some e.request
+  pub positive : 1 ≤ e.request.number
+  pub alone : All (λ (rep : Reply). rep.id ≢ e.request.number) replies
 
 -- word i of the oldest response, which the front has seen
 pub record IsTaken (taken front_seen : ℕ) (replies : List Reply) : Type 0 where
@@ -155,23 +166,31 @@ pub record IsTaken (taken front_seen : ℕ) (replies : List Reply) : Type 0 wher
   pub oldest : slice_get replies 0 ≡ Some rep
   pub seen : taken < front_seen
 
-abbrev pub FrontAt : (start pushed taken front_seen : ℕ) → List Request → List Reply → Option Request → List ℕ → FrontStage → Type 0
-FrontAt start pushed taken front_seen submitted replies next entry (front.RingWord k) = k < 16
-FrontAt start pushed taken front_seen submitted replies next entry (front.Data r k) = (next ≡ Some r) × (1 ≤ k) × (k < 128) × (is_write r.transfer ≡ true)
-FrontAt start pushed taken front_seen submitted replies next entry (front.GrantFrame r) = next ≡ Some r
-FrontAt start pushed taken front_seen submitted replies next entry (front.GrantFence r) = next ≡ Some r
-FrontAt start pushed taken front_seen submitted replies next entry (front.GrantFlags r) = next ≡ Some r
-FrontAt start pushed taken front_seen submitted replies next entry (front.Slot k) = (k < 28) × ((r : Request) × (next ≡ Some r) × (entry ≡ entry_of r))
-FrontAt start pushed taken front_seen submitted replies next entry front.Producer = (r : Request) × (next ≡ Some r)
-FrontAt start pushed taken front_seen submitted replies next entry (front.ProducerFence old) = (1 ≤ pushed) × (old ≡ wrapped start (pushed - 1))
-FrontAt start pushed taken front_seen submitted replies next entry (front.RequestEvent old) = (1 ≤ pushed) × (old ≡ wrapped start (pushed - 1))
-FrontAt start pushed taken front_seen submitted replies next entry (front.ResponseHigh low) = (t : IsTaken taken front_seen replies) × (low ≡ response_word t.rep 0)
-FrontAt start pushed taken front_seen submitted replies next entry (front.ResponseLast low high) = (t : IsTaken taken front_seen replies) × (low ≡ response_word t.rep 0) × (high ≡ response_word t.rep 1)
-FrontAt start pushed taken front_seen submitted replies next entry (front.GrantRead e) = IsEnding submitted replies e
-FrontAt start pushed taken front_seen submitted replies next entry (front.GrantEnd e before) = IsEnding submitted replies e × (before ≡ grant_flags e.transfer)
-FrontAt start pushed taken front_seen submitted replies next entry (front.ReadData e k) = IsEnding submitted replies e × (k < 128) × (e.transfer ≡ transfer.Read) × (e.status ≡ Okay)
-FrontAt start pushed taken front_seen submitted replies next entry (front.Broken word) = ⊥
-FrontAt start pushed taken front_seen submitted replies next entry s = Unit {0}
+-- the request that is issued next, with what a stage says of it
+abbrev pub IsNextAt : Option Request → (Request → Type 0) → Type 0
+IsNextAt next P = (r : Request) × (next ≡ Some r) × P r
+
+-- the request that is ending, with what a stage says of it
+abbrev pub IsEndingAt : List Request → List Reply → Option Ending → (Ending → Type 0) → Type 0
+IsEndingAt submitted replies ending P = (e : Ending) × (ending ≡ Some e) × IsEnding submitted replies e × P e
+
+abbrev pub FrontAt : (start pushed taken front_seen : ℕ) → List Request → List Reply → Option Request → List ℕ → Option Ending → FrontStage → Type 0
+FrontAt start pushed taken front_seen submitted replies next entry ending (front.RingWord k) = k < 16
+FrontAt start pushed taken front_seen submitted replies next entry ending (front.Data n) = IsNextAt next (λ r. (1 ≤ n) × (n < words_in r) × (is_write r.transfer ≡ true))
+FrontAt start pushed taken front_seen submitted replies next entry ending (front.GrantFrame place) = IsNextAt next (λ r. place < frames_of r)
+FrontAt start pushed taken front_seen submitted replies next entry ending (front.GrantFence place) = IsNextAt next (λ r. place < frames_of r)
+FrontAt start pushed taken front_seen submitted replies next entry ending (front.GrantFlags place) = IsNextAt next (λ r. place < frames_of r)
+FrontAt start pushed taken front_seen submitted replies next entry ending (front.Slot k) = (k < 28) × IsNextAt next (λ r. entry ≡ entry_of r)
+FrontAt start pushed taken front_seen submitted replies next entry ending front.Producer = IsNextAt next (λ r. Unit {0})
+FrontAt start pushed taken front_seen submitted replies next entry ending (front.ProducerFence old) = (1 ≤ pushed) × (old ≡ wrapped start (pushed - 1))
+FrontAt start pushed taken front_seen submitted replies next entry ending (front.RequestEvent old) = (1 ≤ pushed) × (old ≡ wrapped start (pushed - 1))
+FrontAt start pushed taken front_seen submitted replies next entry ending (front.ResponseHigh low) = (t : IsTaken taken front_seen replies) × (low ≡ response_word t.rep 0)
+FrontAt start pushed taken front_seen submitted replies next entry ending (front.ResponseLast low high) = (t : IsTaken taken front_seen replies) × (low ≡ response_word t.rep 0) × (high ≡ response_word t.rep 1)
+FrontAt start pushed taken front_seen submitted replies next entry ending (front.GrantRead place) = IsEndingAt submitted replies ending (λ e. place < frames_of e.request)
+FrontAt start pushed taken front_seen submitted replies next entry ending (front.GrantEnd place before) = IsEndingAt submitted replies ending (λ e. (place < frames_of e.request) × (before ≡ grant_flags e.request.transfer))
+FrontAt start pushed taken front_seen submitted replies next entry ending (front.ReadData n) = IsEndingAt submitted replies ending (λ e. (n < words_in e.request) × (e.request.transfer ≡ transfer.Read) × (e.status ≡ Okay))
+FrontAt start pushed taken front_seen submitted replies next entry ending (front.Broken word) = ⊥
+FrontAt start pushed taken front_seen submitted replies next entry ending s = Unit {0}
 
 -- before it is connected nothing was submitted
 abbrev pub IsUnused : Bool → (pushed last : ℕ) → Type 0
@@ -220,10 +239,10 @@ pub record AreSlots (start fetched pushed taken replied : ℕ) (submitted : List
   pub responses : (k : ℕ) (rep : Reply) → slice_get replies k ≡ Some rep → (i : ℕ) → i < 3 → word_of pages 2 (slot_word (wrapped start (taken + k)) i) ≡ response_word rep i
   pub response : (rep : Reply) → reply_at back_stage ≡ Some rep → (i : ℕ) → i < responded back_stage → word_of pages 2 (slot_word (wrapped start replied) i) ≡ response_word rep i
 
--- the words of a write's frame, once it is pushed, and as far as it is being issued
+-- the words of a write's data, once it is pushed, and as far as it is being issued
 pub record IsFilled (pushed : ℕ) (pages : List ℕ) (stage : FrontStage) (r : Request) : Type 0 where
-  pub whole : is_write r.transfer ≡ true → r.number ≤ pushed → (i : ℕ) → i < 128 → word_of pages r.frame i ≡ tag_of r.transfer
-  pub begun : is_write r.transfer ≡ true → r.number ≡ pushed + 1 → (i : ℕ) → i < filled stage → word_of pages r.frame i ≡ tag_of r.transfer
+  pub whole : is_write r.transfer ≡ true → r.number ≤ pushed → (n : ℕ) → n < words_in r → data_word pages r n ≡ filling_at r.transfer n
+  pub begun : is_write r.transfer ≡ true → r.number ≡ pushed + 1 → (n : ℕ) → n < filled stage → n < words_in r → data_word pages r n ≡ filling_at r.transfer n
 
 -- the flags of a mapped frame's entry: with GTF_reading (8), and of a read's with GTF_writing (16) too
 abbrev pub mapped_flags : Transfer → ℕ
@@ -234,15 +253,20 @@ mapped_flags (transfer.Write tag) = 13
 abbrev pub flags_with : Transfer → ℕ → ℕ
 flags_with way mappings = if mappings == 0 then grant_flags way else mapped_flags way
 
+-- the grant entries of a request's frames, once it is pushed, and as far as it is being issued
 pub record IsGranted (pushed : ℕ) (pages : List ℕ) (live : List Held) (stage : FrontStage) (r : Request) : Type 0 where
-  pub named : r.number ≤ pushed → entry_word1 pages (r.frame + 6) ≡ r.frame
-  pub named_next : r.number ≡ pushed + 1 → is_named stage ≡ true → entry_word1 pages (r.frame + 6) ≡ r.frame
-  pub flags : r.number ≤ pushed → entry_word0 pages (r.frame + 6) ≡ flags_with r.transfer (mappings_of (r.frame + 6) live)
-  pub flags_next : r.number ≡ pushed + 1 → is_granted stage ≡ true → entry_word0 pages (r.frame + 6) ≡ grant_flags r.transfer
+  pub named : r.number ≤ pushed → (place : ℕ) → place < frames_of r → entry_word1 pages (frame_at r place + 6) ≡ frame_at r place
+  pub named_next : r.number ≡ pushed + 1 → (place : ℕ) → place < named_frames stage → place < frames_of r → entry_word1 pages (frame_at r place + 6) ≡ frame_at r place
+  pub flags : r.number ≤ pushed → (place : ℕ) → place < frames_of r → entry_word0 pages (frame_at r place + 6) ≡ flags_with r.transfer (mappings_of (frame_at r place + 6) live)
+  pub flags_next : r.number ≡ pushed + 1 → (place : ℕ) → place < granted_frames stage → place < frames_of r → entry_word0 pages (frame_at r place + 6) ≡ grant_flags r.transfer
 
-pub record AreEntries (pushed : ℕ) (pages : List ℕ) (live : List Held) (stage : FrontStage) (requests : List Request) : Type 0 where
+-- the grants of the ending request that weren't ended yet have no mapping
+abbrev pub AreRevoked : List ℕ → FrontStage → Option Ending → Type 0
+AreRevoked pages stage ending = (e : Ending) → revoking_at stage ending ≡ Some e → (place : ℕ) → revoked stage ≤ place → place < frames_of e.request → entry_word0 pages (frame_at e.request place + 6) ≡ grant_flags e.request.transfer
+
+pub record AreEntries (pushed : ℕ) (pages : List ℕ) (live : List Held) (stage : FrontStage) (last : Option Ending) (requests : List Request) : Type 0 where
   pub each : All (IsGranted pushed pages live stage) requests
-  pub ending : (e : Ending) → revoking_at stage ≡ Some e → entry_word0 pages (e.frame + 6) ≡ grant_flags e.transfer
+  pub ending : AreRevoked pages stage last
 
 -- the live mappings are those in the hands of the back and its jobs, whichever test counts them; frame f has the reference f + 6
 pub record AreMapped (live : List Held) (hands : List Mapping) : Type 0 where
@@ -254,14 +278,14 @@ pub record IsPaged (page : Mapping) (stage : BackStage) : Type 0 where
   pub gref : has_page stage ≡ true → page.gref ≡ 8
   pub mode : has_page stage ≡ true → page.mode ≡ ReadWrite
 
--- the words of the data that the front read so far, of a frame of the pool
-abbrev pub IsReadSoFar : (pages words : List ℕ) → FrontStage → Type 0
-IsReadSoFar pages words (front.ReadData e k) = (18 ≤ e.frame) × (e.frame < 1018) × ((i : ℕ) → i < k → i < 128 → slice_index words i ≡ word_of pages e.frame i)
-IsReadSoFar pages words s = Unit {0}
+-- the words of the sector that the front read so far
+abbrev pub IsReadSoFar : (pages words : List ℕ) → Option Ending → FrontStage → Type 0
+IsReadSoFar pages words ending (front.ReadData n) = (e : Ending) → ending ≡ Some e → (k : ℕ) → k < n % 128 → slice_index words k ≡ data_word pages e.request (n / 128 * 128 + k)
+IsReadSoFar pages words ending s = Unit {0}
 
-pub record AreDataWords (pages words : List ℕ) (stage : FrontStage) : Type 0 where
+pub record AreDataWords (pages words : List ℕ) (ending : Option Ending) (stage : FrontStage) : Type 0 where
   pub size : length words ≡ 128
-  pub so_far : IsReadSoFar pages words stage
+  pub so_far : IsReadSoFar pages words ending stage
 
 -- an end whose event is pending or will be sent, since the other end pushed one entry just now
 abbrev pub FrontSends : FrontStage → ℕ → ℕ → Type 0
@@ -307,13 +331,13 @@ pub record Holds (config : Options) (w : World) (g : Flow) (d : Pipeline) (s : F
   pub indices : AreIndices g w.front.ring w.back.ring w.front.seen w.back.seen w.back.fetched w.front.last w.front.waiting (length w.front.requests) (ending_of s)
   pub queue : AreQueued g.submitted g.pushed w.front.requests w.front.waiting
   pub submitted : AreSubmitted g.submitted w.front.sectors w.front.last
-  pub pool : ArePooled w.front.pool w.front.requests (ending_at s)
-  pub stations : AreStations config g d (is_connected s) (is_issuing s) (is_fetching b) (ending_at s) (is_telling s) (reply_at b) w.front.requests w.back.jobs.works w.under.pages
+  pub pool : ArePooled w.front.pool w.front.requests (ending_at s w.front.ending)
+  pub stations : AreStations config g d (is_connected s) (is_issuing s) (is_fetching b) (ending_at s w.front.ending) (telling_at s) (reply_at b) w.front.requests w.back.jobs.works w.under.pages
   pub works : AreWorks g.submitted g.fetched w.back.jobs.works
   pub counted : length w.back.jobs.works + reply_count (reply_at b) + g.replied ≡ g.fetched
   pub info : w.back.jobs.info ≡ info_of config
   pub replies : AreReplies g.fetched g.taken g.replied g.replies
-  pub front_at : FrontAt g.start g.pushed g.taken g.front_seen g.submitted g.replies (next_request w.front) w.front.entry s
+  pub front_at : FrontAt g.start g.pushed g.taken g.front_seen g.submitted g.replies (next_request w.front) w.front.entry w.front.ending s
   pub unused : IsUnused (is_connected s) g.pushed w.front.last
   pub back_at : BackAt g.start g.fetched g.back_seen g.replied g.submitted w.back.jobs.works w.back.entry b
   pub unhalted : w.back.halted ≡ None
@@ -321,8 +345,8 @@ pub record Holds (config : Options) (w : World) (g : Flow) (d : Pipeline) (s : F
   pub ring : AreRingWords g.start g.pushed g.replied w.under.pages s b
   pub slots : AreSlots g.start g.fetched g.pushed g.taken g.replied g.submitted g.replies w.under.pages s b
   pub frames : All (IsFilled g.pushed w.under.pages s) w.front.requests
-  pub telling : AreDataWords w.under.pages w.front.words s
-  pub entries : AreEntries g.pushed w.under.pages w.under.grants.live s w.front.requests
+  pub telling : AreDataWords w.under.pages w.front.words w.front.ending s
+  pub entries : AreEntries g.pushed w.under.pages w.under.grants.live s w.front.ending w.front.requests
   pub mapped : AreMapped w.under.grants.live (hands_at b w.back)
   pub page : IsPaged w.back.page b
   pub front_sleep : IsFrontSleep g.start g.taken g.replied w.under.pages w.front.asleep w.under.channels.front_pending s b

@@ -1,28 +1,29 @@
 -- A step of the front while it issues a request leaves all as it was but its stage, its entry and words of memory.
-use Rattle.std.proofs.Common.{◌≡◌, ℕ, ◌+◌, ◌<◌, ◌≤◌, Bool, true, false, List, length, get_or, refl, sym, ◌∙◌, inl, inr, arith}
-use Rattle.std.specs.Prelude.{All, None}
-use Rattle.std.proofs.lemmas.Option.{slice_get-get_or}
+use Rattle.std.proofs.Common.{◌≡◌, ℕ, ◌<◌, ◌≤◌, Bool, true, false, List, length, get_or, refl, sym, ◌∙◌, inl, inr, arith}
+use Rattle.std.specs.Prelude.{All, Option, Some, None}
+use Rattle.std.proofs.lemmas.Option.{none-some, slice_get-get_or}
 use Rattle.blk_base.specs.Options.{Options}
 use Rattle.xen_pages.specs.Pages.{word_of}
 use Rattle.grant_table.specs.declared.held.Held.{Held}
 use Rattle.hypervisor.specs.Hypervisor.{Hypervisor}
 use Rattle.pipeline_laws.specs.Pipeline.{Pipeline}
 use Rattle.blk_front.specs.declared.request.Request.{Request}
+use Rattle.blk_front.specs.declared.stage.Ending.{Ending}
 use Rattle.blk_front.specs.declared.stage.Stage.{Stage as FrontStage}
 use Rattle.blk_front.specs.declared.stage.Stage.TheVariants as front
 use Rattle.blk_front.specs.View as front_view
-use Rattle.blk_front.specs.View.{slot_word, next_request}
+use Rattle.blk_front.specs.View.{next_request}
 use Rattle.blk_front.specs.Submit.{is_connected, ending_of}
 use Rattle.blk_back.specs.declared.stage.Reply.{Reply}
 use Rattle.blk_back.specs.declared.stage.Stage.{Stage as BackStage}
 use Rattle.split_model.specs.World.{World}
-use Rattle.machine_pipeline.proofs.Flow.{Flow, has_ring, is_ring_named, is_ring_granted, filled, is_named, is_granted, entered, ending_at, is_front_arming, may_front_sleep, is_telling, is_issuing, is_fetching, reply_at}
-use Rattle.machine_pipeline.proofs.Holds.{FrontAt, RingBegun, AreRingWords, AreSlots, IsFilled, AreEntries, FrontSends, IsFrontSleep, IsBackSleep, Holds}
+use Rattle.machine_pipeline.proofs.Flow.{Flow, has_ring, is_ring_named, is_ring_granted, filled, named_frames, granted_frames, entered, ending_at, revoking_at, is_front_arming, may_front_sleep, telling_at, is_issuing, is_fetching, reply_at}
+use Rattle.machine_pipeline.proofs.Holds.{FrontAt, RingBegun, AreRingWords, AreSlots, IsFilled, IsReadSoFar, AreEntries, FrontSends, IsFrontSleep, IsBackSleep, Holds}
 use Rattle.machine_pipeline.proofs.Frames.{is_submitted}
-use Rattle.machine_pipeline.proofs.Kept.{SameFrame, SameEntry, slots_kept}
+use Rattle.machine_pipeline.proofs.Kept.{SameFrame, SameEntry, SameGrants, data_same, slots_kept}
+use Rattle.machine_pipeline.proofs.Data.{SameData, pooled_at}
 use Rattle.machine_pipeline.proofs.Stations.{AreStations, turned}
 use Rattle.machine_pipeline.proofs.ReadsKept.{stations_elsewhere}
-use Rattle.machine_pipeline.proofs.Resting.{unrevoked, data_rests}
 
 -- the ring is made, no grant is being ended, and no event word was stored for sleep
 pub record IsIssuing (s : FrontStage) : Type 0 where
@@ -30,11 +31,13 @@ pub record IsIssuing (s : FrontStage) : Type 0 where
   pub named : is_ring_named s ≡ true
   pub granted : is_ring_granted s ≡ true
   pub begun : (start : ℕ) (pages : List ℕ) → RingBegun start pages s
-  pub ending : ending_at s ≡ None
+  pub ending : (e : Option Ending) → ending_at s e ≡ None
+  pub unrevoked : (ending : Option Ending) (e : Ending) → revoking_at s ending ≡ Some e → ⊥
   pub ended : ending_of s ≡ 0
   pub connected : is_connected s ≡ true
   pub arming : is_front_arming s ≡ false
-  pub untelling : is_telling s ≡ false
+  pub untelling : telling_at s ≡ None
+  pub silent : (pages words : List ℕ) (ending : Option Ending) → IsReadSoFar pages words ending s
 
 -- so it is at the stages at which the front may sleep
 pub issuing : (s : FrontStage) → may_front_sleep s ≡ true → IsIssuing s
@@ -45,14 +48,14 @@ issuing front.RingFlags t = absurd (cc)
 issuing front.NewPort t = absurd (cc)
 issuing (front.ResponseHigh low) t = absurd (cc)
 issuing (front.ResponseLast low high) t = absurd (cc)
-issuing (front.GrantRead e) t = absurd (cc)
-issuing (front.GrantEnd e before) t = absurd (cc)
-issuing (front.ReadData e k) t = absurd (cc)
+issuing (front.GrantRead place) t = absurd (cc)
+issuing (front.GrantEnd place before) t = absurd (cc)
+issuing (front.ReadData n) t = absurd (cc)
 issuing front.StoreEvent t = absurd (cc)
 issuing front.EventFence t = absurd (cc)
 issuing front.LookAgain t = absurd (cc)
 issuing (front.Broken word) t = absurd (cc)
-issuing s t = record { ring = refl; named = refl; granted = refl; begun = λ start pages. tt; ending = refl; ended = refl; connected = refl; arming = refl; untelling = refl }
+issuing s t = record { ring = refl; named = refl; granted = refl; begun = λ start pages. tt; ending = λ e. refl; unrevoked = λ ending e same. none-some e same; ended = refl; connected = refl; arming = refl; untelling = refl; silent = λ pages words ending. tt }
 
 -- the ring's own words and the grant of its frame
 pub ring_turned : (start pushed replied : ℕ) (old new : List ℕ) (s s' : FrontStage) (b : BackStage)
@@ -85,45 +88,49 @@ slots_turned start fetched pushed taken replied submitted replies old new s s' b
       response = kept.response;
     }
 
--- the requests' frames, where no more of one was filled
+-- the requests' data, where no more of one was written
 pub frames_turned : (pushed : ℕ) (old new : List ℕ) (s s' : FrontStage) (requests : List Request)
     → filled s' ≤ filled s
-    → filled s ≤ 128
-    → All (λ (r : Request). SameFrame old new r.frame) requests
+    → All (SameData old new) requests
     → All (IsFilled pushed old s) requests
     → All (IsFilled pushed new s') requests
-frames_turned pushed old new s s' requests less few same h k d lt =
+frames_turned pushed old new s s' requests less same h k d lt =
     let here = same k d lt in
     let was = h k d lt in
     record {
-      whole = λ way le i l. here i (omega arith) ∙ was.whole way le i l;
-      begun = λ way e i l. here i (omega arith) ∙ was.begun way e i (omega arith);
+      whole = λ way le n l. here n l ∙ was.whole way le n l;
+      begun = λ way e n l m. here n m ∙ was.begun way e n (omega arith) m;
     }
 
 -- their grant entries, where none was written
-pub entries_turned : (pushed : ℕ) (old new : List ℕ) (live : List Held) (s s' : FrontStage) (requests : List Request)
+pub entries_turned : (pushed : ℕ) (old new : List ℕ) (live : List Held) (s s' : FrontStage) (ending : Option Ending) (requests : List Request)
     → may_front_sleep s' ≡ true
-    → (is_named s' ≡ true → is_named s ≡ true)
-    → (is_granted s' ≡ true → is_granted s ≡ true)
-    → All (λ (r : Request). SameEntry old new (r.frame + 6)) requests
-    → AreEntries pushed old live s requests
-    → AreEntries pushed new live s' requests
-entries_turned pushed old new live s s' requests m' named granted same h = let i' = issuing s' m' in record {
+    → named_frames s' ≤ named_frames s
+    → granted_frames s' ≤ granted_frames s
+    → All (SameGrants old new) requests
+    → AreEntries pushed old live s ending requests
+    → AreEntries pushed new live s' ending requests
+entries_turned pushed old new live s s' ending requests m' named granted same h = let i' = issuing s' m' in record {
   each = λ k d lt. let here = same k d lt in let was = h.each k d lt in record {
-    named = λ le. here.frame ∙ was.named le;
-    named_next = λ e t. here.frame ∙ was.named_next e (named t);
-    flags = λ le. here.flags ∙ was.flags le;
-    flags_next = λ e t. here.flags ∙ was.flags_next e (granted t);
+    named = λ le place in_it. let entry = here place in_it in entry.frame ∙ was.named le place in_it;
+    named_next = λ e place t in_it. let entry = here place in_it in entry.frame ∙ was.named_next e place (omega arith) in_it;
+    flags = λ le place in_it. let entry = here place in_it in entry.flags ∙ was.flags le place in_it;
+    flags_next = λ e place t in_it. let entry = here place in_it in entry.flags ∙ was.flags_next e place (omega arith) in_it;
   };
-  ending = λ e t. absurd (unrevoked s' e i'.ending t);
+  ending = λ e t. absurd (i'.unrevoked ending e t);
 }
 
 -- the frames and the references of the front's requests are those of the pool
-pub frames_elsewhere : (config : Options) (w : World) (g : Flow) (d : Pipeline) (s : FrontStage) (b : BackStage) → Holds config w g d s b → (new : List ℕ) → ((f : ℕ) → 18 ≤ f → SameFrame w.under.pages new f) → All (λ (r : Request). SameFrame w.under.pages new r.frame) w.front.requests
-frames_elsewhere config w g d s b h new same n x lt = let is = is_submitted config w g d s b h n (get_or w.front.requests n x) (slice_get-get_or w.front.requests n x lt) in same _ is.low
+pub frames_elsewhere : (config : Options) (w : World) (g : Flow) (d : Pipeline) (s : FrontStage) (b : BackStage) → Holds config w g d s b → (new : List ℕ) → ((f : ℕ) → 18 ≤ f → SameFrame w.under.pages new f) → All (SameData w.under.pages new) w.front.requests
+frames_elsewhere config w g d s b h new same n x lt =
+    let is = is_submitted config w g d s b h n (get_or w.front.requests n x) (slice_get-get_or w.front.requests n x lt) in
+    data_same w.under.pages new (get_or w.front.requests n x) is.frames (λ f low high. same f low)
 
-pub entries_elsewhere : (config : Options) (w : World) (g : Flow) (d : Pipeline) (s : FrontStage) (b : BackStage) → Holds config w g d s b → (new : List ℕ) → ((gref : ℕ) → gref < 1024 → SameEntry w.under.pages new gref) → All (λ (r : Request). SameEntry w.under.pages new (r.frame + 6)) w.front.requests
-entries_elsewhere config w g d s b h new same n x lt = let is = is_submitted config w g d s b h n (get_or w.front.requests n x) (slice_get-get_or w.front.requests n x lt) in let high = is.high in same _ (omega arith)
+pub entries_elsewhere : (config : Options) (w : World) (g : Flow) (d : Pipeline) (s : FrontStage) (b : BackStage) → Holds config w g d s b → (new : List ℕ) → ((gref : ℕ) → gref < 1024 → SameEntry w.under.pages new gref) → All (SameGrants w.under.pages new) w.front.requests
+entries_elsewhere config w g d s b h new same n x lt = λ place in_it.
+    let is = is_submitted config w g d s b h n (get_or w.front.requests n x) (slice_get-get_or w.front.requests n x lt) in
+    let pooled = pooled_at (get_or w.front.requests n x) is.frames place in
+    same _ (omega (arith, pooled.1))
 
 -- how both ends sleep, where their event words stay
 front_sleep_turned : (start taken replied : ℕ) (old new : List ℕ) (asleep pending : Bool) (s s' : FrontStage) (b : BackStage)
@@ -164,21 +171,21 @@ with_front w s entry pages = record {
 pub issue_moved : (config : Options) (w : World) (g : Flow) (d d' : Pipeline) (s s' : FrontStage) (entry pages : List ℕ)
     → may_front_sleep s ≡ true → may_front_sleep s' ≡ true
     → Holds config w g d s w.back.stage
-    → AreStations config g d' (is_connected s') (is_issuing s') (is_fetching w.back.stage) (ending_at s') (is_telling s') (reply_at w.back.stage) w.front.requests w.back.jobs.works pages
-    → FrontAt g.start g.pushed g.taken g.front_seen g.submitted g.replies (next_request w.front) entry s'
+    → AreStations config g d' (is_connected s') (is_issuing s') (is_fetching w.back.stage) (ending_at s' w.front.ending) (telling_at s') (reply_at w.back.stage) w.front.requests w.back.jobs.works pages
+    → FrontAt g.start g.pushed g.taken g.front_seen g.submitted g.replies (next_request w.front) entry w.front.ending s'
     → length pages ≡ 1114112
     → ((x : ℕ) → x < 16 → word_of pages 2 x ≡ word_of w.under.pages 2 x)
     → SameEntry w.under.pages pages 8
     → AreSlots g.start g.fetched g.pushed g.taken g.replied g.submitted g.replies pages s' w.back.stage
     → All (IsFilled g.pushed pages s') w.front.requests
-    → AreEntries g.pushed pages w.under.grants.live s' w.front.requests
+    → AreEntries g.pushed pages w.under.grants.live s' w.front.ending w.front.requests
     → (w.back.asleep ≡ true → FrontSends s g.pushed g.fetched → FrontSends s' g.pushed g.fetched)
     → Holds config (with_front w s' entry pages) g d' s' w.back.stage
 issue_moved config w g d d' s s' entry pages m m' h stations at sized words named slots frames entries sends =
     let i = issuing s m in
     let i' = issuing s' m' in
     let ended : ending_of s' ≡ ending_of s = i'.ended ∙ sym i.ended in
-    let ending : ending_at s' ≡ ending_at s = i'.ending ∙ sym i.ending in
+    let ending : ending_at s' w.front.ending ≡ ending_at s w.front.ending = i'.ending w.front.ending ∙ sym (i.ending w.front.ending) in
     let connected : is_connected s' ≡ is_connected s = i'.connected ∙ sym i.connected in
     record {
       started = h.started;
@@ -200,7 +207,7 @@ issue_moved config w g d d' s s' entry pages m m' h stations at sized words name
       ring = ring_turned g.start g.pushed g.replied w.under.pages pages s s' w.back.stage m m' words named h.ring;
       slots = slots;
       frames = frames;
-      telling = data_rests w.under.pages pages w.front.words s s' i'.untelling h.telling;
+      telling = record { size = h.telling.size; so_far = i'.silent pages w.front.words w.front.ending };
       entries = entries;
       mapped = h.mapped;
       page = h.page;
@@ -213,20 +220,20 @@ issue_moved config w g d d' s s' entry pages m m' h stations at sized words name
 pub issue_kept : (config : Options) (w : World) (g : Flow) (d : Pipeline) (s s' : FrontStage) (entry pages : List ℕ)
     → may_front_sleep s ≡ true → may_front_sleep s' ≡ true → is_issuing s' ≡ is_issuing s
     → Holds config w g d s w.back.stage
-    → FrontAt g.start g.pushed g.taken g.front_seen g.submitted g.replies (next_request w.front) entry s'
+    → FrontAt g.start g.pushed g.taken g.front_seen g.submitted g.replies (next_request w.front) entry w.front.ending s'
     → length pages ≡ 1114112
     → ((f : ℕ) → 18 ≤ f → f < 1018 → SameFrame w.under.pages pages f)
     → ((x : ℕ) → x < 16 → word_of pages 2 x ≡ word_of w.under.pages 2 x)
     → SameEntry w.under.pages pages 8
     → AreSlots g.start g.fetched g.pushed g.taken g.replied g.submitted g.replies pages s' w.back.stage
     → All (IsFilled g.pushed pages s') w.front.requests
-    → AreEntries g.pushed pages w.under.grants.live s' w.front.requests
+    → AreEntries g.pushed pages w.under.grants.live s' w.front.ending w.front.requests
     → (w.back.asleep ≡ true → FrontSends s g.pushed g.fetched → FrontSends s' g.pushed g.fetched)
     → Holds config (with_front w s' entry pages) g d s' w.back.stage
 issue_kept config w g d s s' entry pages m m' same h at sized elsewhere =
     let i = issuing s m in
     let i' = issuing s' m' in
     issue_moved config w g d d s s' entry pages m m' h
-    (stations_elsewhere config g d (is_connected s') (is_issuing s') (is_fetching w.back.stage) (ending_at s') (is_telling s') (reply_at w.back.stage) w.front.requests w.back.jobs.works w.under.pages pages w.front.sectors w.front.last h.submitted elsewhere
-    (turned config g d (is_connected s) (is_connected s') (is_issuing s) (is_issuing s') (is_fetching w.back.stage) (ending_at s) (ending_at s') (is_telling s) (is_telling s') (reply_at w.back.stage) w.front.requests w.back.jobs.works w.under.pages (i'.connected ∙ sym i.connected) same (i'.ending ∙ sym i.ending) (i'.untelling ∙ sym i.untelling) h.stations))
+    (stations_elsewhere config g d (is_connected s') (is_issuing s') (is_fetching w.back.stage) (ending_at s' w.front.ending) (telling_at s') (reply_at w.back.stage) w.front.requests w.back.jobs.works w.under.pages pages w.front.sectors w.front.last h.submitted elsewhere
+    (turned config g d (is_connected s) (is_connected s') (is_issuing s) (is_issuing s') (is_fetching w.back.stage) (ending_at s w.front.ending) (ending_at s' w.front.ending) (telling_at s) (telling_at s') (reply_at w.back.stage) w.front.requests w.back.jobs.works w.under.pages (i'.connected ∙ sym i.connected) same (i'.ending w.front.ending ∙ sym (i.ending w.front.ending)) (i'.untelling ∙ sym i.untelling) h.stations))
     at sized

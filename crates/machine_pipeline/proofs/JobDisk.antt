@@ -1,5 +1,5 @@
--- A job writes its sector to the disk, or reads it, or the disk fails at it.
-use Rattle.std.proofs.Common.{◌≡◌, ℕ, List, [], ◌∷◌, length, refl, sym, ◌∙◌, subst, arith}
+-- A job writes its next sector to the disk, or reads it, or the disk fails at it.
+use Rattle.std.proofs.Common.{◌≡◌, ℕ, ◌+◌, ◌-◌, ◌%◌, ◌^◌, ◌≤◌, ◌==◌, Bool, ap, List, [], ◌∷◌, length, refl, sym, ◌∙◌, subst, arith}
 use Rattle.std.specs.Prelude.{Some, None, slice_set}
 use Rattle.blk_base.specs.Options.{Options}
 use Rattle.blk_base.specs.declared.ask.BackAnswer.TheVariants as answer
@@ -8,6 +8,8 @@ use Rattle.blk_base.specs.declared.parts.Mapping.{Mapping}
 use Rattle.schedule_text.specs.declared.line.Line.TheVariants as lines
 use Rattle.hypervisor.specs.Act.{Outcome, Gave, Took, Failed}
 use Rattle.blk_front.specs.declared.request.Request.{Request}
+use Rattle.blk_front.specs.Request.{is_write, IsShaped}
+use Rattle.pipeline_laws.specs.Station.{Working}
 use Rattle.back_jobs.specs.declared.stage.Stage.TheVariants as job
 use Rattle.back_jobs.specs.Task.{Work, ask_at, step_at, counted}
 use Rattle.blk_back.specs.Hands.{hands_at}
@@ -15,10 +17,10 @@ use Rattle.split_model.specs.World.{World}
 use Rattle.hypervisor.specs.Act.{IsGiven}
 use Rattle.pipeline_laws.specs.Pipeline.{Pipeline, next}
 use Rattle.machine_pipeline.proofs.Flow.{Flow}
-use Rattle.machine_pipeline.proofs.Holds.{Holds, AtWork, AreMapped}
+use Rattle.machine_pipeline.proofs.Holds.{Holds, IsReturning, AtWork, AreMapped, last_in}
 use Rattle.machine_pipeline.proofs.Turns.{Stepped, does_step}
 use Rattle.machine_pipeline.proofs.Jobs.{StationsWith, job_holds}
-use Rattle.machine_pipeline.proofs.JobMoves.{IsAt, JobGoesAt, stays, work_of, hands_step}
+use Rattle.machine_pipeline.proofs.JobMoves.{IsAt, JobGoesAt, stays, work_of, hands_step, sectors_left, further, next_sector_is, worked_further, at_further}
 use Rattle.machine_pipeline.proofs.JobSteps.{fills, fails, gives, fails_to_give}
 use Rattle.machine_pipeline.specs.Step.{CallOf}
 
@@ -35,20 +37,49 @@ took_goes config w g d number p t r m h is e at = record {
   does = does_step (moves.DiskWrite number t.disk) (lines.Effect t.id t.moved ∷ []) refl s;
   holds = subst (λ (x : Work). let v : World = record { front = w.front; back = record w.back { jobs = record w.back.jobs { works = slice_set w.back.jobs.works p x }; told = None }; under = w.under } in Holds config v g (next d s.step) v.front.stage v.back.stage) (sym stepped)
       (job_holds config w g d (next d s.step) p t then w.under.pages w.under.grants h is.place refl s.now
-      (work_of w g d (next d s.step) p t then r is refl refl refl (at.0.rest, at.1))
+      (work_of w g d (next d s.step) p t then r is refl refl refl (at_further (counted t) r m last moved at.1 refl))
       h.memory (λ v lt. refl) (record { flags = refl; frame = refl }) (λ f low high v lt. refl) h.entries
       (subst (λ (x : Work). AreMapped w.under.grants.live (hands_at w.back.stage (record w.back { jobs = record w.back.jobs { works = slice_set w.back.jobs.works p x } }))) stepped
       (subst (AreMapped w.under.grants.live) (sym (hands_step w p t (job.DiskWrite m) answer.Done is.place e tt)) h.mapped)));
 }
   where
+    shaped : IsShaped r
+    shaped = let its = h.submitted.each (t.number - 1) r is.known in its.shaped
+
+    left : (t.moved + 1 ≤ r.count) × (t.within ≤ 7) × (r.count ≤ 88)
+    left = sectors_left t r 1 shaped at.0
+
+    one_more : (t.moved + 1) % 2 ^ 32 ≡ t.moved + 1
+    one_more = omega (arith, left.0, left.2)
+
+    moved : IsReturning (counted t) r
+    moved =
+        let was = at.0 in
+        let before = was.moved in
+        let disk = was.disk in
+        record {
+          place = was.place;
+          here = was.here;
+          writes = was.writes;
+          rest = was.rest;
+          within = was.within;
+          moved = omega (arith, one_more);
+          disk = omega (arith, one_more);
+          words = was.words;
+        }
+
+    last : Bool
+    last = t.within == last_in r moved.place
+
     then : Work
-    then = record (counted t) { stage = job.Unmap m }
+    then = further (counted t) r m last
 
     stepped : step_at (job.DiskWrite m) t answer.Done ≡ then
-    stepped = rw (at.0.within, at.0.rest) refl
+    stepped = next_sector_is (counted t) r m shaped moved
 
     s : Stepped None (CallOf (ask_at (job.DiskWrite m) t) Took) d (lines.Effect t.id t.moved ∷ []) (λ x. StationsWith config w g x (slice_set w.back.jobs.works p then) w.under.pages)
-    s = fills config w g d p t then r m h is e at refl refl
+    s = fills config w g d p t then r m h is e at refl
+        (worked_further last (is_write r.transfer) m ((t.moved + 1) % 2 ^ 32) ∙ ap (λ (n : ℕ). Working n) one_more)
 
 -- the disk failed at it
 failed_goes : (config : Options) (w : World) (g : Flow) (d : Pipeline) (number p : ℕ) (t : Work) (r : Request) (m : Mapping)
@@ -62,7 +93,7 @@ failed_goes config w g d number p t r m h is e at = record {
   step = Some s.step;
   does = does_step (moves.DiskWrite number t.disk) (lines.Fault t.id t.moved ∷ []) refl s;
   holds = job_holds config w g d (next d s.step) p t then w.under.pages w.under.grants h is.place refl s.now
-      (work_of w g d (next d s.step) p t then r is refl refl refl at.1)
+      (work_of w g d (next d s.step) p t then r is refl refl refl (at.0.place, at.0.here, at.1))
       h.memory (λ v lt. refl) (record { flags = refl; frame = refl }) (λ f low high v lt. refl) h.entries
       (subst (AreMapped w.under.grants.live) (sym (hands_step w p t (job.DiskWrite m) answer.DiskFailed is.place e tt)) h.mapped);
 }
@@ -96,13 +127,32 @@ gave_goes config w g d number p t r m words h is e at sized = record {
   step = Some s.step;
   does = does_step (moves.DiskRead number t.disk) (lines.EffectRead t.id t.moved words ∷ []) refl s;
   holds = job_holds config w g d (next d s.step) p t then w.under.pages w.under.grants h is.place refl s.now
-      (work_of w g d (next d s.step) p t then r is refl refl refl (record { writes = at.0.writes ∙ at.2; within = at.0.within; rest = at.0.rest; words = sized }, at.1, omega arith, at.2))
+      (work_of w g d (next d s.step) p t then r is refl refl refl (given, at.1, omega arith, at.2))
       h.memory (λ v lt. refl) (record { flags = refl; frame = refl }) (λ f low high v lt. refl) h.entries
       (subst (AreMapped w.under.grants.live) (sym (hands_step w p t (job.DiskRead m) (answer.Sector words) is.place e tt)) h.mapped);
 }
   where
     then : Work
     then = record (counted t) { words = words; stage = job.WriteWord m 0 }
+
+    given : IsReturning then r
+    given =
+        let its = h.submitted.each (t.number - 1) r is.known in
+        let left = sectors_left t r 1 its.shaped at.0 in
+        let one_more : (t.moved + 1) % 2 ^ 32 ≡ t.moved + 1 = omega (arith, left.0, left.2) in
+        let was = at.0 in
+        let before = was.moved in
+        let disk = was.disk in
+        record {
+          place = was.place;
+          here = was.here;
+          writes = was.writes;
+          rest = was.rest;
+          within = was.within;
+          moved = omega arith;
+          disk = omega arith;
+          words = sized;
+        }
 
     s : Stepped None (CallOf (ask_at (job.DiskRead m) t) (Gave words)) d (lines.EffectRead t.id t.moved words ∷ []) (λ x. StationsWith config w g x (slice_set w.back.jobs.works p then) w.under.pages)
     s = gives config w g d p t r m words h is e at sized
@@ -119,7 +169,7 @@ gave_nothing config w g d number p t r m h is e at = record {
   step = Some s.step;
   does = does_step (moves.DiskRead number t.disk) (lines.Fault t.id t.moved ∷ []) refl s;
   holds = job_holds config w g d (next d s.step) p t then w.under.pages w.under.grants h is.place refl s.now
-      (work_of w g d (next d s.step) p t then r is refl refl refl at.1)
+      (work_of w g d (next d s.step) p t then r is refl refl refl (at.0.place, at.0.here, at.1))
       h.memory (λ v lt. refl) (record { flags = refl; frame = refl }) (λ f low high v lt. refl) h.entries
       (subst (AreMapped w.under.grants.live) (sym (hands_step w p t (job.DiskRead m) answer.DiskFailed is.place e tt)) h.mapped);
 }

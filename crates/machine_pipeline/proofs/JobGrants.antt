@@ -1,6 +1,6 @@
--- A job maps its request's frame, and gives the mapping up.
+-- A job maps a frame of its request, and gives the mapping up.
 use Rattle.std.proofs.Common.{◌≡◌, ◌≢◌, ℕ, ◌+◌, ◌*◌, ◌/◌, ◌%◌, ◌<◌, ◌≤◌, ◌==◌, Bool, true, false, List, length, refl, ap, sym, ◌∙◌, subst, arith}
-use Rattle.std.specs.Prelude.{Some, slice_get, nat_lt, Ok}
+use Rattle.std.specs.Prelude.{Option, Some, slice_get, nat_lt, Ok}
 use Rattle.std.proofs.lemmas.Option.{same_Some}
 use Rattle.std.proofs.lemmas.Bool.Decides.{nat_tests}
 use Rattle.grant_table.specs.declared.held.Held.{Held}
@@ -9,14 +9,14 @@ use Rattle.grant_table.specs.Table.{entry_word0, entry_word1, with_entry_word0, 
 use Rattle.blk_front.specs.declared.request.Request.{Request}
 use Rattle.blk_front.specs.declared.request.Transfer.{Transfer}
 use Rattle.blk_front.specs.declared.request.Transfer.TheVariants as transfer
-use Rattle.blk_front.specs.Request.{is_write, grant_flags}
+use Rattle.blk_front.specs.Request.{is_write, grant_flags, frame_at}
 use Rattle.back_jobs.specs.Task.{mode_of}
 use Rattle.blk_front.specs.declared.stage.Ending.{Ending}
 use Rattle.blk_front.specs.declared.stage.Stage.{Stage as FrontStage}
-use Rattle.machine_pipeline.proofs.Flow.{revoking_at}
+use Rattle.machine_pipeline.proofs.Flow.{frames_of, revoking_at}
 use Rattle.machine_pipeline.proofs.Holds.{IsGranted, AreEntries, mapped_flags, flags_with}
 use Rattle.machine_pipeline.proofs.Lists.{all_at, all_from}
-use Rattle.machine_pipeline.proofs.Kept.{written, other_word, other_entry}
+use Rattle.machine_pipeline.proofs.Kept.{SameEntry, written, other_word, other_entry}
 
 -- the entry of a granted frame lets it be mapped
 pub may_map : (way : Transfer) (frame : ℕ) → 2 ≤ frame → frame < 1018 → verdict_of (frame + 6) (grant_flags way) frame (mode_of (is_write way)) ≡ Ok frame
@@ -40,54 +40,83 @@ pub cleared_flags : (way : Transfer) → unmapped_entry (mapped_flags way) 0 0 �
 cleared_flags transfer.Read = refl
 cleared_flags (transfer.Write tag) = refl
 
--- the grant entries once the flags of one request's entry were made those of its mappings
-pub entries_marked : (pushed : ℕ) (pages : List ℕ) (live live' : List Held) (s : FrontStage) (requests : List Request) (i : ℕ) (r : Request) (flags : ℕ)
+-- the grant entries once the flags of one frame of a request were made those of its mappings
+pub entries_marked : (pushed : ℕ) (pages : List ℕ) (live live' : List Held) (s : FrontStage) (ending : Option Ending) (requests : List Request) (i : ℕ)
+    (r : Request) (place flags : ℕ)
     → length pages ≡ 1114112
     → slice_get requests i ≡ Some r
     → r.number ≤ pushed
-    → r.frame < 1018
-    → flags ≡ flags_with r.transfer (mappings_of (r.frame + 6) live')
-    → ((f : ℕ) → f ≢ r.frame → mappings_of (f + 6) live' ≡ mappings_of (f + 6) live)
-    → ((j : ℕ) (x : Request) → slice_get requests j ≡ Some x → x.frame < 1018)
-    → ((j : ℕ) (x : Request) → j ≢ i → slice_get requests j ≡ Some x → x.frame ≢ r.frame)
-    → ((e : Ending) → revoking_at s ≡ Some e → (e.frame < 1018) × (e.frame ≢ r.frame))
-    → AreEntries pushed pages live s requests
-    → AreEntries pushed (with_entry_word0 pages (r.frame + 6) flags) live' s requests
-entries_marked pushed pages live live' s requests i r flags sized here reached high marked others bound apart ending h = record {
-  each = all_from (IsGranted pushed (with_entry_word0 pages (r.frame + 6) flags) live' s) requests (λ j x e. by_place j x e (j == i) refl);
-  ending = λ e same.
-      let its = ending e same in
-      let entry = other_entry pages (r.frame + 6) (e.frame + 6) flags (omega arith) (omega (arith, its.0)) (λ t. its.1 (omega arith)) in
-      entry.flags ∙ h.ending e same;
+    → frame_at r place < 1018
+    → flags ≡ flags_with r.transfer (mappings_of (frame_at r place + 6) live')
+    → ((f : ℕ) → f ≢ frame_at r place → mappings_of (f + 6) live' ≡ mappings_of (f + 6) live)
+    → ((j : ℕ) (x : Request) → slice_get requests j ≡ Some x → (a : ℕ) → frame_at x a < 1018)
+    → ((a : ℕ) → a ≢ place → a < frames_of r → frame_at r a ≢ frame_at r place)
+    → ((j : ℕ) (x : Request) → j ≢ i → slice_get requests j ≡ Some x → (a : ℕ) → a < frames_of x → frame_at x a ≢ frame_at r place)
+    → ((e : Ending) → revoking_at s ending ≡ Some e → (a : ℕ) → a < frames_of e.request
+    → (frame_at e.request a < 1018) × (frame_at e.request a ≢ frame_at r place))
+    → AreEntries pushed pages live s ending requests
+    → AreEntries pushed (with_entry_word0 pages (frame_at r place + 6) flags) live' s ending requests
+entries_marked pushed pages live live' s ending requests i r place flags sized here reached high marked others bound own apart last h = record {
+  each = all_from (IsGranted pushed new live' s) requests (λ j x e. by_place j x e (j == i) refl);
+  ending = λ e same a from lt.
+      let its = last e same a lt in
+      let entry = beside (frame_at e.request a) its.0 its.1 in
+      entry.flags ∙ h.ending e same a from lt;
 }
   where
-    by_place : (j : ℕ) (x : Request) → slice_get requests j ≡ Some x → (b : Bool) → (j == i) ≡ b → IsGranted pushed (with_entry_word0 pages (r.frame + 6) flags) live' s x
+    new : List ℕ
+    new = with_entry_word0 pages (frame_at r place + 6) flags
+
+    beside : (f : ℕ) → f < 1018 → f ≢ frame_at r place → SameEntry pages new (f + 6)
+    beside f few other = other_entry pages (frame_at r place + 6) (f + 6) flags (omega arith) (omega arith) (λ t. other (omega arith))
+
+    it : IsGranted pushed pages live s r
+    it = all_at (IsGranted pushed pages live s) requests i r h.each here
+
+    named : (a : ℕ) → a < frames_of r → entry_word1 new (frame_at r a + 6) ≡ entry_word1 pages (frame_at r a + 6)
+    named a lt = by_frame (a == place) refl
+      where
+        by_frame : (b : Bool) → (a == place) ≡ b → entry_word1 new (frame_at r a + 6) ≡ entry_word1 pages (frame_at r a + 6)
+        by_frame true t =
+            let at : a ≡ place = grind (arith, nat_tests) in
+            subst (λ (k : ℕ). entry_word1 new (frame_at r k + 6) ≡ entry_word1 pages (frame_at r k + 6)) (sym at)
+            (other_word pages ((frame_at r place + 6) / 512) (2 * ((frame_at r place + 6) % 512)) flags (2 * ((frame_at r place + 6) % 512) + 1) (omega arith))
+        by_frame false t =
+            let off : a ≢ place = grind (arith, nat_tests) in
+            let entry = beside (frame_at r a) (bound i r here a) (own a off lt) in
+            entry.frame
+
+    now : r.number ≤ pushed → (a : ℕ) → a < frames_of r → entry_word0 new (frame_at r a + 6) ≡ flags_with r.transfer (mappings_of (frame_at r a + 6) live')
+    now le a lt = by_frame (a == place) refl
+      where
+        by_frame : (b : Bool) → (a == place) ≡ b → entry_word0 new (frame_at r a + 6) ≡ flags_with r.transfer (mappings_of (frame_at r a + 6) live')
+        by_frame true t =
+            let at : a ≡ place = grind (arith, nat_tests) in
+            subst (λ (k : ℕ). entry_word0 new (frame_at r k + 6) ≡ flags_with r.transfer (mappings_of (frame_at r k + 6) live')) (sym at)
+            (written pages ((frame_at r place + 6) / 512) (2 * ((frame_at r place + 6) % 512)) flags sized (omega arith) (omega arith) ∙ marked)
+        by_frame false t =
+            let off : a ≢ place = grind (arith, nat_tests) in
+            let frames = own a off lt in
+            let entry = beside (frame_at r a) (bound i r here a) frames in
+            entry.flags ∙ (it.flags le a lt ∙ ap (λ (n : ℕ). flags_with r.transfer n) (sym (others (frame_at r a) frames)))
+
+    by_place : (j : ℕ) (x : Request) → slice_get requests j ≡ Some x → (b : Bool) → (j == i) ≡ b → IsGranted pushed new live' s x
     by_place j x e true t =
         let at : j ≡ i = grind (arith, nat_tests) in
         let same : r ≡ x = same_Some r x (sym here ∙ (ap (slice_get requests) (sym at) ∙ e)) in
-        subst (IsGranted pushed (with_entry_word0 pages (r.frame + 6) flags) live' s) same (record {
-          named = λ le. kept ∙ was.named le;
-          named_next = λ n t. kept ∙ was.named_next n t;
-          flags = λ le. now ∙ marked;
-          flags_next = λ n t. absurd (omega arith);
+        subst (IsGranted pushed new live' s) same (record {
+          named = λ le a lt. named a lt ∙ it.named le a lt;
+          named_next = λ n a t lt. named a lt ∙ it.named_next n a t lt;
+          flags = now;
+          flags_next = λ n a t lt. absurd (omega arith);
         })
-      where
-        was : IsGranted pushed pages live s r
-        was = all_at (IsGranted pushed pages live s) requests i r h.each here
-
-        kept : entry_word1 (with_entry_word0 pages (r.frame + 6) flags) (r.frame + 6) ≡ entry_word1 pages (r.frame + 6)
-        kept = other_word pages ((r.frame + 6) / 512) (2 * ((r.frame + 6) % 512)) flags (2 * ((r.frame + 6) % 512) + 1) (omega arith)
-
-        now : entry_word0 (with_entry_word0 pages (r.frame + 6) flags) (r.frame + 6) ≡ flags
-        now = written pages ((r.frame + 6) / 512) (2 * ((r.frame + 6) % 512)) flags sized (omega arith) (omega arith)
     by_place j x e false t =
         let off : j ≢ i = grind (arith, nat_tests) in
         let was = all_at (IsGranted pushed pages live s) requests j x h.each e in
-        let frames = apart j x off e in
-        let entry = other_entry pages (r.frame + 6) (x.frame + 6) flags (omega arith) (let top = bound j x e in omega arith) (λ t. frames (omega arith)) in
         record {
-          named = λ le. entry.frame ∙ was.named le;
-          named_next = λ n t. entry.frame ∙ was.named_next n t;
-          flags = λ le. entry.flags ∙ (was.flags le ∙ ap (λ (n : ℕ). flags_with x.transfer n) (sym (others x.frame frames)));
-          flags_next = λ n t. entry.flags ∙ was.flags_next n t;
+          named = λ le a lt. let entry = beside (frame_at x a) (bound j x e a) (apart j x off e a lt) in entry.frame ∙ was.named le a lt;
+          named_next = λ n a t lt. let entry = beside (frame_at x a) (bound j x e a) (apart j x off e a lt) in entry.frame ∙ was.named_next n a t lt;
+          flags = λ le a lt. let frames = apart j x off e a lt in let entry = beside (frame_at x a) (bound j x e a) frames in
+              entry.flags ∙ (was.flags le a lt ∙ ap (λ (n : ℕ). flags_with x.transfer n) (sym (others (frame_at x a) frames)));
+          flags_next = λ n a t lt. let entry = beside (frame_at x a) (bound j x e a) (apart j x off e a lt) in entry.flags ∙ was.flags_next n a t lt;
         }

@@ -1,5 +1,5 @@
--- A job maps its request's frame, and gives the mapping up: what that makes of all that holds.
-use Rattle.std.proofs.Common.{◌≡◌, ◌≢◌, ℕ, ◌+◌, ◌-◌, ◌*◌, ◌/◌, ◌%◌, ◌<◌, ◌≤◌, ◌==◌, ◌&&◌, ◌⊎◌, inl, inr, Bool, true, false, cond, List, [], ◌∷◌, ◌++◌, length, refl, ap, sym, ◌∙◌, subst, arith, length-set}
+-- A job maps a frame of its request, and gives the mapping up: what that makes of all that holds.
+use Rattle.std.proofs.Common.{◌≡◌, ◌≢◌, ℕ, ◌+◌, ◌*◌, ◌/◌, ◌%◌, ◌<◌, ◌≤◌, ◌==◌, ◌&&◌, ◌⊎◌, inl, inr, Bool, true, false, cond, List, [], ◌∷◌, ◌++◌, length, refl, ap, sym, ◌∙◌, subst, arith, length-set}
 use Rattle.std.specs.Prelude.{Option, Some, None, slice_get, slice_set, count_by, Result, Ok}
 use Rattle.std.proofs.lemmas.Option.{none-some, same_Some}
 use Rattle.std.proofs.lemmas.List.Sums.{sum_by-cons, sum_by-append}
@@ -21,57 +21,65 @@ use Rattle.pipeline_laws.specs.Pipeline.{Pipeline}
 use Rattle.hypervisor.specs.Hypervisor.{Hypervisor}
 use Rattle.hypervisor.specs.Act.{BackAct, Outcome, back_act, map_act}
 use Rattle.blk_front.specs.declared.request.Request.{Request}
-use Rattle.blk_front.specs.Request.{is_write, grant_flags}
+use Rattle.blk_front.specs.Request.{is_write, grant_flags, frame_at}
+use Rattle.blk_layout.specs.declared.segment.Segment.{Segment}
+use Rattle.back_jobs.specs.declared.stage.Stage.{Stage as JobStage}
 use Rattle.back_jobs.specs.declared.stage.Stage.TheVariants as job
-use Rattle.back_jobs.specs.Task.{Work, mode_of, sector_stage, ask_at, step_at, IsAnswer}
+use Rattle.back_jobs.specs.Task.{Work, mode_of, map_ask, sector_stage, ask_at, step_at, IsAnswer}
 use Rattle.back_jobs.specs.Jobs.{mapping_at}
 use Rattle.back_jobs.specs.Hands.{HandsAfter, HasOneMore}
 use Rattle.blk_back.specs.Hands.{hands_of, hands_at}
 use Rattle.split_model.specs.World.{World}
 use Rattle.split_model.specs.Safe.{AreHeld}
-use Rattle.machine_pipeline.proofs.Flow.{Flow, ending_at, worked}
-use Rattle.machine_pipeline.proofs.Holds.{Holds, IsMoving, IsHand, AtWork, IsWork, IsGranted, AreEntries, AreMapped, ArePooled, mapped_flags, flags_with}
+use Rattle.machine_pipeline.proofs.Flow.{Flow, frames_of, ending_at, worked}
+use Rattle.machine_pipeline.proofs.Segments.{own_here}
+use Rattle.machine_pipeline.proofs.Data.{pooled_at}
+use Rattle.machine_pipeline.proofs.Holds.{Holds, IsPooled, IsMoving, IsHand, AtWork, IsWork, IsGranted, AreEntries, AreMapped, ArePooled, mapped_flags, flags_with}
 use Rattle.machine_pipeline.proofs.ReadBack.{ReadAt}
 use Rattle.machine_pipeline.proofs.Turns.{GoesBy, nothing}
 use Rattle.machine_pipeline.proofs.Lists.{all_at, set_was}
-use Rattle.machine_pipeline.proofs.Hands.{frames_apart, ending_apart}
-use Rattle.machine_pipeline.proofs.Frames.{is_submitted, ending_is, unmapped, none_in_hands}
+use Rattle.machine_pipeline.proofs.Hands.{frames_apart, own_apart, ending_apart}
+use Rattle.machine_pipeline.proofs.Frames.{is_submitted, unmapped, none_in_hands}
 use Rattle.machine_pipeline.proofs.Mapped.{mapped_more, mapped_less, hands_more}
 use Rattle.machine_pipeline.proofs.Kept.{SameFrame, SameEntry, other_frame, other_entry}
-use Rattle.machine_pipeline.proofs.BackStill.{revoking_ends}
+use Rattle.machine_pipeline.proofs.BackStill.{revoking_ends, ending_submitted}
 use Rattle.machine_pipeline.proofs.JobGrants.{may_map, set_flags, cleared_flags, entries_marked}
 use Rattle.machine_pipeline.proofs.Jobs.{StationsWith, stations_stay, job_holds, other_number}
 use Rattle.machine_pipeline.proofs.JobMoves.{IsAt, IsOwn, own_at, JobGoesAt, job_says, job_next, work_of, at_work, read_was, live_hand, hands_step}
 use Rattle.machine_pipeline.specs.Step.{CallOf}
 
--- the grant entries once the flags of the request's entry were made anew
-marked : (config : Options) (w : World) (g : Flow) (d : Pipeline) (t : Work) (r : Request) (live' : List Held) (flags : ℕ)
+-- the grant entries once the flags of a frame's entry were made anew
+marked : (config : Options) (w : World) (g : Flow) (d : Pipeline) (t : Work) (r : Request) (a : ℕ) (live' : List Held) (flags : ℕ)
     → Holds config w g d w.front.stage w.back.stage
     → IsOwn w g t r
-    → flags ≡ flags_with r.transfer (mappings_of (r.frame + 6) live')
-    → ((f : ℕ) → f ≢ r.frame → mappings_of (f + 6) live' ≡ mappings_of (f + 6) w.under.grants.live)
-    → AreEntries g.pushed (with_entry_word0 w.under.pages (r.frame + 6) flags) live' w.front.stage w.front.requests
-marked config w g d t r live' flags h own same others =
-    entries_marked g.pushed w.under.pages w.under.grants.live live' w.front.stage w.front.requests own.place r flags h.memory own.at own.reached own.high same others
-    (λ j x e. let is = is_submitted config w g d w.front.stage w.back.stage h j x e in is.high)
-    (λ j x off e.
+    → a < frames_of r
+    → flags ≡ flags_with r.transfer (mappings_of (frame_at r a + 6) live')
+    → ((f : ℕ) → f ≢ frame_at r a → mappings_of (f + 6) live' ≡ mappings_of (f + 6) w.under.grants.live)
+    → AreEntries g.pushed (with_entry_word0 w.under.pages (frame_at r a + 6) flags) live' w.front.stage w.front.ending w.front.requests
+marked config w g d t r a live' flags h own in_r same others =
+    let pooled = pooled_at r own.frames a in
+    entries_marked g.pushed w.under.pages w.under.grants.live live' w.front.stage w.front.ending w.front.requests own.place r a flags h.memory own.at own.reached pooled.1 same others
+    (λ j x e b. let is = is_submitted config w g d w.front.stage w.back.stage h j x e in let its = pooled_at x is.frames b in its.1)
+    (λ b off in_b. own_apart w.front.pool w.front.requests (ending_at w.front.stage w.front.ending) own.place r h.pool own.at b a off in_b in_r
+    (pooled_at r own.frames b))
+    (λ j x off e b in_x.
     let is = is_submitted config w g d w.front.stage w.back.stage h j x e in
-    frames_apart w.front.pool w.front.requests (ending_at w.front.stage) j own.place x r h.pool is.low is.high off e own.at)
-    (λ e revoked.
-    let same : ending_at w.front.stage ≡ Some e = revoking_ends w.front.stage e revoked in
-    let ending = ending_is _ _ _ _ _ _ _ _ w.front.stage e h.front_at same in
-    let its = h.submitted.each (e.number - 1) ending.r ending.known in
-    let frame = ending.frame in
-    let apart = ending_apart w.front.pool w.front.requests e own.place r (subst (ArePooled w.front.pool w.front.requests) same h.pool) own.low own.high own.at in
-    ((let top = its.high in omega arith), λ t. apart (sym t)))
+    frames_apart w.front.pool w.front.requests (ending_at w.front.stage w.front.ending) j own.place x r h.pool off e own.at b a in_x in_r
+    (pooled_at x is.frames b))
+    (λ e revoked b in_e.
+    let same : ending_at w.front.stage w.front.ending ≡ Some e = revoking_ends w.front.stage w.front.ending e revoked in
+    let is = ending_submitted config w g d w.front.stage w.back.stage e h same in
+    let its = pooled_at e.request is.frames b in
+    let apart = ending_apart w.front.pool w.front.requests e own.place r (subst (ArePooled w.front.pool w.front.requests) same h.pool) own.at a b in_r in_e pooled in
+    (its.1, λ t. apart (sym t)))
     h.entries
 
 -- what a write of an entry's flags leaves of the ring's frame, of the ring's entry, and of data
 ring_frame_same : (w : World) (gref value : ℕ) → gref < 1024 → SameFrame w.under.pages (with_entry_word0 w.under.pages gref value) 2
 ring_frame_same w gref value few = other_frame w.under.pages (gref / 512) (2 * (gref % 512)) value 2 (omega arith) (omega arith)
 
-data_same : (w : World) (gref value : ℕ) → gref < 1024 → (f : ℕ) → 18 ≤ f → f < 1018 → SameFrame w.under.pages (with_entry_word0 w.under.pages gref value) f
-data_same w gref value few f low high = other_frame w.under.pages (gref / 512) (2 * (gref % 512)) value f (omega arith) (omega arith)
+pool_same : (w : World) (gref value : ℕ) → gref < 1024 → (f : ℕ) → 18 ≤ f → f < 1018 → SameFrame w.under.pages (with_entry_word0 w.under.pages gref value) f
+pool_same w gref value few f low high = other_frame w.under.pages (gref / 512) (2 * (gref % 512)) value f (omega arith) (omega arith)
 
 ring_entry_same : (w : World) (gref value : ℕ) → gref < 1024 → 24 ≤ gref → SameEntry w.under.pages (with_entry_word0 w.under.pages gref value) 8
 ring_entry_same w gref value few low = other_entry w.under.pages gref 8 value few (omega arith) (omega arith)
@@ -84,11 +92,11 @@ more_mappings gref live x =
     omega arith
 
 -- a job's first stage with a mapping is at the station of its map
-worked_begun : (b : Bool) (m : Mapping) → worked (sector_stage b m) ≡ Working 0
-worked_begun true m = refl
-worked_begun false m = refl
+worked_begun : (b : Bool) (m : Mapping) (moved : ℕ) → worked (sector_stage b m) moved ≡ Working moved
+worked_begun true m moved = refl
+worked_begun false m moved = refl
 
--- the job maps its frame
+-- the job maps the frame of its present segment
 pub map_goes : (config : Options) (w : World) (g : Flow) (d : Pipeline) (number p : ℕ) (t : Work) (r : Request) (o : Outcome)
     → Holds config w g d w.front.stage w.back.stage
     → IsAt w g d p t r
@@ -100,19 +108,28 @@ map_goes config w g d number p t r o h is e at = subst (λ (x : Option BackAct).
   step = None;
   does = nothing (CallOf (ask_at job.Map t) o) _ d (λ a b call. same_Some b a (subst (λ (x : BackAsk). CallOf x o a b) asked call).1);
   holds = subst (λ (x : Work). let v : World = record { front = w.front; back = record w.back { jobs = record w.back.jobs { works = slice_set w.back.jobs.works p x }; told = None }; under = under } in Holds config v g d v.front.stage v.back.stage) (sym stepped)
-      (job_holds config w g d d p t later pages grants h is.place refl (stations_stay config w g d p t later r w.under.pages h.stations is.place is.known refl (worked_begun (is_write r.transfer) m ∙ sym (ap worked e))
-      (λ q was reads. subst (λ (b : Bool). ReadAt w.under.pages r.frame t.words q.words (sector_stage b m)) (sym reads) (read_was config w g d p t r h is e q was reads)))
+      (job_holds config w g d d p t later pages grants h is.place refl
+      (stations_stay config w g d p t later r w.under.pages h.stations is.place is.known refl
+      (worked_begun (is_write r.transfer) m t.moved ∙ sym (ap (λ (j : JobStage). worked j t.moved) e))
+      (λ q was reads. subst (λ (b : Bool). ReadAt w.under.pages r t.moved t.words q.words (sector_stage b m)) (sym reads) (read_was config w g d p t r h is e q was reads)))
       (work_of w g d d p t later r is refl refl refl (begun (is_write r.transfer) refl))
-      sized (ring_frame_same w (r.frame + 6) value (let top = own.high in omega arith)) (ring_entry_same w (r.frame + 6) value (let top = own.high in omega arith) (let low = own.low in omega arith)) (data_same w (r.frame + 6) value (let top = own.high in omega arith))
-      (marked config w g d t r grants.live value h own counted others)
-      (mapped_more w.under.grants.live (hands_of w.back) (hands_at w.back.stage (record w.back { jobs = record w.back.jobs { works = slice_set w.back.jobs.works p later } })) m r.frame refl more h.mapped));
+      sized (ring_frame_same w (frame + 6) value (omega (arith, pooled.1)))
+      (ring_entry_same w (frame + 6) value (omega (arith, pooled.1)) (omega (arith, pooled.0))) (pool_same w (frame + 6) value (omega (arith, pooled.1)))
+      (marked config w g d t r moving.place grants.live value h own moving.here counted others)
+      (mapped_more w.under.grants.live (hands_of w.back) (hands_at w.back.stage (record w.back { jobs = record w.back.jobs { works = slice_set w.back.jobs.works p later } })) m frame refl more h.mapped));
 })
   where
     moving : IsMoving t r
-    moving = at
+    moving = at.0
 
     own : IsOwn w g t r
     own = own_at config w g d p t r h is (at_work w g d p t r is e at)
+
+    frame : ℕ
+    frame = frame_at r moving.place
+
+    pooled : IsPooled frame
+    pooled = pooled_at r own.frames moving.place
 
     mode : Mode
     mode = mode_of (is_write r.transfer)
@@ -121,13 +138,13 @@ map_goes config w g d number p t r o h is e at = subst (λ (x : Option BackAct).
     value = mapped_flags r.transfer
 
     m : Mapping
-    m = next_mapping w.under.grants (r.frame + 6) mode
+    m = next_mapping w.under.grants (frame + 6) mode
 
     held : Held
-    held = record { mapping = m; frame = r.frame }
+    held = record { mapping = m; frame = frame }
 
     pages : List ℕ
-    pages = with_entry_word0 w.under.pages (r.frame + 6) value
+    pages = with_entry_word0 w.under.pages (frame + 6) value
 
     grants : GrantTable
     grants = record { made = w.under.grants.made + 1; live = w.under.grants.live ++ held ∷ [] }
@@ -139,10 +156,19 @@ map_goes config w g d number p t r o h is e at = subst (λ (x : Option BackAct).
     later = record t { stage = sector_stage (is_write r.transfer) m }
 
     still_moving : IsMoving later r
-    still_moving = record { writes = moving.writes; within = moving.within; rest = moving.rest; moved = moving.moved; disk = moving.disk; words = moving.words }
+    still_moving = record {
+      place = moving.place;
+      here = moving.here;
+      writes = moving.writes;
+      within = moving.within;
+      rest = moving.rest;
+      moved = moving.moved;
+      disk = moving.disk;
+      words = moving.words;
+    }
 
     sized : length pages ≡ 1114112
-    sized = length-set w.under.pages ((r.frame + 6) / 512 * 1024 + 2 * ((r.frame + 6) % 512)) value ∙ h.memory
+    sized = length-set w.under.pages ((frame + 6) / 512 * 1024 + 2 * ((frame + 6) % 512)) value ∙ h.memory
 
     granted : IsGranted g.pushed w.under.pages w.under.grants.live w.front.stage r
     granted = all_at (IsGranted g.pushed w.under.pages w.under.grants.live w.front.stage) w.front.requests own.place r h.entries.each own.at
@@ -159,27 +185,28 @@ map_goes config w g d number p t r o h is e at = subst (λ (x : Option BackAct).
             let off : i ≢ p = grind (arith, nat_tests) in
             absurd (other_number w.back.jobs.works p i t u h.works.ascending off is.place f (same ∙ own.number))
 
-    none : mappings_of (r.frame + 6) w.under.grants.live ≡ 0
-    none = unmapped config w g d w.front.stage w.back.stage h own.place r own.at alone (λ (x : Mapping). x.gref == r.frame + 6) (λ x apart. grind (arith, nat_tests))
+    none : mappings_of (frame + 6) w.under.grants.live ≡ 0
+    none = unmapped config w g d w.front.stage w.back.stage h own.place r own.at moving.place moving.here alone (λ (x : Mapping). x.gref == frame + 6) (λ x apart. grind (arith, nat_tests))
 
-    flags : entry_word0 w.under.pages (r.frame + 6) ≡ grant_flags r.transfer
-    flags = granted.flags own.reached ∙ ap (λ (n : ℕ). flags_with r.transfer n) none
+    flags : entry_word0 w.under.pages (frame + 6) ≡ grant_flags r.transfer
+    flags = granted.flags own.reached moving.place moving.here ∙ ap (λ (n : ℕ). flags_with r.transfer n) none
 
-    verdict : verdict_at w.under.pages (r.frame + 6) mode ≡ Ok r.frame
+    verdict : verdict_at w.under.pages (frame + 6) mode ≡ Ok frame
     verdict =
-        ap (λ (n : ℕ). verdict_of (r.frame + 6) n (entry_word1 w.under.pages (r.frame + 6)) mode) flags
-        ∙ (ap (λ (n : ℕ). verdict_of (r.frame + 6) (grant_flags r.transfer) n mode) (granted.named own.reached)
-        ∙ may_map r.transfer r.frame (let low = own.low in omega arith) own.high)
+        ap (λ (n : ℕ). verdict_of (frame + 6) n (entry_word1 w.under.pages (frame + 6)) mode) flags
+        ∙ (ap (λ (n : ℕ). verdict_of (frame + 6) (grant_flags r.transfer) n mode) (granted.named own.reached moving.place moving.here)
+        ∙ may_map r.transfer frame (omega (arith, pooled.0)) pooled.1)
 
-    asked : ask_at job.Map t ≡ ask.Map (r.frame + 6) mode
-    asked = rw (moving.rest, moving.writes) refl
+    asked : ask_at job.Map t ≡ ask.Map (frame + 6) mode
+    asked = ap (λ (rest : List Segment). map_ask rest t.writes) (moving.rest ∙ own_here r moving.place own.shaped moving.here)
+        ∙ ap (λ (b : Bool). ask.Map (frame + 6) (mode_of b)) moving.writes
 
-    acted : back_act w.under (back_mover.Job number) (ask_at job.Map t) o ≡ Some (record { answer = answer.Mapped m; under = under; shown = moves.Map (back_mover.Job number) (r.frame + 6) mode (w.under.grants.made + 1) r.frame })
+    acted : back_act w.under (back_mover.Job number) (ask_at job.Map t) o ≡ Some (record { answer = answer.Mapped m; under = under; shown = moves.Map (back_mover.Job number) (frame + 6) mode (w.under.grants.made + 1) frame })
     acted =
         ap (λ (a : BackAsk). back_act w.under (back_mover.Job number) a o) asked
-        ∙ (ap (λ (x : Result ℕ MapRefusal). Some (map_act w.under (back_mover.Job number) (r.frame + 6) mode x)) verdict
-        ∙ (ap (λ (n : ℕ). Some (record { answer = answer.Mapped m; under = record w.under { pages = with_entry_word0 w.under.pages (r.frame + 6) (mapped_entry n mode); grants = grants }; shown = moves.Map (back_mover.Job number) (r.frame + 6) mode (w.under.grants.made + 1) r.frame })) flags
-        ∙ ap (λ (n : ℕ). Some (record { answer = answer.Mapped m; under = record w.under { pages = with_entry_word0 w.under.pages (r.frame + 6) n; grants = grants }; shown = moves.Map (back_mover.Job number) (r.frame + 6) mode (w.under.grants.made + 1) r.frame })) (set_flags r.transfer)))
+        ∙ (ap (λ (x : Result ℕ MapRefusal). Some (map_act w.under (back_mover.Job number) (frame + 6) mode x)) verdict
+        ∙ (ap (λ (n : ℕ). Some (record { answer = answer.Mapped m; under = record w.under { pages = with_entry_word0 w.under.pages (frame + 6) (mapped_entry n mode); grants = grants }; shown = moves.Map (back_mover.Job number) (frame + 6) mode (w.under.grants.made + 1) frame })) flags
+        ∙ ap (λ (n : ℕ). Some (record { answer = answer.Mapped m; under = record w.under { pages = with_entry_word0 w.under.pages (frame + 6) n; grants = grants }; shown = moves.Map (back_mover.Job number) (frame + 6) mode (w.under.grants.made + 1) frame })) (set_flags r.transfer)))
 
     stepped : step_at job.Map t (answer.Mapped m) ≡ later
     stepped = ap (λ (b : Bool). record t { stage = sector_stage b m }) moving.writes
@@ -188,18 +215,18 @@ map_goes config w g d number p t r o h is e at = subst (λ (x : Option BackAct).
     begun true writes = (still_moving, record { gref = refl; mode = refl }, omega arith, writes, λ i lt. absurd (omega arith))
     begun false reads = (still_moving, record { gref = refl; mode = refl }, reads)
 
-    counted : value ≡ flags_with r.transfer (mappings_of (r.frame + 6) grants.live)
+    counted : value ≡ flags_with r.transfer (mappings_of (frame + 6) grants.live)
     counted =
-        let same : (r.frame + 6 == r.frame + 6) ≡ true = grind (arith, nat_tests) in
-        let one : ◌≡◌ {A = ℕ} (cond (r.frame + 6 == r.frame + 6) 1 0) 1 = rw same refl in
+        let same : (frame + 6 == frame + 6) ≡ true = grind (arith, nat_tests) in
+        let one : ◌≡◌ {A = ℕ} (cond (frame + 6 == frame + 6) 1 0) 1 = rw same refl in
         let free = none in
-        let all : mappings_of (r.frame + 6) grants.live ≡ 1 = more_mappings (r.frame + 6) w.under.grants.live held ∙ omega arith in
+        let all : mappings_of (frame + 6) grants.live ≡ 1 = more_mappings (frame + 6) w.under.grants.live held ∙ omega arith in
         sym (ap (λ (n : ℕ). flags_with r.transfer n) all)
 
-    others : (f : ℕ) → f ≢ r.frame → mappings_of (f + 6) grants.live ≡ mappings_of (f + 6) w.under.grants.live
+    others : (f : ℕ) → f ≢ frame → mappings_of (f + 6) grants.live ≡ mappings_of (f + 6) w.under.grants.live
     others f apart =
-        let differs : (r.frame + 6 == f + 6) ≡ false = grind (arith, nat_tests) in
-        let zero_more : ◌≡◌ {A = ℕ} (cond (r.frame + 6 == f + 6) 1 0) 0 = rw differs refl in
+        let differs : (frame + 6 == f + 6) ≡ false = grind (arith, nat_tests) in
+        let zero_more : ◌≡◌ {A = ℕ} (cond (frame + 6 == f + 6) 1 0) 0 = rw differs refl in
         more_mappings (f + 6) w.under.grants.live held ∙ omega arith
 
     more : HasOneMore m (hands_of w.back) (hands_at w.back.stage (record w.back { jobs = record w.back.jobs { works = slice_set w.back.jobs.works p later } }))
@@ -208,16 +235,17 @@ map_goes config w g d number p t r o h is e at = subst (λ (x : Option BackAct).
         (subst (λ (a : BackAsk). HandsAfter a (answer.Mapped m) (hands_of w.back) (hands_at w.back.stage (record w.back { jobs = record w.back.jobs { works = slice_set w.back.jobs.works p (step_at job.Map t (answer.Mapped m)) } }))) asked
         (hands_step w p t job.Map (answer.Mapped m) is.place e (subst (λ (a : BackAsk). IsAnswer a (answer.Mapped m)) (sym asked) (refl, refl))))
 
--- how many mappings of the request's frame there are while the job has its one in hand, and when it gave it up
+-- how many mappings of a frame of the request there are while the job has its one in hand, and when it gave it up
 hand_counted : (config : Options) (w : World) (g : Flow) (d : Pipeline) (p : ℕ) (t t' : Work) (r : Request)
     → Holds config w g d w.front.stage w.back.stage
     → IsAt w g d p t r
     → IsOwn w g t r
+    → (a : ℕ) → a < frames_of r
     → mapping_at t'.stage ≡ None
-    → (test : Mapping → Bool) → ((m : Mapping) → m.gref ≢ r.frame + 6 → test m ≡ false)
+    → (test : Mapping → Bool) → ((m : Mapping) → m.gref ≢ frame_at r a + 6 → test m ≡ false)
     → count_by test (hands_at w.back.stage (record w.back { jobs = record w.back.jobs { works = slice_set w.back.jobs.works p t' } })) ≡ 0
-hand_counted config w g d p t t' r h is own none test apart =
-    none_in_hands config w g d w.front.stage w.back.stage h own.place r own.at (slice_set w.back.jobs.works p t') (λ i u m e f. by_place i u m f (set_was w.back.jobs.works p i t t' u is.place e)) test apart
+hand_counted config w g d p t t' r h is own a in_r none test apart =
+    none_in_hands config w g d w.front.stage w.back.stage h own.place r own.at a in_r (slice_set w.back.jobs.works p t') (λ i u m e f. by_place i u m f (set_was w.back.jobs.works p i t t' u is.place e)) test apart
   where
     by_place : (i : ℕ) (u : Work) (m : Mapping) → mapping_at u.stage ≡ Some m → ((i ≡ p) × (u ≡ t')) ⊎ ((i ≢ p) × (slice_get w.back.jobs.works i ≡ Some u)) → (k : ℕ) × (slice_get w.back.jobs.works k ≡ Some u) × (u.number ≢ r.number)
     by_place i u m f (inl at) = absurd (none-some m (sym none ∙ (ap (λ (x : Work). mapping_at x.stage) (sym at.1) ∙ f)))
@@ -233,42 +261,49 @@ pub unmap_holds : (config : Options) (w : World) (g : Flow) (d d' : Pipeline) (p
     → IsAt w g d p t r
     → IsWork g.submitted g.fetched t
     → mapping_at t.stage ≡ Some m
-    → IsHand m r
+    → (a : ℕ) → a < frames_of r → IsHand m r a
     → mapping_at t'.stage ≡ None
     → t'.number ≡ t.number
     → StationsWith config w g d' (slice_set w.back.jobs.works p t') w.under.pages
     → IsWork g.submitted g.fetched t'
     → HasOneMore m (hands_at w.back.stage (record w.back { jobs = record w.back.jobs { works = slice_set w.back.jobs.works p t' } })) (hands_of w.back)
     → (let v : World = record { front = w.front; back = record w.back { jobs = record w.back.jobs { works = slice_set w.back.jobs.works p t' }; told = None }; under = record w.under { pages = unmap_pages w.under.grants w.under.pages m; grants = unmap_table w.under.grants m } } in Holds config v g d' v.front.stage v.back.stage)
-unmap_holds config w g d d' p t t' r m h held is work has hand none number stations now more =
+unmap_holds config w g d d' p t t' r m h held is work has a in_r hand none number stations now more =
     subst (λ (pages : List ℕ). let v : World = record { front = w.front; back = record w.back { jobs = record w.back.jobs { works = slice_set w.back.jobs.works p t' }; told = None }; under = record w.under { pages = pages; grants = unmap_table w.under.grants m } } in Holds config v g d' v.front.stage v.back.stage) (sym written_so)
     (job_holds config w g d d' p t t' pages (unmap_table w.under.grants m) h is.place number stations now
-    sized (ring_frame_same w (r.frame + 6) value (let top = own.high in omega arith)) (ring_entry_same w (r.frame + 6) value (let top = own.high in omega arith) (let low = own.low in omega arith)) (data_same w (r.frame + 6) value (let top = own.high in omega arith))
-    (marked config w g d t r left value h own (sym (ap (λ (n : ℕ). flags_with r.transfer n) gone)) others) fewer)
+    sized (ring_frame_same w (frame + 6) value (omega (arith, pooled.1)))
+    (ring_entry_same w (frame + 6) value (omega (arith, pooled.1)) (omega (arith, pooled.0))) (pool_same w (frame + 6) value (omega (arith, pooled.1)))
+    (marked config w g d t r a left value h own in_r (sym (ap (λ (n : ℕ). flags_with r.transfer n) gone)) others) fewer)
   where
     own : IsOwn w g t r
     own = own_at config w g d p t r h is work
+
+    frame : ℕ
+    frame = frame_at r a
+
+    pooled : IsPooled frame
+    pooled = pooled_at r own.frames a
 
     value : ℕ
     value = grant_flags r.transfer
 
     pages : List ℕ
-    pages = with_entry_word0 w.under.pages (r.frame + 6) value
+    pages = with_entry_word0 w.under.pages (frame + 6) value
 
     left : List Held
     left = without m.number w.under.grants.live
 
     sized : length pages ≡ 1114112
-    sized = length-set w.under.pages ((r.frame + 6) / 512 * 1024 + 2 * ((r.frame + 6) % 512)) value ∙ h.memory
+    sized = length-set w.under.pages ((frame + 6) / 512 * 1024 + 2 * ((frame + 6) % 512)) value ∙ h.memory
 
     fewer : AreMapped left (hands_at w.back.stage (record w.back { jobs = record w.back.jobs { works = slice_set w.back.jobs.works p t' } }))
     fewer = mapped_less w.under.grants (hands_of w.back) (hands_at w.back.stage (record w.back { jobs = record w.back.jobs { works = slice_set w.back.jobs.works p t' } })) m held (live_hand w p t m is.place has held) more h.mapped
 
-    gone : mappings_of (r.frame + 6) left ≡ 0
-    gone = fewer.counted (λ (x : Mapping). x.gref == r.frame + 6) ∙ hand_counted config w g d p t t' r h is own none (λ (x : Mapping). x.gref == r.frame + 6) (λ x apart. grind (arith, nat_tests))
+    gone : mappings_of (frame + 6) left ≡ 0
+    gone = fewer.counted (λ (x : Mapping). x.gref == frame + 6) ∙ hand_counted config w g d p t t' r h is own a in_r none (λ (x : Mapping). x.gref == frame + 6) (λ x apart. grind (arith, nat_tests))
 
-    none_writes : writers_of (r.frame + 6) left ≡ 0
-    none_writes = fewer.counted (λ (x : Mapping). x.gref == r.frame + 6 && is_for_writing x.mode) ∙ hand_counted config w g d p t t' r h is own none (λ (x : Mapping). x.gref == r.frame + 6 && is_for_writing x.mode) (λ x apart. let differs : (x.gref == r.frame + 6) ≡ false = grind (arith, nat_tests) in rw differs refl)
+    none_writes : writers_of (frame + 6) left ≡ 0
+    none_writes = fewer.counted (λ (x : Mapping). x.gref == frame + 6 && is_for_writing x.mode) ∙ hand_counted config w g d p t t' r h is own a in_r none (λ (x : Mapping). x.gref == frame + 6 && is_for_writing x.mode) (λ x apart. let differs : (x.gref == frame + 6) ≡ false = grind (arith, nat_tests) in rw differs refl)
 
     counts : (f : ℕ) → mappings_of (f + 6) w.under.grants.live ≡ mappings_of (f + 6) left + cond (m.gref == f + 6) 1 0
     counts f =
@@ -277,16 +312,16 @@ unmap_holds config w g d d' p t t' r m h held is work has hand none number stati
         let one = hands_more (λ (x : Mapping). x.gref == f + 6) m (hands_at w.back.stage (record w.back { jobs = record w.back.jobs { works = slice_set w.back.jobs.works p t' } })) (hands_of w.back) more in
         omega arith
 
-    one_mapping : mappings_of (r.frame + 6) w.under.grants.live ≡ 1
+    one_mapping : mappings_of (frame + 6) w.under.grants.live ≡ 1
     one_mapping =
         let gref = hand.gref in
-        let same : (m.gref == r.frame + 6) ≡ true = grind (arith, nat_tests) in
-        let one : ◌≡◌ {A = ℕ} (cond (m.gref == r.frame + 6) 1 0) 1 = rw same refl in
+        let same : (m.gref == frame + 6) ≡ true = grind (arith, nat_tests) in
+        let one : ◌≡◌ {A = ℕ} (cond (m.gref == frame + 6) 1 0) 1 = rw same refl in
         let none_left = gone in
-        let all = counts r.frame in
+        let all = counts frame in
         omega arith
 
-    others : (f : ℕ) → f ≢ r.frame → mappings_of (f + 6) left ≡ mappings_of (f + 6) w.under.grants.live
+    others : (f : ℕ) → f ≢ frame → mappings_of (f + 6) left ≡ mappings_of (f + 6) w.under.grants.live
     others f apart =
         let gref = hand.gref in
         let differs : (m.gref == f + 6) ≡ false = grind (arith, nat_tests) in
@@ -297,13 +332,13 @@ unmap_holds config w g d d' p t t' r m h held is work has hand none number stati
     granted : IsGranted g.pushed w.under.pages w.under.grants.live w.front.stage r
     granted = all_at (IsGranted g.pushed w.under.pages w.under.grants.live w.front.stage) w.front.requests own.place r h.entries.each own.at
 
-    flags : entry_word0 w.under.pages (r.frame + 6) ≡ mapped_flags r.transfer
-    flags = granted.flags own.reached ∙ ap (λ (n : ℕ). flags_with r.transfer n) one_mapping
+    flags : entry_word0 w.under.pages (frame + 6) ≡ mapped_flags r.transfer
+    flags = granted.flags own.reached a in_r ∙ ap (λ (n : ℕ). flags_with r.transfer n) one_mapping
 
     written_so : unmap_pages w.under.grants w.under.pages m ≡ pages
     written_so =
         ap (λ (n : ℕ). with_entry_word0 w.under.pages n (unmapped_entry (entry_word0 w.under.pages n) (mappings_of n left) (writers_of n left))) hand.gref
-        ∙ (ap (λ (n : ℕ). with_entry_word0 w.under.pages (r.frame + 6) (unmapped_entry n (mappings_of (r.frame + 6) left) (writers_of (r.frame + 6) left))) flags
-        ∙ (ap (λ (n : ℕ). with_entry_word0 w.under.pages (r.frame + 6) (unmapped_entry (mapped_flags r.transfer) n (writers_of (r.frame + 6) left))) gone
-        ∙ (ap (λ (n : ℕ). with_entry_word0 w.under.pages (r.frame + 6) (unmapped_entry (mapped_flags r.transfer) 0 n)) none_writes
-        ∙ ap (λ (n : ℕ). with_entry_word0 w.under.pages (r.frame + 6) n) (cleared_flags r.transfer))))
+        ∙ (ap (λ (n : ℕ). with_entry_word0 w.under.pages (frame + 6) (unmapped_entry n (mappings_of (frame + 6) left) (writers_of (frame + 6) left))) flags
+        ∙ (ap (λ (n : ℕ). with_entry_word0 w.under.pages (frame + 6) (unmapped_entry (mapped_flags r.transfer) n (writers_of (frame + 6) left))) gone
+        ∙ (ap (λ (n : ℕ). with_entry_word0 w.under.pages (frame + 6) (unmapped_entry (mapped_flags r.transfer) 0 n)) none_writes
+        ∙ ap (λ (n : ℕ). with_entry_word0 w.under.pages (frame + 6) n) (cleared_flags r.transfer))))

@@ -1,7 +1,7 @@
 -- Each move of a job, by its stage.
-use Rattle.std.proofs.Common.{◌≡◌, ◌≢◌, ℕ, zero, ◌+◌, ◌-◌, ◌<◌, ◌≤◌, ◌==◌, if◌then◌else◌, Bool, true, false, List, [], ◌∷◌, refl, ap, sym, ◌∙◌, subst, arith, length-set, get_or-set_other}
+use Rattle.std.proofs.Common.{◌≡◌, ◌≢◌, ℕ, zero, ◌+◌, ◌-◌, ◌*◌, ◌%◌, ◌^◌, ◌<◌, ◌≤◌, ◌==◌, if◌then◌else◌, Bool, true, false, List, [], ◌∷◌, refl, ap, sym, ◌∙◌, subst, arith, length-set, get_or-set_other}
 use Rattle.std.proofs.lemmas.Grind.{get_or-set_at}
-use Rattle.std.specs.Prelude.{Option, Some, None, slice_get, slice_set, slice_index}
+use Rattle.std.specs.Prelude.{All, Option, Some, None, slice_get, slice_set, slice_index}
 use Rattle.std.proofs.lemmas.Option.{same_Some}
 use Rattle.std.proofs.lemmas.Bool.{false≢true}
 use Rattle.std.proofs.lemmas.List.Elements.{All-contains}
@@ -16,14 +16,14 @@ use Rattle.schedule_text.specs.declared.line.Line.{Line}
 use Rattle.schedule_text.specs.declared.line.Line.TheVariants.{Move}
 use Rattle.xen_pages.specs.Pages.{word_of}
 use Rattle.grant_table.specs.Table.{IsLive, frame_of}
-use Rattle.pipeline_laws.specs.Station.{Request as Asked}
+use Rattle.pipeline_laws.specs.Station.{Working, Request as Asked}
 use Rattle.pipeline_laws.specs.Pipeline.{Pipeline}
 use Rattle.hypervisor.specs.Act.{BackAct, Outcome, back_act}
 use Rattle.blk_front.specs.declared.request.Request.{Request}
-use Rattle.blk_front.specs.Request.{is_write, tag_of, operation_of}
+use Rattle.blk_front.specs.Request.{is_write, tag_of, operation_of, words_in, frame_at, filling_at, IsShaped}
 use Rattle.back_jobs.specs.declared.stage.Stage.{Stage as JobStage}
 use Rattle.back_jobs.specs.declared.stage.Stage.TheVariants as job
-use Rattle.back_jobs.specs.Task.{Work, ask_at, step_at, word_at, IsAnswer}
+use Rattle.back_jobs.specs.Task.{Work, ask_at, step_at, word_at, last_of, sector_stage, next_sector, IsAnswer}
 use Rattle.back_jobs.specs.Jobs.{effect_at, mapping_at}
 use Rattle.back_jobs.specs.Hands.{hand_of, hands_in, Names, HandsAfter}
 use Rattle.back_jobs.proofs.Hands.{named_in, told_hands, framed as between}
@@ -33,9 +33,10 @@ use Rattle.blk_back.specs.Step.{told_effect}
 use Rattle.split_model.specs.World.{World}
 use Rattle.split_model.specs.Shown.{back_lines}
 use Rattle.split_model.specs.Safe.{AreHeld}
-use Rattle.machine_pipeline.proofs.Flow.{Flow, worked}
+use Rattle.machine_pipeline.proofs.Flow.{Flow, frames_of, data_word, worked}
+use Rattle.machine_pipeline.proofs.Segments.{own_here, within_last, word_place, data_place}
 use Rattle.machine_pipeline.proofs.ReadBack.{ReadAt}
-use Rattle.machine_pipeline.proofs.Holds.{Holds, IsWork, IsMoving, AtWork, IsFilled, AreMapped}
+use Rattle.machine_pipeline.proofs.Holds.{Holds, IsWork, IsPooled, IsHand, IsInSegment, IsMoving, IsReturning, AtWork, IsFilled, AreMapped, last_in, sector_word}
 use Rattle.machine_pipeline.proofs.Turns.{GoesBy, nothing, no_move}
 use Rattle.machine_pipeline.proofs.Lists.{all_at, all_same}
 use Rattle.machine_pipeline.proofs.Mapped.{frame_live}
@@ -98,9 +99,9 @@ hands_step w p t j x place e =
 pub at_work : (w : World) (g : Flow) (d : Pipeline) (p : ℕ) (t : Work) (r : Request) {j : JobStage} → IsAt w g d p t r → t.stage ≡ j → AtWork r t j → IsWork g.submitted g.fetched t
 at_work w g d p t r is e at = work_of w g d d p t t r is refl refl refl (subst (AtWork r t) (sym e) at)
 
--- what a read's job has in hand, and its frame holds
-pub read_was : (config : Options) (w : World) (g : Flow) (d : Pipeline) (p : ℕ) (t : Work) (r : Request) {j : JobStage} → Holds config w g d w.front.stage w.back.stage → IsAt w g d p t r → t.stage ≡ j → (q : Asked) → slice_get d.requests (t.number - 1) ≡ Some q → is_write r.transfer ≡ false → ReadAt w.under.pages r.frame t.words q.words j
-read_was config w g d p t r h is e q was reads = subst (ReadAt w.under.pages r.frame t.words q.words) e (h.stations.reads.working p t r q is.place is.known was reads)
+-- what a read's job has in hand, and its frames hold
+pub read_was : (config : Options) (w : World) (g : Flow) (d : Pipeline) (p : ℕ) (t : Work) (r : Request) {j : JobStage} → Holds config w g d w.front.stage w.back.stage → IsAt w g d p t r → t.stage ≡ j → (q : Asked) → slice_get d.requests (t.number - 1) ≡ Some q → is_write r.transfer ≡ false → ReadAt w.under.pages r t.moved t.words q.words j
+read_was config w g d p t r h is e q was reads = subst (ReadAt w.under.pages r t.moved t.words q.words) e (h.stations.reads.working p t r q is.place is.known was reads)
 
 -- the job's request among the front's
 pub record IsOwn (w : World) (g : Flow) (t : Work) (r : Request) : Type 0 where
@@ -108,8 +109,8 @@ pub record IsOwn (w : World) (g : Flow) (t : Work) (r : Request) : Type 0 where
   pub at : slice_get w.front.requests place ≡ Some r
   pub number : r.number ≡ t.number
   pub reached : r.number ≤ g.pushed
-  pub low : 18 ≤ r.frame
-  pub high : r.frame < 1018
+  pub shaped : IsShaped r
+  pub frames : All IsPooled r.frames.items
 
 pub own_at : (config : Options) (w : World) (g : Flow) (d : Pipeline) (p : ℕ) (t : Work) (r : Request) → Holds config w g d w.front.stage w.back.stage → IsAt w g d p t r → IsWork g.submitted g.fetched t → IsOwn w g t r
 own_at config w g d p t r h is work =
@@ -121,14 +122,84 @@ own_at config w g d p t r h is work =
     let reached = is.reached in
     let indices = h.indices in
     let pushed = indices.fetched_pushed in
-    record { place = its.place; at = its.at ∙ ap Some same; number = omega arith; reached = omega arith; low = number.low; high = number.high }
+    record { place = its.place; at = its.at ∙ ap Some same; number = omega arith; reached = omega arith; shaped = number.shaped; frames = number.frames }
 
--- the words of a write lie in its frame
-filled_at : (config : Options) (w : World) (g : Flow) (d : Pipeline) (p : ℕ) (t : Work) (r : Request) → Holds config w g d w.front.stage w.back.stage → IsAt w g d p t r → IsWork g.submitted g.fetched t → is_write r.transfer ≡ true → (i : ℕ) → i < 128 → word_of w.under.pages r.frame i ≡ tag_of r.transfer
+-- the words of a write lie in its frames
+filled_at : (config : Options) (w : World) (g : Flow) (d : Pipeline) (p : ℕ) (t : Work) (r : Request)
+    → Holds config w g d w.front.stage w.back.stage
+    → IsAt w g d p t r
+    → IsWork g.submitted g.fetched t
+    → is_write r.transfer ≡ true
+    → (n : ℕ) → n < words_in r → data_word w.under.pages r n ≡ filling_at r.transfer n
 filled_at config w g d p t r h is work writes =
     let own = own_at config w g d p t r h is work in
     let filled = all_at (IsFilled g.pushed w.under.pages w.front.stage) w.front.requests own.place r h.frames own.at in
     filled.whole writes own.reached
+
+-- the sector that a job is at is one of its request's
+pub sectors_left : (t : Work) (r : Request) (ahead : ℕ) → IsShaped r → IsInSegment t r ahead → (t.moved + ahead ≤ r.count) × (t.within ≤ 7) × (r.count ≤ 88)
+sectors_left t r ahead shaped x = (
+  within_last r.count (frames_of r) x.place t.within t.moved ahead shaped.frames x.here x.within x.moved shaped.some,
+  (let within = x.within in omega arith),
+  shaped.few,
+)
+
+-- a sector was moved: the job is at the next one of its segment, or gives the frame up where that was the last one
+abbrev pub further : Work → Request → Mapping → Bool → Work
+further t r m last = record t { within = if last then t.within else t.within + 1; stage = if last then job.Unmap m else sector_stage (is_write r.transfer) m }
+
+pub next_sector_is : (t : Work) (r : Request) (m : Mapping)
+    → IsShaped r
+    → (x : IsReturning t r)
+    → next_sector t m ≡ further t r m (t.within == last_in r x.place)
+next_sector_is t r m shaped x =
+    let last : last_of t.rest ≡ last_in r x.place = ap last_of (x.rest ∙ own_here r x.place shaped x.here) in
+    ap (λ (n : ℕ). if t.within == n then record t { stage = job.Unmap m } else record t { within = t.within + 1; stage = sector_stage t.writes m }) last
+    ∙ (ap (λ (b : Bool). if t.within == last_in r x.place then record t { stage = job.Unmap m }
+    else record t { within = t.within + 1; stage = sector_stage b m }) x.writes
+    ∙ by_test (t.within == last_in r x.place))
+  where
+    by_test : (b : Bool)
+        → (if b then record t { stage = job.Unmap m } else record t { within = t.within + 1; stage = sector_stage (is_write r.transfer) m }) ≡ further t r m b
+    by_test true = refl
+    by_test false = refl
+
+pub worked_further : (last writes : Bool) (m : Mapping) (moved : ℕ) → worked (if last then job.Unmap m else sector_stage writes m) moved ≡ Working moved
+worked_further true writes m moved = refl
+worked_further false true m moved = refl
+worked_further false false m moved = refl
+
+pub at_further : (t : Work) (r : Request) (m : Mapping) (last : Bool)
+    → (x : IsReturning t r)
+    → IsHand m r x.place
+    → (t.within == last_in r x.place) ≡ last
+    → AtWork r (further t r m last) (if last then job.Unmap m else sector_stage (is_write r.transfer) m)
+at_further t r m true x hand tested = (
+  record {
+    place = x.place;
+    here = x.here;
+    writes = x.writes;
+    rest = x.rest;
+    within = x.within;
+    moved = x.moved;
+    disk = x.disk;
+    words = x.words;
+  },
+  hand,
+  grind (arith, nat_tests),
+)
+at_further t r m false x hand tested = by_way (is_write r.transfer) refl
+  where
+    next : IsMoving (further t r m false) r
+    next =
+        let within = x.within in
+        let moved = x.moved in
+        let apart : t.within ≢ last_in r x.place = grind (arith, nat_tests) in
+        record { place = x.place; here = x.here; writes = x.writes; rest = x.rest; within = omega arith; moved = omega arith; disk = x.disk; words = x.words }
+
+    by_way : (b : Bool) → is_write r.transfer ≡ b → AtWork r (further t r m false) (sector_stage b m)
+    by_way true writes = (next, hand, omega arith, writes, λ i lt. absurd (omega arith))
+    by_way false reads = (next, hand, reads)
 
 -- a word of data is read
 pub read_goes : (config : Options) (w : World) (g : Flow) (d : Pipeline) (number p : ℕ) (t : Work) (r : Request) (m : Mapping) (k : ℕ) (o : Outcome)
@@ -151,37 +222,55 @@ read_goes config w g d number p t r m k o h held is e at = record {
     value : ℕ
     value = word_of w.under.pages (frame_of w.under.grants m) (word_at t k)
 
-    is_tag : value ≡ tag_of r.transfer
-    is_tag =
-        let moving = at.0 in
-        let frame : frame_of w.under.grants m ≡ r.frame = (let hand = at.1 in frame_live w.under.grants m r.frame (live_hand w p t m is.place (rw e refl) held) h.mapped.framed hand.gref) in
-        let word : word_at t k ≡ k = (let within = moving.within in omega arith) in
-        let filled = filled_at config w g d p t r h is (at_work w g d p t r is e at) at.3 in
-        ap (λ (f : ℕ). word_of w.under.pages f (word_at t k)) frame ∙ (ap (λ (i : ℕ). word_of w.under.pages r.frame i) word ∙ filled k at.2)
+    moving : IsMoving t r
+    moving = at.0
+
+    is_word : value ≡ sector_word r t
+    is_word =
+        let frame : frame_of w.under.grants m ≡ frame_at r moving.place =
+        (let hand = at.1 in frame_live w.under.grants m (frame_at r moving.place)
+        (live_hand w p t m is.place (rw e refl) held) h.mapped.framed hand.gref) in
+        let work = at_work w g d p t r is e at in
+        let own = own_at config w g d p t r h is work in
+        let left = sectors_left t r 1 own.shaped moving in
+        let moved = moving.moved in
+        let its = word_place moving.place t.within t.moved k left.1 (omega arith) at.2 in
+        ap (λ (f : ℕ). word_of w.under.pages f (word_at t k)) frame
+        ∙ (sym (data_place w.under.pages r moving.place t.within t.moved k left.1 (omega arith) at.2)
+        ∙ (filled_at config w g d p t r h is work at.3 (128 * t.moved + k) (omega (arith, left.0, at.2))
+        ∙ ap (λ (i : ℕ). (tag_of r.transfer + i) % 2 ^ 32) its.2))
 
     words : List ℕ
     words = slice_set t.words k value
 
-    tags : (i : ℕ) → i < k + 1 → slice_index words i ≡ tag_of r.transfer
-    tags i lt = by_place (i == k) refl
+    filled : (i : ℕ) → i < k + 1 → slice_index words i ≡ sector_word r t
+    filled i lt = by_place (i == k) refl
       where
-        by_place : (b : Bool) → (i == k) ≡ b → slice_index words i ≡ tag_of r.transfer
+        by_place : (b : Bool) → (i == k) ≡ b → slice_index words i ≡ sector_word r t
         by_place true same =
             let it : i ≡ k = grind (arith, nat_tests) in
-            let moving = at.0 in
             let long = moving.words in
-            get_or-set_at t.words k i value 0 (omega (arith, at.2)) (omega arith) ∙ is_tag
+            get_or-set_at t.words k i value 0 (omega (arith, at.2)) (omega arith) ∙ is_word
         by_place false same =
             let apart : i ≢ k = grind (arith, nat_tests) in
             get_or-set_other t.words k i value 0 (omega arith) ∙ at.4 i (omega arith)
 
-    moved : IsMoving (step_at (job.ReadWord m k) t (answer.Word value)) r
-    moved = let was = at.0 in record { writes = was.writes; within = was.within; rest = was.rest; moved = was.moved; disk = was.disk; words = length-set t.words k value ∙ was.words }
+    moved_so : IsMoving (step_at (job.ReadWord m k) t (answer.Word value)) r
+    moved_so = record {
+      place = moving.place;
+      here = moving.here;
+      writes = moving.writes;
+      within = moving.within;
+      rest = moving.rest;
+      moved = moving.moved;
+      disk = moving.disk;
+      words = length-set t.words k value ∙ moving.words;
+    }
 
     by_test : (b : Bool) → (k == 127) ≡ b → AtWork r (step_at (job.ReadWord m k) t (answer.Word value)) (if b then job.DiskWrite m else job.ReadWord m (k + 1))
-    by_test true last = (moved, at.1, at.3, (let long = moved.words in all_same 128 words (tag_of r.transfer) long (λ i lt. tags i (let top : k ≡ 127 = grind (arith, nat_tests) in omega arith))))
-    by_test false last = (moved, at.1, (let apart : k ≢ 127 = grind (arith, nat_tests) in omega (arith, at.2)), at.3, tags)
+    by_test true last = (moved_so, at.1, at.3, (let long = moved_so.words in all_same 128 words (sector_word r t) long (λ i lt. filled i (let top : k ≡ 127 = grind (arith, nat_tests) in omega arith))))
+    by_test false last = (moved_so, at.1, (let apart : k ≢ 127 = grind (arith, nat_tests) in omega (arith, at.2)), at.3, filled)
 
-    read_station : (b : Bool) → worked (if b then job.DiskWrite m else job.ReadWord m (k + 1)) ≡ worked t.stage
+    read_station : (b : Bool) → worked (if b then job.DiskWrite m else job.ReadWord m (k + 1)) t.moved ≡ worked t.stage t.moved
     read_station true = rw e refl
     read_station false = rw e refl

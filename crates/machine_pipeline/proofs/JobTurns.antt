@@ -1,6 +1,7 @@
 -- Whatever move a job makes, all that holds goes on holding.
-use Rattle.std.proofs.Common.{◌≡◌, ℕ, ◌==◌, List, [], refl, sym, subst}
-use Rattle.std.specs.Prelude.{Option, Some, None, slice_get, slice_set}
+use Rattle.std.proofs.Common.{◌≡◌, ℕ, ◌+◌, ◌-◌, ◌<◌, ◌==◌, Bool, true, false, List, [], ◌∷◌, drop, refl, ap, sym, ◌∙◌, subst, arith}
+use Rattle.std.proofs.lemmas.Bool.Decides.{nat_tests}
+use Rattle.std.specs.Prelude.{Option, Some, None, slice_get, slice_set, nat_lt}
 use Rattle.std.proofs.lemmas.Option.{same_Some}
 use Rattle.blk_base.specs.Options.{Options}
 use Rattle.blk_base.specs.declared.ask.BackAsk.{BackAsk}
@@ -15,9 +16,10 @@ use Rattle.schedule_text.specs.declared.line.Line.{Line}
 use Rattle.pipeline_laws.specs.Pipeline.{Pipeline, next}
 use Rattle.hypervisor.specs.Act.{BackAct, Outcome, back_act}
 use Rattle.blk_front.specs.declared.request.Request.{Request}
+use Rattle.blk_front.specs.Request.{IsShaped}
 use Rattle.back_jobs.specs.declared.stage.Stage.{Stage as JobStage}
 use Rattle.back_jobs.specs.declared.stage.Stage.TheVariants as job
-use Rattle.back_jobs.specs.Task.{Work, ask_at, step_at}
+use Rattle.back_jobs.specs.Task.{Work, ask_at, step_at, rest_of, next_segment}
 use Rattle.back_jobs.specs.Jobs.{place_of}
 use Rattle.blk_back.specs.Hands.{hands_of, hands_at}
 use Rattle.blk_back.specs.Step.{job_ask_of}
@@ -25,30 +27,33 @@ use Rattle.split_model.specs.World.{World}
 use Rattle.split_model.specs.Safe.{AreHeld}
 use Rattle.hypervisor.specs.Act.{IsGiven}
 use Rattle.split_model.specs.Happening.{job_after, job_shows}
-use Rattle.machine_pipeline.proofs.Flow.{Flow}
-use Rattle.machine_pipeline.proofs.Holds.{Holds, AtWork, IsWork}
-use Rattle.machine_pipeline.proofs.Turns.{GoesBy, Stepped, does_step, JobGoes}
+use Rattle.machine_pipeline.proofs.Flow.{Flow, frames_of, own_segments, worked}
+use Rattle.machine_pipeline.proofs.Segments.{frame_segment, own_here, own_end, all_moved, frame_moved}
+use Rattle.machine_pipeline.proofs.Holds.{Holds, IsMoving, AtWork, IsWork}
+use Rattle.machine_pipeline.proofs.Turns.{GoesBy, Stepped, nothing, does_step, JobGoes}
 use Rattle.machine_pipeline.proofs.Lists.{all_at, found_at}
-use Rattle.machine_pipeline.proofs.JobMoves.{IsAt, JobGoesAt, act_at, job_says, job_next, stays, work_of, at_work, hands_step, read_goes}
-use Rattle.machine_pipeline.proofs.Jobs.{StationsWith}
+use Rattle.machine_pipeline.proofs.JobMoves.{IsAt, JobGoesAt, act_at, job_says, job_next, stays, work_of, at_work, hands_step, read_was, read_goes}
+use Rattle.machine_pipeline.proofs.Jobs.{StationsWith, stations_stay}
 use Rattle.machine_pipeline.proofs.JobSteps.{ends_well, ends_badly}
 use Rattle.machine_pipeline.proofs.JobDisk.{disk_goes, disk_gives}
 use Rattle.machine_pipeline.proofs.JobWrites.{write_goes}
 use Rattle.machine_pipeline.proofs.JobMaps.{map_goes, unmap_holds}
 use Rattle.machine_pipeline.specs.Step.{CallOf}
 
-unmap_goes : (config : Options) (w : World) (g : Flow) (d : Pipeline) (number p : ℕ) (t : Work) (r : Request) (m : Mapping) (o : Outcome)
+-- the last segment is done: the job is at its end
+unmap_ends : (config : Options) (w : World) (g : Flow) (d : Pipeline) (number p : ℕ) (t : Work) (r : Request) (m : Mapping) (o : Outcome)
     → Holds config w g d w.front.stage w.back.stage
     → AreHeld w.under.grants (hands_of w.back)
     → IsAt w g d p t r
     → t.stage ≡ job.Unmap m
-    → AtWork r t (job.Unmap m)
+    → (at : AtWork r t (job.Unmap m))
+    → at.0.place + 1 ≡ frames_of r
     → JobGoesAt config w d number p t (job.Unmap m) o
-unmap_goes config w g d number p t r m o h held is e at = subst (λ (x : Work). GoesBy None (CallOf (ask_at (job.Unmap m) t) o) config (job_says t (job.Unmap m) (act_at w number t (job.Unmap m) o)) (record { front = w.front; back = record w.back { jobs = record w.back.jobs { works = slice_set w.back.jobs.works p x }; told = None }; under = record w.under { pages = unmap_pages w.under.grants w.under.pages m; grants = unmap_table w.under.grants m } }) d) (sym stepped) (record {
+unmap_ends config w g d number p t r m o h held is e at over = subst (λ (x : Work). GoesBy None (CallOf (ask_at (job.Unmap m) t) o) config (job_says t (job.Unmap m) (act_at w number t (job.Unmap m) o)) (record { front = w.front; back = record w.back { jobs = record w.back.jobs { works = slice_set w.back.jobs.works p x }; told = None }; under = record w.under { pages = unmap_pages w.under.grants w.under.pages m; grants = unmap_table w.under.grants m } }) d) (sym stepped) (record {
   flow = g;
   step = Some s.step;
   does = does_step _ [] refl s;
-  holds = unmap_holds config w g d (next d s.step) p t later r m h held is (at_work w g d p t r is e at) (rw e refl) at.1 refl refl s.now
+  holds = unmap_holds config w g d (next d s.step) p t later r m h held is (at_work w g d p t r is e at) (rw e refl) at.0.place at.0.here at.1 refl refl s.now
       (work_of w g d (next d s.step) p t later r is refl refl refl tt)
       (subst (λ (x : Work). HasOneMore m (hands_at w.back.stage (record w.back { jobs = record w.back.jobs { works = slice_set w.back.jobs.works p x } })) (hands_of w.back)) stepped (hands_step w p t (job.Unmap m) answer.Done is.place e tt));
 })
@@ -56,11 +61,80 @@ unmap_goes config w g d number p t r m o h held is e at = subst (λ (x : Work). 
     later : Work
     later = record t { rest = []; stage = job.Done Okay }
 
+    shaped : IsShaped r
+    shaped = let its = h.submitted.each (t.number - 1) r is.known in its.shaped
+
+    rest : rest_of t.rest ≡ []
+    rest = ap rest_of (at.0.rest ∙ own_here r at.0.place shaped at.0.here) ∙ own_end r (at.0.place + 1) shaped over
+
     stepped : step_at (job.Unmap m) t answer.Done ≡ later
-    stepped = rw at.0 refl
+    stepped = ap (next_segment t) rest
 
     s : Stepped None (CallOf (ask_at (job.Unmap m) t) o) d [] (λ x. StationsWith config w g x (slice_set w.back.jobs.works p later) w.under.pages)
-    s = ends_well o config w g d p t r m [] h is e
+    s = ends_well o config w g d p t r m [] h is e (all_moved r.count (frames_of r) at.0.place t.within t.moved shaped.frames over at.2 at.0.moved shaped.some)
+
+-- another segment comes: its frame is mapped next
+unmap_next : (config : Options) (w : World) (g : Flow) (d : Pipeline) (number p : ℕ) (t : Work) (r : Request) (m : Mapping) (o : Outcome)
+    → Holds config w g d w.front.stage w.back.stage
+    → AreHeld w.under.grants (hands_of w.back)
+    → IsAt w g d p t r
+    → t.stage ≡ job.Unmap m
+    → (at : AtWork r t (job.Unmap m))
+    → at.0.place + 1 < frames_of r
+    → JobGoesAt config w d number p t (job.Unmap m) o
+unmap_next config w g d number p t r m o h held is e at more = subst (λ (x : Work). GoesBy None (CallOf (ask_at (job.Unmap m) t) o) config (job_says t (job.Unmap m) (act_at w number t (job.Unmap m) o)) (record { front = w.front; back = record w.back { jobs = record w.back.jobs { works = slice_set w.back.jobs.works p x }; told = None }; under = record w.under { pages = unmap_pages w.under.grants w.under.pages m; grants = unmap_table w.under.grants m } }) d) (sym stepped) (record {
+  flow = g;
+  step = None;
+  does = nothing (CallOf (ask_at (job.Unmap m) t) o) _ d (λ a b call. same_Some b a call.1);
+  holds = unmap_holds config w g d d p t later r m h held is (at_work w g d p t r is e at) (rw e refl) at.0.place at.0.here at.1 refl refl
+      (stations_stay config w g d p t later r w.under.pages h.stations is.place is.known refl (sym (ap (λ (j : JobStage). worked j t.moved) e))
+      (λ q was reads. read_was config w g d p t r h is e q was reads))
+      (work_of w g d d p t later r is refl refl refl (next_moving, refl))
+      (subst (λ (x : Work). HasOneMore m (hands_at w.back.stage (record w.back { jobs = record w.back.jobs { works = slice_set w.back.jobs.works p x } })) (hands_of w.back)) stepped (hands_step w p t (job.Unmap m) answer.Done is.place e tt));
+})
+  where
+    place : ℕ
+    place = at.0.place + 1
+
+    shaped : IsShaped r
+    shaped = let its = h.submitted.each (t.number - 1) r is.known in its.shaped
+
+    later : Work
+    later = record t { rest = frame_segment r place ∷ drop (place + 1) (own_segments r); within = 0; stage = job.Map }
+
+    rest : rest_of t.rest ≡ frame_segment r place ∷ drop (place + 1) (own_segments r)
+    rest = ap rest_of (at.0.rest ∙ own_here r at.0.place shaped at.0.here) ∙ own_here r place shaped more
+
+    stepped : step_at (job.Unmap m) t answer.Done ≡ later
+    stepped = ap (next_segment t) rest
+
+    next_moving : IsMoving later r
+    next_moving =
+        let moved = frame_moved r.count (frames_of r) at.0.place t.within t.moved shaped.frames more at.2 at.0.moved in
+        record {
+          place = place;
+          here = more;
+          writes = at.0.writes;
+          rest = sym (own_here r place shaped more);
+          within = omega arith;
+          moved = omega arith;
+          disk = at.0.disk;
+          words = at.0.words;
+        }
+
+-- a segment is done
+unmap_goes : (config : Options) (w : World) (g : Flow) (d : Pipeline) (number p : ℕ) (t : Work) (r : Request) (m : Mapping) (o : Outcome)
+    → Holds config w g d w.front.stage w.back.stage
+    → AreHeld w.under.grants (hands_of w.back)
+    → IsAt w g d p t r
+    → t.stage ≡ job.Unmap m
+    → AtWork r t (job.Unmap m)
+    → JobGoesAt config w d number p t (job.Unmap m) o
+unmap_goes config w g d number p t r m o h held is e at = by_rest (nat_lt (at.0.place + 1) (frames_of r)) refl
+  where
+    by_rest : (b : Bool) → nat_lt (at.0.place + 1) (frames_of r) ≡ b → JobGoesAt config w d number p t (job.Unmap m) o
+    by_rest true more = unmap_next config w g d number p t r m o h held is e at (grind (arith, nat_tests))
+    by_rest false over = unmap_ends config w g d number p t r m o h held is e at (let here = at.0.here in grind (arith, nat_tests))
 
 give_up_goes : (config : Options) (w : World) (g : Flow) (d : Pipeline) (number p : ℕ) (t : Work) (r : Request) (m : Mapping) (o : Outcome)
     → Holds config w g d w.front.stage w.back.stage
@@ -73,7 +147,7 @@ give_up_goes config w g d number p t r m o h held is e at = record {
   flow = g;
   step = Some s.step;
   does = does_step _ [] refl s;
-  holds = unmap_holds config w g d (next d s.step) p t later r m h held is (at_work w g d p t r is e at) (rw e refl) at refl refl s.now
+  holds = unmap_holds config w g d (next d s.step) p t later r m h held is (at_work w g d p t r is e at) (rw e refl) at.0 at.1 at.2 refl refl s.now
       (work_of w g d (next d s.step) p t later r is refl refl refl tt)
       (hands_step w p t (job.GiveUp m) answer.Done is.place e tt);
 }

@@ -1,45 +1,46 @@
--- A job writes a word that the disk gave into its request's frame: nothing else in memory changes.
-use Rattle.std.proofs.Common.{◌≡◌, ◌≢◌, ℕ, ◌+◌, ◌-◌, ◌*◌, ◌<◌, ◌==◌, if◌then◌else◌, inl, inr, Bool, true, false, List, refl, ap, sym, ◌∙◌, subst, arith, length-set}
+-- A job writes a word that the disk gave into a frame of its request: nothing else in memory changes.
+use Rattle.std.proofs.Common.{◌≡◌, ◌≢◌, ℕ, ◌+◌, ◌-◌, ◌*◌, ◌/◌, ◌%◌, ◌<◌, ◌≤◌, ◌==◌, if◌then◌else◌, inl, inr, Bool, true, false, List, [], ◌∷◌, length, refl, ap, sym, ◌∙◌, subst, arith, length-set, length-append}
 use Rattle.std.specs.Prelude.{All, Some, None, slice_get, slice_set, slice_index}
-use Rattle.std.proofs.lemmas.Option.{same_Some}
+use Rattle.std.proofs.lemmas.Option.{same_Some, slice_get_within}
 use Rattle.std.proofs.lemmas.Bool.{false≢true, cases_eq}
 use Rattle.std.proofs.lemmas.Bool.Decides.{nat_tests}
 use Rattle.blk_base.specs.Options.{Options}
 use Rattle.blk_base.specs.declared.parts.Mapping.{Mapping}
 use Rattle.blk_base.specs.declared.ask.BackAnswer.TheVariants as answer
-use Rattle.xen_pages.specs.Pages.{word_of, with_word}
+use Rattle.xen_pages.specs.Pages.{with_word}
 use Rattle.grant_table.specs.Table.{frame_of}
-use Rattle.pipeline_laws.specs.Station.{Request as Asked, is_finished, Finished, Station}
+use Rattle.pipeline_laws.specs.Station.{Request as Asked, is_finished, Finished, Working, Station}
 use Rattle.pipeline_laws.specs.Pipeline.{Pipeline}
 use Rattle.hypervisor.specs.Act.{Outcome}
 use Rattle.blk_front.specs.declared.request.Request.{Request}
 use Rattle.blk_front.specs.declared.stage.Ending.{Ending}
-use Rattle.blk_front.specs.declared.stage.Stage.{Stage as FrontStage}
-use Rattle.blk_front.specs.declared.stage.Stage.TheVariants as front
-use Rattle.blk_front.specs.Request.{is_write}
+use Rattle.blk_front.specs.Request.{is_write, words_in, frame_at}
 use Rattle.back_jobs.specs.declared.stage.Stage.{Stage as JobStage}
 use Rattle.back_jobs.specs.declared.stage.Stage.TheVariants as job
-use Rattle.back_jobs.specs.Task.{Work, ask_at, step_at, word_at, next_sector}
+use Rattle.back_jobs.specs.Task.{Work, ask_at, step_at, word_at, sector_stage, next_sector}
 use Rattle.blk_back.specs.Hands.{hands_of, hands_at}
 use Rattle.split_model.specs.World.{World}
 use Rattle.split_model.specs.Safe.{AreHeld}
-use Rattle.machine_pipeline.proofs.Flow.{Flow, worked, ending_at}
-use Rattle.machine_pipeline.proofs.ReadBack.{ReadAt, AreReadBack, has_data_at}
+use Rattle.machine_pipeline.proofs.Flow.{Flow, frames_of, data_word, worked, ending_at}
+use Rattle.machine_pipeline.proofs.Segments.{word_place}
+use Rattle.machine_pipeline.proofs.Data.{SameData, pooled_at, place_in, data_written, data_other, data_apart}
+use Rattle.machine_pipeline.proofs.Growing.{push_was}
+use Rattle.machine_pipeline.proofs.ReadBack.{IsHeld, IsReadBack, IsReturned, ReadAt, AreReadBack, has_data_at}
 use Rattle.machine_pipeline.proofs.ReadsKept.{read_at_kept, back_kept}
 use Rattle.machine_pipeline.proofs.Stations.{StandsAt, worked_open}
-use Rattle.machine_pipeline.proofs.Holds.{Holds, IsEnding, ArePooled, IsWork, AtWork, IsFilled, IsReadSoFar, AreDataWords, AreEntries, AreMapped}
+use Rattle.machine_pipeline.proofs.Holds.{Holds, IsEnding, ArePooled, IsWork, AtWork, IsFilled, AreDataWords, AreEntries, AreMapped, last_in}
 use Rattle.machine_pipeline.proofs.Turns.{nothing}
 use Rattle.machine_pipeline.proofs.Lists.{all_at, all_from, place_of_any}
-use Rattle.machine_pipeline.proofs.Hands.{frames_apart, ending_apart}
-use Rattle.machine_pipeline.proofs.Frames.{is_submitted, ending_is, filled_few}
+use Rattle.machine_pipeline.proofs.Hands.{frames_apart, own_apart, ending_apart}
+use Rattle.machine_pipeline.proofs.Frames.{is_submitted, ending_is, told_few}
 use Rattle.machine_pipeline.proofs.Mapped.{frame_live}
-use Rattle.machine_pipeline.proofs.Kept.{SameFrame, SameEntry, written, other_word, other_frame, same_entry, entries_kept}
-use Rattle.machine_pipeline.proofs.BackStill.{ending_pooled, revoking_ends}
+use Rattle.machine_pipeline.proofs.Kept.{SameFrame, SameGrants, other_frame, same_entry, data_kept, entries_kept}
+use Rattle.machine_pipeline.proofs.BackStill.{ending_submitted, revoking_ends, grants_same}
 use Rattle.machine_pipeline.proofs.Jobs.{StationsWith, stations_stay, job_makes, other_number}
-use Rattle.machine_pipeline.proofs.JobMoves.{IsAt, IsOwn, own_at, JobGoesAt, work_of, at_work, read_was, live_hand, hands_step}
+use Rattle.machine_pipeline.proofs.JobMoves.{IsAt, IsOwn, own_at, JobGoesAt, work_of, at_work, read_was, live_hand, hands_step, sectors_left, next_sector_is, worked_further, at_further}
 use Rattle.machine_pipeline.specs.Step.{CallOf}
 
--- the frame of another unfinished request is another
+-- the frames of another unfinished request are others
 frame_apart : (config : Options) (w : World) (g : Flow) (d : Pipeline) (r x : Request) (k place : ℕ) (q : Asked)
     → Holds config w g d w.front.stage w.back.stage
     → slice_get w.front.requests place ≡ Some r
@@ -47,23 +48,25 @@ frame_apart : (config : Options) (w : World) (g : Flow) (d : Pipeline) (r x : Re
     → slice_get d.requests k ≡ Some q
     → is_finished q.station ≡ false
     → r.number ≢ k + 1
-    → x.frame ≢ r.frame
+    → (a b : ℕ) → a < frames_of x → b < frames_of r → frame_at x a ≢ frame_at r b
 frame_apart config w g d r x k place q h here known at going other = elim (h.stations.opened.held k q at going) [
   | inl any ↦
       let found = place_of_any (λ (y : Request). y.number == k + 1) w.front.requests any in
       let number : (let y : Request = found.1 in y.number) ≡ k + 1 = grind (arith, nat_tests, found.3) in
       let one : found.1 ≡ x = same_Some found.1 x (sym (all_at (λ (z : Request). slice_get g.submitted (z.number - 1) ≡ Some z) w.front.requests found.0 found.1 h.queue.known found.2) ∙ (ap (slice_get g.submitted) (omega (arith, number)) ∙ known)) in
       let is = is_submitted config w g d w.front.stage w.back.stage h found.0 found.1 found.2 in
-      subst (λ (z : Request). z.frame ≢ r.frame) one
-      (frames_apart w.front.pool w.front.requests (ending_at w.front.stage) found.0 place found.1 r h.pool is.low is.high
-      (λ same. other (ap (λ (z : Request). z.number) (sym (same_Some found.1 r (sym found.2 ∙ (ap (slice_get w.front.requests) same ∙ here)))) ∙ number)) found.2 here)
+      subst (λ (z : Request). (a b : ℕ) → a < frames_of z → b < frames_of r → frame_at z a ≢ frame_at r b) one
+      (λ a b in_z in_r. frames_apart w.front.pool w.front.requests (ending_at w.front.stage w.front.ending) found.0 place found.1 r h.pool
+      (λ same. other (ap (λ (z : Request). z.number) (sym (same_Some found.1 r (sym found.2 ∙ (ap (slice_get w.front.requests) same ∙ here)))) ∙ number))
+      found.2 here a b in_z in_r (pooled_at found.1 is.frames a))
   | inr last ↦
       let e : Ending = last.0 in
-      let its : IsEnding g.submitted g.replies e = ending_is _ _ _ _ _ _ _ _ w.front.stage e h.front_at last.1 in
-      let one : its.r ≡ x = same_Some its.r x (sym its.known ∙ (ap (slice_get g.submitted) (omega (arith, last.2)) ∙ known)) in
+      let its : IsEnding g.submitted g.replies e = ending_is _ _ _ _ _ _ _ _ w.front.ending w.front.stage e h.front_at last.1 in
+      let one : e.request ≡ x = same_Some e.request x (sym its.known ∙ (ap (slice_get g.submitted) (omega (arith, last.2)) ∙ known)) in
       let is = is_submitted config w g d w.front.stage w.back.stage h place r here in
-      let apart = ending_apart w.front.pool w.front.requests e place r (subst (ArePooled w.front.pool w.front.requests) last.1 h.pool) is.low is.high here in
-      λ same. apart (sym same ∙ (ap (λ (z : Request). z.frame) (sym one) ∙ sym its.frame))
+      subst (λ (z : Request). (a b : ℕ) → a < frames_of z → b < frames_of r → frame_at z a ≢ frame_at r b) one
+      (λ a b in_z in_r. let apart = ending_apart w.front.pool w.front.requests e place r
+      (subst (ArePooled w.front.pool w.front.requests) last.1 h.pool) here b a in_r in_z (pooled_at r is.frames b) in λ same. apart (sym same))
 ]
 
 -- a request with data isn't finished
@@ -71,21 +74,67 @@ open_with_data : (s : Station) → has_data_at s ≡ true → is_finished s ≡ 
 open_with_data (Finished status) t = absurd (false≢true t)
 open_with_data s t = refl
 
-abbrev stage_after : Mapping → ℕ → JobStage
-stage_after m j = if j == 127 then job.Unmap m else job.WriteWord m (j + 1)
-
--- a job that writes its word j, of a request of the front's
+-- a job that writes word j of its sector, of a request of the front's
 record IsWriting (w : World) (g : Flow) (d : Pipeline) (p : ℕ) (t : Work) (r : Request) (m : Mapping) (j : ℕ) : Type 0 where
   is : IsAt w g d p t r
   own : IsOwn w g t r
   stage : t.stage ≡ job.WriteWord m j
   at : AtWork r t (job.WriteWord m j)
 
+-- its place among the words of the request's data
+abbrev word_now : Work → ℕ → ℕ
+word_now t j = 128 * (t.moved - 1) + j
+
+now_in : (w : World) (g : Flow) (d : Pipeline) (p : ℕ) (t : Work) (r : Request) (m : Mapping) (j : ℕ) → IsWriting w g d p t r m j → word_now t j < words_in r
+now_in w g d p t r m j x =
+    let left = sectors_left t r 0 x.own.shaped x.at.0 in
+    let moved = x.at.0.moved in
+    omega (arith, left.0, x.at.2)
+
 -- memory with that word
 abbrev with_data : World → Work → Request → ℕ → List ℕ
-with_data w t r j = with_word w.under.pages r.frame j (slice_index t.words j)
+with_data w t r j = with_word w.under.pages (frame_at r (word_now t j / 1024)) (word_now t j % 1024) (slice_index t.words j)
 
--- the frames of all reads, with it
+-- the job after it, where it was the last word of its sector (`wrote`), and that the last sector of its segment (`last`)
+abbrev stage_after : Request → Mapping → ℕ → (wrote last : Bool) → JobStage
+stage_after r m j wrote last = if wrote then (if last then job.Unmap m else sector_stage (is_write r.transfer) m) else job.WriteWord m (j + 1)
+
+abbrev after_word : Work → Request → Mapping → ℕ → (wrote last : Bool) → Work
+after_word t r m j wrote last = record t {
+  within = if wrote then (if last then t.within else t.within + 1) else t.within;
+  stage = stage_after r m j wrote last;
+}
+
+-- another word of the request's data is as it was
+other_data : (config : Options) (w : World) (g : Flow) (d : Pipeline) (p : ℕ) (t : Work) (r : Request) (m : Mapping) (j : ℕ)
+    → Holds config w g d w.front.stage w.back.stage
+    → IsWriting w g d p t r m j
+    → (i : ℕ) → i < words_in r → i ≢ word_now t j → data_word (with_data w t r j) r i ≡ data_word w.under.pages r i
+other_data config w g d p t r m j h x i lt other =
+    data_other w.under.pages r (word_now t j) (slice_index t.words j) i other
+    (λ places. own_apart w.front.pool w.front.requests (ending_at w.front.stage w.front.ending) x.own.place r h.pool x.own.at (i / 1024)
+    (word_now t j / 1024) places (place_in r i x.own.shaped lt) (place_in r (word_now t j) x.own.shaped (now_in w g d p t r m j x))
+    (pooled_at r x.own.frames (i / 1024)))
+
+-- so are the sectors that were moved before
+back_written : (config : Options) (w : World) (g : Flow) (d : Pipeline) (p : ℕ) (t : Work) (r : Request) (m : Mapping) (j moved : ℕ) (noted : List (List ℕ))
+    → Holds config w g d w.front.stage w.back.stage
+    → IsWriting w g d p t r m j
+    → moved + 1 ≡ t.moved
+    → IsReadBack w.under.pages r moved noted
+    → IsReadBack (with_data w t r j) r moved noted
+back_written config w g d p t r m j moved noted h x one_more b = record {
+  counted = b.counted;
+  few = b.few;
+  sectors = λ i words at.
+      let within = slice_get_within noted i words at in
+      let was = b.sectors i words at in
+      let counted = b.counted in
+      let few = b.few in
+      record { size = was.size; held = λ k lt. other_data config w g d p t r m j h x (128 * i + k) (omega arith) (omega arith) ∙ was.held k lt };
+}
+
+-- the frames of all reads, with that word
 returned : (config : Options) (w : World) (g : Flow) (d : Pipeline) (p : ℕ) (t : Work) (r : Request) (m : Mapping) (j : ℕ) → Holds config w g d w.front.stage w.back.stage → IsWriting w g d p t r m j → AreReadBack g.submitted d.requests w.back.jobs.works (with_data w t r j)
 returned config w g d p t r m j h x = record {
   working = λ i u y q here its was reads. elim (cases_eq i p) [
@@ -93,23 +142,22 @@ returned config w g d p t r m j h x = record {
         let it : t ≡ u = same_Some t u (sym is.place ∙ (ap (slice_get w.back.jobs.works) (sym same) ∙ here)) in
         let one : r ≡ y = same_Some r y (sym is.known ∙ (ap (λ (v : Work). slice_get g.submitted (v.number - 1)) it ∙ its)) in
         let old = read_was config w g d p t r h is x.stage q (ap (λ (v : Work). slice_get d.requests (v.number - 1)) it ∙ was) x.at.3 in
-        subst (λ (v : Work). ReadAt new y.frame v.words q.words v.stage) it
-        (subst (λ (z : Request). ReadAt new z.frame t.words q.words t.stage) one
-        (subst (λ (s : JobStage). ReadAt new r.frame t.words q.words s) (sym x.stage)
-        (old.0, old.1, λ n lt few. other_word w.under.pages r.frame j (slice_index t.words j) n (omega arith) ∙ old.2 n lt few)))
+        subst (λ (v : Work). ReadAt new y v.moved v.words q.words v.stage) it
+        (subst (λ (z : Request). ReadAt new z t.moved t.words q.words t.stage) one
+        (subst (λ (s : JobStage). ReadAt new r t.moved t.words q.words s) (sym x.stage) (still q.words old)))
     | inr other ↦
         let number = other_number w.back.jobs.works p i t u h.works.ascending other is.place here in
         let work = all_at (IsWork g.submitted g.fetched) w.back.jobs.works i u h.works.each here in
-        let at : StandsAt d.requests (u.number - 1) (worked u.stage) = h.stations.works i u here in
+        let at : StandsAt d.requests (u.number - 1) (worked u.stage u.moved) = h.stations.works i u here in
         let one : at.q ≡ q = same_Some at.q q (sym at.at ∙ was) in
-        read_at_kept w.under.pages new y.frame u.words q.words u.stage (apart (u.number - 1) y q its was (ap (λ (z : Asked). is_finished z.station) (sym one) ∙ (ap is_finished at.there ∙ worked_open u.stage)) (omega (arith, work.positive, is.positive))) (h.stations.reads.working i u y q here its was reads)
+        read_at_kept w.under.pages new y u.moved u.words q.words u.stage (apart (u.number - 1) y q its was (ap (λ (z : Asked). is_finished z.station) (sym one) ∙ (ap is_finished at.there ∙ worked_open u.stage u.moved)) (omega (arith, work.positive, is.positive))) (h.stations.reads.working i u y q here its was reads)
   ];
   after = λ k y q its was reads there. elim (cases_eq k (t.number - 1)) [
     | inl same ↦
-        let at : StandsAt d.requests (t.number - 1) (worked t.stage) = h.stations.works p t is.place in
+        let at : StandsAt d.requests (t.number - 1) (worked t.stage t.moved) = h.stations.works p t is.place in
         let one : at.q ≡ q = same_Some at.q q (sym at.at ∙ (ap (slice_get d.requests) (sym same) ∙ was)) in
-        absurd (false≢true (sym (ap (λ (s : JobStage). has_data_at (worked s)) x.stage) ∙ (sym (ap has_data_at at.there) ∙ (ap (λ (z : Asked). has_data_at z.station) one ∙ there))))
-    | inr other ↦ back_kept w.under.pages new y.frame q.words (apart k y q its was (open_with_data q.station there) other) (h.stations.reads.after k y q its was reads there)
+        absurd (false≢true (sym (ap (λ (s : JobStage). has_data_at (worked s t.moved)) x.stage) ∙ (sym (ap has_data_at at.there) ∙ (ap (λ (z : Asked). has_data_at z.station) one ∙ there))))
+    | inr other ↦ back_kept w.under.pages new y y.count q.words (apart k y q its was (open_with_data q.station there) other) (h.stations.reads.after k y q its was reads there)
   ];
 }
   where
@@ -122,30 +170,91 @@ returned config w g d p t r m j h x = record {
     new : List ℕ
     new = with_data w t r j
 
-    apart : (k : ℕ) (y : Request) (q : Asked) → slice_get g.submitted k ≡ Some y → slice_get d.requests k ≡ Some q → is_finished q.station ≡ false → k ≢ t.number - 1 → SameFrame w.under.pages new y.frame
-    apart k y q its was going other = other_frame w.under.pages r.frame j (slice_index t.words j) y.frame (omega (arith, x.at.2)) (frame_apart config w g d r y k own.place q h own.at its was going (omega (arith, own.number, is.positive)))
+    still : (noted : List (List ℕ)) → IsReturned w.under.pages r t.moved t.words noted j → IsReturned new r t.moved t.words noted j
+    still noted old =
+        let counted = old.counted in
+        let few = old.few in
+        record {
+          earlier = old.earlier;
+          with_hand = old.with_hand;
+          counted = old.counted;
+          few = old.few;
+          back = back_written config w g d p t r m j (length old.earlier) old.earlier h x old.counted old.back;
+          size = old.size;
+          so_far = λ k lt sized. other_data config w g d p t r m j h x (128 * length old.earlier + k) (omega arith) (omega arith) ∙ old.so_far k lt sized;
+        }
+
+    apart : (k : ℕ) (y : Request) (q : Asked) → slice_get g.submitted k ≡ Some y → slice_get d.requests k ≡ Some q → is_finished q.station ≡ false → k ≢ t.number - 1 → SameData w.under.pages new y
+    apart k y q its was going other =
+        let sub = h.submitted.each k y its in
+        data_apart w.under.pages (frame_at r (word_now t j / 1024)) (word_now t j % 1024) (slice_index t.words j) y (omega arith) sub.shaped
+        (λ a lt. frame_apart config w g d r y k own.place q h own.at its was going (omega (arith, own.number, is.positive)) a (word_now t j / 1024) lt
+        (place_in r (word_now t j) own.shaped (now_in w g d p t r m j x)))
 
 -- what the job has at its next stage
-then_read : (config : Options) (w : World) (g : Flow) (d : Pipeline) (p : ℕ) (t : Work) (r : Request) (m : Mapping) (j : ℕ) → Holds config w g d w.front.stage w.back.stage → IsWriting w g d p t r m j → (q : Asked) → slice_get d.requests (t.number - 1) ≡ Some q → is_write r.transfer ≡ false → ReadAt (with_data w t r j) r.frame t.words q.words (stage_after m j)
-then_read config w g d p t r m j h x q was reads = by_test (j == 127) refl
+then_read : (config : Options) (w : World) (g : Flow) (d : Pipeline) (p : ℕ) (t : Work) (r : Request) (m : Mapping) (j : ℕ) (wrote last : Bool)
+    → Holds config w g d w.front.stage w.back.stage
+    → IsWriting w g d p t r m j
+    → (j == 127) ≡ wrote
+    → (q : Asked) → slice_get d.requests (t.number - 1) ≡ Some q → is_write r.transfer ≡ false
+    → ReadAt (with_data w t r j) r t.moved t.words q.words (stage_after r m j wrote last)
+then_read config w g d p t r m j wrote last h x tested q was reads = by_test wrote last tested
   where
-    old : ReadAt w.under.pages r.frame t.words q.words (job.WriteWord m j)
+    new : List ℕ
+    new = with_data w t r j
+
+    old : IsReturned w.under.pages r t.moved t.words q.words j
     old = read_was config w g d p t r h x.is x.stage q was reads
 
-    word : (i : ℕ) → i < j + 1 → i < 128 → word_of (with_data w t r j) r.frame i ≡ slice_index t.words i
-    word i lt few = elim (cases_eq i j) [
-      | inl same ↦ subst (λ (k : ℕ). word_of (with_data w t r j) r.frame k ≡ slice_index t.words k) (sym same) (written w.under.pages r.frame j (slice_index t.words j) h.memory (omega (arith, x.own.high)) (omega (arith, x.at.2)))
-      | inr other ↦ other_word w.under.pages r.frame j (slice_index t.words j) i other ∙ old.2 i (omega arith) few
+    earlier : IsReadBack new r (length old.earlier) old.earlier
+    earlier = back_written config w g d p t r m j (length old.earlier) old.earlier h x old.counted old.back
+
+    word : (k : ℕ) → k < j + 1 → k < 128 → data_word new r (128 * length old.earlier + k) ≡ slice_index t.words k
+    word k lt few = elim (cases_eq k j) [
+      | inl same ↦
+          let at : 128 * length old.earlier + k ≡ word_now t j = omega (arith, old.counted) in
+          ap (data_word new r) at ∙ (data_written w.under.pages r (word_now t j) (slice_index t.words j) h.memory
+          (pooled_at r x.own.frames (word_now t j / 1024)) ∙ ap (slice_index t.words) (sym same))
+      | inr other ↦
+          let counted = old.counted in
+          let most = old.few in
+          other_data config w g d p t r m j h x (128 * length old.earlier + k) (omega arith) (omega arith) ∙ old.so_far k (omega arith) few
     ]
 
-    by_test : (b : Bool) → (j == 127) ≡ b → ReadAt (with_data w t r j) r.frame t.words q.words (if b then job.Unmap m else job.WriteWord m (j + 1))
-    by_test true last = record { words = t.words; only = old.0; size = old.1; held = λ i few. word i (let top : j ≡ 127 = grind (arith, nat_tests) in omega arith) few }
-    by_test false last = (old.0, old.1, word)
+    held : j ≡ 127 → IsHeld new r (length old.earlier) t.words
+    held top = record { size = old.size; held = λ k lt. word k (omega arith) lt }
+
+    whole : j ≡ 127 → IsReadBack new r t.moved q.words
+    whole top = record {
+      counted = ap length old.with_hand ∙ (length-append old.earlier (t.words ∷ []) ∙ old.counted);
+      few = old.few;
+      sectors = λ i words at. elim (push_was old.earlier t.words i words (ap (λ (ws : List (List ℕ)). slice_get ws i) (sym old.with_hand) ∙ at)) [
+        | inl before ↦ earlier.sectors i words before
+        | inr here ↦ subst (λ (ws : List ℕ). IsHeld new r i ws) (sym here.1) (subst (λ (n : ℕ). IsHeld new r n t.words) (sym here.0) (held top))
+      ];
+    }
+
+    by_test : (b c : Bool) → (j == 127) ≡ b → ReadAt new r t.moved t.words q.words (stage_after r m j b c)
+    by_test true true over = whole (grind (arith, nat_tests))
+    by_test true false over = subst (λ (way : Bool). ReadAt new r t.moved t.words q.words (sector_stage way m)) (sym reads) (whole (grind (arith, nat_tests)))
+    by_test false c over = record {
+      earlier = old.earlier;
+      with_hand = old.with_hand;
+      counted = old.counted;
+      few = old.few;
+      back = earlier;
+      size = old.size;
+      so_far = word;
+    }
 
 -- so the stations
-stations_returned : (config : Options) (w : World) (g : Flow) (d : Pipeline) (p : ℕ) (t : Work) (r : Request) (m : Mapping) (j : ℕ) → Holds config w g d w.front.stage w.back.stage → IsWriting w g d p t r m j → StationsWith config w g d (slice_set w.back.jobs.works p (record t { stage = stage_after m j })) (with_data w t r j)
-stations_returned config w g d p t r m j h x =
-    stations_stay config w g d p t (record t { stage = stage_after m j }) r (with_data w t r j) (record {
+stations_returned : (config : Options) (w : World) (g : Flow) (d : Pipeline) (p : ℕ) (t : Work) (r : Request) (m : Mapping) (j : ℕ) (wrote last : Bool)
+    → Holds config w g d w.front.stage w.back.stage
+    → IsWriting w g d p t r m j
+    → (j == 127) ≡ wrote
+    → StationsWith config w g d (slice_set w.back.jobs.works p (after_word t r m j wrote last)) (with_data w t r j)
+stations_returned config w g d p t r m j wrote last h x tested =
+    stations_stay config w g d p t (after_word t r m j wrote last) r (with_data w t r j) (record {
       options = h.stations.options;
       front = h.stations.front;
       ring = h.stations.ring;
@@ -159,10 +268,11 @@ stations_returned config w g d p t r m j h x =
       replied = h.stations.replied;
       taking = h.stations.taking;
       reads = returned config w g d p t r m j h x;
-    }) x.is.place x.is.known refl (same_station (j == 127) ∙ sym (ap worked x.stage)) (then_read config w g d p t r m j h x)
+    }) x.is.place x.is.known refl (same_station wrote ∙ sym (ap (λ (s : JobStage). worked s t.moved) x.stage))
+    (then_read config w g d p t r m j wrote last h x tested)
   where
-    same_station : (b : Bool) → worked (if b then job.Unmap m else job.WriteWord m (j + 1)) ≡ worked (job.WriteWord m j)
-    same_station true = refl
+    same_station : (b : Bool) → worked (stage_after r m j b last) t.moved ≡ Working t.moved
+    same_station true = worked_further last (is_write r.transfer) m t.moved
     same_station false = refl
 
 -- no word of a write changes
@@ -171,39 +281,59 @@ frames_returned config w g d p t r m j h x = all_from (IsFilled g.pushed (with_d
   | inl same ↦
       let one : r ≡ y = same_Some r y (sym x.own.at ∙ (ap (slice_get w.front.requests) (sym same) ∙ at)) in
       let reads : is_write y.transfer ≡ false = ap (λ (z : Request). is_write z.transfer) (sym one) ∙ x.at.3 in
-      record { whole = λ writes le k lt. absurd (false≢true (sym reads ∙ writes)); begun = λ writes number k lt. absurd (false≢true (sym reads ∙ writes)) }
+      record { whole = λ writes le k lt. absurd (false≢true (sym reads ∙ writes)); begun = λ writes number k lt lt'. absurd (false≢true (sym reads ∙ writes)) }
   | inr other ↦
       let is = is_submitted config w g d w.front.stage w.back.stage h i y at in
-      let apart = frames_apart w.front.pool w.front.requests (ending_at w.front.stage) i x.own.place y r h.pool is.low is.high other at x.own.at in
-      let kept : SameFrame w.under.pages (with_data w t r j) y.frame = other_frame w.under.pages r.frame j (slice_index t.words j) y.frame (omega (arith, x.at.2)) apart in
+      let kept : SameData w.under.pages (with_data w t r j) y = data_apart w.under.pages (frame_at r (word_now t j / 1024)) (word_now t j % 1024)
+      (slice_index t.words j) y (omega arith) is.shaped
+      (λ a lt. frames_apart w.front.pool w.front.requests (ending_at w.front.stage w.front.ending) i x.own.place y r h.pool other at x.own.at a
+      (word_now t j / 1024) lt (place_in r (word_now t j) x.own.shaped (now_in w g d p t r m j x)) (pooled_at y is.frames a)) in
       let was = all_at (IsFilled g.pushed w.under.pages w.front.stage) w.front.requests i y h.frames at in
-      let few = filled_few _ _ _ _ _ _ _ _ w.front.stage h.front_at in
-      record { whole = λ writes le k lt. kept k (omega arith) ∙ was.whole writes le k lt; begun = λ writes number k lt. kept k (omega arith) ∙ was.begun writes number k lt }
+      record {
+        whole = λ writes le k lt. kept k lt ∙ was.whole writes le k lt;
+        begun = λ writes number k lt in_it. kept k in_it ∙ was.begun writes number k lt in_it;
+      }
 ])
 
 -- nor one of the data that are told
-data_returned : (config : Options) (w : World) (g : Flow) (d : Pipeline) (p : ℕ) (t : Work) (r : Request) (m : Mapping) (j : ℕ) → Holds config w g d w.front.stage w.back.stage → IsWriting w g d p t r m j → AreDataWords (with_data w t r j) w.front.words w.front.stage
-data_returned config w g d p t r m j h x = record { size = h.telling.size; so_far = by_stage w.front.stage apart h.telling.so_far }
-  where
-    apart : (e : Ending) → ending_at w.front.stage ≡ Some e → e.frame ≢ r.frame
-    apart e same =
-        let far = ending_apart w.front.pool w.front.requests e x.own.place r (subst (ArePooled w.front.pool w.front.requests) same h.pool) x.own.low x.own.high x.own.at in
-        λ t. far (sym t)
+data_returned : (config : Options) (w : World) (g : Flow) (d : Pipeline) (p : ℕ) (t : Work) (r : Request) (m : Mapping) (j : ℕ) → Holds config w g d w.front.stage w.back.stage → IsWriting w g d p t r m j → AreDataWords (with_data w t r j) w.front.words w.front.ending w.front.stage
+data_returned config w g d p t r m j h x =
+    data_kept w.under.pages (with_data w t r j) w.front.words w.front.ending w.front.stage
+    (λ e same.
+    let is = ending_submitted config w g d w.front.stage w.back.stage e h same in
+    data_apart w.under.pages (frame_at r (word_now t j / 1024)) (word_now t j % 1024) (slice_index t.words j) e.request (omega arith) is.shaped
+    (λ a lt.
+    let far = ending_apart w.front.pool w.front.requests e x.own.place r (subst (ArePooled w.front.pool w.front.requests) same h.pool) x.own.at
+    (word_now t j / 1024) a (place_in r (word_now t j) x.own.shaped (now_in w g d p t r m j x)) lt (pooled_at r x.own.frames (word_now t j / 1024)) in
+    λ s. far (sym s)))
+    (told_few _ _ _ _ _ _ _ _ w.front.ending w.front.stage h.front_at) h.telling
 
-    by_stage : (s : FrontStage) → ((e : Ending) → ending_at s ≡ Some e → e.frame ≢ r.frame) → IsReadSoFar w.under.pages w.front.words s → IsReadSoFar (with_data w t r j) w.front.words s
-    by_stage (front.ReadData e k) far so = (so.0, so.1, λ i lt few. so.2 i lt few ∙ sym (other_frame w.under.pages r.frame j (slice_index t.words j) e.frame (omega (arith, x.at.2)) (far e refl) i (omega arith)))
-    by_stage s far so = tt
+-- another frame is as it was
+frame_returned : (w : World) (g : Flow) (d : Pipeline) (p : ℕ) (t : Work) (r : Request) (m : Mapping) (j : ℕ)
+    → IsWriting w g d p t r m j
+    → (f : ℕ)
+    → f < 18
+    → SameFrame w.under.pages (with_data w t r j) f
+frame_returned w g d p t r m j x f low =
+    let pooled = pooled_at r x.own.frames (word_now t j / 1024) in
+    other_frame w.under.pages (frame_at r (word_now t j / 1024)) (word_now t j % 1024) (slice_index t.words j) f (omega arith) (omega (arith, pooled.0))
 
 -- the entries are as they were
-entries_returned : (config : Options) (w : World) (g : Flow) (d : Pipeline) (p : ℕ) (t : Work) (r : Request) (m : Mapping) (j : ℕ) → Holds config w g d w.front.stage w.back.stage → IsWriting w g d p t r m j → AreEntries g.pushed (with_data w t r j) w.under.grants.live w.front.stage w.front.requests
+entries_returned : (config : Options) (w : World) (g : Flow) (d : Pipeline) (p : ℕ) (t : Work) (r : Request) (m : Mapping) (j : ℕ) → Holds config w g d w.front.stage w.back.stage → IsWriting w g d p t r m j → AreEntries g.pushed (with_data w t r j) w.under.grants.live w.front.stage w.front.ending w.front.requests
 entries_returned config w g d p t r m j h x =
-    entries_kept g.pushed w.under.pages (with_data w t r j) w.under.grants.live w.front.stage w.front.requests
-    (all_from (λ (y : Request). SameEntry w.under.pages (with_data w t r j) (y.frame + 6)) w.front.requests (λ i y at. let is = is_submitted config w g d w.front.stage w.back.stage h i y at in entry_kept y.frame is.high))
-    (λ e same. let frame = ending_pooled config w g d w.front.stage w.back.stage e h (revoking_ends w.front.stage e same) in entry_kept e.frame frame.1)
+    entries_kept g.pushed w.under.pages (with_data w t r j) w.under.grants.live w.front.stage w.front.ending w.front.requests
+    (all_from (SameGrants w.under.pages (with_data w t r j)) w.front.requests
+    (λ i y at. let is = is_submitted config w g d w.front.stage w.back.stage h i y at in grants_same w.under.pages (with_data w t r j) y is.frames zeroth first))
+    (λ e same.
+    let is = ending_submitted config w g d w.front.stage w.back.stage e h (revoking_ends w.front.stage w.front.ending e same) in
+    grants_same w.under.pages (with_data w t r j) e.request is.frames zeroth first)
     h.entries
   where
-    entry_kept : (frame : ℕ) → frame < 1018 → SameEntry w.under.pages (with_data w t r j) (frame + 6)
-    entry_kept frame high = same_entry w.under.pages (with_data w t r j) (frame + 6) (omega arith) (other_frame w.under.pages r.frame j (slice_index t.words j) 0 (omega (arith, x.at.2)) (omega (arith, x.own.low))) (other_frame w.under.pages r.frame j (slice_index t.words j) 1 (omega (arith, x.at.2)) (omega (arith, x.own.low)))
+    zeroth : SameFrame w.under.pages (with_data w t r j) 0
+    zeroth = frame_returned w g d p t r m j x 0 (omega arith)
+
+    first : SameFrame w.under.pages (with_data w t r j) 1
+    first = frame_returned w g d p t r m j x 1 (omega arith)
 
 -- a word of data is written
 pub write_goes : (config : Options) (w : World) (g : Flow) (d : Pipeline) (number p : ℕ) (t : Work) (r : Request) (m : Mapping) (j : ℕ) (o : Outcome)
@@ -219,11 +349,12 @@ write_goes config w g d number p t r m j o h held is e at = record {
   does = nothing (CallOf (ask_at (job.WriteWord m j) t) o) _ d (λ a b same. same_Some b a same.1);
   holds = subst (λ (pages : List ℕ). let v : World = record { front = w.front; back = record w.back { jobs = record w.back.jobs { works = slice_set w.back.jobs.works p (step_at (job.WriteWord m j) t answer.Done) }; told = None }; under = record w.under { pages = pages } } in Holds config v g d v.front.stage v.back.stage) (sym written_so)
       (subst (λ (u : Work). let v : World = record { front = w.front; back = record w.back { jobs = record w.back.jobs { works = slice_set w.back.jobs.works p u }; told = None }; under = record w.under { pages = with_data w t r j } } in Holds config v g d v.front.stage v.back.stage) (sym stepped)
-      (job_makes config w g d d p t later (with_data w t r j) w.under.grants h is.place refl (stations_returned config w g d p t r m j h x)
+      (job_makes config w g d d p t later (with_data w t r j) w.under.grants h is.place refl (stations_returned config w g d p t r m j (j == 127) last h x refl)
       (work_of w g d d p t later r is refl refl refl (at_next (j == 127) refl))
-      (length-set w.under.pages (r.frame * 1024 + j) (slice_index t.words j) ∙ h.memory)
-      (other_frame w.under.pages r.frame j (slice_index t.words j) 2 (omega (arith, at.2)) (omega (arith, own.low)))
-      (same_entry w.under.pages (with_data w t r j) 8 (omega arith) (other_frame w.under.pages r.frame j (slice_index t.words j) 0 (omega (arith, at.2)) (omega (arith, own.low))) (other_frame w.under.pages r.frame j (slice_index t.words j) 1 (omega (arith, at.2)) (omega (arith, own.low))))
+      (length-set w.under.pages (frame_at r (word_now t j / 1024) * 1024 + word_now t j % 1024) (slice_index t.words j) ∙ h.memory)
+      (frame_returned w g d p t r m j x 2 (omega arith))
+      (same_entry w.under.pages (with_data w t r j) 8 (omega arith) (frame_returned w g d p t r m j x 0 (omega arith))
+      (frame_returned w g d p t r m j x 1 (omega arith)))
       (frames_returned config w g d p t r m j h x) (data_returned config w g d p t r m j h x) (entries_returned config w g d p t r m j h x)
       (subst (λ (u : Work). AreMapped w.under.grants.live (hands_at w.back.stage (record w.back { jobs = record w.back.jobs { works = slice_set w.back.jobs.works p u } }))) stepped
       (subst (AreMapped w.under.grants.live) (sym (hands_step w p t (job.WriteWord m j) answer.Done is.place e tt)) h.mapped))));
@@ -235,22 +366,45 @@ write_goes config w g d number p t r m j o h held is e at = record {
     x : IsWriting w g d p t r m j
     x = record { is = is; own = own; stage = e; at = at }
 
+    last : Bool
+    last = t.within == last_in r at.0.place
+
     later : Work
-    later = record t { stage = stage_after m j }
+    later = after_word t r m j (j == 127) last
+
+    left : (t.moved + 0 ≤ r.count) × (t.within ≤ 7) × (r.count ≤ 88)
+    left = sectors_left t r 0 own.shaped at.0
 
     written_so : with_word w.under.pages (frame_of w.under.grants m) (word_at t j) (slice_index t.words j) ≡ with_data w t r j
     written_so =
-        let frame : frame_of w.under.grants m ≡ r.frame = frame_live w.under.grants m r.frame (live_hand w p t m is.place (rw e refl) held) h.mapped.framed at.1.gref in
-        let word : word_at t j ≡ j = (let within = at.0.within in omega arith) in
-        ap (λ (f : ℕ). with_word w.under.pages f (word_at t j) (slice_index t.words j)) frame ∙ ap (λ (k : ℕ). with_word w.under.pages r.frame k (slice_index t.words j)) word
+        let moved = at.0.moved in
+        let its = word_place at.0.place t.within (t.moved - 1) j left.1 (omega arith) at.2 in
+        let frame : frame_of w.under.grants m ≡ frame_at r at.0.place = frame_live w.under.grants m (frame_at r at.0.place)
+        (live_hand w p t m is.place (rw e refl) held) h.mapped.framed at.1.gref in
+        ap (λ (f : ℕ). with_word w.under.pages f (word_at t j) (slice_index t.words j)) (frame ∙ ap (frame_at r) (sym its.0))
+        ∙ ap (λ (k : ℕ). with_word w.under.pages (frame_at r (word_now t j / 1024)) k (slice_index t.words j)) (sym its.1)
 
-    next_is : (b : Bool) → (if b then next_sector t m else record t { stage = job.WriteWord m (j + 1) }) ≡ record t { stage = if b then job.Unmap m else job.WriteWord m (j + 1) }
-    next_is true = rw (at.0.within, at.0.rest) refl
+    next_is : (b : Bool) → (if b then next_sector t m else record t { stage = job.WriteWord m (j + 1) }) ≡ after_word t r m j b last
+    next_is true = next_sector_is t r m own.shaped at.0
     next_is false = refl
 
     stepped : step_at (job.WriteWord m j) t answer.Done ≡ later
     stepped = next_is (j == 127)
 
-    at_next : (b : Bool) → (j == 127) ≡ b → AtWork r later (if b then job.Unmap m else job.WriteWord m (j + 1))
-    at_next true last = (at.0.rest, at.1)
-    at_next false last = (record { writes = at.0.writes; within = at.0.within; rest = at.0.rest; words = at.0.words }, at.1, (let apart : j ≢ 127 = grind (arith, nat_tests) in omega (arith, at.2)), at.3)
+    at_next : (b : Bool) → (j == 127) ≡ b → AtWork r (after_word t r m j b last) (stage_after r m j b last)
+    at_next true over = at_further t r m last at.0 at.1 refl
+    at_next false over = (
+      record {
+        place = at.0.place;
+        here = at.0.here;
+        writes = at.0.writes;
+        rest = at.0.rest;
+        within = at.0.within;
+        moved = at.0.moved;
+        disk = at.0.disk;
+        words = at.0.words;
+      },
+      at.1,
+      (let apart : j ≢ 127 = grind (arith, nat_tests) in omega (arith, at.2)),
+      at.3,
+    )

@@ -16,15 +16,16 @@ use Rattle.blk_back.specs.declared.stage.Stage.TheVariants as back
 use Rattle.blk_back.specs.Hands.{hands_at}
 use Rattle.split_model.specs.World.{World}
 use Rattle.blk_front.specs.Submit.{is_connected}
-use Rattle.machine_pipeline.proofs.Flow.{Flow, ending_at, reply_at, is_issuing, is_fetching, worked, is_telling}
+use Rattle.machine_pipeline.proofs.Flow.{Flow, ending_at, reply_at, is_issuing, is_fetching, worked, telling_at}
 use Rattle.machine_pipeline.proofs.Stations.{AreStations}
 use Rattle.machine_pipeline.proofs.StationsBack.{job_stays}
 use Rattle.machine_pipeline.proofs.Holds.{Holds, BackAt, IsWork, AreWorks, IsFilled, AreDataWords, AreEntries, AreMapped}
 use Rattle.machine_pipeline.proofs.Lists.{all_at, all_from, pair_at, pairs_from, set_was}
-use Rattle.machine_pipeline.proofs.Frames.{is_submitted, few_words, filled_few, entered_few}
-use Rattle.machine_pipeline.proofs.Kept.{SameFrame, SameEntry, ring_kept, slots_kept, frames_kept, data_kept, front_sleep_kept, back_sleep_kept}
+use Rattle.machine_pipeline.proofs.Frames.{few_words, entered_few}
+use Rattle.machine_pipeline.proofs.Kept.{SameFrame, SameEntry, ring_kept, slots_kept, front_sleep_kept, back_sleep_kept}
 use Rattle.machine_pipeline.proofs.ReadBack.{ReadAt}
 use Rattle.machine_pipeline.proofs.ReadsKept.{stations_elsewhere}
+use Rattle.machine_pipeline.proofs.BackStill.{frames_elsewhere, told_elsewhere}
 
 -- the numbers of jobs stay in order
 number_was : (works : List Work) (p i : ℕ) (t t' x : Work) → slice_get works p ≡ Some t → t'.number ≡ t.number → slice_get (slice_set works p t') i ≡ Some x → (y : Work) × (slice_get works i ≡ Some y) × (x.number ≡ y.number)
@@ -83,7 +84,7 @@ alone_after works p t t' id here same alone = all_from (λ (x : Work). x.number 
 
 -- the stations with these jobs
 abbrev pub StationsWith : Options → World → Flow → Pipeline → List Work → List ℕ → Type 0
-StationsWith config w g d works pages = AreStations config g d (is_connected w.front.stage) (is_issuing w.front.stage) (is_fetching w.back.stage) (ending_at w.front.stage) (is_telling w.front.stage) (reply_at w.back.stage) w.front.requests works pages
+StationsWith config w g d works pages = AreStations config g d (is_connected w.front.stage) (is_issuing w.front.stage) (is_fetching w.back.stage) (ending_at w.front.stage w.front.ending) (telling_at w.front.stage) (reply_at w.back.stage) w.front.requests works pages
 
 -- they stay where the job's stage is another of the same station, and a read's job has what its stage says
 pub stations_stay : (config : Options) (w : World) (g : Flow) (d : Pipeline) (p : ℕ) (t t' : Work) (r : Request) (pages : List ℕ)
@@ -91,15 +92,15 @@ pub stations_stay : (config : Options) (w : World) (g : Flow) (d : Pipeline) (p 
     → slice_get w.back.jobs.works p ≡ Some t
     → slice_get g.submitted (t.number - 1) ≡ Some r
     → t'.number ≡ t.number
-    → worked t'.stage ≡ worked t.stage
-    → ((q : Asked) → slice_get d.requests (t.number - 1) ≡ Some q → is_write r.transfer ≡ false → ReadAt pages r.frame t'.words q.words t'.stage)
+    → worked t'.stage t'.moved ≡ worked t.stage t.moved
+    → ((q : Asked) → slice_get d.requests (t.number - 1) ≡ Some q → is_write r.transfer ≡ false → ReadAt pages r t'.moved t'.words q.words t'.stage)
     → StationsWith config w g d (slice_set w.back.jobs.works p t') pages
 stations_stay config w g d p t t' r pages h here known number same now =
-    job_stays config g d (is_connected w.front.stage) (is_issuing w.front.stage) (is_fetching w.back.stage) (ending_at w.front.stage) (is_telling w.front.stage) (reply_at w.back.stage) w.front.requests w.back.jobs.works pages p t t' here number same
+    job_stays config g d (is_connected w.front.stage) (is_issuing w.front.stage) (is_fetching w.back.stage) (ending_at w.front.stage w.front.ending) (telling_at w.front.stage) (reply_at w.back.stage) w.front.requests w.back.jobs.works pages p t t' here number same
     (λ x q its at reads.
     let one : r ≡ x = same_Some r x (sym known ∙ (ap (λ (n : ℕ). slice_get g.submitted (n - 1)) (sym number) ∙ its)) in
     let was : slice_get d.requests (t.number - 1) ≡ Some q = ap (λ (n : ℕ). slice_get d.requests (n - 1)) (sym number) ∙ at in
-    subst (λ (y : Request). is_write y.transfer ≡ false → ReadAt pages y.frame t'.words q.words t'.stage) one (now q was) reads)
+    subst (λ (y : Request). is_write y.transfer ≡ false → ReadAt pages y t'.moved t'.words q.words t'.stage) one (now q was) reads)
     h
 
 -- all of it: the job at place p is this now, the pipeline and memory are these
@@ -113,8 +114,8 @@ pub job_makes : (config : Options) (w : World) (g : Flow) (d d' : Pipeline) (p :
     → SameFrame w.under.pages pages' 2
     → SameEntry w.under.pages pages' 8
     → All (IsFilled g.pushed pages' w.front.stage) w.front.requests
-    → AreDataWords pages' w.front.words w.front.stage
-    → AreEntries g.pushed pages' grants'.live w.front.stage w.front.requests
+    → AreDataWords pages' w.front.words w.front.ending w.front.stage
+    → AreEntries g.pushed pages' grants'.live w.front.stage w.front.ending w.front.requests
     → AreMapped grants'.live (hands_at w.back.stage (record w.back { jobs = record w.back.jobs { works = slice_set w.back.jobs.works p t' } }))
     → (let v : World = record { front = w.front; back = record w.back { jobs = record w.back.jobs { works = slice_set w.back.jobs.works p t' }; told = None }; under = record w.under { pages = pages'; grants = grants' } } in Holds config v g d' v.front.stage v.back.stage)
 job_makes config w g d d' p t t' pages' grants' h here number stations now sized ring entry frames told entries mapped = record {
@@ -134,8 +135,8 @@ job_makes config w g d d' p t t' pages' grants' h here number stations now sized
   back_at = back_works g.start g.fetched g.back_seen g.replied g.submitted w.back.jobs.works (slice_set w.back.jobs.works p t') w.back.entry w.back.stage (λ rep alone. alone_after w.back.jobs.works p t t' rep.id here number alone) h.back_at;
   unhalted = h.unhalted;
   memory = sized;
-  ring = ring_kept g.start g.pushed g.replied w.under.pages pages' w.front.stage w.back.stage (λ v lt. ring v (omega arith)) (few_words _ _ _ _ _ _ _ _ w.front.stage h.front_at) entry h.ring;
-  slots = slots_kept g.start g.fetched g.pushed g.taken g.replied g.submitted g.replies w.under.pages pages' w.front.stage w.back.stage (λ v from to. ring v to) (entered_few _ _ _ _ _ _ _ _ w.front.stage h.front_at) h.slots;
+  ring = ring_kept g.start g.pushed g.replied w.under.pages pages' w.front.stage w.back.stage (λ v lt. ring v (omega arith)) (few_words _ _ _ _ _ _ _ _ _ w.front.stage h.front_at) entry h.ring;
+  slots = slots_kept g.start g.fetched g.pushed g.taken g.replied g.submitted g.replies w.under.pages pages' w.front.stage w.back.stage (λ v from to. ring v to) (entered_few _ _ _ _ _ _ _ _ _ w.front.stage h.front_at) h.slots;
   frames = frames;
   telling = told;
   entries = entries;
@@ -157,12 +158,12 @@ pub job_holds : (config : Options) (w : World) (g : Flow) (d d' : Pipeline) (p :
     → SameFrame w.under.pages pages' 2
     → SameEntry w.under.pages pages' 8
     → ((f : ℕ) → 18 ≤ f → f < 1018 → SameFrame w.under.pages pages' f)
-    → AreEntries g.pushed pages' grants'.live w.front.stage w.front.requests
+    → AreEntries g.pushed pages' grants'.live w.front.stage w.front.ending w.front.requests
     → AreMapped grants'.live (hands_at w.back.stage (record w.back { jobs = record w.back.jobs { works = slice_set w.back.jobs.works p t' } }))
     → (let v : World = record { front = w.front; back = record w.back { jobs = record w.back.jobs { works = slice_set w.back.jobs.works p t' }; told = None }; under = record w.under { pages = pages'; grants = grants' } } in Holds config v g d' v.front.stage v.back.stage)
 job_holds config w g d d' p t t' pages' grants' h here number stations now sized ring entry frames entries mapped =
     job_makes config w g d d' p t t' pages' grants' h here number
-    (stations_elsewhere config g d' (is_connected w.front.stage) (is_issuing w.front.stage) (is_fetching w.back.stage) (ending_at w.front.stage) (is_telling w.front.stage) (reply_at w.back.stage) w.front.requests (slice_set w.back.jobs.works p t') w.under.pages pages' w.front.sectors w.front.last h.submitted frames stations)
+    (stations_elsewhere config g d' (is_connected w.front.stage) (is_issuing w.front.stage) (is_fetching w.back.stage) (ending_at w.front.stage w.front.ending) (telling_at w.front.stage) (reply_at w.back.stage) w.front.requests (slice_set w.back.jobs.works p t') w.under.pages pages' w.front.sectors w.front.last h.submitted frames stations)
     now sized ring entry
-    (frames_kept g.pushed w.under.pages pages' w.front.stage w.front.requests (filled_few _ _ _ _ _ _ _ _ w.front.stage h.front_at) (all_from (λ (r : Request). SameFrame w.under.pages pages' r.frame) w.front.requests (λ i r e. let is = is_submitted config w g d w.front.stage w.back.stage h i r e in frames r.frame is.low is.high)) h.frames)
-    (data_kept w.under.pages pages' w.front.words w.front.stage frames h.telling) entries mapped
+    (frames_elsewhere config w g d w.front.stage w.back.stage pages' h frames)
+    (told_elsewhere config w g d w.front.stage w.back.stage pages' h frames) entries mapped

@@ -1,6 +1,6 @@
 -- What a write leaves as it was, subject by subject.
 use Rattle.std.proofs.Common.{◌≡◌, ◌≢◌, ℕ, zero, suc, ◌+◌, ◌*◌, ◌/◌, ◌%◌, ◌<◌, ◌≤◌, Bool, List, length, refl, ap, sym, ◌∙◌, arith, get_or-set_other}
-use Rattle.std.specs.Prelude.{All, Some}
+use Rattle.std.specs.Prelude.{All, Option, Some}
 use Rattle.std.proofs.lemmas.Grind.{get_or-set_at}
 use Rattle.xen_pages.specs.Pages.{word_of, with_word}
 use Rattle.grant_table.specs.declared.held.Held.{Held}
@@ -13,12 +13,18 @@ use Rattle.blk_front.specs.View.{slot_word}
 use Rattle.blk_back.specs.declared.stage.Reply.{Reply}
 use Rattle.blk_back.specs.declared.stage.Stage.{Stage as BackStage}
 use Rattle.blk_back.specs.declared.stage.Stage.TheVariants as back
-use Rattle.machine_pipeline.proofs.Flow.{wrapped, revoking_at, filled, entered, responded}
-use Rattle.machine_pipeline.proofs.Holds.{RingBegun, AreRingWords, AreSlots, IsFilled, IsReadSoFar, AreDataWords, AreEntries, IsFrontSleep, IsBackSleep}
+use Rattle.blk_front.specs.Request.{frame_at, words_in}
+use Rattle.machine_pipeline.proofs.Flow.{wrapped, ending_at, revoking_at, entered, responded, frames_of}
+use Rattle.machine_pipeline.proofs.Data.{SameData, pooled_at}
+use Rattle.machine_pipeline.proofs.Holds.{IsPooled, RingBegun, AreRingWords, AreSlots, IsFilled, IsReadSoFar, AreDataWords, AreEntries, IsFrontSleep, IsBackSleep}
 
 -- each word of a frame is as it was
 abbrev pub SameFrame : (old new : List ℕ) → ℕ → Type 0
 SameFrame old new f = (w : ℕ) → w < 1024 → word_of new f w ≡ word_of old f w
+
+-- so the data of a request are, where no frame of the pool changes
+pub data_same : (old new : List ℕ) (r : Request) → All IsPooled r.frames.items → ((f : ℕ) → 18 ≤ f → f < 1018 → SameFrame old new f) → SameData old new r
+data_same old new r all same n lt = let pooled = pooled_at r all (n / 1024) in same (frame_at r (n / 1024)) pooled.0 pooled.1 (n % 1024) (omega arith)
 
 -- both words of a reference's entry are as they were
 pub record SameEntry (old new : List ℕ) (gref : ℕ) : Type 0 where
@@ -107,39 +113,46 @@ slots_kept start fetched pushed taken replied submitted replies old new s b same
     responded_few b = omega arith
 
 pub frames_kept : (pushed : ℕ) (old new : List ℕ) (s : FrontStage) (requests : List Request)
-    → filled s ≤ 128
-    → All (λ (r : Request). SameFrame old new r.frame) requests
+    → All (SameData old new) requests
     → All (IsFilled pushed old s) requests
     → All (IsFilled pushed new s) requests
-frames_kept pushed old new s requests few same h k d lt =
+frames_kept pushed old new s requests same h k d lt =
     let here = same k d lt in
     let was = h k d lt in
     record {
-      whole = λ way le i l. here i (omega arith) ∙ was.whole way le i l;
-      begun = λ way e i l. here i (omega arith) ∙ was.begun way e i l;
+      whole = λ way le n l. here n l ∙ was.whole way le n l;
+      begun = λ way e n l m. here n m ∙ was.begun way e n l m;
     }
 
 -- the words of data that are told are as they were
-pub data_kept : (old new words : List ℕ) (s : FrontStage) → ((f : ℕ) → 18 ≤ f → f < 1018 → SameFrame old new f) → AreDataWords old words s → AreDataWords new words s
-data_kept old new words s same h = record { size = h.size; so_far = by_stage s h.so_far }
+pub data_kept : (old new words : List ℕ) (ending : Option Ending) (s : FrontStage)
+    → ((e : Ending) → ending_at s ending ≡ Some e → SameData old new e.request)
+    → ((n : ℕ) → s ≡ front.ReadData n → (e : Ending) → ending ≡ Some e → n < words_in e.request)
+    → AreDataWords old words ending s
+    → AreDataWords new words ending s
+data_kept old new words ending s same within h = record { size = h.size; so_far = by_stage s same within h.so_far }
   where
-    by_stage : (t : FrontStage) → IsReadSoFar old words t → IsReadSoFar new words t
-    by_stage (front.ReadData e k) x = (x.0, x.1, λ i lt few. x.2 i lt few ∙ sym (same e.frame x.0 x.1 i (omega arith)))
-    by_stage t x = tt
+    by_stage : (t : FrontStage) → ((e : Ending) → ending_at t ending ≡ Some e → SameData old new e.request) → ((n : ℕ) → t ≡ front.ReadData n → (e : Ending) → ending ≡ Some e → n < words_in e.request) → IsReadSoFar old words ending t → IsReadSoFar new words ending t
+    by_stage (front.ReadData n) kept bound x = λ e here k lt. x e here k lt ∙ sym (kept e here (n / 128 * 128 + k) (let few = bound n refl e here in omega arith))
+    by_stage t kept bound x = tt
 
-pub entries_kept : (pushed : ℕ) (old new : List ℕ) (live : List Held) (s : FrontStage) (requests : List Request)
-    → All (λ (r : Request). SameEntry old new (r.frame + 6)) requests
-    → ((e : Ending) → revoking_at s ≡ Some e → SameEntry old new (e.frame + 6))
-    → AreEntries pushed old live s requests
-    → AreEntries pushed new live s requests
-entries_kept pushed old new live s requests same ending h = record {
+-- both words of the grant entries of a request's frames are as they were
+abbrev pub SameGrants : (old new : List ℕ) → Request → Type 0
+SameGrants old new r = (place : ℕ) → place < frames_of r → SameEntry old new (frame_at r place + 6)
+
+pub entries_kept : (pushed : ℕ) (old new : List ℕ) (live : List Held) (s : FrontStage) (ending : Option Ending) (requests : List Request)
+    → All (SameGrants old new) requests
+    → ((e : Ending) → revoking_at s ending ≡ Some e → SameGrants old new e.request)
+    → AreEntries pushed old live s ending requests
+    → AreEntries pushed new live s ending requests
+entries_kept pushed old new live s ending requests same last h = record {
   each = λ k d lt. let here = same k d lt in let was = h.each k d lt in record {
-    named = λ le. here.frame ∙ was.named le;
-    named_next = λ e t. here.frame ∙ was.named_next e t;
-    flags = λ le. here.flags ∙ was.flags le;
-    flags_next = λ e t. here.flags ∙ was.flags_next e t;
+    named = λ le place in_it. let entry = here place in_it in entry.frame ∙ was.named le place in_it;
+    named_next = λ e place t in_it. let entry = here place in_it in entry.frame ∙ was.named_next e place t in_it;
+    flags = λ le place in_it. let entry = here place in_it in entry.flags ∙ was.flags le place in_it;
+    flags_next = λ e place t in_it. let entry = here place in_it in entry.flags ∙ was.flags_next e place t in_it;
   };
-  ending = λ e t. let here = ending e t in here.flags ∙ h.ending e t;
+  ending = λ e t place from in_it. let here = last e t in let entry = here place in_it in entry.flags ∙ h.ending e t place from in_it;
 }
 
 pub front_sleep_kept : (start taken replied : ℕ) (old new : List ℕ) (asleep pending : Bool) (s : FrontStage) (b : BackStage)

@@ -1,7 +1,6 @@
 -- The happenings that events make are served ones.
 use Rattle.std.proofs.Common.{◌≡◌, ℕ, zero, suc, inl, inr, if◌then◌else◌, Bool, true, false, List, [], ◌∷◌, ◌++◌, refl, sym, subst, arith, true≢false}
 use Rattle.std.specs.Prelude.{replicate}
-use Rattle.std.proofs.lemmas.Bool.Decides.{nat_tests}
 use Rattle.blk_base.specs.declared.config.Job.{Job}
 use Rattle.blk_base.specs.declared.config.Job.TheVariants as jobs
 use Rattle.blk_base.specs.Options.{Options}
@@ -16,7 +15,7 @@ use Rattle.blk_back.specs.declared.stage.Stage.{Stage as BackStage}
 use Rattle.split_model.specs.World.{World, is_quiet}
 use Rattle.split_model.specs.Happening.{Happening, FrontMoves, BackMoves, Submits, Notifies, Looks, Settles, happens, after}
 use Rattle.split_model.specs.Kind.{is_carried, is_carried_job, Makes, MakesSoFar, front_move, front_moves, back_moves, AreJobMoves, AreEachJobs, round_start, IsBeginning, IsRoundSoFar, AreRounds, never, settle_bound, AreRoundsSoFar, IsSettling, IsSettlingSoFar, AreOf, AreOfSoFar, AreOfAll}
-use Rattle.machine_pipeline.specs.Allowed.{IsOneSector, IsServed, AreServed}
+use Rattle.machine_pipeline.specs.Allowed.{IsTransfer, IsServed, AreServed}
 use Rattle.machine_pipeline.proofs.Flow.{Flow}
 use Rattle.machine_pipeline.proofs.Holds.{Holds}
 use Rattle.machine_pipeline.proofs.KindsFront.{Connects, connected_happens, connected_after, connects_after, twenty_connect}
@@ -128,18 +127,18 @@ settling_so_far_served : (w : World) (hs : List Happening) → Connects w.front.
 settling_so_far_served w hs c (inl r) = rounds_so_far_served is_quiet (settle_bound w) w hs c r
 settling_so_far_served w hs c (inr s) = settling_served w hs c s
 
--- a submission that is carried out is a read or a write of one sector
-one_sector : (job : Job) → is_carried_job job ≡ true → JobHasWidths job → IsOneSector job
-one_sector (jobs.Read sector count) carried widths = grind (arith, nat_tests)
-one_sector (jobs.Write sector count tag) carried widths = (let one : count ≡ 1 = grind (arith, nat_tests) in one, widths.2)
-one_sector job carried widths = absurd (true≢false (sym carried))
+-- a submission that is carried out is a read or a write of some sectors
+some_sectors : (job : Job) → is_carried_job job ≡ true → JobHasWidths job → IsTransfer job
+some_sectors (jobs.Read sector count) carried widths = let some = widths.1 in omega arith
+some_sectors (jobs.Write sector count tag) carried widths = (let some = widths.1 in omega arith, widths.2)
+some_sectors job carried widths = absurd (true≢false (sym carried))
 
 -- this alone happens
 only : (h : Happening) (w : World) (hs : List Happening) → IsServed w h → hs ≡ h ∷ [] → AreServed hs w
 only h w hs served all = subst (λ (l : List Happening). AreServed l w) (sym all) (served, tt)
 
 made_served : (e : Event) (w : World) (hs : List Happening) → Connects w.front.stage → is_carried e ≡ true → Makes e w hs → AreServed hs w
-made_served (events.Submit job) w hs c carried k = only (Submits job) w hs (one_sector job carried k.1) k.0
+made_served (events.Submit job) w hs c carried k = only (Submits job) w hs (some_sectors job carried k.1) k.0
 made_served (events.Front n) w hs c carried k = subst (λ (l : List Happening). AreServed l w) (sym k) (front_moves_served w n c)
 made_served (events.Back n) w hs c carried k = subst (λ (l : List Happening). AreServed l w) (sym k) (back_moves_served w n)
 made_served (events.Job number n) w hs c carried k = jobs_served number hs w k.0

@@ -1,5 +1,5 @@
 -- Whatever happens, a connected front stays connected; and twenty moves connect one that isn't.
-use Rattle.std.proofs.Common.{◌≡◌, ◌≢◌, ℕ, zero, suc, ◌+◌, ◌-◌, ◌*◌, ◌^◌, ◌<◌, ◌≤◌, ◌==◌, if◌then◌else◌, Bool, true, false, List, [], ◌∷◌, refl, sym, subst, arith, true≢false}
+use Rattle.std.proofs.Common.{◌≡◌, ◌≢◌, ℕ, zero, suc, ◌+◌, ◌-◌, ◌*◌, ◌%◌, ◌^◌, ◌<◌, ◌≤◌, ◌==◌, if◌then◌else◌, Bool, true, false, List, [], ◌∷◌, length, refl, sym, subst, arith, true≢false}
 use Rattle.std.specs.Prelude.{Option, Some, None, Result, Ok, Err, nat_lt, replicate, slice_set}
 use Rattle.std.proofs.lemmas.Bool.Decides.{nat_tests}
 use Rattle.blk_base.specs.Distance.{distance_of}
@@ -17,10 +17,9 @@ use Rattle.blk_front.specs.declared.request.Transfer.{Transfer}
 use Rattle.blk_front.specs.declared.request.Transfer.TheVariants as transfer
 use Rattle.blk_front.specs.declared.stage.Ending.{Ending}
 use Rattle.blk_front.specs.declared.told.Told.TheVariants as told
-use Rattle.blk_front.specs.Request.{has_data}
-use Rattle.blk_front.specs.Pool.{with_free}
+use Rattle.blk_front.specs.Request.{has_data, words_in}
 use Rattle.blk_front.specs.View.{View, next_request}
-use Rattle.blk_front.specs.Step.{at, broken, looked, issue_stage, loop_step, issued, response_at, is_mapped, ended, data_step, step_at}
+use Rattle.blk_front.specs.Step.{at, broken, looked, issue_stage, data_stage, granted, entry_of, loop_step, issued, response_at, is_mapped, finished, ended, revoked, sector_told, data_step, step_at}
 use Rattle.blk_front.specs.Submit.{is_connected}
 use Rattle.split_model.specs.World.{World, start_of}
 use Rattle.split_model.specs.Happening.{Happening, FrontMoves, BackMoves, JobMoves, Submits, Notifies, Looks, Settles, happens, after, back_turn, job_turn, back_after, job_after}
@@ -81,12 +80,12 @@ looked_on v word otherwise p =
     either (nat_lt (distance_of v.ring.cons v.ring.prod) (distance_of v.ring.cons word)) (broken word v) (if word == v.ring.cons then otherwise else record v { seen = word; stage = front.Loop }) refl
     (either (word == v.ring.cons) otherwise (record v { seen = word; stage = front.Loop }) p refl)
 
-issue_on : (v : View) (r : Request) (way : Transfer) → IsOn (at (issue_stage r way) v)
-issue_on v r transfer.Read = refl
-issue_on v r (transfer.Write tag) = refl
+issue_on : (v : View) (way : Transfer) → IsOn (at (issue_stage way) v)
+issue_on v transfer.Read = refl
+issue_on v (transfer.Write tag) = refl
 
 loop_on : (v : View) (r : Option Request) (x : FrontAnswer) → IsOn v → IsOn (loop_step v r x)
-loop_on v (Some r) x p = issue_on v r r.transfer
+loop_on v (Some r) x p = issue_on v r.transfer
 loop_on v None (answer.Word word) p =
     either (responses_of v.ring v.seen == 0) (looked v word (record v { seen = word; stage = front.StoreEvent })) (at (front.ResponseHigh word) v)
     (looked_on v word (record v { seen = word; stage = front.StoreEvent }) refl) refl
@@ -98,15 +97,29 @@ response_on v response low None = refl
 response_on v (Err word) low (Some found) = refl
 response_on v (Ok response) low (Some found) = refl
 
-ended_on : (v : View) (e : Ending) → IsOn (ended v e)
-ended_on v e = either (has_data e.transfer e.status)
-    (record v { stage = front.ReadData e 0; told = Some (told.Answer e.number e.status) })
-    (record v { stage = front.Loop; pool = with_free v.pool e.frame; told = Some (told.Answer e.number e.status) }) refl refl
+data_stage_on : (next : Option Request) (n : ℕ) → is_connected (data_stage next n) ≡ true
+data_stage_on None n = refl
+data_stage_on (Some r) n = either_stage (nat_lt (n + 1) (words_in r)) (front.Data (n + 1)) (front.GrantFrame 0) refl refl
 
-data_on : (v : View) (e : Ending) (k word : ℕ) → IsOn (data_step v e k word)
-data_on v e k word = either (k == 127)
-    (record v { words = slice_set v.words k word; stage = front.Loop; pool = with_free v.pool e.frame; told = Some (told.Sector e.number 0 (slice_set v.words k word)) })
-    (record v { words = slice_set v.words k word; stage = front.ReadData e (k + 1) }) refl refl
+granted_on : (v : View) (next : Option Request) (place : ℕ) → IsOn v → IsOn (granted next place v)
+granted_on v None place p = p
+granted_on v (Some r) place p = either (nat_lt (place + 1) (length r.frames.items)) (at (front.GrantFrame (place + 1)) v)
+    (record v { stage = front.Slot 0; entry = entry_of r }) refl refl
+
+ended_on : (v : View) (e : Ending) → IsOn (ended e v)
+ended_on v e = either (has_data e.request.transfer e.status)
+    (record v { stage = front.ReadData 0; told = Some (told.Answer e.request.number e.status) })
+    (record (finished e v) { told = Some (told.Answer e.request.number e.status) }) refl refl
+
+revoked_on : (v : View) (ending : Option Ending) (place : ℕ) → IsOn v → IsOn (revoked ending place v)
+revoked_on v None place p = p
+revoked_on v (Some e) place p = either (nat_lt (place + 1) (length e.request.frames.items)) (at (front.GrantRead (place + 1)) v) (ended e v) refl (ended_on v e)
+
+data_on : (v : View) (ending : Option Ending) (n word : ℕ) → IsOn v → IsOn (data_step ending n word v)
+data_on v None n word p = p
+data_on v (Some e) n word p =
+    let words : List ℕ = slice_set v.words (n % 128) word in
+    either (nat_lt (n + 1) (words_in e.request)) (at (front.ReadData (n + 1)) (sector_told e n words v)) (finished e (sector_told e n words v)) refl refl
 
 -- a connected front stays so, whatever it is told
 step_on : (s : Stage) (v : View) (x : FrontAnswer) → IsOn v → is_connected s ≡ true → IsOn (step_at s v x)
@@ -116,10 +129,10 @@ step_on front.RingFence v x p e = absurd (true≢false (sym e))
 step_on front.RingFlags v x p e = absurd (true≢false (sym e))
 step_on front.NewPort v x p e = refl
 step_on front.Loop v x p e = loop_on v (next_request v) x p
-step_on (front.Data r k) v x p e = either_stage (k == 127) (front.GrantFrame r) (front.Data r (k + 1)) refl refl
-step_on (front.GrantFrame r) v x p e = refl
-step_on (front.GrantFence r) v x p e = refl
-step_on (front.GrantFlags r) v x p e = refl
+step_on (front.Data n) v x p e = data_stage_on (next_request v) n
+step_on (front.GrantFrame place) v x p e = refl
+step_on (front.GrantFence place) v x p e = refl
+step_on (front.GrantFlags place) v x p e = granted_on v (next_request v) place p
 step_on (front.Slot k) v x p e = either_stage (k == 27) front.Producer (front.Slot (k + 1)) refl refl
 step_on front.Producer v x p e = refl
 step_on (front.ProducerFence old) v x p e = refl
@@ -127,9 +140,10 @@ step_on (front.RequestEvent old) v (answer.Word event) p e = either_stage (notif
 step_on front.Send v x p e = refl
 step_on (front.ResponseHigh low) v (answer.Word high) p e = refl
 step_on (front.ResponseLast low high) v (answer.Word last) p e = response_on v (response_of (low ∷ high ∷ last ∷ [])) low (issued v (low + high * 2 ^ 32))
-step_on (front.GrantRead e) v (answer.Word word) p f = either (is_mapped word) (broken word v) (at (front.GrantEnd e word) v) refl refl
-step_on (front.GrantEnd e before) v (answer.Word word) p f = either (word == before) (ended v e) (broken word v) (ended_on v e) refl
-step_on (front.ReadData e k) v (answer.Word word) p f = data_on v e k word
+step_on (front.GrantRead place) v (answer.Word word) p f = either (is_mapped word) (broken word v) (at (front.GrantEnd place word) v) refl refl
+step_on (front.GrantEnd place before) v (answer.Word word) p f = either (word == before) (revoked v.ending place v) (broken word v)
+    (revoked_on v v.ending place p) refl
+step_on (front.ReadData n) v (answer.Word word) p f = data_on v v.ending n word p
 step_on front.StoreEvent v x p e = refl
 step_on front.EventFence v x p e = refl
 step_on front.LookAgain v (answer.Word word) p e = looked_on v word (record v { seen = word; stage = front.Loop; asleep = true }) refl

@@ -3,6 +3,8 @@ pub mod Flow
 pub mod ReadBack
 pub mod Stations
 pub mod Holds
+pub mod Data
+pub mod Segments
 pub mod Indices
 pub mod Sectors
 pub mod Turns

@@ -1,6 +1,6 @@
 -- Places of lists, and counts over them.
 use Rattle.std.proofs.Common.{◌≡◌, ◌≢◌, ℕ, zero, suc, ◌+◌, ◌<◌, ◌≤◌, ◌==◌, ◌⊎◌, inl, inr, Bool, true, false, cond, List, [], ◌∷◌, ◌++◌, length, refl, ap, sym, ◌∙◌, subst, arith}
-use Rattle.std.specs.Prelude.{All, AllPairs, Some, slice_get, slice_set, slice_index_or, position, count_by, slice_index, replicate}
+use Rattle.std.specs.Prelude.{All, AllPairs, Some, slice_get, slice_set, slice_index_or, position, count_by, sum_by, slice_index, replicate}
 use Rattle.std.specs.List.{list_any}
 use Rattle.std.proofs.lemmas.Option.{none-some, same_Some, slice_get_within, get_or_from_slice_get, slice_get-get_or, slice_get_read}
 use Rattle.std.proofs.lemmas.List.Quantifiers.{position-Some}
@@ -60,6 +60,32 @@ count_two {X} p (z ∷ xs) (suc i) (suc j) x y lt e f t u =
     let rest = count_two p xs i j x y (omega arith) e f t u in
     omega arith
 
+-- what one element and two elements add to a sum
+pub sum_one : {X : Type 0} (f : X → ℕ) (xs : List X) (i : ℕ) (x : X) → slice_get xs i ≡ Some x → f x ≤ sum_by f xs
+sum_one f [] i x e = absurd (none-some x e)
+sum_one f (y ∷ xs) zero x e =
+    let one = sum_by-cons f y xs in
+    let here : f y ≡ f x = ap f (same_Some y x e) in
+    omega arith
+sum_one f (y ∷ xs) (suc i) x e =
+    let one = sum_by-cons f y xs in
+    let rest = sum_one f xs i x e in
+    omega arith
+
+pub sum_two : {X : Type 0} (f : X → ℕ) (xs : List X) (i j : ℕ) (x y : X) → i < j → slice_get xs i ≡ Some x → slice_get xs j ≡ Some y → f x + f y ≤ sum_by f xs
+sum_two f [] i j x y lt e g = absurd (none-some x e)
+sum_two f (z ∷ xs) zero zero x y lt e g = absurd (omega arith)
+sum_two f (z ∷ xs) zero (suc j) x y lt e g =
+    let one = sum_by-cons f z xs in
+    let here : f z ≡ f x = ap f (same_Some z x e) in
+    let rest = sum_one f xs j y g in
+    omega arith
+sum_two f (z ∷ xs) (suc i) zero x y lt e g = absurd (omega arith)
+sum_two f (z ∷ xs) (suc i) (suc j) x y lt e g =
+    let one = sum_by-cons f z xs in
+    let rest = sum_two f xs i j x y (omega arith) e g in
+    omega arith
+
 pub count_none : {X : Type 0} (p : X → Bool) (xs : List X) → ((i : ℕ) (x : X) → slice_get xs i ≡ Some x → p x ≡ false) → count_by p xs ≡ 0
 count_none p [] none = refl
 count_none {X} p (y ∷ xs) none =
@@ -103,6 +129,20 @@ count_set {X} p (z ∷ xs) (suc i) x y e =
     let one = sum_by-cons (λ (w : X). cond (p w) 1 0) z xs in
     let two = sum_by-cons (λ (w : X). cond (p w) 1 0) z (slice_set xs i y) in
     let rest = count_set p xs i x y e in
+    omega arith
+
+-- and a sum over elements of which one is set anew
+pub sum_set : {X : Type 0} (f : X → ℕ) (xs : List X) (i : ℕ) (x y : X) → slice_get xs i ≡ Some x → sum_by f (slice_set xs i y) + f x ≡ sum_by f xs + f y
+sum_set f [] i x y e = absurd (none-some x e)
+sum_set f (z ∷ xs) zero x y e =
+    let was = sum_by-cons f z xs in
+    let now = sum_by-cons f y xs in
+    let here : f z ≡ f x = ap f (same_Some z x e) in
+    omega arith
+sum_set f (z ∷ xs) (suc i) x y e =
+    let was = sum_by-cons f z xs in
+    let now = sum_by-cons f z (slice_set xs i y) in
+    let rest = sum_set f xs i x y e in
     omega arith
 
 pub pairs_from : {X : Type 0} (R : X → X → Type 0) (xs : List X) → ((i j : ℕ) (x y : X) → i < j → slice_get xs i ≡ Some x → slice_get xs j ≡ Some y → R x y) → AllPairs R xs

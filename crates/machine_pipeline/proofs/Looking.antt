@@ -19,7 +19,7 @@ use Rattle.blk_front.specs.Submit.{ending_of}
 use Rattle.blk_front.specs.Step.{at, looked, broken}
 use Rattle.split_model.specs.World.{World}
 use Rattle.split_model.specs.Shown.{front_lines}
-use Rattle.machine_pipeline.proofs.Flow.{Flow, wrapped, ending_at}
+use Rattle.machine_pipeline.proofs.Flow.{Flow, wrapped}
 use Rattle.machine_pipeline.proofs.Holds.{Holds, IsFrontSleep, FrontAt}
 use Rattle.machine_pipeline.proofs.Turns.{Goes, FrontGoes, said_nothing}
 use Rattle.machine_pipeline.proofs.Kept.{SameFrame, written, other_word, other_frame}
@@ -38,14 +38,14 @@ too_far far near le t = grind (arith, nat_tests)
 
 -- what was read of the producer is what was replied: not too far, and the same as what was taken where nothing is new
 pub looked_goes : (config : Options) (w : World) (g : Flow) (d : Pipeline) (s : FrontStage) (m : Move) (word : ℕ) (otherwise : View)
-    → IsResting s → ending_at s ≡ None → ending_of s ≡ 0
+    → IsResting s → ending_of s ≡ 0
     → Holds config w g d s w.back.stage
     → w.front.told ≡ None
     → w.front.asleep ≡ false
     → word ≡ wrapped g.start g.replied
     → (g.replied ≡ g.taken → Goes config (lines.Move m ∷ front_lines otherwise.told) (record { front = record otherwise { told = None }; back = w.back; under = w.under }) d)
     → (let x : View = looked w.front word otherwise in Goes config (lines.Move m ∷ front_lines x.told) (record { front = record x { told = None }; back = w.back; under = w.under }) d)
-looked_goes config w g d s m word otherwise i none zero h told awake read nothing = by_break (nat_lt (distance_of w.front.ring.cons w.front.ring.prod) (distance_of w.front.ring.cons word)) refl
+looked_goes config w g d s m word otherwise i zero h told awake read nothing = by_break (nat_lt (distance_of w.front.ring.cons w.front.ring.prod) (distance_of w.front.ring.cons word)) refl
   where
     found : View
     found = let v : View = w.front in record v { seen = word; stage = front.Loop }
@@ -59,7 +59,7 @@ looked_goes config w g d s m word otherwise i none zero h told awake read nothin
           flow = record g { front_seen = g.replied };
           step = None;
           does = said_nothing d m found.told told;
-          holds = rest_kept config w g d s front.Loop word g.replied false w.under.pages w.under.channels i at_loop none refl zero refl h tt read indices.taken_replied (omega arith) h.memory (λ f apart x lt. refl) (λ x apart lt. refl) refl refl refl
+          holds = rest_kept config w g d s front.Loop word g.replied false w.under.pages w.under.channels i at_loop zero refl h tt read indices.taken_replied (omega arith) h.memory (λ f apart x lt. refl) (λ x apart lt. refl) refl refl refl
               (record { arming = λ t. absurd (true≢false (sym t)); armed = λ t. absurd (true≢false (sym t)); may = λ t. refl; woken = λ t. absurd (true≢false (sym t)) });
         })
 
@@ -84,11 +84,11 @@ pub look_again_goes : (config : Options) (w : World) (g : Flow) (d : Pipeline)
     → Holds config w g d front.LookAgain w.back.stage
     → FrontGoes config w d front.LookAgain
 look_again_goes config w g d told h =
-    looked_goes config w g d front.LookAgain (moves.FrontRead 2 2 word) word asleep at_look refl refl h told awake read (λ same. record {
+    looked_goes config w g d front.LookAgain (moves.FrontRead 2 2 word) word asleep at_look refl h told awake read (λ same. record {
       flow = record g { front_seen = g.replied };
       step = None;
       does = said_nothing d (moves.FrontRead 2 2 word) asleep.told told;
-      holds = (let indices = h.indices in rest_kept config w g d front.LookAgain front.Loop word g.replied true w.under.pages w.under.channels at_look at_loop refl refl refl refl h tt read indices.taken_replied (omega arith) h.memory (λ f apart x lt. refl) (λ x apart lt. refl) refl refl refl
+      holds = (let indices = h.indices in rest_kept config w g d front.LookAgain front.Loop word g.replied true w.under.pages w.under.channels at_look at_loop refl refl h tt read indices.taken_replied (omega arith) h.memory (λ f apart x lt. refl) (λ x apart lt. refl) refl refl refl
           (let sleep = h.front_sleep in record { arming = λ t. absurd (true≢false (sym t)); armed = λ t. sleep.arming refl; may = λ t. absurd (true≢false t); woken = λ t. inl same }));
     })
   where
@@ -107,22 +107,22 @@ look_again_goes config w g d told h =
 -- nothing changed but the stage, and the front tells nothing
 pub at_stage_goes : (config : Options) (w : World) (g : Flow) (d : Pipeline) (s s' : FrontStage) (m : Move) (pages : List ℕ)
     → IsResting s → IsResting s'
-    → ending_at s ≡ None → ending_at s' ≡ None → ending_of s ≡ 0 → ending_of s' ≡ 0
+    → ending_of s ≡ 0 → ending_of s' ≡ 0
     → w.front.told ≡ None
     → Holds config w g d s w.back.stage
-    → FrontAt g.start g.pushed g.taken g.front_seen g.submitted g.replies (next_request w.front) w.front.entry s'
+    → FrontAt g.start g.pushed g.taken g.front_seen g.submitted g.replies (next_request w.front) w.front.entry w.front.ending s'
     → length pages ≡ 1114112
     → ((f : ℕ) → f ≢ 2 → SameFrame w.under.pages pages f)
     → ((x : ℕ) → x ≢ 3 → x < 1024 → word_of pages 2 x ≡ word_of w.under.pages 2 x)
     → IsFrontSleep g.start g.taken g.replied pages w.front.asleep w.under.channels.front_pending s' w.back.stage
     → (let x : View = at s' w.front in Goes config (lines.Move m ∷ front_lines x.told) (record { front = record x { told = None }; back = w.back; under = record w.under { pages = pages } }) d)
-at_stage_goes config w g d s s' m pages i i' none none' zero zero' told h place sized frames words sleep =
+at_stage_goes config w g d s s' m pages i i' zero zero' told h place sized frames words sleep =
     let indices = h.indices in
     record {
       flow = g;
       step = None;
       does = said_nothing d m w.front.told told;
-      holds = rest_kept config w g d s s' w.front.seen g.front_seen w.front.asleep pages w.under.channels i i' none none' zero zero' h place indices.front_saw indices.front_from indices.front_to sized frames words refl refl refl sleep;
+      holds = rest_kept config w g d s s' w.front.seen g.front_seen w.front.asleep pages w.under.channels i i' zero zero' h place indices.front_saw indices.front_from indices.front_to sized frames words refl refl refl sleep;
     }
 
 -- it stores its event word one past what it took
@@ -131,7 +131,7 @@ pub store_goes : (config : Options) (w : World) (g : Flow) (d : Pipeline)
     → Holds config w g d front.StoreEvent w.back.stage
     → FrontGoes config w d front.StoreEvent
 store_goes config w g d told h =
-    at_stage_goes config w g d front.StoreEvent front.EventFence (moves.FrontWrite 2 3 (next_of w.front.ring.cons)) pages at_store at_fence refl refl refl refl told h tt
+    at_stage_goes config w g d front.StoreEvent front.EventFence (moves.FrontWrite 2 3 (next_of w.front.ring.cons)) pages at_store at_fence refl refl told h tt
     (length-set w.under.pages (2 * 1024 + 3) (next_of w.front.ring.cons) ∙ h.memory)
     (λ f apart. other_frame w.under.pages 2 3 (next_of w.front.ring.cons) f (omega arith) apart)
     (λ x apart lt. other_word w.under.pages 2 3 (next_of w.front.ring.cons) x apart)
@@ -151,5 +151,5 @@ pub event_fence_goes : (config : Options) (w : World) (g : Flow) (d : Pipeline)
     → Holds config w g d front.EventFence w.back.stage
     → FrontGoes config w d front.EventFence
 event_fence_goes config w g d told h =
-    at_stage_goes config w g d front.EventFence front.LookAgain (moves.Fence mover.Front) w.under.pages at_fence at_look refl refl refl refl told h tt h.memory (λ f apart x lt. refl) (λ x apart lt. refl)
+    at_stage_goes config w g d front.EventFence front.LookAgain (moves.Fence mover.Front) w.under.pages at_fence at_look refl refl told h tt h.memory (λ f apart x lt. refl) (λ x apart lt. refl)
     (let sleep = h.front_sleep in record { arming = λ t. sleep.arming refl; armed = sleep.armed; may = sleep.may; woken = sleep.woken })

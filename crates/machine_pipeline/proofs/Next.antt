@@ -1,4 +1,4 @@
--- The request that is issued next: the first of those that wait, in a frame that no other one has.
+-- The request that is issued next: the first of those that wait, in frames that no other one has.
 use Rattle.std.proofs.Common.{◌≡◌, ◌≢◌, ℕ, ◌+◌, ◌-◌, ◌<◌, ◌≤◌, ◌==◌, ◌⊎◌, inl, inr, Bool, true, false, List, length, get_or, refl, ap, sym, ◌∙◌, subst, arith}
 use Rattle.std.specs.Prelude.{All, Option, Some, None, slice_get, if◌then◌else◌}
 use Rattle.std.proofs.lemmas.Bool.Decides.{nat_tests}
@@ -7,11 +7,13 @@ use Rattle.std.specs.List.{list_any}
 use Rattle.pipeline_laws.specs.Station.{Issuing, Request as Asked}
 use Rattle.blk_front.specs.declared.request.Request.{Request}
 use Rattle.blk_front.specs.declared.stage.Ending.{Ending}
+use Rattle.blk_front.specs.Request.{frame_at, IsShaped}
 use Rattle.blk_front.specs.View.{View, next_request}
 use Rattle.ring_words.specs.Ring.{Ring}
-use Rattle.machine_pipeline.proofs.Flow.{Flow}
-use Rattle.machine_pipeline.proofs.Holds.{AreIndices, AreQueued, IsSubmitted, AreSubmitted, ArePooled}
-use Rattle.machine_pipeline.proofs.Hands.{frames_apart}
+use Rattle.machine_pipeline.proofs.Flow.{Flow, frames_of}
+use Rattle.machine_pipeline.proofs.Holds.{IsPooled, AreIndices, AreQueued, IsSubmitted, AreSubmitted, ArePooled}
+use Rattle.machine_pipeline.proofs.Hands.{frames_apart, own_apart}
+use Rattle.machine_pipeline.proofs.Data.{pooled_at}
 use Rattle.machine_pipeline.proofs.Lists.{all_at, place_of_any}
 use Rattle.machine_pipeline.proofs.Stations.{StandsAt, AreOpen, kind_of, early_open, apart}
 
@@ -25,14 +27,25 @@ waiting_few h =
     let fetched = h.fetched_pushed in
     omega arith
 
+-- no frame of one request is one of the other
+abbrev pub FramesApart : Request → Request → Type 0
+FramesApart q r = (a b : ℕ) → a < frames_of q → b < frames_of r → frame_at q a ≢ frame_at r b
+
+-- nor is one of a request's frames two of them
+abbrev pub FramesDiffer : Request → Type 0
+FramesDiffer r = (a b : ℕ) → a ≢ b → a < frames_of r → b < frames_of r → frame_at r a ≢ frame_at r b
+
 pub record IsNext (submitted requests : List Request) (pushed waiting : ℕ) (r : Request) : Type 0 where
   pub waits : 1 ≤ waiting
   pub place : slice_get requests (length requests - waiting) ≡ Some r
   pub number : r.number ≡ pushed + 1
   pub known : slice_get submitted pushed ≡ Some r
-  pub low : 18 ≤ r.frame
-  pub high : r.frame < 1018
-  pub apart : All (λ (q : Request). q.number ≢ pushed + 1 → q.frame ≢ r.frame) requests
+  pub shaped : All IsShaped requests
+  pub pooled : All (λ (q : Request). All IsPooled q.frames.items) requests
+  pub shape : IsShaped r
+  pub frames : All IsPooled r.frames.items
+  pub apart : All (λ (q : Request). q.number ≢ pushed + 1 → FramesApart q r) requests
+  pub own : FramesDiffer r
   pub only : All (λ (q : Request). q.number ≡ pushed + 1 → q ≡ r) requests
 
 pub next_is : (v : View) (submitted : List Request) (sectors last pushed : ℕ) (ending : Option Ending) (r : Request)
@@ -52,13 +65,18 @@ next_is v submitted sectors last pushed ending r queue all pooled e = by_test (v
           place = place;
           number = omega arith;
           known = ap (λ (i : ℕ). slice_get submitted i) (one_less r.number pushed number) ∙ known;
-          low = is.low;
-          high = is.high;
-          apart = λ k d within other same.
+          shaped = λ k d within. let its = submitted_at k d within in its.shaped;
+          pooled = λ k d within. let its = submitted_at k d within in its.frames;
+          shape = is.shaped;
+          frames = is.frames;
+          own = λ a b other first second. own_apart v.pool v.requests ending (length v.requests - v.waiting) r pooled place a b other first second
+              (pooled_at r is.frames a);
+          apart = λ k d within other a b first second same.
               let q : Request = get_or v.requests k d in
               let stands : slice_get v.requests k ≡ Some q = slice_get-get_or v.requests k d within in
               let places : length v.requests - v.waiting ≢ k = λ here. other (ap (λ (x : Request). x.number) (same_Some q r (sym stands ∙ (ap (slice_get v.requests) (sym here) ∙ place))) ∙ (omega arith)) in
-              frames_apart v.pool v.requests ending (length v.requests - v.waiting) k r q pooled is.low is.high places place stands (sym same);
+              frames_apart v.pool v.requests ending (length v.requests - v.waiting) k r q pooled places place stands b a second first (pooled_at r is.frames b)
+              (sym same);
           only = λ k d within same.
               let q : Request = get_or v.requests k d in
               let stands : slice_get submitted (q.number - 1) ≡ Some q = queue.known k d within in
@@ -67,6 +85,10 @@ next_is v submitted sectors last pushed ending r queue all pooled e = by_test (v
               same_Some q r equal;
         }
       where
+        submitted_at : (k : ℕ) (d : Request) → k < length v.requests
+            → IsSubmitted sectors (let q : Request = get_or v.requests k d in q.number - 1) (get_or v.requests k d)
+        submitted_at k d within = let q : Request = get_or v.requests k d in all.each (q.number - 1) q (queue.known k d within)
+
         zeroth : (n : ℕ) → n + 0 ≡ n
         zeroth n = omega arith
 
@@ -83,26 +105,26 @@ next_is v submitted sectors last pushed ending r queue all pooled e = by_test (v
         some_wait : (n : ℕ) → (n == 0) ≡ false → 1 ≤ n
         some_wait n t = grind (arith, nat_tests)
 
--- a request that was fetched and isn't finished has another frame than the one that is being issued
+-- a request that was fetched and isn't finished has other frames than the one that is being issued
 pub fetched_apart : (submitted requests : List Request) (pushed waiting : ℕ) (asked : List Asked) (r : Request)
     → IsNext submitted requests pushed waiting r
     → AreQueued submitted pushed requests waiting
     → AreOpen asked requests None
     → StandsAt asked pushed Issuing
     → (k : ℕ) (x : Request) (q : Asked) → slice_get submitted k ≡ Some x → slice_get asked k ≡ Some q → 4 ≤ kind_of q.station → kind_of q.station ≤ 7
-    → x.frame ≢ r.frame
+    → FramesApart x r
 fetched_apart submitted requests pushed waiting asked r next queue opened issuing k x q known at low high = by_place (opened.held k q at (early_open q.station (omega arith)))
   where
     other : k ≢ pushed
     other = apart asked k pushed q.station Issuing (record { q = q; at = at; there = refl }) issuing (λ same. omega arith)
 
-    by_place : (list_any (λ (y : Request). y.number == k + 1) requests ≡ true) ⊎ ((e : Ending) × (None ≡ Some e) × (e.number ≡ k + 1)) → x.frame ≢ r.frame
+    by_place : (list_any (λ (y : Request). y.number == k + 1) requests ≡ true) ⊎ ((e : Ending) × (None ≡ Some e) × (e.request.number ≡ k + 1)) → FramesApart x r
     by_place (inl any) =
         let found = place_of_any (λ (y : Request). y.number == k + 1) requests any in
         let its = all_at (λ (y : Request). slice_get submitted (y.number - 1) ≡ Some y) requests found.0 found.1 queue.known found.2 in
-        let far = all_at (λ (y : Request). y.number ≢ pushed + 1 → y.frame ≢ r.frame) requests found.0 found.1 next.apart found.2 in
+        let far = all_at (λ (y : Request). y.number ≢ pushed + 1 → FramesApart y r) requests found.0 found.1 next.apart found.2 in
         let number : (let y : Request = found.1 in y.number) ≡ k + 1 = grind (arith, nat_tests, found.3) in
         let less : (let y : Request = found.1 in y.number - 1) ≡ k = omega (arith, number) in
         let same : found.1 ≡ x = same_Some found.1 x (sym its ∙ (ap (slice_get submitted) less ∙ known)) in
-        subst (λ (y : Request). y.frame ≢ r.frame) same (far (λ e. other (omega (arith, number, e))))
+        subst (λ (y : Request). FramesApart y r) same (far (λ e. other (omega (arith, number, e))))
     by_place (inr ending) = absurd (none-some ending.0 ending.1)

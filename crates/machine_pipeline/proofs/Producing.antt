@@ -7,6 +7,7 @@ use Rattle.ring_words.specs.Ring.{next_of}
 use Rattle.xen_pages.specs.Pages.{word_of, with_word}
 use Rattle.pipeline_laws.specs.Pipeline.{Pipeline}
 use Rattle.blk_front.specs.declared.request.Request.{Request}
+use Rattle.blk_front.specs.Request.{frame_at}
 use Rattle.blk_front.specs.declared.stage.Stage.TheVariants as front
 use Rattle.blk_base.specs.declared.parts.Mapping.{Mapping}
 use Rattle.back_jobs.specs.Task.{Work}
@@ -25,7 +26,6 @@ use Rattle.machine_pipeline.proofs.Lists.{all_at}
 use Rattle.machine_pipeline.proofs.Pushing.{pushed_flow, indices_pushed, queue_pushed, slots_pushed, frames_pushed, entries_pushed}
 use Rattle.machine_pipeline.proofs.Stations.{AreStations}
 use Rattle.machine_pipeline.proofs.ReadsKept.{stations_elsewhere}
-use Rattle.machine_pipeline.proofs.Resting.{data_rests}
 use Rattle.machine_pipeline.proofs.StationsFront.{pushes}
 use Rattle.machine_pipeline.specs.Step.{IsSame}
 use Rattle.split_model.specs.Shown.{front_lines}
@@ -50,7 +50,7 @@ producer_goes config w g d safe h =
         queue = queue_pushed g.submitted w.front.requests g.pushed w.front.waiting r next (waiting_few h.indices) h.queue;
         submitted = h.submitted;
         pool = h.pool;
-        stations = stations_elsewhere config (pushed_flow g) _ true false (is_fetching w.back.stage) None false (reply_at w.back.stage) w.front.requests w.back.jobs.works w.under.pages new w.front.sectors w.front.last h.submitted (λ f low high. elsewhere f (omega arith)) s.now;
+        stations = stations_elsewhere config (pushed_flow g) _ true false (is_fetching w.back.stage) None None (reply_at w.back.stage) w.front.requests w.back.jobs.works w.under.pages new w.front.sectors w.front.last h.submitted (λ f low high. elsewhere f (omega arith)) s.now;
         works = h.works;
         counted = h.counted;
         info = h.info;
@@ -68,11 +68,12 @@ producer_goes config w g d safe h =
           granted = λ t u. let entry = entry_same 8 (omega arith) in entry.flags ∙ y.granted t u;
         };
         slots = slots_pushed g.start g.fetched g.pushed g.taken g.replied w.front.ring.prod g.submitted g.replies w.under.pages new w.back.stage (λ z from. ring_word z (omega arith)) h.slots;
-        frames = frames_pushed g.pushed w.front.ring.prod w.under.pages new w.front.requests
+        frames = frames_pushed g.pushed w.front.ring.prod w.under.pages new w.front.requests next.shaped
             (frames_elsewhere config w g d front.Producer w.back.stage h new (λ f from. elsewhere f (omega arith))) h.frames;
-        telling = data_rests w.under.pages new w.front.words front.Producer (front.ProducerFence w.front.ring.prod) refl h.telling;
-        entries = entries_pushed g.submitted w.front.requests g.pushed w.front.waiting w.front.ring.prod w.under.pages new w.under.grants.live r next
-            (unmapped config w g d front.Producer w.back.stage h (length w.front.requests - w.front.waiting) r next.place none_begun (λ (m : Mapping). m.gref == r.frame + 6) (λ m apart. grind (arith, nat_tests)))
+        telling = record { size = h.telling.size; so_far = tt };
+        entries = entries_pushed g.submitted w.front.requests g.pushed w.front.waiting w.front.ring.prod w.under.pages new w.under.grants.live w.front.ending
+            r next
+            (λ place in_it. unmapped config w g d front.Producer w.back.stage h (length w.front.requests - w.front.waiting) r next.place place in_it none_begun (λ (m : Mapping). m.gref == frame_at r place + 6) (λ m apart. grind (arith, nat_tests)))
             (entries_elsewhere config w g d front.Producer w.back.stage h new entry_same) h.entries;
         mapped = h.mapped;
         page = h.page;
@@ -106,8 +107,8 @@ producer_goes config w g d safe h =
     fetching_more (back.Fetch k) at t = let x = h.indices in omega (arith, at.2, x.back_to)
     fetching_more b at t = absurd (false≢true t)
 
-    s : Stepped None IsSame d [] (λ p. AreStations config (pushed_flow g) p true false (is_fetching w.back.stage) None false (reply_at w.back.stage) w.front.requests w.back.jobs.works w.under.pages)
-    s = pushes config g d true (is_fetching w.back.stage) None false (reply_at w.back.stage) w.front.requests w.back.jobs.works w.under.pages (let x = h.indices in x.fetched_pushed) h.stations (fetching_more w.back.stage h.back_at)
+    s : Stepped None IsSame d [] (λ p. AreStations config (pushed_flow g) p true false (is_fetching w.back.stage) None None (reply_at w.back.stage) w.front.requests w.back.jobs.works w.under.pages)
+    s = pushes config g d true (is_fetching w.back.stage) None None (reply_at w.back.stage) w.front.requests w.back.jobs.works w.under.pages (let x = h.indices in x.fetched_pushed) h.stations (fetching_more w.back.stage h.back_at)
 
     -- its job isn't begun
     none_begun : (i : ℕ) (t : Work) → slice_get w.back.jobs.works i ≡ Some t → t.number ≡ r.number → mapping_at t.stage ≡ None

@@ -1,6 +1,6 @@
 -- The front pushes the request that it issued: its whole producer grows by one.
-use Rattle.std.proofs.Common.{◌≡◌, ℕ, ◌+◌, ◌-◌, ◌≤◌, List, length, take, get_or, refl, ap, sym, ◌∙◌, subst, inl, inr, arith}
-use Rattle.std.specs.Prelude.{All, Some, slice_get, slice_index}
+use Rattle.std.proofs.Common.{◌≡◌, ℕ, ◌+◌, ◌-◌, ◌<◌, ◌≤◌, List, length, take, get_or, refl, ap, sym, ◌∙◌, subst, inl, inr, arith}
+use Rattle.std.specs.Prelude.{All, Option, Some, slice_get, slice_index}
 use Rattle.std.proofs.lemmas.Bool.{cases_lt}
 use Rattle.std.proofs.lemmas.Option.{none-some, get_or_from_slice_get}
 use Rattle.std.proofs.lemmas.List.Elements.{All-weaker, All-more}
@@ -9,14 +9,17 @@ use Rattle.xen_pages.specs.Pages.{word_of}
 use Rattle.grant_table.specs.declared.held.Held.{Held}
 use Rattle.grant_table.specs.Table.{mappings_of}
 use Rattle.blk_front.specs.declared.request.Request.{Request}
+use Rattle.blk_front.specs.Request.{frame_at, grant_flags, IsShaped}
+use Rattle.blk_front.specs.declared.stage.Ending.{Ending}
 use Rattle.blk_front.specs.declared.stage.Stage.TheVariants as front
 use Rattle.blk_front.specs.View.{slot_word}
 use Rattle.blk_front.specs.Step.{entry_of}
 use Rattle.blk_back.specs.declared.stage.Reply.{Reply}
 use Rattle.blk_back.specs.declared.stage.Stage.{Stage as BackStage}
-use Rattle.machine_pipeline.proofs.Flow.{Flow, wrapped}
-use Rattle.machine_pipeline.proofs.Holds.{AreIndices, AreQueued, AreSlots, IsFilled, AreEntries}
-use Rattle.machine_pipeline.proofs.Kept.{SameFrame, SameEntry, slot_from}
+use Rattle.machine_pipeline.proofs.Flow.{Flow, wrapped, frames_of}
+use Rattle.machine_pipeline.proofs.Holds.{AreIndices, AreQueued, AreSlots, IsFilled, AreEntries, flags_with}
+use Rattle.machine_pipeline.proofs.Kept.{SameGrants, slot_from}
+use Rattle.machine_pipeline.proofs.Data.{SameData}
 use Rattle.machine_pipeline.proofs.Next.{IsNext}
 use Rattle.machine_pipeline.proofs.Entering.{responded_few}
 
@@ -90,42 +93,55 @@ slots_pushed start fetched pushed taken replied old_word submitted replies old n
 }
 
 pub frames_pushed : (pushed old_word : ℕ) (old new : List ℕ) (requests : List Request)
-    → All (λ (r : Request). SameFrame old new r.frame) requests
+    → All IsShaped requests
+    → All (SameData old new) requests
     → All (IsFilled pushed old front.Producer) requests
     → All (IsFilled (pushed + 1) new (front.ProducerFence old_word)) requests
-frames_pushed pushed old_word old new requests same h k d lt =
+frames_pushed pushed old_word old new requests shaped same h k d lt =
     let here = same k d lt in
     let was = h k d lt in
+    let shape = shaped k d lt in
+    let few = shape.few in
     record {
-      whole = λ way le i l. here i (omega arith) ∙ (elim (cases_lt pushed (let q = get_or requests k d in q.number)) [
-        | inl above ↦ was.begun way (omega arith) i l
-        | inr below ↦ was.whole way below i l
+      whole = λ way le n l. here n l ∙ (elim (cases_lt pushed (let q = get_or requests k d in q.number)) [
+        | inl above ↦ was.begun way (omega arith) n (omega arith) l
+        | inr below ↦ was.whole way below n l
       ]);
-      begun = λ way e i l. absurd (omega arith);
+      begun = λ way e n l m. absurd (omega arith);
     }
 
-pub entries_pushed : (submitted requests : List Request) (pushed waiting old_word : ℕ) (old new : List ℕ) (live : List Held) (r : Request)
+pub entries_pushed : (submitted requests : List Request) (pushed waiting old_word : ℕ) (old new : List ℕ) (live : List Held) (ending : Option Ending)
+    (r : Request)
     → IsNext submitted requests pushed waiting r
-    → mappings_of (r.frame + 6) live ≡ 0
-    → All (λ (q : Request). SameEntry old new (q.frame + 6)) requests
-    → AreEntries pushed old live front.Producer requests
-    → AreEntries (pushed + 1) new live (front.ProducerFence old_word) requests
-entries_pushed submitted requests pushed waiting old_word old new live r next none same h = record {
+    → ((place : ℕ) → place < frames_of r → mappings_of (frame_at r place + 6) live ≡ 0)
+    → All (SameGrants old new) requests
+    → AreEntries pushed old live front.Producer ending requests
+    → AreEntries (pushed + 1) new live (front.ProducerFence old_word) ending requests
+entries_pushed submitted requests pushed waiting old_word old new live ending r next none same h = record {
   each = λ k d lt.
       let here = same k d lt in
       let was = h.each k d lt in
       let only = next.only k d lt in
+      let shape = next.shaped k d lt in
+      let few = shape.few in
+      let sized = shape.frames in
       record {
-        named = λ le. here.frame ∙ (elim (cases_lt pushed (let q = get_or requests k d in q.number)) [
-          | inl above ↦ was.named_next (omega arith) refl
-          | inr below ↦ was.named below
+        named = λ le place in_it. let entry = here place in_it in entry.frame ∙ (elim (cases_lt pushed (let q = get_or requests k d in q.number)) [
+          | inl above ↦ was.named_next (omega arith) place (omega arith) in_it
+          | inr below ↦ was.named below place in_it
         ]);
-        named_next = λ e t. absurd (cc);
-        flags = λ le. here.flags ∙ (elim (cases_lt pushed (let q = get_or requests k d in q.number)) [
-          | inl above ↦ was.flags_next (omega arith) refl ∙ rw (only (omega arith), none) refl
-          | inr below ↦ was.flags below
+        named_next = λ e place t. absurd (omega arith);
+        flags = λ le place in_it. let entry = here place in_it in entry.flags ∙ (elim (cases_lt pushed (let q = get_or requests k d in q.number)) [
+          | inl above ↦ was.flags_next (omega arith) place (omega arith) in_it ∙ unmapped (get_or requests k d) (only (omega arith)) place in_it
+          | inr below ↦ was.flags below place in_it
         ]);
-        flags_next = λ e t. absurd (cc);
+        flags_next = λ e place t. absurd (omega arith);
       };
   ending = λ e t. absurd (none-some e t);
 }
+  where
+    Unmapped : Request → Type 0
+    Unmapped q = (place : ℕ) → place < frames_of q → grant_flags q.transfer ≡ flags_with q.transfer (mappings_of (frame_at q place + 6) live)
+
+    unmapped : (q : Request) → q ≡ r → Unmapped q
+    unmapped q is = subst Unmapped (sym is) (λ place in_it. rw (none place in_it) refl)

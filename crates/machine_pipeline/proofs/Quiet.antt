@@ -14,6 +14,7 @@ use Rattle.pipeline_laws.specs.Allowed.{AreFinished, is_aside}
 use Rattle.blk_front.specs.declared.request.Request.{Request}
 use Rattle.blk_front.specs.declared.request.Transfer.{Transfer}
 use Rattle.blk_front.specs.declared.request.Transfer.TheVariants as transfer
+use Rattle.blk_front.specs.declared.stage.Ending.{Ending}
 use Rattle.blk_front.specs.declared.stage.Stage.{Stage as FrontStage}
 use Rattle.blk_front.specs.declared.stage.Stage.TheVariants as front
 use Rattle.blk_front.specs.View.{next_request}
@@ -39,7 +40,6 @@ record FrontSleeps (s : FrontStage) (asleep : Bool) (next : Option Request) : Ty
   pub looping : s ≡ front.Loop
   pub sleeps : asleep ≡ true
   pub none_next : next ≡ None
-  pub no_ending : ending_at s ≡ None
   pub sends_none : (pushed fetched : ℕ) → FrontSends s pushed fetched → ⊥
 
 front_acts : (b : Bool) (x y : FrontAsk) → front_submit.is_wait x ≡ false → front_submit.is_wait y ≡ false → front_submit.is_wait (if b then x else y) ≡ true → ⊥
@@ -52,14 +52,26 @@ issue_acts r (transfer.Write tag) t = true≢false (sym t)
 
 front_sleeps : (start pushed taken seen : ℕ) (submitted : List Request) (replies : List Reply) (entry : List ℕ) (v : front_view.View) (s : FrontStage)
     → front_submit.is_wait (front_ask.ask_at s v) ≡ true
-    → FrontAt start pushed taken seen submitted replies (next_request v) entry s
+    → FrontAt start pushed taken seen submitted replies (next_request v) entry v.ending s
     → FrontSleeps s v.asleep (next_request v)
 front_sleeps start pushed taken seen submitted replies entry v front.Loop waits at = in_loop (next_request v) v.asleep waits
   where
     in_loop : (next : Option Request) (asleep : Bool) → front_submit.is_wait (front_ask.loop_ask (record v { asleep = asleep }) next) ≡ true → FrontSleeps front.Loop asleep next
     in_loop (Some r) asleep t = absurd (issue_acts r r.transfer t)
-    in_loop None true t = record { looping = refl; sleeps = refl; none_next = refl; no_ending = refl; sends_none = λ p f x. x }
+    in_loop None true t = record { looping = refl; sleeps = refl; none_next = refl; sends_none = λ p f x. x }
     in_loop None false t = absurd (front_acts (responses_of v.ring v.seen == 0) _ _ refl refl t)
+front_sleeps start pushed taken seen submitted replies entry v (front.Data n) waits at =
+    absurd (true≢false (sym waits ∙ ap (λ (x : Option Request). front_submit.is_wait (front_ask.data_ask x n)) at.1))
+front_sleeps start pushed taken seen submitted replies entry v (front.GrantFrame place) waits at =
+    absurd (true≢false (sym waits ∙ ap (λ (x : Option Request). front_submit.is_wait (front_ask.name_ask x place)) at.1))
+front_sleeps start pushed taken seen submitted replies entry v (front.GrantFlags place) waits at =
+    absurd (true≢false (sym waits ∙ ap (λ (x : Option Request). front_submit.is_wait (front_ask.grant_ask x place)) at.1))
+front_sleeps start pushed taken seen submitted replies entry v (front.GrantRead place) waits at =
+    absurd (true≢false (sym waits ∙ ap (λ (x : Option Ending). front_submit.is_wait (front_ask.revoke_ask x place)) at.1))
+front_sleeps start pushed taken seen submitted replies entry v (front.GrantEnd place before) waits at =
+    absurd (true≢false (sym waits ∙ ap (λ (x : Option Ending). front_submit.is_wait (front_ask.end_ask x place before)) at.1))
+front_sleeps start pushed taken seen submitted replies entry v (front.ReadData n) waits at =
+    absurd (true≢false (sym waits ∙ ap (λ (x : Option Ending). front_submit.is_wait (front_ask.read_ask x n)) at.1))
 front_sleeps start pushed taken seen submitted replies entry v (front.Broken word) waits at = absurd at
 front_sleeps start pushed taken seen submitted replies entry v s waits at = absurd (true≢false (sym waits))
 
@@ -203,7 +215,7 @@ quiet_taken config w g d quiet stands = record { each = all_finished d.requests 
         let opened = stands.holds.stations.opened in
         let unfinished = opened.unfinished in
         let none = rest.no_request in
-        let no_ending : count_of (ending_at w.front.stage) ≡ 0 = ap (λ (s : FrontStage). count_of (ending_at s)) rest.looping in
+        let no_ending : count_of (ending_at w.front.stage w.front.ending) ≡ 0 = ap (λ (s : FrontStage). count_of (ending_at s w.front.ending)) rest.looping in
         omega arith
 
 -- a look tells what is so

@@ -1,6 +1,5 @@
 -- What the frames of reads hold: the words that the disk gave, from the job's last word until the data are told.
-use Rattle.std.specs.Prelude.{◌≡◌, ℕ, ◌-◌, ◌<◌, Bool, true, false, List, [], ◌∷◌, length, slice_get, slice_index, Some}
-use Rattle.xen_pages.specs.Pages.{word_of}
+use Rattle.std.specs.Prelude.{◌≡◌, ℕ, ◌+◌, ◌-◌, ◌*◌, ◌<◌, ◌≤◌, Bool, true, false, List, [], ◌∷◌, ◌++◌, length, slice_get, slice_index, Some}
 use Rattle.plain_disk.specs.Step.{is_okay}
 use Rattle.pipeline_laws.specs.Station.{Station, Ended, Replying, Replied, Taking, Telling, Request as Asked}
 use Rattle.blk_front.specs.declared.request.Request.{Request}
@@ -8,21 +7,36 @@ use Rattle.blk_front.specs.Request.{is_write}
 use Rattle.back_jobs.specs.declared.stage.Stage.{Stage as JobStage}
 use Rattle.back_jobs.specs.declared.stage.Stage.TheVariants as job
 use Rattle.back_jobs.specs.Task.{Work}
+use Rattle.machine_pipeline.proofs.Flow.{data_word}
 
--- the frame holds the words of the one sector that was noted
-pub record IsReadBack (pages : List ℕ) (frame : ℕ) (noted : List (List ℕ)) : Type 0 where
-  pub words : List ℕ
-  pub only : noted ≡ words ∷ []
+-- these are the 128 words of sector i of its data
+pub record IsHeld (pages : List ℕ) (r : Request) (i : ℕ) (words : List ℕ) : Type 0 where
   pub size : length words ≡ 128
-  pub held : (i : ℕ) → i < 128 → word_of pages frame i ≡ slice_index words i
+  pub held : (k : ℕ) → k < 128 → data_word pages r (128 * i + k) ≡ slice_index words k
 
--- what a read's job has in hand, by its stage: nothing is noted before the disk was read; then its words are, and the first ones stand in the frame
-abbrev pub ReadAt : (pages : List ℕ) (frame : ℕ) (hand : List ℕ) (noted : List (List ℕ)) → JobStage → Type 0
-ReadAt pages frame hand noted job.Map = noted ≡ []
-ReadAt pages frame hand noted (job.DiskRead m) = noted ≡ []
-ReadAt pages frame hand noted (job.WriteWord m j) = (noted ≡ hand ∷ []) × (length hand ≡ 128) × ((i : ℕ) → i < j → i < 128 → word_of pages frame i ≡ slice_index hand i)
-ReadAt pages frame hand noted (job.Unmap m) = IsReadBack pages frame noted
-ReadAt pages frame hand noted s = Unit {0}
+-- so many sectors were noted, the first ones, and its frames hold their words
+pub record IsReadBack (pages : List ℕ) (r : Request) (moved : ℕ) (noted : List (List ℕ)) : Type 0 where
+  pub counted : length noted ≡ moved
+  pub few : moved ≤ r.count
+  pub sectors : (i : ℕ) (words : List ℕ) → slice_get noted i ≡ Some words → IsHeld pages r i words
+
+-- a sector was noted and is in hand, and its first words stand in the frame
+pub record IsReturned (pages : List ℕ) (r : Request) (moved : ℕ) (hand : List ℕ) (noted : List (List ℕ)) (j : ℕ) : Type 0 where
+  pub earlier : List (List ℕ)
+  pub with_hand : noted ≡ earlier ++ hand ∷ []
+  pub counted : length earlier + 1 ≡ moved
+  pub few : moved ≤ r.count
+  pub back : IsReadBack pages r (length earlier) earlier
+  pub size : length hand ≡ 128
+  pub so_far : (k : ℕ) → k < j → k < 128 → data_word pages r (128 * length earlier + k) ≡ slice_index hand k
+
+-- what a read's job has in hand, by its stage and how many sectors it moved
+abbrev pub ReadAt : (pages : List ℕ) (r : Request) (moved : ℕ) (hand : List ℕ) (noted : List (List ℕ)) → JobStage → Type 0
+ReadAt pages r moved hand noted job.Map = IsReadBack pages r moved noted
+ReadAt pages r moved hand noted (job.DiskRead m) = IsReadBack pages r moved noted
+ReadAt pages r moved hand noted (job.WriteWord m j) = IsReturned pages r moved hand noted j
+ReadAt pages r moved hand noted (job.Unmap m) = IsReadBack pages r moved noted
+ReadAt pages r moved hand noted s = Unit {0}
 
 -- the stations at which a read that went well has its data in its frame
 abbrev pub has_data_at : Station → Bool
@@ -35,5 +49,5 @@ has_data_at station = false
 
 -- the frames of all reads: those that jobs serve, and those that went well
 pub record AreReadBack (submitted : List Request) (asked : List Asked) (works : List Work) (pages : List ℕ) : Type 0 where
-  pub working : (i : ℕ) (t : Work) (r : Request) (q : Asked) → slice_get works i ≡ Some t → slice_get submitted (t.number - 1) ≡ Some r → slice_get asked (t.number - 1) ≡ Some q → is_write r.transfer ≡ false → ReadAt pages r.frame t.words q.words t.stage
-  pub after : (k : ℕ) (r : Request) (q : Asked) → slice_get submitted k ≡ Some r → slice_get asked k ≡ Some q → is_write r.transfer ≡ false → has_data_at q.station ≡ true → IsReadBack pages r.frame q.words
+  pub working : (i : ℕ) (t : Work) (r : Request) (q : Asked) → slice_get works i ≡ Some t → slice_get submitted (t.number - 1) ≡ Some r → slice_get asked (t.number - 1) ≡ Some q → is_write r.transfer ≡ false → ReadAt pages r t.moved t.words q.words t.stage
+  pub after : (k : ℕ) (r : Request) (q : Asked) → slice_get submitted k ≡ Some r → slice_get asked k ≡ Some q → is_write r.transfer ≡ false → has_data_at q.station ≡ true → IsReadBack pages r r.count q.words

@@ -1,9 +1,8 @@
 -- A step of the front while it issues nothing and ends no grant: it looks at the ring, takes up a response, or goes to sleep.
-use Rattle.std.proofs.Common.{◌≡◌, ◌≢◌, ℕ, ◌+◌, ◌<◌, ◌≤◌, ◌⊎◌, inl, inr, Bool, true, false, List, length, refl, sym, ◌∙◌, subst, arith, true≢false}
-use Rattle.std.specs.Prelude.{All, Some, None, slice_index_or}
+use Rattle.std.proofs.Common.{◌≡◌, ◌≢◌, ℕ, ◌+◌, ◌<◌, ◌≤◌, ◌⊎◌, inl, inr, Bool, true, false, List, length, refl, sym, ◌∙◌, subst, arith}
+use Rattle.std.specs.Prelude.{◌/◌, All, Option, Some, None, slice_get, slice_index_or}
 use Rattle.grant_table.specs.declared.held.Held.{Held}
-use Rattle.grant_table.specs.Table.{entry_word0}
-use Rattle.blk_front.specs.Request.{grant_flags}
+use Rattle.blk_front.specs.Request.{frame_at}
 use Rattle.blk_back.specs.declared.stage.Reply.{Reply}
 use Rattle.std.proofs.lemmas.Option.{none-some}
 use Rattle.blk_base.specs.Options.{Options}
@@ -20,9 +19,10 @@ use Rattle.blk_front.specs.View.{next_request}
 use Rattle.blk_front.specs.Submit.{is_connected, ending_of}
 use Rattle.blk_back.specs.declared.stage.Stage.{Stage as BackStage}
 use Rattle.split_model.specs.World.{World}
-use Rattle.machine_pipeline.proofs.Flow.{Flow, wrapped, has_ring, is_ring_named, is_ring_granted, filled, is_named, is_granted, entered, ending_at, revoking_at, is_telling, is_bound_back, is_issuing, is_fetching, reply_at}
-use Rattle.machine_pipeline.proofs.Holds.{FrontAt, RingBegun, AreRingWords, AreSlots, IsFilled, IsGranted, AreEntries, ArePooled, IsUnused, IsFrontSleep, FrontSends, PortsAt, IsReadSoFar, AreDataWords, Holds}
-use Rattle.machine_pipeline.proofs.Kept.{SameFrame, SameEntry, same_entry, slots_kept, frames_kept, entries_kept}
+use Rattle.machine_pipeline.proofs.Flow.{Flow, wrapped, has_ring, is_ring_named, is_ring_granted, filled, named_frames, granted_frames, entered, ending_at, revoking_at, telling_at, is_bound_back, is_issuing, is_fetching, reply_at}
+use Rattle.machine_pipeline.proofs.Holds.{FrontAt, RingBegun, AreRingWords, AreSlots, IsFilled, IsGranted, AreEntries, ArePooled, IsUnused, IsFrontSleep, FrontSends, PortsAt, IsReadSoFar, AreDataWords, AreRevoked, Holds}
+use Rattle.machine_pipeline.proofs.Data.{SameData, pooled_at}
+use Rattle.machine_pipeline.proofs.Kept.{SameFrame, SameEntry, SameGrants, data_same, same_entry, slots_kept, frames_kept, entries_kept}
 use Rattle.machine_pipeline.proofs.Lists.{all_from}
 use Rattle.machine_pipeline.proofs.Frames.{is_submitted}
 use Rattle.machine_pipeline.proofs.Stations.{AreStations, saw_more, turned}
@@ -37,8 +37,8 @@ pub record IsResting (s : FrontStage) : Type 0 where
   pub begun : (start : ℕ) (pages : List ℕ) → RingBegun start pages s
   pub connected : is_connected s ≡ true
   pub filled_none : filled s ≡ 0
-  pub unnamed : is_named s ≡ false
-  pub ungranted : is_granted s ≡ false
+  pub unnamed : named_frames s ≡ 0
+  pub ungranted : granted_frames s ≡ 0
   pub entered_none : entered s ≡ 0
   pub unissued : is_issuing s ≡ false
   pub quiet : (pushed fetched : ℕ) → FrontSends s pushed fetched → ⊥
@@ -52,14 +52,14 @@ at_high low = record { ring = refl; named = refl; granted = refl; begun = λ sta
 pub at_last : (low high : ℕ) → IsResting (front.ResponseLast low high)
 at_last low high = record { ring = refl; named = refl; granted = refl; begun = λ start pages. tt; connected = refl; filled_none = refl; unnamed = refl; ungranted = refl; entered_none = refl; unissued = refl; quiet = λ p f x. x }
 
-pub at_read : (e : Ending) → IsResting (front.GrantRead e)
-at_read e = record { ring = refl; named = refl; granted = refl; begun = λ start pages. tt; connected = refl; filled_none = refl; unnamed = refl; ungranted = refl; entered_none = refl; unissued = refl; quiet = λ p f x. x }
+pub at_read : (place : ℕ) → IsResting (front.GrantRead place)
+at_read place = record { ring = refl; named = refl; granted = refl; begun = λ start pages. tt; connected = refl; filled_none = refl; unnamed = refl; ungranted = refl; entered_none = refl; unissued = refl; quiet = λ p f x. x }
 
-pub at_end : (e : Ending) (before : ℕ) → IsResting (front.GrantEnd e before)
-at_end e before = record { ring = refl; named = refl; granted = refl; begun = λ start pages. tt; connected = refl; filled_none = refl; unnamed = refl; ungranted = refl; entered_none = refl; unissued = refl; quiet = λ p f x. x }
+pub at_end : (place before : ℕ) → IsResting (front.GrantEnd place before)
+at_end place before = record { ring = refl; named = refl; granted = refl; begun = λ start pages. tt; connected = refl; filled_none = refl; unnamed = refl; ungranted = refl; entered_none = refl; unissued = refl; quiet = λ p f x. x }
 
-pub at_data : (e : Ending) (k : ℕ) → IsResting (front.ReadData e k)
-at_data e k = record { ring = refl; named = refl; granted = refl; begun = λ start pages. tt; connected = refl; filled_none = refl; unnamed = refl; ungranted = refl; entered_none = refl; unissued = refl; quiet = λ p f x. x }
+pub at_data : (n : ℕ) → IsResting (front.ReadData n)
+at_data n = record { ring = refl; named = refl; granted = refl; begun = λ start pages. tt; connected = refl; filled_none = refl; unnamed = refl; ungranted = refl; entered_none = refl; unissued = refl; quiet = λ p f x. x }
 
 pub at_store : IsResting front.StoreEvent
 at_store = record { ring = refl; named = refl; granted = refl; begun = λ start pages. tt; connected = refl; filled_none = refl; unnamed = refl; ungranted = refl; entered_none = refl; unissued = refl; quiet = λ p f x. x }
@@ -71,22 +71,29 @@ pub at_look : IsResting front.LookAgain
 at_look = record { ring = refl; named = refl; granted = refl; begun = λ start pages. tt; connected = refl; filled_none = refl; unnamed = refl; ungranted = refl; entered_none = refl; unissued = refl; quiet = λ p f x. x }
 
 -- where no request ends, no grant is ended and no data are told
-pub untelling : (s : FrontStage) → ending_at s ≡ None → is_telling s ≡ false
-untelling (front.ReadData e k) none = absurd (none-some e (sym none))
-untelling s none = refl
+pub unending : (s : FrontStage) (ending : Option Ending) → ending_of s ≡ 0 → ending_at s ending ≡ None
+unending (front.GrantRead place) ending zero = absurd (omega arith)
+unending (front.GrantEnd place before) ending zero = absurd (omega arith)
+unending (front.ReadData n) ending zero = absurd (omega arith)
+unending s ending zero = refl
 
-pub unrevoked : (s : FrontStage) (e : Ending) → ending_at s ≡ None → revoking_at s ≡ Some e → ⊥
-unrevoked (front.GrantRead f) e none same = none-some f (sym none)
-unrevoked (front.GrantEnd f before) e none same = none-some f (sym none)
-unrevoked s e none same = none-some e same
+pub untelling : (s : FrontStage) → ending_of s ≡ 0 → telling_at s ≡ None
+untelling (front.ReadData n) zero = absurd (omega arith)
+untelling s zero = refl
+
+pub unrevoked : (s : FrontStage) (ending : Option Ending) (e : Ending) → ending_of s ≡ 0 → revoking_at s ending ≡ Some e → ⊥
+unrevoked (front.GrantRead place) ending e zero same = absurd (omega arith)
+unrevoked (front.GrantEnd place before) ending e zero same = absurd (omega arith)
+unrevoked s ending e zero same = none-some e same
 
 -- of the words that were read nothing is said but their number, while no data are told
-silent : (pages words : List ℕ) (s : FrontStage) → is_telling s ≡ false → IsReadSoFar pages words s
-silent pages words (front.ReadData e k) none = absurd (true≢false none)
-silent pages words s none = tt
+silent : (pages words : List ℕ) (ending : Option Ending) (s : FrontStage) → telling_at s ≡ None → IsReadSoFar pages words ending s
+silent pages words ending (front.ReadData n) none = absurd (none-some (n / 128) (sym none))
+silent pages words ending s none = tt
 
-pub data_rests : (old new words : List ℕ) (s s' : FrontStage) → is_telling s' ≡ false → AreDataWords old words s → AreDataWords new words s'
-data_rests old new words s s' none h = record { size = h.size; so_far = silent new words s' none }
+pub data_rests : (old new words : List ℕ) (ending ending' : Option Ending) (s s' : FrontStage) → telling_at s' ≡ None → AreDataWords old words ending s
+    → AreDataWords new words ending' s'
+data_rests old new words ending ending' s s' none h = record { size = h.size; so_far = silent new words ending' s' none }
 
 -- the subjects of memory at another such stage
 pub ring_rests : (start pushed replied : ℕ) (pages : List ℕ) (s s' : FrontStage) (b : BackStage) → IsResting s → IsResting s' → AreRingWords start pushed replied pages s b → AreRingWords start pushed replied pages s' b
@@ -114,15 +121,19 @@ frames_rest pushed pages s s' requests i' h k d lt =
 pub granted_rests : (pushed : ℕ) (pages : List ℕ) (live : List Held) (s s' : FrontStage) (r : Request) → IsResting s' → IsGranted pushed pages live s r → IsGranted pushed pages live s' r
 granted_rests pushed pages live s s' r i' h = record {
   named = h.named;
-  named_next = λ e t. absurd (true≢false (sym t ∙ i'.unnamed));
+  named_next = λ e place lt within. let none = i'.unnamed in absurd (omega arith);
   flags = h.flags;
-  flags_next = λ e t. absurd (true≢false (sym t ∙ i'.ungranted));
+  flags_next = λ e place lt within. let none = i'.ungranted in absurd (omega arith);
 }
 
-pub entries_rest : (pushed : ℕ) (pages : List ℕ) (live : List Held) (s s' : FrontStage) (requests : List Request) → IsResting s' → ((e : Ending) → revoking_at s' ≡ Some e → entry_word0 pages (e.frame + 6) ≡ grant_flags e.transfer) → AreEntries pushed pages live s requests → AreEntries pushed pages live s' requests
-entries_rest pushed pages live s s' requests i' ending h = record {
+pub entries_rest : (pushed : ℕ) (pages : List ℕ) (live : List Held) (s s' : FrontStage) (ending ending' : Option Ending) (requests : List Request)
+    → IsResting s'
+    → AreRevoked pages s' ending'
+    → AreEntries pushed pages live s ending requests
+    → AreEntries pushed pages live s' ending' requests
+entries_rest pushed pages live s s' ending ending' requests i' revoked h = record {
   each = λ k d lt. granted_rests pushed pages live s s' (slice_index_or requests k d) i' (h.each k d lt);
-  ending = ending;
+  ending = revoked;
 }
 
 -- the machine with the front at another stage, another producer seen, asleep or not, and those words and marks
@@ -135,10 +146,9 @@ rested w s seen asleep pages channels = record {
 
 pub rest_kept : (config : Options) (w : World) (g : Flow) (d : Pipeline) (s s' : FrontStage) (seen whole : ℕ) (asleep : Bool) (pages : List ℕ) (channels : ChannelState)
     → IsResting s → IsResting s'
-    → ending_at s ≡ None → ending_at s' ≡ None
     → ending_of s ≡ 0 → ending_of s' ≡ 0
     → Holds config w g d s w.back.stage
-    → FrontAt g.start g.pushed g.taken whole g.submitted g.replies (next_request w.front) w.front.entry s'
+    → FrontAt g.start g.pushed g.taken whole g.submitted g.replies (next_request w.front) w.front.entry w.front.ending s'
     → seen ≡ wrapped g.start whole → g.taken ≤ whole → whole ≤ g.replied
     → length pages ≡ 1114112
     → ((f : ℕ) → f ≢ 2 → SameFrame w.under.pages pages f)
@@ -146,15 +156,15 @@ pub rest_kept : (config : Options) (w : World) (g : Flow) (d : Pipeline) (s s' :
     → channels.made ≡ w.under.channels.made → channels.ports ≡ w.under.channels.ports → channels.back_pending ≡ w.under.channels.back_pending
     → IsFrontSleep g.start g.taken g.replied pages asleep channels.front_pending s' w.back.stage
     → Holds config (rested w s' seen asleep pages channels) (record g { front_seen = whole }) d s' w.back.stage
-rest_kept config w g d s s' seen whole asleep pages channels i i' none none' zero zero' h at saw from to sized frames words made ports pending sleep = record {
+rest_kept config w g d s s' seen whole asleep pages channels i i' zero zero' h at saw from to sized frames words made ports pending sleep = record {
   started = h.started;
   sized = h.sized;
   indices = indices_seen g whole w.front.ring w.back.ring w.front.seen seen w.back.seen w.back.fetched w.front.last w.front.waiting (length w.front.requests) (ending_of s) (ending_of s') saw from to (let was = h.indices in let room = was.room in omega arith) h.indices;
   queue = h.queue;
   submitted = h.submitted;
   pool = subst (ArePooled w.front.pool w.front.requests) (none ∙ sym none') h.pool;
-  stations = saw_more config g whole g.back_seen d (is_connected s') (is_issuing s') (is_fetching w.back.stage) (ending_at s') (is_telling s') (reply_at w.back.stage) w.front.requests w.back.jobs.works pages
-      (stations_elsewhere config g d (is_connected s') (is_issuing s') (is_fetching w.back.stage) (ending_at s') (is_telling s') (reply_at w.back.stage) w.front.requests w.back.jobs.works w.under.pages pages w.front.sectors w.front.last h.submitted (λ f low high. frames f (omega arith)) stations);
+  stations = saw_more config g whole g.back_seen d (is_connected s') (is_issuing s') (is_fetching w.back.stage) (ending_at s' w.front.ending) (telling_at s') (reply_at w.back.stage) w.front.requests w.back.jobs.works pages
+      (stations_elsewhere config g d (is_connected s') (is_issuing s') (is_fetching w.back.stage) (ending_at s' w.front.ending) (telling_at s') (reply_at w.back.stage) w.front.requests w.back.jobs.works w.under.pages pages w.front.sectors w.front.last h.submitted (λ f low high. frames f (omega arith)) stations);
   works = h.works;
   counted = h.counted;
   info = h.info;
@@ -166,12 +176,14 @@ rest_kept config w g d s s' seen whole asleep pages channels i i' none none' zer
   memory = sized;
   ring = ring_rests g.start g.pushed g.replied pages s s' w.back.stage i i' (ring_words h.ring);
   slots = slots_rest g.start g.fetched g.pushed g.taken g.replied g.submitted g.replies pages s s' w.back.stage i' (slots_kept g.start g.fetched g.pushed g.taken g.replied g.submitted g.replies w.under.pages pages s w.back.stage (λ x from to. words x (omega arith) to) (let few = i.entered_none in omega arith) h.slots);
-  frames = frames_rest g.pushed pages s s' w.front.requests i' (frames_kept g.pushed w.under.pages pages s w.front.requests (let few = i.filled_none in omega arith) (all_from (λ (r : Request). SameFrame w.under.pages pages r.frame) w.front.requests (λ j r e. let is = is_submitted config w g d s w.back.stage h j r e in frames r.frame (let low = is.low in omega arith))) h.frames);
-  telling = data_rests w.under.pages pages w.front.words s s' (untelling s' none') h.telling;
-  entries = entries_rest g.pushed pages w.under.grants.live s s' w.front.requests i' (λ e same. absurd (unrevoked s' e none' same))
-      (entries_kept g.pushed w.under.pages pages w.under.grants.live s w.front.requests
-      (all_from (λ (r : Request). SameEntry w.under.pages pages (r.frame + 6)) w.front.requests (λ j r e. let is = is_submitted config w g d s w.back.stage h j r e in same_entry w.under.pages pages (r.frame + 6) (let top = is.high in omega arith) (frames 0 (omega arith)) (frames 1 (omega arith))))
-      (λ e same. absurd (unrevoked s e none same)) h.entries);
+  frames = frames_rest g.pushed pages s s' w.front.requests i'
+      (frames_kept g.pushed w.under.pages pages s w.front.requests (all_from (SameData w.under.pages pages) w.front.requests same_data) h.frames);
+  telling = data_rests w.under.pages pages w.front.words w.front.ending w.front.ending s s' (untelling s' zero') h.telling;
+  entries = entries_rest g.pushed pages w.under.grants.live s s' w.front.ending w.front.ending w.front.requests i'
+      (λ e same. absurd (unrevoked s' w.front.ending e zero' same))
+      (entries_kept g.pushed w.under.pages pages w.under.grants.live s w.front.ending w.front.requests
+      (all_from (SameGrants w.under.pages pages) w.front.requests same_grants)
+      (λ e same. absurd (unrevoked s w.front.ending e zero same)) h.entries);
   mapped = h.mapped;
   page = h.page;
   front_sleep = sleep;
@@ -185,8 +197,24 @@ rest_kept config w g d s s' seen whole asleep pages channels i i' none none' zer
       (subst (λ (n : ℕ). PortsAt (is_connected s) (is_bound_back w.back.stage) n channels.ports) (sym made) (subst (PortsAt (is_connected s) (is_bound_back w.back.stage) w.under.channels.made) (sym ports) h.ports));
 }
   where
-    stations : AreStations config g d (is_connected s') (is_issuing s') (is_fetching w.back.stage) (ending_at s') (is_telling s') (reply_at w.back.stage) w.front.requests w.back.jobs.works w.under.pages
-    stations = turned config g d (is_connected s) (is_connected s') (is_issuing s) (is_issuing s') (is_fetching w.back.stage) (ending_at s) (ending_at s') (is_telling s) (is_telling s') (reply_at w.back.stage) w.front.requests w.back.jobs.works w.under.pages (i'.connected ∙ sym i.connected) (i'.unissued ∙ sym i.unissued) (none' ∙ sym none) (untelling s' none' ∙ sym (untelling s none)) h.stations
+    none : ending_at s w.front.ending ≡ None
+    none = unending s w.front.ending zero
+
+    none' : ending_at s' w.front.ending ≡ None
+    none' = unending s' w.front.ending zero'
+
+    same_data : (j : ℕ) (r : Request) → slice_get w.front.requests j ≡ Some r → SameData w.under.pages pages r
+    same_data j r e = let is = is_submitted config w g d s w.back.stage h j r e in data_same w.under.pages pages r is.frames
+        (λ f low high. frames f (omega arith))
+
+    same_grants : (j : ℕ) (r : Request) → slice_get w.front.requests j ≡ Some r → SameGrants w.under.pages pages r
+    same_grants j r e place lt =
+        let is = is_submitted config w g d s w.back.stage h j r e in
+        let pooled = pooled_at r is.frames place in
+        same_entry w.under.pages pages (frame_at r place + 6) (let top = pooled.1 in omega arith) (frames 0 (omega arith)) (frames 1 (omega arith))
+
+    stations : AreStations config g d (is_connected s') (is_issuing s') (is_fetching w.back.stage) (ending_at s' w.front.ending) (telling_at s') (reply_at w.back.stage) w.front.requests w.back.jobs.works w.under.pages
+    stations = turned config g d (is_connected s) (is_connected s') (is_issuing s) (is_issuing s') (is_fetching w.back.stage) (ending_at s w.front.ending) (ending_at s' w.front.ending) (telling_at s) (telling_at s') (reply_at w.back.stage) w.front.requests w.back.jobs.works w.under.pages (i'.connected ∙ sym i.connected) (i'.unissued ∙ sym i.unissued) (none' ∙ sym none) (untelling s' zero' ∙ sym (untelling s zero)) h.stations
 
     by_wake : (g.pushed ≡ g.fetched) ⊎ (w.under.channels.back_pending ≡ true) ⊎ FrontSends s g.pushed g.fetched → (g.pushed ≡ g.fetched) ⊎ (channels.back_pending ≡ true) ⊎ FrontSends s' g.pushed g.fetched
     by_wake (inl same) = inl same

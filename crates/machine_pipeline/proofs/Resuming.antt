@@ -69,7 +69,7 @@ wait_goes config w g d told e h = by_pending w.under.channels.front_pending refl
       step = None;
       does = said_nothing d (moves.Event mover.Front) w.front.told told;
       holds = subst (λ (s : FrontStage). Holds config (rested w s w.front.seen false w.under.pages channels) g d s w.back.stage) (sym e)
-          (let indices = h.indices in rest_kept config w g d front.Loop front.Loop w.front.seen g.front_seen false w.under.pages channels at_loop at_loop refl refl refl refl h tt indices.front_saw indices.front_from indices.front_to h.memory (λ f apart x lt. refl) (λ x apart lt. refl) refl refl refl
+          (let indices = h.indices in rest_kept config w g d front.Loop front.Loop w.front.seen g.front_seen false w.under.pages channels at_loop at_loop refl refl h tt indices.front_saw indices.front_from indices.front_to h.memory (λ f apart x lt. refl) (λ x apart lt. refl) refl refl refl
           (record { arming = λ t. absurd (true≢false (sym t)); armed = λ t. absurd (true≢false (sym t)); may = λ t. refl; woken = λ t. absurd (true≢false (sym t)) }));
     }
 
@@ -99,13 +99,13 @@ look_goes config w g d told awake none h = by_new
           flow = record g { front_seen = g.replied };
           step = None;
           does = said_nothing d (moves.FrontRead 2 2 word) w.front.told told;
-          holds = rest_kept config w g d front.Loop front.StoreEvent word g.replied w.front.asleep w.under.pages w.under.channels at_loop at_store refl refl refl refl h tt read indices.taken_replied (omega arith) h.memory (λ f apart x lt. refl) (λ x apart lt. refl) refl refl refl
+          holds = rest_kept config w g d front.Loop front.StoreEvent word g.replied w.front.asleep w.under.pages w.under.channels at_loop at_store refl refl h tt read indices.taken_replied (omega arith) h.memory (λ f apart x lt. refl) (λ x apart lt. refl) refl refl refl
               (record { arming = λ t. absurd (true≢false (sym t)); armed = sleep.armed; may = λ t. awake; woken = sleep.woken });
         }
 
     by_new : LoopGoes config w d None (ask.Read ring_frame 2)
     by_new = subst (λ (b : Bool). let x : View = (if b then looked w.front word store else at (front.ResponseHigh word) w.front) in Goes config (lines.Move (moves.FrontRead 2 2 word) ∷ front_lines x.told) (record { front = record x { told = None }; back = w.back; under = w.under }) d) (sym none)
-        (looked_goes config w g d front.Loop (moves.FrontRead 2 2 word) word store at_loop refl refl h told awake read (λ same. stored))
+        (looked_goes config w g d front.Loop (moves.FrontRead 2 2 word) word store at_loop refl h told awake read (λ same. stored))
 
 -- the words of the oldest response, as the front reads them
 pub response_read : (config : Options) (w : World) (g : Flow) (d : Pipeline) (s : FrontStage) (rep : Reply) (k : ℕ)
@@ -128,7 +128,7 @@ take_up_goes : (config : Options) (w : World) (g : Flow) (d : Pipeline)
     → w.front.asleep ≡ false
     → LoopGoes config w d None (ask.Read (slot_frame w.front.ring.cons 0) (slot_word w.front.ring.cons 0))
 take_up_goes config w g d told some h awake = subst (λ (b : Bool). let x : View = (if b then looked w.front word (record w.front { seen = word; stage = front.StoreEvent }) else at (front.ResponseHigh word) w.front) in Goes config (lines.Move (moves.FrontRead (slot_frame w.front.ring.cons 0) (slot_word w.front.ring.cons 0) word) ∷ front_lines x.told) (record { front = record x { told = None }; back = w.back; under = w.under }) d) (sym some)
-    (at_stage_goes config w g d front.Loop (front.ResponseHigh word) (moves.FrontRead (slot_frame w.front.ring.cons 0) (slot_word w.front.ring.cons 0) word) w.under.pages at_loop (at_high word) refl refl refl refl told h (taken_up, response_read config w g d front.Loop rep.0 0 h rep.1 (omega arith)) h.memory (λ f apart x lt. refl) (λ x apart lt. refl)
+    (at_stage_goes config w g d front.Loop (front.ResponseHigh word) (moves.FrontRead (slot_frame w.front.ring.cons 0) (slot_word w.front.ring.cons 0) word) w.under.pages at_loop (at_high word) refl refl told h (taken_up, response_read config w g d front.Loop rep.0 0 h rep.1 (omega arith)) h.memory (λ f apart x lt. refl) (λ x apart lt. refl)
     (let sleep = h.front_sleep in record { arming = λ t. absurd (true≢false (sym t)); armed = sleep.armed; may = λ t. awake; woken = sleep.woken }))
   where
     word : ℕ
@@ -153,7 +153,7 @@ pub high_goes : (config : Options) (w : World) (g : Flow) (d : Pipeline) (low : 
     → Holds config w g d (front.ResponseHigh low) w.back.stage
     → FrontGoes config w d (front.ResponseHigh low)
 high_goes config w g d low told h =
-    at_stage_goes config w g d (front.ResponseHigh low) (front.ResponseLast low word) (moves.FrontRead (slot_frame w.front.ring.cons 1) (slot_word w.front.ring.cons 1) word) w.under.pages (at_high low) (at_last low word) refl refl refl refl told h (place.0, place.1, response_read config w g d (front.ResponseHigh low) place.0.rep 1 h place.0.oldest (omega arith)) h.memory (λ f apart x lt. refl) (λ x apart lt. refl)
+    at_stage_goes config w g d (front.ResponseHigh low) (front.ResponseLast low word) (moves.FrontRead (slot_frame w.front.ring.cons 1) (slot_word w.front.ring.cons 1) word) w.under.pages (at_high low) (at_last low word) refl refl told h (place.0, place.1, response_read config w g d (front.ResponseHigh low) place.0.rep 1 h place.0.oldest (omega arith)) h.memory (λ f apart x lt. refl) (λ x apart lt. refl)
     (let sleep = h.front_sleep in record { arming = λ t. absurd (true≢false (sym t)); armed = sleep.armed; may = λ t. sleep.may refl; woken = sleep.woken })
   where
     word : ℕ

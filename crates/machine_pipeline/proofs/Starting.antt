@@ -1,6 +1,6 @@
 -- While the front makes its ring and its port, nothing was submitted and nothing passes through the ring.
 use Rattle.std.proofs.Common.{◌≡◌, ℕ, ◌<◌, ◌≤◌, Bool, true, false, List, length, refl, sym, ◌∙◌, subst, arith, true≢false}
-use Rattle.std.specs.Prelude.{Some, None, slice_get}
+use Rattle.std.specs.Prelude.{Some, slice_get}
 use Rattle.std.proofs.lemmas.Option.{slice_get_within}
 use Rattle.blk_base.specs.Options.{Options}
 use Rattle.xen_pages.specs.Pages.{word_of}
@@ -14,18 +14,17 @@ use Rattle.blk_front.specs.Submit.{is_connected, ending_of}
 use Rattle.blk_back.specs.declared.stage.Stage.{Stage as BackStage}
 use Rattle.blk_back.specs.declared.stage.Stage.TheVariants as back
 use Rattle.split_model.specs.World.{World}
-use Rattle.machine_pipeline.proofs.Flow.{Flow, filled, entered, ending_at, is_front_arming, may_front_sleep, is_back_arming, may_back_sleep, is_bound_back, is_telling, is_issuing, is_fetching, reply_at}
+use Rattle.machine_pipeline.proofs.Flow.{Flow, filled, entered, ending_at, is_front_arming, may_front_sleep, is_back_arming, may_back_sleep, is_bound_back, telling_at, is_issuing, is_fetching, reply_at}
 use Rattle.machine_pipeline.proofs.Holds.{FrontAt, AreRingWords, AreSlots, IsFilled, IsGranted, ArePooled, IsUnused, PortsAt, Holds}
 use Rattle.machine_pipeline.proofs.Kept.{slots_kept}
 use Rattle.machine_pipeline.proofs.Lists.{all_from}
-use Rattle.machine_pipeline.proofs.Resting.{rested, untelling, unrevoked, data_rests}
+use Rattle.machine_pipeline.proofs.Resting.{rested, unending, untelling, unrevoked, data_rests}
 use Rattle.machine_pipeline.proofs.ReadsKept.{stations_kept}
 use Rattle.machine_pipeline.proofs.Stations.{AreStations}
 use Rattle.machine_pipeline.proofs.Indices.{indices_room}
 
 -- a stage at which no request is in the front's hands
 pub record IsBare (s : FrontStage) : Type 0 where
-  pub no_ending : ending_at s ≡ None
   pub none_ends : ending_of s ≡ 0
   pub filled_none : filled s ≡ 0
   pub entered_none : entered s ≡ 0
@@ -33,22 +32,22 @@ pub record IsBare (s : FrontStage) : Type 0 where
   pub unissued : is_issuing s ≡ false
 
 pub bare_word : (k : ℕ) → IsBare (front.RingWord k)
-bare_word k = record { no_ending = refl; none_ends = refl; filled_none = refl; entered_none = refl; unarmed = refl; unissued = refl }
+bare_word k = record { none_ends = refl; filled_none = refl; entered_none = refl; unarmed = refl; unissued = refl }
 
 pub bare_frame : IsBare front.RingFrame
-bare_frame = record { no_ending = refl; none_ends = refl; filled_none = refl; entered_none = refl; unarmed = refl; unissued = refl }
+bare_frame = record { none_ends = refl; filled_none = refl; entered_none = refl; unarmed = refl; unissued = refl }
 
 pub bare_fence : IsBare front.RingFence
-bare_fence = record { no_ending = refl; none_ends = refl; filled_none = refl; entered_none = refl; unarmed = refl; unissued = refl }
+bare_fence = record { none_ends = refl; filled_none = refl; entered_none = refl; unarmed = refl; unissued = refl }
 
 pub bare_flags : IsBare front.RingFlags
-bare_flags = record { no_ending = refl; none_ends = refl; filled_none = refl; entered_none = refl; unarmed = refl; unissued = refl }
+bare_flags = record { none_ends = refl; filled_none = refl; entered_none = refl; unarmed = refl; unissued = refl }
 
 pub bare_port : IsBare front.NewPort
-bare_port = record { no_ending = refl; none_ends = refl; filled_none = refl; entered_none = refl; unarmed = refl; unissued = refl }
+bare_port = record { none_ends = refl; filled_none = refl; entered_none = refl; unarmed = refl; unissued = refl }
 
 pub bare_loop : IsBare front.Loop
-bare_loop = record { no_ending = refl; none_ends = refl; filled_none = refl; entered_none = refl; unarmed = refl; unissued = refl }
+bare_loop = record { none_ends = refl; filled_none = refl; entered_none = refl; unarmed = refl; unissued = refl }
 
 -- what was submitted and pushed before the front is connected
 pub record AreNone (pushed last : ℕ) : Type 0 where
@@ -79,8 +78,8 @@ none_yet config w g d s starting h = none_of (is_connected s) g.pushed w.front.l
 pub starts_on : (config : Options) (w : World) (g : Flow) (d d' : Pipeline) (s s' : FrontStage) (pages : List ℕ) (channels : ChannelState)
     → is_connected s ≡ false → may_front_sleep s ≡ false → IsBare s → IsBare s'
     → Holds config w g d s w.back.stage
-    → AreStations config g d' (is_connected s') (is_issuing s') (is_fetching w.back.stage) (ending_at s') (is_telling s') (reply_at w.back.stage) w.front.requests w.back.jobs.works w.under.pages
-    → FrontAt g.start g.pushed g.taken g.front_seen g.submitted g.replies (next_request w.front) w.front.entry s'
+    → AreStations config g d' (is_connected s') (is_issuing s') (is_fetching w.back.stage) (ending_at s' w.front.ending) (telling_at s') (reply_at w.back.stage) w.front.requests w.back.jobs.works w.under.pages
+    → FrontAt g.start g.pushed g.taken g.front_seen g.submitted g.replies (next_request w.front) w.front.entry w.front.ending s'
     → length pages ≡ 1114112
     → ((x : ℕ) → 16 ≤ x → x < 1024 → word_of pages 2 x ≡ word_of w.under.pages 2 x)
     → AreRingWords g.start g.pushed g.replied pages s' w.back.stage
@@ -92,8 +91,8 @@ starts_on config w g d d' s s' pages channels starting restless i i' h stations 
   indices = indices_room g w.front.ring w.back.ring w.front.seen w.back.seen w.back.fetched w.front.last w.front.waiting (length w.front.requests) (ending_of s) (ending_of s') (let was = h.indices in let room = was.room in let e = i'.none_ends in omega arith) h.indices;
   queue = h.queue;
   submitted = h.submitted;
-  pool = subst (ArePooled w.front.pool w.front.requests) (i.no_ending ∙ sym i'.no_ending) h.pool;
-  stations = stations_kept config g d' (is_connected s') (is_issuing s') (is_fetching w.back.stage) (ending_at s') (is_telling s') (reply_at w.back.stage) w.front.requests w.back.jobs.works w.under.pages pages (λ k r q its. absurd (unknown k r its)) stations;
+  pool = subst (ArePooled w.front.pool w.front.requests) (unending s w.front.ending i.none_ends ∙ sym (unending s' w.front.ending i'.none_ends)) h.pool;
+  stations = stations_kept config g d' (is_connected s') (is_issuing s') (is_fetching w.back.stage) (ending_at s' w.front.ending) (telling_at s') (reply_at w.back.stage) w.front.requests w.back.jobs.works w.under.pages pages (λ k r q its. absurd (unknown k r its)) stations;
   works = h.works;
   counted = h.counted;
   info = h.info;
@@ -106,10 +105,10 @@ starts_on config w g d d' s s' pages channels starting restless i i' h stations 
   ring = ring;
   slots = (let was = slots in record { entries = was.entries; entry = λ r e k lt. let zero = i'.entered_none in absurd (omega arith); responses = was.responses; response = was.response });
   frames = all_from (IsFilled g.pushed pages s') w.front.requests (λ j r e. absurd (empty j r e));
-  telling = data_rests w.under.pages pages w.front.words s s' (untelling s' i'.no_ending) h.telling;
+  telling = data_rests w.under.pages pages w.front.words w.front.ending w.front.ending s s' (untelling s' i'.none_ends) h.telling;
   entries = record {
     each = all_from (IsGranted g.pushed pages w.under.grants.live s') w.front.requests (λ j r e. absurd (empty j r e));
-    ending = λ e same. absurd (unrevoked s' e i'.no_ending same);
+    ending = λ e same. absurd (unrevoked s' w.front.ending e i'.none_ends same);
   };
   mapped = h.mapped;
   page = h.page;

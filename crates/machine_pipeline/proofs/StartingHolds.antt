@@ -34,7 +34,7 @@ empty_pooled = record {
 }
 
 -- nothing was asked of the pipeline
-start_stations : (config : Options) → AreStations config (start_flow config.start) (pipeline_of config) false false false None false None [] [] fresh_pages
+start_stations : (config : Options) → AreStations config (start_flow config.start) (pipeline_of config) false false false None None None [] [] fresh_pages
 start_stations config = record {
   options = refl;
   front = refl;

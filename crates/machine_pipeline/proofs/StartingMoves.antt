@@ -20,11 +20,11 @@ use Rattle.blk_front.specs.Submit.{is_connected}
 use Rattle.split_model.specs.World.{World}
 use Rattle.split_model.specs.Shown.{front_lines}
 use Rattle.machine_pipeline.specs.Plain.{IsPlain}
-use Rattle.machine_pipeline.proofs.Flow.{Flow, wrapped, may_front_sleep, is_bound_back, is_issuing, is_fetching, reply_at, ending_at, is_telling}
+use Rattle.machine_pipeline.proofs.Flow.{Flow, wrapped, may_front_sleep, is_bound_back, is_issuing, is_fetching, reply_at, ending_at, telling_at}
 use Rattle.machine_pipeline.proofs.Holds.{Holds, FrontAt, RingBegun, AreRingWords, PortsAt}
 use Rattle.machine_pipeline.proofs.Turns.{Goes, FrontGoes, said_nothing, Stepped, does_step}
 use Rattle.machine_pipeline.proofs.Kept.{written, other_word, other_frame}
-use Rattle.machine_pipeline.proofs.Resting.{untelling}
+use Rattle.machine_pipeline.proofs.Resting.{unending, untelling}
 use Rattle.machine_pipeline.proofs.Starting.{IsBare, bare_word, bare_frame, bare_fence, bare_flags, bare_port, bare_loop, none_yet, unbound_of, starts_on}
 use Rattle.machine_pipeline.proofs.Stations.{AreStations, turned}
 use Rattle.machine_pipeline.proofs.StationsFront.{connects}
@@ -35,7 +35,7 @@ makes : (config : Options) (w : World) (g : Flow) (d : Pipeline) (s s' : FrontSt
     → w.front.told ≡ None
     → is_connected s ≡ false → is_connected s' ≡ false → may_front_sleep s ≡ false → IsBare s → IsBare s'
     → Holds config w g d s w.back.stage
-    → FrontAt g.start g.pushed g.taken g.front_seen g.submitted g.replies (next_request w.front) w.front.entry s'
+    → FrontAt g.start g.pushed g.taken g.front_seen g.submitted g.replies (next_request w.front) w.front.entry w.front.ending s'
     → length pages ≡ 1114112
     → ((x : ℕ) → 16 ≤ x → x < 1024 → word_of pages 2 x ≡ word_of w.under.pages 2 x)
     → AreRingWords g.start g.pushed g.replied pages s' w.back.stage
@@ -45,7 +45,10 @@ makes config w g d s s' m pages told starting going restless i i' h place sized 
   step = None;
   does = said_nothing d m w.front.told told;
   holds = starts_on config w g d d s s' pages w.under.channels starting restless i i' h
-      (turned config g d (is_connected s) (is_connected s') (is_issuing s) (is_issuing s') (is_fetching w.back.stage) (ending_at s) (ending_at s') (is_telling s) (is_telling s') (reply_at w.back.stage) w.front.requests w.back.jobs.works w.under.pages (going ∙ sym starting) (i'.unissued ∙ sym i.unissued) (i'.no_ending ∙ sym i.no_ending) (untelling s' i'.no_ending ∙ sym (untelling s i.no_ending)) h.stations) place sized words ring
+      (turned config g d (is_connected s) (is_connected s') (is_issuing s) (is_issuing s') (is_fetching w.back.stage) (ending_at s w.front.ending)
+      (ending_at s' w.front.ending) (telling_at s) (telling_at s') (reply_at w.back.stage) w.front.requests w.back.jobs.works w.under.pages
+      (going ∙ sym starting) (i'.unissued ∙ sym i.unissued) (unending s' w.front.ending i'.none_ends ∙ sym (unending s w.front.ending i.none_ends))
+      (untelling s' i'.none_ends ∙ sym (untelling s i.none_ends)) h.stations) place sized words ring
       (subst (λ (c : Bool). PortsAt c (is_bound_back w.back.stage) w.under.channels.made w.under.channels.ports) (starting ∙ sym going) h.ports);
 }
 
@@ -78,7 +81,7 @@ word_goes config w g d k plain told h = by_last (k == 15) refl
             let was : RingBegun g.start w.under.pages (front.RingWord k) = ring.begun in
             other_word w.under.pages 2 k (fresh_word w.front.start k) j apart ∙ was j (omega arith)
 
-    goes_to : (s' : FrontStage) → is_connected s' ≡ false → IsBare s' → FrontAt g.start g.pushed g.taken g.front_seen g.submitted g.replies (next_request w.front) w.front.entry s' → AreRingWords g.start g.pushed g.replied pages s' w.back.stage
+    goes_to : (s' : FrontStage) → is_connected s' ≡ false → IsBare s' → FrontAt g.start g.pushed g.taken g.front_seen g.submitted g.replies (next_request w.front) w.front.entry w.front.ending s' → AreRingWords g.start g.pushed g.replied pages s' w.back.stage
         → (let x : View = at s' w.front in Goes config (lines.Move (moves.FrontWrite 2 k (fresh_word w.front.start k)) ∷ front_lines x.told) (record { front = record x { told = None }; back = w.back; under = record w.under { pages = pages } }) d)
     goes_to s' going i' place ring = makes config w g d (front.RingWord k) s' (moves.FrontWrite 2 k (fresh_word w.front.start k)) pages told refl going refl (bare_word k) i' h place sized
         (λ x from to. other_word w.under.pages 2 k (fresh_word w.front.start k) x (let few : k < 16 = h.front_at in omega arith)) ring
@@ -186,8 +189,8 @@ port_goes config w g d h =
           (first_port (is_bound_back w.back.stage) w.under.channels.made w.under.channels.ports none.0 none.1 none.2);
     }
   where
-    s : Stepped None IsSame d (lines.Ready ∷ []) (λ p. AreStations config g p true false (is_fetching w.back.stage) None false (reply_at w.back.stage) w.front.requests w.back.jobs.works w.under.pages)
-    s = connects config g d false (is_fetching w.back.stage) None false (reply_at w.back.stage) w.front.requests w.back.jobs.works w.under.pages h.stations
+    s : Stepped None IsSame d (lines.Ready ∷ []) (λ p. AreStations config g p true false (is_fetching w.back.stage) None None (reply_at w.back.stage) w.front.requests w.back.jobs.works w.under.pages)
+    s = connects config g d false (is_fetching w.back.stage) None None (reply_at w.back.stage) w.front.requests w.back.jobs.works w.under.pages h.stations
 
 -- a front that isn't connected goes on at each stage
 pub start_moves : (config : Options) (w : World) (g : Flow) (d : Pipeline) (s : FrontStage)

@@ -1,6 +1,6 @@
 -- Where the machine has each request: at the front, on the ring, at the back or one of its jobs. A request is named by its place among all, from 0; its number, which is its id on the ring, is one more.
 use Rattle.std.proofs.Common.{◌≡◌, ◌≢◌, ℕ, ◌+◌, ◌-◌, ◌<◌, ◌≤◌, ◌==◌, ◌⊎◌, inl, inr, Bool, true, false, not, cond, List, length, refl, ap, sym, ◌∙◌, arith, length-set}
-use Rattle.std.specs.Prelude.{Option, Some, slice_get, slice_set, count_by}
+use Rattle.std.specs.Prelude.{Option, Some, None, slice_get, slice_set, count_by}
 use Rattle.std.specs.List.{list_any}
 use Rattle.std.proofs.lemmas.Option.{same_Some}
 use Rattle.std.proofs.lemmas.Bool.{cases_eq}
@@ -29,12 +29,12 @@ pub record StandsAt (asked : List Asked) (k : ℕ) (station : Station) : Type 0 
 -- the pipeline has each submitted request, as it was asked
 pub record AreKnown (submitted : List Request) (asked : List Asked) : Type 0 where
   pub as_many : length asked ≡ length submitted
-  pub each : (k : ℕ) (r : Request) (q : Asked) → slice_get submitted k ≡ Some r → slice_get asked k ≡ Some q → q.job ≡ job_of r.transfer r.sector
+  pub each : (k : ℕ) (r : Request) (q : Asked) → slice_get submitted k ≡ Some r → slice_get asked k ≡ Some q → q.job ≡ job_of r.transfer r.sector r.count
 
 -- it has as many unfinished requests as the front, and each of those is one of the front's
 pub record AreOpen (asked : List Asked) (requests : List Request) (ending : Option Ending) : Type 0 where
   pub unfinished : count_by (λ (q : Asked). not (is_finished q.station)) asked ≡ length requests + count_of ending
-  pub held : (k : ℕ) (q : Asked) → slice_get asked k ≡ Some q → is_finished q.station ≡ false → (list_any (λ (r : Request). r.number == k + 1) requests ≡ true) ⊎ ((e : Ending) × (ending ≡ Some e) × (e.number ≡ k + 1))
+  pub held : (k : ℕ) (q : Asked) → slice_get asked k ≡ Some q → is_finished q.station ≡ false → (list_any (λ (r : Request). r.number == k + 1) requests ≡ true) ⊎ ((e : Ending) × (ending ≡ Some e) × (e.request.number ≡ k + 1))
 
 -- its ring is what passed between the ends: each request in turn, and the responses as they came
 pub record IsRing (g : Flow) (ring : Ring) : Type 0 where
@@ -59,7 +59,7 @@ abbrev pub AreIssued : ℕ → List Asked → Type 0
 AreIssued pushed asked = (k : ℕ) (q : Asked) → k < pushed → slice_get asked k ≡ Some q → is_unissued q.station ≡ false
 
 abbrev pub AreWorking : List Work → List Asked → Type 0
-AreWorking works asked = (i : ℕ) (t : Work) → slice_get works i ≡ Some t → StandsAt asked (t.number - 1) (worked t.stage)
+AreWorking works asked = (i : ℕ) (t : Work) → slice_get works i ≡ Some t → StandsAt asked (t.number - 1) (worked t.stage t.moved)
 
 abbrev pub IsResponding : Option Reply → List Asked → Type 0
 IsResponding replying asked = (rep : Reply) → replying ≡ Some rep → StandsAt asked (rep.id - 1) (Replying rep.status)
@@ -67,20 +67,20 @@ IsResponding replying asked = (rep : Reply) → replying ≡ Some rep → Stands
 abbrev pub AreReplied : List Reply → List Asked → Type 0
 AreReplied replies asked = (i : ℕ) (rep : Reply) → slice_get replies i ≡ Some rep → StandsAt asked (rep.id - 1) (Replied rep.status)
 
--- a request whose response was taken: its grant is being ended, or its data are told
-abbrev pub finishing : Bool → Status → Station
-finishing false status = Taking status
-finishing true status = Telling 0
+-- a request whose response was taken: its grants are being ended, or its data are told
+abbrev pub finishing : Option ℕ → Status → Station
+finishing None status = Taking status
+finishing (Some next) status = Telling next
 
-abbrev pub IsTaking : Option Ending → Bool → List Asked → Type 0
-IsTaking ending telling asked = (e : Ending) → ending ≡ Some e → StandsAt asked (e.number - 1) (finishing telling e.status)
+abbrev pub IsTaking : Option Ending → Option ℕ → List Asked → Type 0
+IsTaking ending telling asked = (e : Ending) → ending ≡ Some e → StandsAt asked (e.request.number - 1) (finishing telling e.status)
 
 -- the front of the pipeline: connected or not, and never closing
 abbrev pub open_front : Bool → Front
 open_front connected = record { connected = connected; closing = false; closed = false }
 
--- the pipeline, with the front connected or not, issuing a request or not, ending the grant of one, the back copying an entry or not, writing a response, with these requests and jobs
-pub record AreStations (config : Options) (g : Flow) (d : Pipeline) (connected issuing fetching : Bool) (ending : Option Ending) (telling : Bool) (response : Option Reply) (requests : List Request) (jobs : List Work) (pages : List ℕ) : Type 0 where
+-- the pipeline, with the front connected or not, issuing a request or not, ending the grants of one, the back copying an entry or not, writing a response, with these requests and jobs
+pub record AreStations (config : Options) (g : Flow) (d : Pipeline) (connected issuing fetching : Bool) (ending : Option Ending) (telling : Option ℕ) (response : Option Reply) (requests : List Request) (jobs : List Work) (pages : List ℕ) : Type 0 where
   pub options : d.options ≡ config
   pub front : d.front ≡ open_front connected
   pub ring : IsRing g d.ring
@@ -111,12 +111,10 @@ kind_of (Telling next) = 7
 kind_of (Finished status) = 9
 
 -- a job's request
-pub worked_kind : (s : JobStage) → kind_of (worked s) ≡ 4
-worked_kind (job.WriteWord m k) = refl
-worked_kind (job.Unmap m) = refl
-worked_kind (job.GiveUp m) = refl
-worked_kind (job.Done status) = refl
-worked_kind s = refl
+pub worked_kind : (s : JobStage) (moved : ℕ) → kind_of (worked s moved) ≡ 4
+worked_kind (job.GiveUp m) moved = refl
+worked_kind (job.Done status) moved = refl
+worked_kind s moved = refl
 
 -- requests at stations of two kinds are two
 pub apart : (asked : List Asked) (j k : ℕ) (a b : Station) → StandsAt asked j a → StandsAt asked k b → kind_of a ≢ kind_of b → j ≢ k
@@ -205,7 +203,7 @@ pushed_moved fetched pushed fetching asked moved k from to m one two h = record 
 }
 
 pub works_moved : (works : List Work) (asked moved : List Asked) (k : ℕ) (from to : Station) → IsMoved asked moved k from to → kind_of from ≢ 4 → AreWorking works asked → AreWorking works moved
-works_moved works asked moved k from to m other h i t e = kind_stays asked moved (t.number - 1) k (worked t.stage) from to m (omega (arith, worked_kind t.stage, other)) (h i t e)
+works_moved works asked moved k from to m other h i t e = kind_stays asked moved (t.number - 1) k (worked t.stage t.moved) from to m (omega (arith, worked_kind t.stage t.moved, other)) (h i t e)
 
 pub replying_moved : (replying : Option Reply) (asked moved : List Asked) (k : ℕ) (from to : Station) → IsMoved asked moved k from to → kind_of from ≢ 5 → IsResponding replying asked → IsResponding replying moved
 replying_moved replying asked moved k from to m other h rep e = kind_stays asked moved (rep.id - 1) k (Replying rep.status) from to m (omega (arith, other)) (h rep e)
@@ -213,27 +211,23 @@ replying_moved replying asked moved k from to m other h rep e = kind_stays asked
 pub replied_moved : (replies : List Reply) (asked moved : List Asked) (k : ℕ) (from to : Station) → IsMoved asked moved k from to → kind_of from ≢ 6 → AreReplied replies asked → AreReplied replies moved
 replied_moved replies asked moved k from to m other h i rep e = kind_stays asked moved (rep.id - 1) k (Replied rep.status) from to m (omega (arith, other)) (h i rep e)
 
-pub finishing_kind : (telling : Bool) (status : Status) → kind_of (finishing telling status) ≡ 7
-finishing_kind false status = refl
-finishing_kind true status = refl
+pub finishing_kind : (telling : Option ℕ) (status : Status) → kind_of (finishing telling status) ≡ 7
+finishing_kind None status = refl
+finishing_kind (Some next) status = refl
 
-pub taking_moved : (ending : Option Ending) (telling : Bool) (asked moved : List Asked) (k : ℕ) (from to : Station) → IsMoved asked moved k from to → kind_of from ≢ 7 → IsTaking ending telling asked → IsTaking ending telling moved
-taking_moved ending telling asked moved k from to m other h e same = kind_stays asked moved (e.number - 1) k (finishing telling e.status) from to m (omega (arith, finishing_kind telling e.status, other)) (h e same)
+pub taking_moved : (ending : Option Ending) (telling : Option ℕ) (asked moved : List Asked) (k : ℕ) (from to : Station) → IsMoved asked moved k from to → kind_of from ≢ 7 → IsTaking ending telling asked → IsTaking ending telling moved
+taking_moved ending telling asked moved k from to m other h e same = kind_stays asked moved (e.request.number - 1) k (finishing telling e.status) from to m (omega (arith, finishing_kind telling e.status, other)) (h e same)
 
 -- a job's request is unfinished, and was pushed
-pub worked_open : (s : JobStage) → is_finished (worked s) ≡ false
-worked_open (job.WriteWord m k) = refl
-worked_open (job.Unmap m) = refl
-worked_open (job.GiveUp m) = refl
-worked_open (job.Done status) = refl
-worked_open s = refl
+pub worked_open : (s : JobStage) (moved : ℕ) → is_finished (worked s moved) ≡ false
+worked_open (job.GiveUp m) moved = refl
+worked_open (job.Done status) moved = refl
+worked_open s moved = refl
 
-pub worked_issued : (s : JobStage) → is_unissued (worked s) ≡ false
-worked_issued (job.WriteWord m k) = refl
-worked_issued (job.Unmap m) = refl
-worked_issued (job.GiveUp m) = refl
-worked_issued (job.Done status) = refl
-worked_issued s = refl
+pub worked_issued : (s : JobStage) (moved : ℕ) → is_unissued (worked s moved) ≡ false
+worked_issued (job.GiveUp m) moved = refl
+worked_issued (job.Done status) moved = refl
+worked_issued s moved = refl
 
 -- before it is answered, or its data told, a request is unfinished
 pub early_open : (s : Station) → kind_of s < 9 → is_finished s ≡ false
@@ -241,7 +235,7 @@ early_open (Finished status) early = absurd (omega arith)
 early_open s early = refl
 
 -- what an end saw of the other's producer is nothing to the pipeline
-pub saw_more : (config : Options) (g : Flow) (front_seen back_seen : ℕ) (d : Pipeline) (connected issuing fetching : Bool) (ending : Option Ending) (telling : Bool) (replying : Option Reply) (requests : List Request) (works : List Work) (pages : List ℕ)
+pub saw_more : (config : Options) (g : Flow) (front_seen back_seen : ℕ) (d : Pipeline) (connected issuing fetching : Bool) (ending : Option Ending) (telling : Option ℕ) (replying : Option Reply) (requests : List Request) (works : List Work) (pages : List ℕ)
     → AreStations config g d connected issuing fetching ending telling replying requests works pages
     → AreStations config (record g { front_seen = front_seen; back_seen = back_seen }) d connected issuing fetching ending telling replying requests works pages
 saw_more config g front_seen back_seen d connected issuing fetching ending telling replying requests works pages h = record {
@@ -261,7 +255,7 @@ saw_more config g front_seen back_seen d connected issuing fetching ending telli
 }
 
 -- the front at another stage that is as far
-pub turned : (config : Options) (g : Flow) (d : Pipeline) (connected connected' issuing issuing' fetching : Bool) (ending ending' : Option Ending) (telling telling' : Bool) (replying : Option Reply) (requests : List Request) (works : List Work) (pages : List ℕ)
+pub turned : (config : Options) (g : Flow) (d : Pipeline) (connected connected' issuing issuing' fetching : Bool) (ending ending' : Option Ending) (telling telling' : Option ℕ) (replying : Option Reply) (requests : List Request) (works : List Work) (pages : List ℕ)
     → connected' ≡ connected → issuing' ≡ issuing → ending' ≡ ending → telling' ≡ telling
     → AreStations config g d connected issuing fetching ending telling replying requests works pages
     → AreStations config g d connected' issuing' fetching ending' telling' replying requests works pages

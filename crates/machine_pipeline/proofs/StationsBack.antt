@@ -1,4 +1,4 @@
--- The steps of the pipeline that the back and its jobs make: an entry is begun and fetched, a job moves its sector and ends, its response is begun and pushed.
+-- The steps of the pipeline that the back and its jobs make: an entry is begun and fetched, a job moves its sectors and ends, its response is begun and pushed.
 use Rattle.std.proofs.Common.{◌≡◌, ◌≢◌, ℕ, ◌+◌, ◌-◌, ◌<◌, ◌≤◌, inl, inr, Bool, true, false, List, [], ◌∷◌, ◌++◌, length, refl, ap, sym, ◌∙◌, subst, arith, length-append}
 use Rattle.std.specs.Prelude.{AllPairs, Option, Some, None, slice_get, slice_set}
 use Rattle.std.specs.List.{remove}
@@ -26,7 +26,7 @@ use Rattle.machine_pipeline.proofs.Turns.{Stepped}
 use Rattle.machine_pipeline.proofs.Stations.{StandsAt, apart as stands_apart, AreStations, AreWorking, IsRing, IsMoved, is_moved, stands_now, other_stays, kind_of, worked_kind, worked_open, worked_issued, known_moved, open_moved, issued_moved, waiting_moved, pushed_moved, works_moved, replying_moved, replied_moved, taking_moved}
 
 -- the next entry is begun to be copied
-pub begins_fetch : (config : Options) (g : Flow) (d : Pipeline) (connected issuing : Bool) (ending : Option Ending) (telling : Bool) (replying : Option Reply) (requests : List Request) (works : List Work) (pages : List ℕ)
+pub begins_fetch : (config : Options) (g : Flow) (d : Pipeline) (connected issuing : Bool) (ending : Option Ending) (telling : Option ℕ) (replying : Option Reply) (requests : List Request) (works : List Work) (pages : List ℕ)
     → g.fetched < g.pushed
     → AreStations config g d connected issuing false ending telling replying requests works pages
     → Stepped None IsSame d [] (λ p. AreStations config g p connected issuing true ending telling replying requests works pages)
@@ -66,11 +66,11 @@ begins_fetch config g d connected issuing ending telling replying requests works
     m = is_moved d.requests g.fetched Pushed Fetching x.q (moved x.q BeginsFetch) x.at x.there refl refl
 
 -- it is copied, and a job made of it
-pub fetches : (config : Options) (g : Flow) (d : Pipeline) (connected issuing : Bool) (ending : Option Ending) (telling : Bool) (replying : Option Reply) (requests : List Request) (works : List Work) (pages : List ℕ) (t : Work)
+pub fetches : (config : Options) (g : Flow) (d : Pipeline) (connected issuing : Bool) (ending : Option Ending) (telling : Option ℕ) (replying : Option Reply) (requests : List Request) (works : List Work) (pages : List ℕ) (t : Work)
     → g.fetched < g.pushed
     → t.number ≡ g.fetched + 1
-    → worked t.stage ≡ Working 0
-    → ((frame : ℕ) → ReadAt pages frame t.words [] t.stage)
+    → worked t.stage t.moved ≡ Working 0
+    → ((r : Request) → ReadAt pages r t.moved t.words [] t.stage)
     → AreStations config g d connected issuing true ending telling replying requests works pages
     → Stepped None IsSame d [] (λ p. AreStations config (record g { fetched = g.fetched + 1 }) p connected issuing false ending telling replying requests (works ++ t ∷ []) pages)
 fetches config g d connected issuing ending telling replying requests works pages t more number begun unread h = record {
@@ -96,7 +96,7 @@ fetches config g d connected issuing ending telling replying requests works page
     replied = replied_moved g.replies d.requests new g.fetched Fetching (Working 0) m (omega arith) h.replied;
     taking = taking_moved ending telling d.requests new g.fetched Fetching (Working 0) m (omega arith) h.taking;
     reads = reads_fetched g.submitted d.requests new works pages g.fetched Fetching (Working 0) m t
-        (λ i u at. stands_apart d.requests (u.number - 1) g.fetched (worked u.stage) Fetching (h.works i u at) (h.pushed.copied refl) (omega (arith, worked_kind u.stage)))
+        (λ i u at. stands_apart d.requests (u.number - 1) g.fetched (worked u.stage u.moved) Fetching (h.works i u at) (h.pushed.copied refl) (omega (arith, worked_kind u.stage u.moved)))
         (omega (arith, number)) refl refl unread h.reads;
   };
 }
@@ -115,22 +115,22 @@ fetches config g d connected issuing ending telling replying requests works page
       | inl was ↦ works_moved works d.requests new g.fetched Fetching (Working 0) m (omega arith) h.works i u was
       | inr last ↦
           let at : t.number - 1 ≡ g.fetched = omega (arith, number) in
-          subst (λ (v : Work). StandsAt new (v.number - 1) (worked v.stage)) (sym last.1)
+          subst (λ (v : Work). StandsAt new (v.number - 1) (worked v.stage v.moved)) (sym last.1)
           (subst (λ (s : Station). StandsAt new (t.number - 1) s) (sym begun) (subst (λ (k : ℕ). StandsAt new k (Working 0)) (sym at) (stands_now d.requests new g.fetched Fetching (Working 0) m)))
     ]
 
 -- a job whose stage is another, of the same station
-pub works_at : (asked : List Asked) (works : List Work) (place : ℕ) (t t' : Work) → slice_get works place ≡ Some t → t'.number ≡ t.number → worked t'.stage ≡ worked t.stage → AreWorking works asked → AreWorking (slice_set works place t') asked
+pub works_at : (asked : List Asked) (works : List Work) (place : ℕ) (t t' : Work) → slice_get works place ≡ Some t → t'.number ≡ t.number → worked t'.stage t'.moved ≡ worked t.stage t.moved → AreWorking works asked → AreWorking (slice_set works place t') asked
 works_at asked works place t t' here number same h i u e = elim (set_was works place i t t' u here e) [
   | inl it ↦
-      subst (λ (v : Work). StandsAt asked (v.number - 1) (worked v.stage)) (sym it.1)
-      (subst (λ (s : Station). StandsAt asked (t'.number - 1) s) (sym same) (subst (λ (n : ℕ). StandsAt asked (n - 1) (worked t.stage)) (sym number) (h place t here)))
+      subst (λ (v : Work). StandsAt asked (v.number - 1) (worked v.stage v.moved)) (sym it.1)
+      (subst (λ (s : Station). StandsAt asked (t'.number - 1) s) (sym same) (subst (λ (n : ℕ). StandsAt asked (n - 1) (worked t.stage t.moved)) (sym number) (h place t here)))
   | inr other ↦ h i u other.1
 ]
 
-pub job_stays : (config : Options) (g : Flow) (d : Pipeline) (connected issuing fetching : Bool) (ending : Option Ending) (telling : Bool) (replying : Option Reply) (requests : List Request) (works : List Work) (pages : List ℕ) (place : ℕ) (t t' : Work)
-    → slice_get works place ≡ Some t → t'.number ≡ t.number → worked t'.stage ≡ worked t.stage
-    → ((r : Request) (q : Asked) → slice_get g.submitted (t'.number - 1) ≡ Some r → slice_get d.requests (t'.number - 1) ≡ Some q → is_write r.transfer ≡ false → ReadAt pages r.frame t'.words q.words t'.stage)
+pub job_stays : (config : Options) (g : Flow) (d : Pipeline) (connected issuing fetching : Bool) (ending : Option Ending) (telling : Option ℕ) (replying : Option Reply) (requests : List Request) (works : List Work) (pages : List ℕ) (place : ℕ) (t t' : Work)
+    → slice_get works place ≡ Some t → t'.number ≡ t.number → worked t'.stage t'.moved ≡ worked t.stage t.moved
+    → ((r : Request) (q : Asked) → slice_get g.submitted (t'.number - 1) ≡ Some r → slice_get d.requests (t'.number - 1) ≡ Some q → is_write r.transfer ≡ false → ReadAt pages r t'.moved t'.words q.words t'.stage)
     → AreStations config g d connected issuing fetching ending telling replying requests works pages
     → AreStations config g d connected issuing fetching ending telling replying requests (slice_set works place t') pages
 job_stays config g d connected issuing fetching ending telling replying requests works pages place t t' here number same now h = record {
@@ -160,14 +160,14 @@ other_number works place i t u ascending positive here other at same =
     ]
 
 -- a job makes a move of its request
-pub job_steps : (config : Options) (g : Flow) (d : Pipeline) (connected issuing fetching : Bool) (ending : Option Ending) (telling : Bool) (replying : Option Reply) (requests : List Request) (works : List Work) (pages : List ℕ) (place : ℕ) (t t' : Work) (x : StandsAt d.requests (t.number - 1) (worked t.stage)) (move : Move)
+pub job_steps : (config : Options) (g : Flow) (d : Pipeline) (connected issuing fetching : Bool) (ending : Option Ending) (telling : Option ℕ) (replying : Option Reply) (requests : List Request) (works : List Work) (pages : List ℕ) (place : ℕ) (t t' : Work) (x : StandsAt d.requests (t.number - 1) (worked t.stage t.moved)) (move : Move)
     → slice_get works place ≡ Some t
     → AllPairs (λ (a b : Work). a.number < b.number) works
     → ((i : ℕ) (u : Work) → slice_get works i ≡ Some u → 1 ≤ u.number)
     → t'.number ≡ t.number
-    → (let q : Asked = x.q in station_after q.job move) ≡ worked t'.stage
+    → (let q : Asked = x.q in station_after q.job move) ≡ worked t'.stage t'.moved
     → ring_after d.ring (t.number - 1) move ≡ d.ring
-    → ((r : Request) → slice_get g.submitted (t.number - 1) ≡ Some r → is_write r.transfer ≡ false → (let q : Asked = x.q in ReadAt pages r.frame t'.words (words_after move q.words) t'.stage × (has_data_at (worked t'.stage) ≡ true → IsReadBack pages r.frame (words_after move q.words))))
+    → ((r : Request) → slice_get g.submitted (t.number - 1) ≡ Some r → is_write r.transfer ≡ false → (let q : Asked = x.q in ReadAt pages r t'.moved t'.words (words_after move q.words) t'.stage × (has_data_at (worked t'.stage t'.moved) ≡ true → IsReadBack pages r r.count (words_after move q.words))))
     → AreStations config g d connected issuing fetching ending telling replying requests works pages
     → AreStations config g (record d { requests = slice_set d.requests (t.number - 1) (moved x.q move); ring = ring_after d.ring (t.number - 1) move }) connected issuing fetching ending telling replying requests (slice_set works place t') pages
 job_steps config g d connected issuing fetching ending telling replying requests works pages place t t' x move here ascending positive number after still now h = record {
@@ -175,15 +175,15 @@ job_steps config g d connected issuing fetching ending telling replying requests
   front = h.front;
   ring = subst (IsRing g) (sym still) h.ring;
   known = known_moved g.submitted d.requests new k from to m h.known;
-  opened = open_moved d.requests new k from to requests ending m (worked_open t.stage) (worked_open t'.stage) h.opened;
-  issued = issued_moved g.pushed d.requests new k from to m (λ lt. worked_issued t'.stage) h.issued;
+  opened = open_moved d.requests new k from to requests ending m (worked_open t.stage t.moved) (worked_open t'.stage t'.moved) h.opened;
+  issued = issued_moved g.pushed d.requests new k from to m (λ lt. worked_issued t'.stage t'.moved) h.issued;
   waiting = waiting_moved g.pushed issuing d.requests new k from to m (omega (arith, kind)) h.waiting;
   pushed = pushed_moved g.fetched g.pushed fetching d.requests new k from to m (omega (arith, kind)) (omega (arith, kind)) h.pushed;
   works = λ i u e. elim (set_was works place i t t' u here e) [
     | inl it ↦
-        subst (λ (v : Work). StandsAt new (v.number - 1) (worked v.stage)) (sym it.1)
+        subst (λ (v : Work). StandsAt new (v.number - 1) (worked v.stage v.moved)) (sym it.1)
         (subst (λ (n : ℕ). StandsAt new (n - 1) to) (sym number) (stands_now d.requests new k from to m))
-    | inr other ↦ other_stays d.requests new (u.number - 1) k (worked u.stage) from to m (apart i u other.0 other.1) (h.works i u other.1)
+    | inr other ↦ other_stays d.requests new (u.number - 1) k (worked u.stage u.moved) from to m (apart i u other.0 other.1) (h.works i u other.1)
   ];
   replying = replying_moved replying d.requests new k from to m (omega (arith, kind)) h.replying;
   replied = replied_moved g.replies d.requests new k from to m (omega (arith, kind)) h.replied;
@@ -195,13 +195,13 @@ job_steps config g d connected issuing fetching ending telling replying requests
     k = t.number - 1
 
     from : Station
-    from = worked t.stage
+    from = worked t.stage t.moved
 
     to : Station
-    to = worked t'.stage
+    to = worked t'.stage t'.moved
 
     kind : kind_of from ≡ 4
-    kind = worked_kind t.stage
+    kind = worked_kind t.stage t.moved
 
     new : List Asked
     new = slice_set d.requests k (moved x.q move)
@@ -213,9 +213,9 @@ job_steps config g d connected issuing fetching ending telling replying requests
     apart i u other at = other_number works place i t u ascending positive here other at
 
 -- the result of a job that is done is taken, and its response begun
-pub begins_response : (config : Options) (g : Flow) (d : Pipeline) (connected issuing fetching : Bool) (ending : Option Ending) (telling : Bool) (requests : List Request) (works : List Work) (pages : List ℕ) (place : ℕ) (t : Work) (rep : Reply)
+pub begins_response : (config : Options) (g : Flow) (d : Pipeline) (connected issuing fetching : Bool) (ending : Option Ending) (telling : Option ℕ) (requests : List Request) (works : List Work) (pages : List ℕ) (place : ℕ) (t : Work) (rep : Reply)
     → slice_get works place ≡ Some t
-    → worked t.stage ≡ Ended rep.status
+    → worked t.stage t.moved ≡ Ended rep.status
     → rep.id ≡ t.number
     → AllPairs (λ (a b : Work). a.number < b.number) works
     → ((i : ℕ) (u : Work) → slice_get works i ≡ Some u → 1 ≤ u.number)
@@ -238,7 +238,7 @@ begins_response config g d connected issuing fetching ending telling requests wo
     pushed = pushed_moved g.fetched g.pushed fetching d.requests new k from to m (omega arith) (omega arith) h.pushed;
     works = λ i u e.
         let was = removed_was works place i u e in
-        other_stays d.requests new (u.number - 1) k (worked u.stage) from to m (apart was.0 u was.1 was.2) (h.works was.0 u was.2);
+        other_stays d.requests new (u.number - 1) k (worked u.stage u.moved) from to m (apart was.0 u was.1 was.2) (h.works was.0 u was.2);
     replying = λ r same.
         subst (λ (y : Reply). StandsAt new (y.id - 1) (Replying y.status)) (same_Some rep r same)
         (subst (λ (n : ℕ). StandsAt new (n - 1) to) (sym number) (stands_now d.requests new k from to m));
@@ -286,7 +286,7 @@ ring_replied g ring rep counted h = record {
   taken = h.taken;
 }
 
-pub replies : (config : Options) (g : Flow) (d : Pipeline) (connected issuing fetching : Bool) (ending : Option Ending) (telling : Bool) (requests : List Request) (works : List Work) (pages : List ℕ) (rep : Reply)
+pub replies : (config : Options) (g : Flow) (d : Pipeline) (connected issuing fetching : Bool) (ending : Option Ending) (telling : Option ℕ) (requests : List Request) (works : List Work) (pages : List ℕ) (rep : Reply)
     → 1 ≤ rep.id
     → length g.replies + g.taken ≡ g.replied
     → AreStations config g d connected issuing fetching ending telling (Some rep) requests works pages

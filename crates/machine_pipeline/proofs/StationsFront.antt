@@ -1,15 +1,15 @@
 -- The steps of the pipeline that the front makes: it connects, begins an entry, pushes it, takes a response and answers.
-use Rattle.std.proofs.Common.{◌≡◌, ◌≢◌, ℕ, suc, ◌+◌, ◌-◌, ◌<◌, ◌≤◌, ◌==◌, ◌⊎◌, inl, inr, Bool, true, false, not, cond, List, [], ◌∷◌, ◌++◌, length, drop, refl, ap, sym, ◌∙◌, subst, arith, length-append}
-use Rattle.std.specs.Prelude.{Option, Some, None, slice_get, slice_set, slice_index, remove}
+use Rattle.std.proofs.Common.{◌≡◌, ◌≢◌, ℕ, suc, ◌+◌, ◌-◌, ◌*◌, ◌<◌, ◌≤◌, ◌==◌, ◌⊎◌, inl, inr, Bool, true, false, not, cond, List, [], ◌∷◌, ◌++◌, length, drop, refl, ap, sym, ◌∙◌, subst, arith, length-append}
+use Rattle.std.specs.Prelude.{Option, Some, None, slice_get, slice_set, slice_index, remove, nat_lt}
 use Rattle.std.specs.List.{list_any}
 use Rattle.std.proofs.lemmas.Option.{none-some, same_Some}
 use Rattle.std.proofs.lemmas.Bool.{false≢true, true≢false, cases_eq, cases_lt}
+use Rattle.std.proofs.lemmas.Bool.Decides.{nat_tests}
 use Rattle.blk_base.specs.Options.{Options}
 use Rattle.blk_base.specs.declared.config.Job.{Job}
 use Rattle.blk_base.specs.declared.operation.Status.{Status}
 use Rattle.blk_base.specs.declared.operation.Status.TheVariants.{Okay}
 use Rattle.schedule_text.specs.declared.line.Line.TheVariants as lines
-use Rattle.xen_pages.specs.Pages.{word_of}
 use Rattle.blk_front.specs.declared.request.Request.{Request}
 use Rattle.blk_front.specs.declared.request.Transfer.{Transfer}
 use Rattle.blk_front.specs.declared.request.Transfer.TheVariants as transfer
@@ -23,10 +23,10 @@ use Rattle.pipeline_laws.specs.Ring.{Ring}
 use Rattle.pipeline_laws.specs.Pipeline.{Pipeline, Submits, Moves, Connects}
 use Rattle.pipeline_laws.specs.Allowed.{is_unissued, refusal_now}
 use Rattle.machine_pipeline.specs.Step.{IsSame}
-use Rattle.machine_pipeline.proofs.Flow.{Flow, worked, job_of}
+use Rattle.machine_pipeline.proofs.Flow.{Flow, worked, job_of, data_word}
 use Rattle.machine_pipeline.proofs.ReadBack.{IsReadBack, has_data_at}
 use Rattle.machine_pipeline.proofs.ReadsKept.{reads_moved, reads_more}
-use Rattle.machine_pipeline.proofs.Lists.{same_words, all_at, pair_at, get_append, get_last}
+use Rattle.machine_pipeline.proofs.Lists.{same_words, all_at, pair_at, get_append, get_last, get_within}
 use Rattle.machine_pipeline.proofs.Holds.{AreReplies, IsReply}
 use Rattle.machine_pipeline.proofs.Taking.{dropped, opened_without}
 use Rattle.machine_pipeline.proofs.Growing.{longer, push_was, known_more, opened_more}
@@ -34,7 +34,7 @@ use Rattle.machine_pipeline.proofs.Turns.{Stepped}
 use Rattle.machine_pipeline.proofs.Stations.{StandsAt, AreStations, finishing, AreOpen, AreIssued, AreReplied, IsRing, IsMoved, is_moved, stands_now, other_stays, known_moved, open_moved, issued_moved, waiting_moved, pushed_moved, works_moved, replying_moved, replied_moved, taking_moved}
 
 -- the front is connected
-pub connects : (config : Options) (g : Flow) (d : Pipeline) (issuing fetching : Bool) (ending : Option Ending) (telling : Bool) (replying : Option Reply) (requests : List Request) (works : List Work) (pages : List ℕ)
+pub connects : (config : Options) (g : Flow) (d : Pipeline) (issuing fetching : Bool) (ending : Option Ending) (telling : Option ℕ) (replying : Option Reply) (requests : List Request) (works : List Work) (pages : List ℕ)
     → AreStations config g d false issuing fetching ending telling replying requests works pages
     → Stepped None IsSame d (lines.Ready ∷ []) (λ p. AreStations config g p true issuing fetching ending telling replying requests works pages)
 connects config g d issuing fetching ending telling replying requests works pages h = record {
@@ -61,7 +61,7 @@ connects config g d issuing fetching ending telling replying requests works page
 }
 
 -- the next request's entry is begun
-pub begins_entry : (config : Options) (g : Flow) (d : Pipeline) (connected fetching : Bool) (ending : Option Ending) (telling : Bool) (replying : Option Reply) (requests : List Request) (works : List Work) (pages : List ℕ)
+pub begins_entry : (config : Options) (g : Flow) (d : Pipeline) (connected fetching : Bool) (ending : Option Ending) (telling : Option ℕ) (replying : Option Reply) (requests : List Request) (works : List Work) (pages : List ℕ)
     → g.pushed < length d.requests
     → AreStations config g d connected false fetching ending telling replying requests works pages
     → Stepped None IsSame d [] (λ p. AreStations config g p connected true fetching ending telling replying requests works pages)
@@ -115,7 +115,7 @@ ring_pushed g ring h = record {
 }
 
 -- the entry is pushed
-pub pushes : (config : Options) (g : Flow) (d : Pipeline) (connected fetching : Bool) (ending : Option Ending) (telling : Bool) (replying : Option Reply) (requests : List Request) (works : List Work) (pages : List ℕ)
+pub pushes : (config : Options) (g : Flow) (d : Pipeline) (connected fetching : Bool) (ending : Option Ending) (telling : Option ℕ) (replying : Option Reply) (requests : List Request) (works : List Work) (pages : List ℕ)
     → g.fetched ≤ g.pushed
     → AreStations config g d connected true fetching ending telling replying requests works pages
     → (fetching ≡ true → g.fetched < g.pushed)
@@ -184,10 +184,10 @@ pub takes : (config : Options) (g : Flow) (d : Pipeline) (connected issuing fetc
     → slice_get g.replies 0 ≡ Some rep
     → slice_get requests place ≡ Some r
     → rep.id ≡ r.number
-    → e ≡ record { number = r.number; transfer = r.transfer; frame = r.frame; status = rep.status }
+    → e ≡ record { request = r; status = rep.status }
     → AreReplies g.fetched g.taken g.replied g.replies
-    → AreStations config g d connected issuing fetching None false replying requests works pages
-    → Stepped None IsSame d [] (λ p. AreStations config (record g { taken = g.taken + 1; replies = drop 1 g.replies }) p connected issuing fetching (Some e) false replying (remove requests place) works pages)
+    → AreStations config g d connected issuing fetching None None replying requests works pages
+    → Stepped None IsSame d [] (λ p. AreStations config (record g { taken = g.taken + 1; replies = drop 1 g.replies }) p connected issuing fetching (Some e) None replying (remove requests place) works pages)
 takes config g d connected issuing fetching replying requests works pages place r rep e oldest found number made replies h = record {
   step = Moves k x.q (Takes rep.status);
   allowed = (record { here = x.at; there = x.there }, ap (slice_get (let ring : Ring = d.ring in ring.replied)) (omega (arith, h.ring.taken)) ∙ h.ring.responses 0 rep oldest);
@@ -199,7 +199,7 @@ takes config g d connected issuing fetching replying requests works pages place 
     front = h.front;
     ring = ring_taken g d.ring h.ring;
     known = known_moved g.submitted d.requests new k (Replied rep.status) (Taking rep.status) m h.known;
-    opened = opened_without new requests place r e found (ap (λ (y : Ending). y.number) made) (open_moved d.requests new k (Replied rep.status) (Taking rep.status) requests None m refl refl h.opened);
+    opened = opened_without new requests place r e found (ap (λ (y : Ending). y.request.number) made) (open_moved d.requests new k (Replied rep.status) (Taking rep.status) requests None m refl refl h.opened);
     issued = issued_moved g.pushed d.requests new k (Replied rep.status) (Taking rep.status) m (λ lt. refl) h.issued;
     waiting = waiting_moved g.pushed issuing d.requests new k (Replied rep.status) (Taking rep.status) m (omega arith) h.waiting;
     pushed = pushed_moved g.fetched g.pushed fetching d.requests new k (Replied rep.status) (Taking rep.status) m (omega arith) (omega arith) h.pushed;
@@ -207,8 +207,8 @@ takes config g d connected issuing fetching replying requests works pages place 
     replying = replying_moved replying d.requests new k (Replied rep.status) (Taking rep.status) m (omega arith) h.replying;
     replied = others_replied;
     taking = λ f same.
-        let it : f ≡ record { number = r.number; transfer = r.transfer; frame = r.frame; status = rep.status } = sym (same_Some e f same) ∙ made in
-        subst (λ (y : Ending). StandsAt new (y.number - 1) (Taking y.status)) (sym it) (subst (λ (n : ℕ). StandsAt new (n - 1) (Taking rep.status)) number (stands_now d.requests new k (Replied rep.status) (Taking rep.status) m));
+        let it : f ≡ record { request = r; status = rep.status } = sym (same_Some e f same) ∙ made in
+        subst (λ (y : Ending). StandsAt new (y.request.number - 1) (Taking y.status)) (sym it) (subst (λ (n : ℕ). StandsAt new (n - 1) (Taking rep.status)) number (stands_now d.requests new k (Replied rep.status) (Taking rep.status) m));
     reads = reads_moved g.submitted d.requests new works pages k (Replied rep.status) (Taking rep.status) m refl (λ t. t) h.reads;
   };
 }
@@ -237,7 +237,7 @@ takes config g d connected issuing fetching replying requests works pages place 
 opened_finished : (asked finished : List Asked) (k : ℕ) (from : Station) (status : Status) (requests : List Request) (e : Ending)
     → IsMoved asked finished k from (Finished status)
     → is_finished from ≡ false
-    → e.number ≡ k + 1
+    → e.request.number ≡ k + 1
     → AreOpen asked requests (Some e)
     → AreOpen finished requests None
 opened_finished asked finished k from status requests e m unfinished number h =
@@ -252,25 +252,25 @@ opened_finished asked finished k from status requests e m unfinished number h =
       ];
     }
   where
-    left : (j : ℕ) → j ≢ k → (list_any (λ (r : Request). r.number == j + 1) requests ≡ true) ⊎ ((f : Ending) × (Some e ≡ Some f) × (f.number ≡ j + 1)) → (list_any (λ (r : Request). r.number == j + 1) requests ≡ true) ⊎ ((f : Ending) × (None ≡ Some f) × (f.number ≡ j + 1))
+    left : (j : ℕ) → j ≢ k → (list_any (λ (r : Request). r.number == j + 1) requests ≡ true) ⊎ ((f : Ending) × (Some e ≡ Some f) × (f.request.number ≡ j + 1)) → (list_any (λ (r : Request). r.number == j + 1) requests ≡ true) ⊎ ((f : Ending) × (None ≡ Some f) × (f.request.number ≡ j + 1))
     left j other (inl any) = inl any
     left j other (inr it) =
-        let same : e.number ≡ j + 1 = ap (λ (x : Ending). x.number) (same_Some e it.0 it.1) ∙ it.2 in
+        let same : e.request.number ≡ j + 1 = ap (λ (x : Ending). x.request.number) (same_Some e it.0 it.1) ∙ it.2 in
         absurd (other (omega arith))
 
 -- its answer is told, with which it is finished, but for a read that went well
-unread : (way : Transfer) (sector : ℕ) (status : Status) → has_data way status ≡ false → station_after (job_of way sector) (Answers status) ≡ Finished status
-unread transfer.Read sector Okay none = absurd (true≢false none)
-unread transfer.Read sector status none = refl
-unread (transfer.Write tag) sector status none = refl
+unread : (way : Transfer) (sector count : ℕ) (status : Status) → has_data way status ≡ false → station_after (job_of way sector count) (Answers status) ≡ Finished status
+unread transfer.Read sector count Okay none = absurd (true≢false none)
+unread transfer.Read sector count status none = refl
+unread (transfer.Write tag) sector count status none = refl
 
-pub answers : (config : Options) (g : Flow) (d : Pipeline) (connected issuing fetching : Bool) (replying : Option Reply) (requests : List Request) (works : List Work) (pages : List ℕ) (r : Request) (e : Ending)
-    → slice_get g.submitted (e.number - 1) ≡ Some r
-    → 1 ≤ e.number
-    → has_data r.transfer e.status ≡ false
-    → AreStations config g d connected issuing fetching (Some e) false replying requests works pages
-    → Stepped None IsSame d (lines.Answer e.number e.status ∷ []) (λ p. AreStations config g p connected issuing fetching None false replying requests works pages)
-answers config g d connected issuing fetching replying requests works pages r e asked positive none h = record {
+pub answers : (config : Options) (g : Flow) (d : Pipeline) (connected issuing fetching : Bool) (replying : Option Reply) (requests : List Request) (works : List Work) (pages : List ℕ) (e : Ending)
+    → slice_get g.submitted (e.request.number - 1) ≡ Some e.request
+    → 1 ≤ e.request.number
+    → has_data e.request.transfer e.status ≡ false
+    → AreStations config g d connected issuing fetching (Some e) None replying requests works pages
+    → Stepped None IsSame d (lines.Answer e.request.number e.status ∷ []) (λ p. AreStations config g p connected issuing fetching None None replying requests works pages)
+answers config g d connected issuing fetching replying requests works pages e asked positive none h = record {
   step = Moves k x.q (Answers e.status);
   allowed = (record { here = x.at; there = x.there }, tt);
   shows = ap (λ (n : ℕ). lines.Answer n e.status ∷ []) (omega arith);
@@ -294,7 +294,7 @@ answers config g d connected issuing fetching replying requests works pages r e 
 }
   where
     k : ℕ
-    k = e.number - 1
+    k = e.request.number - 1
 
     x : StandsAt d.requests k (Taking e.status)
     x = h.taking e refl
@@ -302,24 +302,24 @@ answers config g d connected issuing fetching replying requests works pages r e 
     new : List Asked
     new = slice_set d.requests k (moved x.q (Answers e.status))
 
-    job : (let q : Asked = x.q in q.job) ≡ job_of r.transfer r.sector
-    job = h.known.each k r x.q asked x.at
+    job : (let q : Asked = x.q in q.job) ≡ job_of e.request.transfer e.request.sector e.request.count
+    job = h.known.each k e.request x.q asked x.at
 
     after : (let q : Asked = x.q in station_after q.job (Answers e.status)) ≡ Finished e.status
-    after = rw job (unread r.transfer r.sector e.status none)
+    after = rw job (unread e.request.transfer e.request.sector e.request.count e.status none)
 
     m : IsMoved d.requests new k (Taking e.status) (Finished e.status)
     m = is_moved d.requests k (Taking e.status) (Finished e.status) x.q (moved x.q (Answers e.status)) x.at x.there after refl
 
 -- the data of a read that went well are told after its answer
-pub answers_read : (config : Options) (g : Flow) (d : Pipeline) (connected issuing fetching : Bool) (replying : Option Reply) (requests : List Request) (works : List Work) (pages : List ℕ) (r : Request) (e : Ending)
-    → slice_get g.submitted (e.number - 1) ≡ Some r
-    → 1 ≤ e.number
-    → r.transfer ≡ transfer.Read
+pub answers_read : (config : Options) (g : Flow) (d : Pipeline) (connected issuing fetching : Bool) (replying : Option Reply) (requests : List Request) (works : List Work) (pages : List ℕ) (e : Ending)
+    → slice_get g.submitted (e.request.number - 1) ≡ Some e.request
+    → 1 ≤ e.request.number
+    → e.request.transfer ≡ transfer.Read
     → e.status ≡ Okay
-    → AreStations config g d connected issuing fetching (Some e) false replying requests works pages
-    → Stepped None IsSame d (lines.Answer e.number e.status ∷ []) (λ p. AreStations config g p connected issuing fetching (Some e) true replying requests works pages)
-answers_read config g d connected issuing fetching replying requests works pages r e asked positive way okay h = record {
+    → AreStations config g d connected issuing fetching (Some e) None replying requests works pages
+    → Stepped None IsSame d (lines.Answer e.request.number e.status ∷ []) (λ p. AreStations config g p connected issuing fetching (Some e) (Some 0) replying requests works pages)
+answers_read config g d connected issuing fetching replying requests works pages e asked positive way okay h = record {
   step = Moves k x.q (Answers e.status);
   allowed = (record { here = x.at; there = x.there }, tt);
   shows = ap (λ (n : ℕ). lines.Answer n e.status ∷ []) (omega arith);
@@ -337,13 +337,13 @@ answers_read config g d connected issuing fetching replying requests works pages
     works = works_moved works d.requests new k (Taking e.status) (Telling 0) m (omega arith) h.works;
     replying = replying_moved replying d.requests new k (Taking e.status) (Telling 0) m (omega arith) h.replying;
     replied = replied_moved g.replies d.requests new k (Taking e.status) (Telling 0) m (omega arith) h.replied;
-    taking = λ f same. subst (λ (y : Ending). StandsAt new (y.number - 1) (Telling 0)) (same_Some e f same) (stands_now d.requests new k (Taking e.status) (Telling 0) m);
+    taking = λ f same. subst (λ (y : Ending). StandsAt new (y.request.number - 1) (Telling 0)) (same_Some e f same) (stands_now d.requests new k (Taking e.status) (Telling 0) m);
     reads = reads_moved g.submitted d.requests new works pages k (Taking e.status) (Telling 0) m refl (λ t. rw okay refl) h.reads;
   };
 }
   where
     k : ℕ
-    k = e.number - 1
+    k = e.request.number - 1
 
     x : StandsAt d.requests k (Taking e.status)
     x = h.taking e refl
@@ -351,8 +351,8 @@ answers_read config g d connected issuing fetching replying requests works pages
     new : List Asked
     new = slice_set d.requests k (moved x.q (Answers e.status))
 
-    job : (let q : Asked = x.q in q.job) ≡ job_of r.transfer r.sector
-    job = h.known.each k r x.q asked x.at
+    job : (let q : Asked = x.q in q.job) ≡ job_of e.request.transfer e.request.sector e.request.count
+    job = h.known.each k e.request x.q asked x.at
 
     after : (let q : Asked = x.q in station_after q.job (Answers e.status)) ≡ Telling 0
     after = rw (job, way, okay) refl
@@ -360,74 +360,150 @@ answers_read config g d connected issuing fetching replying requests works pages
     m : IsMoved d.requests new k (Taking e.status) (Telling 0)
     m = is_moved d.requests k (Taking e.status) (Telling 0) x.q (moved x.q (Answers e.status)) x.at x.there after refl
 
--- its one sector is told, the words that its frame holds
-pub tells : (config : Options) (g : Flow) (d : Pipeline) (connected issuing fetching : Bool) (replying : Option Reply) (requests : List Request) (works : List Work) (pages words : List ℕ) (r : Request) (e : Ending)
-    → slice_get g.submitted (e.number - 1) ≡ Some r
-    → 1 ≤ e.number
-    → r.transfer ≡ transfer.Read
+-- a sector that its frames hold is one of those that its job read
+noted_at : (pages words : List ℕ) (r : Request) (i : ℕ) (noted : List (List ℕ))
+    → IsReadBack pages r r.count noted
+    → i < r.count
     → length words ≡ 128
-    → ((i : ℕ) → i < 128 → slice_index words i ≡ word_of pages r.frame i)
-    → AreStations config g d connected issuing fetching (Some e) true replying requests works pages
-    → Stepped None IsSame d (lines.Data e.number 0 words ∷ []) (λ p. AreStations config g p connected issuing fetching None false replying requests works pages)
-tells config g d connected issuing fetching replying requests works pages words r e asked positive way size same h = record {
-  step = Moves k x.q (Tells 0 words);
-  allowed = (record { here = x.at; there = x.there }, noted);
-  shows = ap (λ (n : ℕ). lines.Data n 0 words ∷ []) (omega arith);
+    → ((j : ℕ) → j < 128 → slice_index words j ≡ data_word pages r (128 * i + j))
+    → slice_get noted i ≡ Some words
+noted_at pages words r i noted back lt size same =
+    let counted = back.counted in
+    let there = get_within noted i (omega (arith, counted)) in
+    let held = back.sectors i there.0 there.1 in
+    let these : there.0 ≡ words = same_words there.0 words (held.size ∙ sym size)
+    (λ j few. sym (held.held j (omega (arith, held.size))) ∙ sym (same j (omega (arith, held.size)))) in
+    there.1 ∙ ap Some these
+
+-- the station once a sector was told: the next one is, or that was the last
+further_told : (job : Job) (sector count i : ℕ) (words : List ℕ) → job ≡ job_of transfer.Read sector count → i + 1 < count
+    → station_after job (Tells i words) ≡ Telling (i + 1)
+further_told job sector count i words same lt =
+    let more : nat_lt (i + 1) count ≡ true = grind (arith, nat_tests) in
+    rw (same, more) refl
+
+last_told : (job : Job) (sector count i : ℕ) (words : List ℕ) → job ≡ job_of transfer.Read sector count → count ≤ i + 1
+    → station_after job (Tells i words) ≡ Finished Okay
+last_told job sector count i words same le =
+    let none : nat_lt (i + 1) count ≡ false = grind (arith, nat_tests) in
+    rw (same, none) refl
+
+-- one of its sectors is told, the words that its frames hold
+pub tells : (config : Options) (g : Flow) (d : Pipeline) (connected issuing fetching : Bool) (replying : Option Reply) (requests : List Request) (works : List Work) (pages words : List ℕ) (e : Ending) (i : ℕ)
+    → slice_get g.submitted (e.request.number - 1) ≡ Some e.request
+    → 1 ≤ e.request.number
+    → e.request.transfer ≡ transfer.Read
+    → i + 1 < e.request.count
+    → length words ≡ 128
+    → ((j : ℕ) → j < 128 → slice_index words j ≡ data_word pages e.request (128 * i + j))
+    → AreStations config g d connected issuing fetching (Some e) (Some i) replying requests works pages
+    → Stepped None IsSame d (lines.Data e.request.number i words ∷ [])
+    (λ p. AreStations config g p connected issuing fetching (Some e) (Some (i + 1)) replying requests works pages)
+tells config g d connected issuing fetching replying requests works pages words e i asked positive way further size same h = record {
+  step = Moves k x.q (Tells i words);
+  allowed = (record { here = x.at; there = x.there }, noted_at pages words e.request i _ back (omega arith) size same);
+  shows = ap (λ (n : ℕ). lines.Data n i words ∷ []) (omega arith);
   asks = refl;
   disk = λ a b e. e;
   now = record {
     options = h.options;
     front = h.front;
     ring = h.ring;
-    known = known_moved g.submitted d.requests new k (Telling 0) (Finished Okay) m h.known;
-    opened = opened_finished d.requests new k (Telling 0) Okay requests e m refl (omega arith) h.opened;
-    issued = issued_moved g.pushed d.requests new k (Telling 0) (Finished Okay) m (λ lt. refl) h.issued;
-    waiting = waiting_moved g.pushed issuing d.requests new k (Telling 0) (Finished Okay) m (omega arith) h.waiting;
-    pushed = pushed_moved g.fetched g.pushed fetching d.requests new k (Telling 0) (Finished Okay) m (omega arith) (omega arith) h.pushed;
-    works = works_moved works d.requests new k (Telling 0) (Finished Okay) m (omega arith) h.works;
-    replying = replying_moved replying d.requests new k (Telling 0) (Finished Okay) m (omega arith) h.replying;
-    replied = replied_moved g.replies d.requests new k (Telling 0) (Finished Okay) m (omega arith) h.replied;
-    taking = λ f same. absurd (none-some f same);
-    reads = reads_moved g.submitted d.requests new works pages k (Telling 0) (Finished Okay) m refl (λ t. absurd (false≢true t)) h.reads;
+    known = known_moved g.submitted d.requests new k (Telling i) (Telling (i + 1)) m h.known;
+    opened = open_moved d.requests new k (Telling i) (Telling (i + 1)) requests (Some e) m refl refl h.opened;
+    issued = issued_moved g.pushed d.requests new k (Telling i) (Telling (i + 1)) m (λ lt. refl) h.issued;
+    waiting = waiting_moved g.pushed issuing d.requests new k (Telling i) (Telling (i + 1)) m (omega arith) h.waiting;
+    pushed = pushed_moved g.fetched g.pushed fetching d.requests new k (Telling i) (Telling (i + 1)) m (omega arith) (omega arith) h.pushed;
+    works = works_moved works d.requests new k (Telling i) (Telling (i + 1)) m (omega arith) h.works;
+    replying = replying_moved replying d.requests new k (Telling i) (Telling (i + 1)) m (omega arith) h.replying;
+    replied = replied_moved g.replies d.requests new k (Telling i) (Telling (i + 1)) m (omega arith) h.replied;
+    taking = λ f it. subst (λ (y : Ending). StandsAt new (y.request.number - 1) (Telling (i + 1))) (same_Some e f it)
+        (stands_now d.requests new k (Telling i) (Telling (i + 1)) m);
+    reads = reads_moved g.submitted d.requests new works pages k (Telling i) (Telling (i + 1)) m refl (λ t. refl) h.reads;
   };
 }
   where
     k : ℕ
-    k = e.number - 1
+    k = e.request.number - 1
 
-    x : StandsAt d.requests k (Telling 0)
+    x : StandsAt d.requests k (Telling i)
     x = h.taking e refl
 
     new : List Asked
-    new = slice_set d.requests k (moved x.q (Tells 0 words))
+    new = slice_set d.requests k (moved x.q (Tells i words))
 
-    job : (let q : Asked = x.q in q.job) ≡ job_of r.transfer r.sector
-    job = h.known.each k r x.q asked x.at
+    job : (let q : Asked = x.q in q.job) ≡ job_of transfer.Read e.request.sector e.request.count
+    job = h.known.each k e.request x.q asked x.at ∙ ap (λ (t : Transfer). job_of t e.request.sector e.request.count) way
 
-    after : (let q : Asked = x.q in station_after q.job (Tells 0 words)) ≡ Finished Okay
-    after = rw (job, way) refl
+    m : IsMoved d.requests new k (Telling i) (Telling (i + 1))
+    m = is_moved d.requests k (Telling i) (Telling (i + 1)) x.q (moved x.q (Tells i words)) x.at x.there
+        (further_told (let q : Asked = x.q in q.job) e.request.sector e.request.count i words job further) refl
 
-    m : IsMoved d.requests new k (Telling 0) (Finished Okay)
-    m = is_moved d.requests k (Telling 0) (Finished Okay) x.q (moved x.q (Tells 0 words)) x.at x.there after refl
+    back : (let q : Asked = x.q in IsReadBack pages e.request e.request.count q.words)
+    back = h.reads.after k e.request x.q asked x.at (ap is_write way) (ap has_data_at x.there)
 
-    back : (let q : Asked = x.q in IsReadBack pages r.frame q.words)
-    back = h.reads.after k r x.q asked x.at (ap is_write way) (ap has_data_at x.there)
+-- its last sector is told, with which it is finished
+pub tells_last : (config : Options) (g : Flow) (d : Pipeline) (connected issuing fetching : Bool) (replying : Option Reply) (requests : List Request) (works : List Work) (pages words : List ℕ) (e : Ending) (i : ℕ)
+    → slice_get g.submitted (e.request.number - 1) ≡ Some e.request
+    → 1 ≤ e.request.number
+    → e.request.transfer ≡ transfer.Read
+    → i + 1 ≡ e.request.count
+    → length words ≡ 128
+    → ((j : ℕ) → j < 128 → slice_index words j ≡ data_word pages e.request (128 * i + j))
+    → AreStations config g d connected issuing fetching (Some e) (Some i) replying requests works pages
+    → Stepped None IsSame d (lines.Data e.request.number i words ∷ []) (λ p. AreStations config g p connected issuing fetching None None replying requests works pages)
+tells_last config g d connected issuing fetching replying requests works pages words e i asked positive way last size same h = record {
+  step = Moves k x.q (Tells i words);
+  allowed = (record { here = x.at; there = x.there }, noted_at pages words e.request i _ back (omega arith) size same);
+  shows = ap (λ (n : ℕ). lines.Data n i words ∷ []) (omega arith);
+  asks = refl;
+  disk = λ a b e. e;
+  now = record {
+    options = h.options;
+    front = h.front;
+    ring = h.ring;
+    known = known_moved g.submitted d.requests new k (Telling i) (Finished Okay) m h.known;
+    opened = opened_finished d.requests new k (Telling i) Okay requests e m refl (omega arith) h.opened;
+    issued = issued_moved g.pushed d.requests new k (Telling i) (Finished Okay) m (λ lt. refl) h.issued;
+    waiting = waiting_moved g.pushed issuing d.requests new k (Telling i) (Finished Okay) m (omega arith) h.waiting;
+    pushed = pushed_moved g.fetched g.pushed fetching d.requests new k (Telling i) (Finished Okay) m (omega arith) (omega arith) h.pushed;
+    works = works_moved works d.requests new k (Telling i) (Finished Okay) m (omega arith) h.works;
+    replying = replying_moved replying d.requests new k (Telling i) (Finished Okay) m (omega arith) h.replying;
+    replied = replied_moved g.replies d.requests new k (Telling i) (Finished Okay) m (omega arith) h.replied;
+    taking = λ f it. absurd (none-some f it);
+    reads = reads_moved g.submitted d.requests new works pages k (Telling i) (Finished Okay) m refl (λ t. absurd (false≢true t)) h.reads;
+  };
+}
+  where
+    k : ℕ
+    k = e.request.number - 1
 
-    noted : (let q : Asked = x.q in slice_get q.words 0) ≡ Some words
-    noted =
-        let these : back.words ≡ words = same_words back.words words (back.size ∙ sym size) (λ i lt. sym (back.held i (omega (arith, back.size))) ∙ sym (same i (omega (arith, back.size)))) in
-        ap (λ (ws : List (List ℕ)). slice_get ws 0) back.only ∙ ap Some these
+    x : StandsAt d.requests k (Telling i)
+    x = h.taking e refl
+
+    new : List Asked
+    new = slice_set d.requests k (moved x.q (Tells i words))
+
+    job : (let q : Asked = x.q in q.job) ≡ job_of transfer.Read e.request.sector e.request.count
+    job = h.known.each k e.request x.q asked x.at ∙ ap (λ (t : Transfer). job_of t e.request.sector e.request.count) way
+
+    m : IsMoved d.requests new k (Telling i) (Finished Okay)
+    m = is_moved d.requests k (Telling i) (Finished Okay) x.q (moved x.q (Tells i words)) x.at x.there
+        (last_told (let q : Asked = x.q in q.job) e.request.sector e.request.count i words job (omega arith)) refl
+
+    back : (let q : Asked = x.q in IsReadBack pages e.request e.request.count q.words)
+    back = h.reads.after k e.request x.q asked x.at (ap is_write way) (ap has_data_at x.there)
 
 -- a request more is submitted
 stands_more : (asked : List Asked) (q : Asked) (k : ℕ) (station : Station) → StandsAt asked k station → StandsAt (asked ++ q ∷ []) k station
 stands_more asked q k station x = record { q = x.q; at = get_append asked (q ∷ []) k x.q x.at; there = x.there }
 
-pub submits : (config : Options) (g : Flow) (d : Pipeline) (connected issuing fetching : Bool) (ending : Option Ending) (telling : Bool) (replying : Option Reply) (requests : List Request) (works : List Work) (pages : List ℕ) (x : Request)
+pub submits : (config : Options) (g : Flow) (d : Pipeline) (connected issuing fetching : Bool) (ending : Option Ending) (telling : Option ℕ) (replying : Option Reply) (requests : List Request) (works : List Work) (pages : List ℕ) (x : Request)
     → x.number ≡ length d.requests + 1
     → g.pushed ≤ length d.requests
-    → refusal_now d (job_of x.transfer x.sector) ≡ None
+    → refusal_now d (job_of x.transfer x.sector x.count) ≡ None
     → AreStations config g d connected issuing fetching ending telling replying requests works pages
-    → Stepped (Some (job_of x.transfer x.sector)) IsSame d (lines.Submit x.number (job_of x.transfer x.sector) ∷ []) (λ p. AreStations config (record g { submitted = g.submitted ++ x ∷ [] }) p connected issuing fetching ending telling replying (requests ++ x ∷ []) works pages)
+    → Stepped (Some (job_of x.transfer x.sector x.count)) IsSame d (lines.Submit x.number (job_of x.transfer x.sector x.count) ∷ []) (λ p. AreStations config (record g { submitted = g.submitted ++ x ∷ [] }) p connected issuing fetching ending telling replying (requests ++ x ∷ []) works pages)
 submits config g d connected issuing fetching ending telling replying requests works pages x number few accepted h = record {
   step = Submits job;
   allowed = accepted;
@@ -455,13 +531,13 @@ submits config g d connected issuing fetching ending telling replying requests w
       copied = λ t. stands_more d.requests (submitted job) g.fetched Fetching (h.pushed.copied t);
       rest = λ j le lt other. stands_more d.requests (submitted job) j Pushed (h.pushed.rest j le lt other);
     };
-    works = λ i t e. stands_more d.requests (submitted job) (t.number - 1) (worked t.stage) (h.works i t e);
+    works = λ i t e. stands_more d.requests (submitted job) (t.number - 1) (worked t.stage t.moved) (h.works i t e);
     replying = λ rep e. stands_more d.requests (submitted job) (rep.id - 1) (Replying rep.status) (h.replying rep e);
     replied = λ i rep e. stands_more d.requests (submitted job) (rep.id - 1) (Replied rep.status) (h.replied i rep e);
-    taking = λ e same. stands_more d.requests (submitted job) (e.number - 1) (finishing telling e.status) (h.taking e same);
+    taking = λ e same. stands_more d.requests (submitted job) (e.request.number - 1) (finishing telling e.status) (h.taking e same);
     reads = reads_more g.submitted d.requests works pages x (submitted job) h.known.as_many refl (λ i t at. let stands = h.works i t at in (stands.q, stands.at)) h.reads;
   };
 }
   where
     job : Job
-    job = job_of x.transfer x.sector
+    job = job_of x.transfer x.sector x.count

@@ -1,7 +1,6 @@
 -- A submission is refused, and changes nothing, or accepted, and then the pipeline has its request.
-use Rattle.std.proofs.Common.{◌≡◌, ◌≢◌, ℕ, suc, ◌+◌, ◌-◌, ◌^◌, ◌<◌, ◌≤◌, ◌==◌, Bool, true, false, not, List, [], ◌∷◌, ◌++◌, length, refl, ap, sym, ◌∙◌, subst, arith}
-use Rattle.std.specs.Prelude.{Option, Some, None, Result, Err, slice_get, count_by, nat_le, if◌then◌else◌}
-use Rattle.std.specs.List.{position_or_len}
+use Rattle.std.proofs.Common.{◌≡◌, ◌≢◌, ℕ, ◌+◌, ◌-◌, ◌^◌, ◌<◌, ◌≤◌, ◌==◌, Bool, true, false, not, List, [], ◌∷◌, ◌++◌, length, refl, ap, sym, ◌∙◌, subst, arith}
+use Rattle.std.specs.Prelude.{All, Option, Some, None, Result, Err, slice_get, nat_lt, nat_le, if◌then◌else◌}
 use Rattle.std.proofs.lemmas.Bool.Decides.{nat_tests}
 use Rattle.blk_base.specs.Options.{Options}
 use Rattle.blk_base.specs.declared.config.Job.{Job}
@@ -11,21 +10,23 @@ use Rattle.pipeline_laws.specs.Pipeline.{Pipeline, Refuses, next}
 use Rattle.blk_front.specs.declared.request.Request.{Request}
 use Rattle.blk_front.specs.declared.request.Transfer.{Transfer}
 use Rattle.blk_front.specs.declared.request.Transfer.TheVariants as transfer
-use Rattle.blk_front.specs.Request.{tag_of}
+use Rattle.blk_front.specs.declared.request.Wish.{Wish}
+use Rattle.blk_front.specs.Request.{tag_of, frames_for}
+use Rattle.blk_front.specs.Pool.{taking}
 use Rattle.blk_front.specs.declared.told.Refusal.{Refusal}
 use Rattle.blk_front.specs.declared.told.Refusal.TheVariants as refusal
 use Rattle.blk_front.specs.View.{View, next_request}
-use Rattle.blk_front.specs.Submit.{is_ready, is_connected, unfinished, accepted, one_sector, submit_one, submit_of}
+use Rattle.blk_front.specs.Submit.{is_ready, is_connected, unfinished, request_with, accepted, wish_of, submit_one, submit_of}
 use Rattle.split_model.specs.World.{World}
 use Rattle.split_model.specs.Happening.{Submits, submit_line, lines_at, happens}
-use Rattle.machine_pipeline.specs.Allowed.{IsOneSector}
-use Rattle.machine_pipeline.proofs.Flow.{Flow, job_of, ending_at, is_telling, is_issuing, is_fetching, reply_at}
-use Rattle.machine_pipeline.proofs.Holds.{Holds}
+use Rattle.machine_pipeline.specs.Allowed.{IsTransfer}
+use Rattle.machine_pipeline.proofs.Flow.{Flow, job_of, ending_at, telling_at, is_issuing, is_fetching, reply_at}
+use Rattle.machine_pipeline.proofs.Holds.{IsPooled, ArePooled, Holds}
 use Rattle.machine_pipeline.proofs.Turns.{Stepped, does_alone, GoesBy}
 use Rattle.machine_pipeline.proofs.Next.{waiting_few}
 use Rattle.machine_pipeline.proofs.Growing.{longer, submitted_more, queue_more, pooled_more}
 use Rattle.machine_pipeline.proofs.Submitting.{submitted_flow, indices_more, next_more, front_at_more, IsIdle, idle_at, slots_more, frames_more, entries_more, works_more, front_at_grown, back_at_grown}
-use Rattle.machine_pipeline.proofs.Refusing.{ready_at, same_ending, few_used, free_place, lowest_free, answer_of, refused_rightly}
+use Rattle.machine_pipeline.proofs.Refusing.{ready_at, frames_fit, answer_of, refused_rightly}
 use Rattle.machine_pipeline.proofs.Stations.{AreStations}
 use Rattle.machine_pipeline.proofs.StationsFront.{submits}
 use Rattle.machine_pipeline.specs.Step.{IsSame}
@@ -33,34 +34,33 @@ use Rattle.machine_pipeline.specs.Plain.{IsPlain}
 use Rattle.split_model.specs.Shown.{refusal_word}
 use Rattle.pipeline_laws.specs.Allowed.{refusal_now}
 
--- the request that an accepted submission makes, and the machine with it
-abbrev next_of_front : View → ℕ → Transfer → ℕ → Request
-next_of_front v sector way frame = record { number = v.last + 1; sector = sector; transfer = way; frame = frame }
+-- the machine with one request more
+abbrev accepting : World → Wish → (List ℕ × List Bool) → World
+accepting w wish taken = record { front = accepted w.front wish taken; back = w.back; under = w.under }
 
-abbrev accepting : World → ℕ → Transfer → ℕ → World
-accepting w sector way frame = record { front = accepted w.front sector way frame; back = w.back; under = w.under }
-
-accepted_on : (config : Options) (w : World) (g : Flow) (d d' : Pipeline) (sector : ℕ) (way : Transfer) (frame : ℕ)
+accepted_on : (config : Options) (w : World) (g : Flow) (d d' : Pipeline) (wish : Wish) (taken : List ℕ × List Bool)
     → Holds config w g d w.front.stage w.back.stage
     → is_connected w.front.stage ≡ true → w.front.last ≢ 4294967295 → unfinished w.front < 32
-    → sector < w.front.sectors → tag_of way < 2 ^ 32 → 18 ≤ frame → frame < 1018 → slice_get w.front.pool (frame - 18) ≡ Some false
-    → AreStations config (submitted_flow g (next_of_front w.front sector way frame)) d' (is_connected w.front.stage) (is_issuing w.front.stage) (is_fetching w.back.stage) (ending_at w.front.stage) (is_telling w.front.stage) (reply_at w.back.stage) (w.front.requests ++ next_of_front w.front sector way frame ∷ []) w.back.jobs.works w.under.pages
-    → Holds config (accepting w sector way frame) (submitted_flow g (next_of_front w.front sector way frame)) d' w.front.stage w.back.stage
-accepted_on config w g d d' sector way frame h connected unspent free on_disk small low high unused stations =
+    → wish.sector + wish.count ≤ w.front.sectors → tag_of wish.transfer < 2 ^ 32 → 1 ≤ wish.count → wish.count ≤ 88
+    → taking (frames_for wish.count) w.front.pool [] ≡ Some taken
+    → AreStations config (submitted_flow g (request_with w.front wish taken.0)) d' (is_connected w.front.stage) (is_issuing w.front.stage) (is_fetching w.back.stage) (ending_at w.front.stage w.front.ending) (telling_at w.front.stage) (reply_at w.back.stage) (w.front.requests ++ request_with w.front wish taken.0 ∷ []) w.back.jobs.works w.under.pages
+    → Holds config (accepting w wish taken) (submitted_flow g (request_with w.front wish taken.0)) d' w.front.stage w.back.stage
+accepted_on config w g d d' wish taken h connected unspent free on_disk small some few frames stations =
     record {
       started = h.started;
       sized = h.sized;
       indices = indices_more g x w.front.ring w.back.ring w.front.seen w.back.seen w.back.fetched w.front.last w.front.waiting (length w.front.requests) _ _ (longer w.front.requests x) unspent free h.indices;
       queue = queue_more g.submitted g.pushed w.front.sectors w.front.last w.front.requests w.front.waiting x refl (let i = h.indices in i.all) (waiting_few h.indices) h.submitted h.queue;
-      submitted = submitted_more g.submitted w.front.sectors w.front.last x refl on_disk small low high h.submitted;
-      pool = pooled_more w.front.pool w.front.requests (ending_at w.front.stage) x low high unused h.pool;
+      submitted = submitted_more g.submitted w.front.sectors w.front.last x refl on_disk small (record { some = some; few = few; frames = pooled.2 }) pooled.1
+          h.submitted;
+      pool = pooled.0;
       stations = stations;
       works = works_more g.submitted g.fetched w.back.jobs.works x h.works;
       counted = h.counted;
       info = h.info;
       replies = h.replies;
-      front_at = front_at_more g.start g.pushed g.taken g.front_seen (g.submitted ++ x ∷ []) g.replies (next_request w.front) (next_request (accepted w.front sector way frame)) w.front.entry w.front.stage (λ r e. next_more w.front.requests w.front.waiting x r e)
-          (front_at_grown g.start g.pushed g.taken g.front_seen g.submitted g.replies (next_request w.front) w.front.entry x w.front.stage h.front_at);
+      front_at = front_at_more g.start g.pushed g.taken g.front_seen (g.submitted ++ x ∷ []) g.replies (next_request w.front) (next_request (accepted w.front wish taken)) w.front.entry w.front.ending w.front.stage (λ r e. next_more w.front.requests w.front.waiting x r e)
+          (front_at_grown g.start g.pushed g.taken g.front_seen g.submitted g.replies (next_request w.front) w.front.entry w.front.ending x w.front.stage h.front_at);
       unused = rw connected tt;
       back_at = back_at_grown g.start g.fetched g.back_seen g.replied g.submitted w.back.jobs.works w.back.entry x w.back.stage h.back_at;
       unhalted = h.unhalted;
@@ -69,7 +69,7 @@ accepted_on config w g d d' sector way frame h connected unspent free on_disk sm
       slots = slots_more g.start g.fetched g.pushed g.taken g.replied g.submitted g.replies w.under.pages w.front.stage w.back.stage x (let all = h.submitted in let counted = all.counted in omega arith) (λ same. idle (same ∙ (let all = h.submitted in all.counted))) h.slots;
       frames = frames_more g.pushed w.front.last w.under.pages w.front.stage w.front.requests x refl pushed_few idle h.frames;
       telling = h.telling;
-      entries = entries_more g.pushed w.front.last w.under.pages w.under.grants.live w.front.stage w.front.requests x refl pushed_few idle h.entries;
+      entries = entries_more g.pushed w.front.last w.under.pages w.under.grants.live w.front.stage w.front.ending w.front.requests x refl pushed_few idle h.entries;
       mapped = h.mapped;
       page = h.page;
       front_sleep = h.front_sleep;
@@ -78,27 +78,23 @@ accepted_on config w g d d' sector way frame h connected unspent free on_disk sm
     }
   where
     x : Request
-    x = next_of_front w.front sector way frame
+    x = request_with w.front wish taken.0
+
+    pooled : ArePooled taken.1 (w.front.requests ++ x ∷ []) (ending_at w.front.stage w.front.ending) × All IsPooled x.frames.items
+        × (length x.frames.items ≡ frames_for wish.count)
+    pooled = pooled_more w.front.pool taken.1 w.front.requests (ending_at w.front.stage w.front.ending) (frames_for wish.count) x frames h.pool
 
     pushed_few : g.pushed ≤ w.front.last
     pushed_few = let i = h.indices in let all = i.all in omega arith
 
     idle : g.pushed ≡ w.front.last → IsIdle w.front.stage
-    idle same = idle_at g.start g.pushed g.taken g.front_seen g.submitted g.replies (next_request w.front) w.front.entry w.front.stage (none_waits w.front.waiting w.front.requests (let i = h.indices in none_left i.all same)) h.front_at
+    idle same = idle_at g.start g.pushed g.taken g.front_seen g.submitted g.replies (next_request w.front) w.front.entry w.front.ending w.front.stage (none_waits w.front.waiting w.front.requests (let i = h.indices in none_left i.all same)) h.front_at
       where
         none_left : {last pushed waiting : ℕ} → last ≡ pushed + waiting → pushed ≡ last → waiting ≡ 0
         none_left a b = omega arith
 
         none_waits : (waiting : ℕ) (requests : List Request) → waiting ≡ 0 → (if waiting == 0 then None else slice_get requests (length requests - waiting)) ≡ None
         none_waits waiting requests e = rw e refl
-
--- the lowest free frame is free
-free_at : (pool : List Bool) → position_or_len not pool < length pool → slice_get pool (position_or_len not pool) ≡ Some false
-free_at [] lt = absurd (omega arith)
-free_at (false ∷ pool) lt = refl
-free_at (true ∷ pool) lt =
-    let place : position_or_len not (true ∷ pool) ≡ suc (position_or_len not pool) = omega arith in
-    ap (slice_get (true ∷ pool)) place ∙ free_at pool (omega arith)
 
 -- what a submission with this answer makes of all, where the pipeline answers so too
 abbrev SubmitGoes : Options → World → Pipeline → Job → Result ℕ Refusal × View → Type 0
@@ -116,43 +112,42 @@ refused config w g d job r h same = record {
   holds = h;
 }
 
--- a read or a write of one sector
-one_of : (sector : ℕ) (way : Transfer) → one_sector (job_of way sector) ≡ Some (sector, way)
-one_of sector transfer.Read = refl
-one_of sector (transfer.Write tag) = refl
+-- a read or a write of some sectors
+wish_is : (sector count : ℕ) (way : Transfer) → wish_of (job_of way sector count) ≡ Some (record { sector = sector; count = count; transfer = way })
+wish_is sector count transfer.Read = refl
+wish_is sector count (transfer.Write tag) = refl
 
-submit_sector : (config : Options) (w : World) (g : Flow) (d : Pipeline) (sector : ℕ) (way : Transfer) → tag_of way < 2 ^ 32 → Holds config w g d w.front.stage w.back.stage → SubmitGoes config w d (job_of way sector) (submit_of w.front (job_of way sector))
-submit_sector config w g d sector way small h =
-    subst (λ (o : Option (ℕ × Transfer)). SubmitGoes config w d job (if w.front.last == 4294967295 then (Err refusal.Spent, w.front) else (if not (is_ready w.front.stage) then (Err refusal.NotReady, w.front) else submit_one w.front o))) (sym (one_of sector way)) (
+submit_transfer : (config : Options) (w : World) (g : Flow) (d : Pipeline) (sector count : ℕ) (way : Transfer) → 1 ≤ count → tag_of way < 2 ^ 32 → Holds config w g d w.front.stage w.back.stage → SubmitGoes config w d (job_of way sector count) (submit_of w.front (job_of way sector count))
+submit_transfer config w g d sector count way some small h =
+    subst (λ (o : Option Wish). SubmitGoes config w d job (if w.front.last == 4294967295 then (Err refusal.Spent, w.front) else (if not (is_ready w.front.stage) then (Err refusal.NotReady, w.front) else submit_one w.front o))) (sym (wish_is sector count way)) (
     either config w d job (w.front.last == 4294967295) (Err refusal.Spent, w.front) _ (λ t. refused config w g d job refusal.Spent h) (λ unspent.
     either config w d job (not (is_ready w.front.stage)) (Err refusal.NotReady, w.front) _ (λ t. refused config w g d job refusal.NotReady h) (λ ready.
-    either config w d job (nat_le w.front.sectors sector) (Err refusal.Range, w.front) _ (λ t. refused config w g d job refusal.Range h) (λ on_disk.
+    either config w d job (nat_lt w.front.sectors (sector + count)) (Err refusal.Range, w.front) _ (λ t. refused config w g d job refusal.Range h) (λ on_disk.
+    either config w d job (nat_lt 11 (frames_for count)) (Err refusal.Long, w.front) _ (λ t. refused config w g d job refusal.Long h) (λ short.
     either config w d job (nat_le 32 (unfinished w.front)) (Err refusal.Full, w.front) _ (λ t. refused config w g d job refusal.Full h) (λ free.
-    let pooled = h.pool in
-    let lt : position_or_len not w.front.pool < 1000 = subst (λ (n : ℕ). position_or_len not w.front.pool < n) pooled.size (free_place w.front.pool (few_used (unfinished w.front) free used pooled.size)) in
-    rw (lowest_free w.front.pool (few_used (unfinished w.front) free used pooled.size)) (λ same.
-    let s = stepped (18 + position_or_len not w.front.pool) same in
+    let fit = frames_fit config w g d count h short free in
+    rw fit.1 (λ same.
+    let s = stepped fit.0 same in
     record {
-      flow = submitted_flow g (next_of_front w.front sector way (18 + position_or_len not w.front.pool));
+      flow = submitted_flow g (request_with w.front wish fit.0.0);
       step = Some s.step;
       does = does_alone s;
-      holds = accepted_on config w g d (next d s.step) sector way (18 + position_or_len not w.front.pool) h
-          (sym (ready_at g.start g.pushed g.taken g.front_seen g.submitted g.replies (next_request w.front) w.front.entry w.front.stage h.front_at) ∙ is_true (is_ready w.front.stage) ready)
-          (differs w.front.last unspent) (below (unfinished w.front) free) (above w.front.sectors sector on_disk) small (omega arith) (omega arith)
-          (ap (slice_get w.front.pool) (back_to (position_or_len not w.front.pool)) ∙ free_at w.front.pool (free_place w.front.pool (few_used (unfinished w.front) free used pooled.size)))
-          s.now;
-    }))))))
+      holds = accepted_on config w g d (next d s.step) wish fit.0 h
+          (sym (ready_at g.start g.pushed g.taken g.front_seen g.submitted g.replies (next_request w.front) w.front.entry w.front.ending w.front.stage h.front_at) ∙ is_true (is_ready w.front.stage) ready)
+          (differs w.front.last unspent) (below (unfinished w.front) free) (above w.front.sectors (sector + count) on_disk) small some (few_sectors count short)
+          fit.1 s.now;
+    })))))))
   where
     job : Job
-    job = job_of way sector
+    job = job_of way sector count
 
-    used : count_by (λ (b : Bool). b) w.front.pool ≡ unfinished w.front
-    used = let pooled = h.pool in pooled.used ∙ ap (λ (n : ℕ). length w.front.requests + n) (same_ending w.front.stage)
+    wish : Wish
+    wish = record { sector = sector; count = count; transfer = way }
 
-    stepped : (frame : ℕ) → refusal_now d job ≡ None → Stepped (Some job) IsSame d (lines.Submit (w.front.last + 1) job ∷ []) (λ p. AreStations config (submitted_flow g (next_of_front w.front sector way frame)) p (is_connected w.front.stage) (is_issuing w.front.stage) (is_fetching w.back.stage) (ending_at w.front.stage) (is_telling w.front.stage) (reply_at w.back.stage) (w.front.requests ++ next_of_front w.front sector way frame ∷ []) w.back.jobs.works w.under.pages)
-    stepped frame same =
+    stepped : (taken : List ℕ × List Bool) → refusal_now d job ≡ None → Stepped (Some job) IsSame d (lines.Submit (w.front.last + 1) job ∷ []) (λ p. AreStations config (submitted_flow g (request_with w.front wish taken.0)) p (is_connected w.front.stage) (is_issuing w.front.stage) (is_fetching w.back.stage) (ending_at w.front.stage w.front.ending) (telling_at w.front.stage) (reply_at w.back.stage) (w.front.requests ++ request_with w.front wish taken.0 ∷ []) w.back.jobs.works w.under.pages)
+    stepped taken same =
         let known : length d.requests ≡ w.front.last = h.stations.known.as_many ∙ h.submitted.counted in
-        submits config g d (is_connected w.front.stage) (is_issuing w.front.stage) (is_fetching w.back.stage) (ending_at w.front.stage) (is_telling w.front.stage) (reply_at w.back.stage) w.front.requests w.back.jobs.works w.under.pages (next_of_front w.front sector way frame) (ap (λ (n : ℕ). n + 1) (sym known)) (omega (arith, h.indices.all)) same h.stations
+        submits config g d (is_connected w.front.stage) (is_issuing w.front.stage) (is_fetching w.back.stage) (ending_at w.front.stage w.front.ending) (telling_at w.front.stage) (reply_at w.back.stage) w.front.requests w.back.jobs.works w.under.pages (request_with w.front wish taken.0) (ap (λ (n : ℕ). n + 1) (sym known)) (omega (arith, h.indices.all)) same h.stations
 
     is_true : (b : Bool) → not b ≡ false → b ≡ true
     is_true true e = refl
@@ -164,15 +159,15 @@ submit_sector config w g d sector way small h =
     below : (n : ℕ) → nat_le 32 n ≡ false → n < 32
     below n e = grind (arith, nat_tests)
 
-    above : (n m : ℕ) → nat_le n m ≡ false → m < n
+    above : (n m : ℕ) → nat_lt n m ≡ false → m ≤ n
     above n m e = grind (arith, nat_tests)
 
-    back_to : (n : ℕ) → 18 + n - 18 ≡ n
-    back_to n = omega arith
+    few_sectors : (n : ℕ) → nat_lt 11 (frames_for n) ≡ false → n ≤ 88
+    few_sectors n short = let few : frames_for n ≤ 11 = grind (arith, nat_tests) in omega arith
 
-pub submit_kept : (config : Options) (w : World) (g : Flow) (d : Pipeline) (job : Job) → IsPlain config → Holds config w g d w.front.stage w.back.stage → IsOneSector job → GoesBy (Some job) IsSame config (lines_at w (Submits job)) (happens w (Submits job)) d
-submit_kept config w g d (Write sector count tag) plain h one = rw one.0 (submit_sector config w g d sector (transfer.Write tag) one.1 h (refused_rightly config w g d (Write sector 1 tag) plain h (refl, one.1)))
-submit_kept config w g d (Read sector count) plain h one = rw one (submit_sector config w g d sector transfer.Read (omega arith) h (refused_rightly config w g d (Read sector 1) plain h refl))
+pub submit_kept : (config : Options) (w : World) (g : Flow) (d : Pipeline) (job : Job) → IsPlain config → Holds config w g d w.front.stage w.back.stage → IsTransfer job → GoesBy (Some job) IsSame config (lines_at w (Submits job)) (happens w (Submits job)) d
+submit_kept config w g d (Write sector count tag) plain h one = submit_transfer config w g d sector count (transfer.Write tag) one.0 one.1 h (refused_rightly config w g d (Write sector count tag) plain h one)
+submit_kept config w g d (Read sector count) plain h one = submit_transfer config w g d sector count transfer.Read one (omega arith) h (refused_rightly config w g d (Read sector count) plain h one)
 submit_kept config w g d (Barrier sector count tag) plain h one = absurd one
 submit_kept config w g d Flush plain h one = absurd one
 submit_kept config w g d (Discard sector count) plain h one = absurd one

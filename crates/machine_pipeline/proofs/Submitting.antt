@@ -12,7 +12,7 @@ use Rattle.blk_front.specs.declared.stage.Stage.TheVariants as front
 use Rattle.blk_back.specs.declared.stage.Reply.{Reply}
 use Rattle.blk_back.specs.declared.stage.Stage.{Stage as BackStage}
 use Rattle.blk_back.specs.declared.stage.Stage.TheVariants as back
-use Rattle.machine_pipeline.proofs.Flow.{Flow, filled, is_named, is_granted, entered}
+use Rattle.machine_pipeline.proofs.Flow.{Flow, filled, named_frames, granted_frames, entered}
 use Rattle.machine_pipeline.proofs.Holds.{AreIndices, FrontAt, AreSlots, IsFilled, IsGranted, AreEntries, AreWorks, IsEnding, BackAt}
 use Rattle.machine_pipeline.proofs.Lists.{get_append}
 use Rattle.machine_pipeline.proofs.Growing.{longer, push_was}
@@ -68,35 +68,36 @@ next_more requests waiting x r e = by_test (waiting == 0) e
         let place : length (requests ++ x ∷ []) - (waiting + 1) ≡ length requests - waiting = omega arith in
         rw (some, place) (get_append requests (x ∷ []) (length requests - waiting) r f)
 
-pub front_at_more : (start pushed taken front_seen : ℕ) (submitted : List Request) (replies : List Reply) (next next' : Option Request) (entry : List ℕ) (s : FrontStage)
+pub front_at_more : (start pushed taken front_seen : ℕ) (submitted : List Request) (replies : List Reply) (next next' : Option Request) (entry : List ℕ) (ending : Option Ending) (s : FrontStage)
     → ((r : Request) → next ≡ Some r → next' ≡ Some r)
-    → FrontAt start pushed taken front_seen submitted replies next entry s
-    → FrontAt start pushed taken front_seen submitted replies next' entry s
-front_at_more start pushed taken front_seen submitted replies next next' entry (front.Data r k) stays h = (stays r h.0, h.1, h.2, h.3)
-front_at_more start pushed taken front_seen submitted replies next next' entry (front.GrantFrame r) stays h = stays r h
-front_at_more start pushed taken front_seen submitted replies next next' entry (front.GrantFence r) stays h = stays r h
-front_at_more start pushed taken front_seen submitted replies next next' entry (front.GrantFlags r) stays h = stays r h
-front_at_more start pushed taken front_seen submitted replies next next' entry (front.Slot k) stays h = (h.0, (h.1.0, stays h.1.0 h.1.1, h.1.2))
-front_at_more start pushed taken front_seen submitted replies next next' entry front.Producer stays h = (h.0, stays h.0 h.1)
-front_at_more start pushed taken front_seen submitted replies next next' entry s stays h = h
+    → FrontAt start pushed taken front_seen submitted replies next entry ending s
+    → FrontAt start pushed taken front_seen submitted replies next' entry ending s
+front_at_more start pushed taken front_seen submitted replies next next' entry ending (front.Data n) stays h = (h.0, stays h.0 h.1, h.2)
+front_at_more start pushed taken front_seen submitted replies next next' entry ending (front.GrantFrame place) stays h = (h.0, stays h.0 h.1, h.2)
+front_at_more start pushed taken front_seen submitted replies next next' entry ending (front.GrantFence place) stays h = (h.0, stays h.0 h.1, h.2)
+front_at_more start pushed taken front_seen submitted replies next next' entry ending (front.GrantFlags place) stays h = (h.0, stays h.0 h.1, h.2)
+front_at_more start pushed taken front_seen submitted replies next next' entry ending (front.Slot k) stays h = (h.0, (h.1.0, stays h.1.0 h.1.1, h.1.2))
+front_at_more start pushed taken front_seen submitted replies next next' entry ending front.Producer stays h = (h.0, stays h.0 h.1, tt)
+front_at_more start pushed taken front_seen submitted replies next next' entry ending s stays h = h
 
 -- nothing of a request is begun
 pub record IsIdle (s : FrontStage) : Type 0 where
   pub unfilled : filled s ≡ 0
-  pub unnamed : is_named s ≡ false
-  pub ungranted : is_granted s ≡ false
+  pub unnamed : named_frames s ≡ 0
+  pub ungranted : granted_frames s ≡ 0
   pub unentered : entered s ≡ 0
 
 -- so it is where none waits
-pub idle_at : (start pushed taken front_seen : ℕ) (submitted : List Request) (replies : List Reply) (next : Option Request) (entry : List ℕ) (s : FrontStage)
-    → next ≡ None → FrontAt start pushed taken front_seen submitted replies next entry s → IsIdle s
-idle_at start pushed taken front_seen submitted replies next entry (front.Data r k) none h = absurd (none-some r (sym none ∙ h.0))
-idle_at start pushed taken front_seen submitted replies next entry (front.GrantFrame r) none h = absurd (none-some r (sym none ∙ h))
-idle_at start pushed taken front_seen submitted replies next entry (front.GrantFence r) none h = absurd (none-some r (sym none ∙ h))
-idle_at start pushed taken front_seen submitted replies next entry (front.GrantFlags r) none h = absurd (none-some r (sym none ∙ h))
-idle_at start pushed taken front_seen submitted replies next entry (front.Slot k) none h = absurd (none-some h.1.0 (sym none ∙ h.1.1))
-idle_at start pushed taken front_seen submitted replies next entry front.Producer none h = absurd (none-some h.0 (sym none ∙ h.1))
-idle_at start pushed taken front_seen submitted replies next entry s none h = record { unfilled = refl; unnamed = refl; ungranted = refl; unentered = refl }
+pub idle_at : (start pushed taken front_seen : ℕ) (submitted : List Request) (replies : List Reply) (next : Option Request) (entry : List ℕ) (ending : Option Ending) (s : FrontStage)
+    → next ≡ None → FrontAt start pushed taken front_seen submitted replies next entry ending s → IsIdle s
+idle_at start pushed taken front_seen submitted replies next entry ending (front.Data n) none h = absurd (none-some h.0 (sym none ∙ h.1))
+idle_at start pushed taken front_seen submitted replies next entry ending (front.GrantFrame place) none h = absurd (none-some h.0 (sym none ∙ h.1))
+idle_at start pushed taken front_seen submitted replies next entry ending (front.GrantFence place) none h = absurd (none-some h.0 (sym none ∙ h.1))
+idle_at start pushed taken front_seen submitted replies next entry ending (front.GrantFlags place) none h = absurd (none-some h.0 (sym none ∙ h.1))
+idle_at start pushed taken front_seen submitted replies next entry ending (front.Slot k) none h = absurd (none-some h.1.0 (sym none ∙ h.1.1))
+idle_at start pushed taken front_seen submitted replies next entry ending front.Producer none h = absurd (none-some h.0 (sym none ∙ h.1))
+idle_at start pushed taken front_seen submitted replies next entry ending s none h =
+    record { unfilled = refl; unnamed = refl; ungranted = refl; unentered = refl }
 
 pub slots_more : (start fetched pushed taken replied : ℕ) (submitted : List Request) (replies : List Reply) (pages : List ℕ) (s : FrontStage) (b : BackStage) (x : Request)
     → pushed ≤ length submitted → (pushed ≡ length submitted → IsIdle s)
@@ -121,19 +122,19 @@ pub frames_more : (pushed last : ℕ) (pages : List ℕ) (s : FrontStage) (reque
     → All (IsFilled pushed pages s) (requests ++ x ∷ [])
 frames_more pushed last pages s requests x number few idle h = All-push (IsFilled pushed pages s) requests x h (record {
   whole = λ way le i l. absurd (omega arith);
-  begun = λ way e i l. absurd (let rest = idle (omega arith) in let none = rest.unfilled in omega arith);
+  begun = λ way e n l. absurd (let rest = idle (omega arith) in let none = rest.unfilled in omega arith);
 })
 
-pub entries_more : (pushed last : ℕ) (pages : List ℕ) (live : List Held) (s : FrontStage) (requests : List Request) (x : Request)
+pub entries_more : (pushed last : ℕ) (pages : List ℕ) (live : List Held) (s : FrontStage) (ending : Option Ending) (requests : List Request) (x : Request)
     → x.number ≡ last + 1 → pushed ≤ last → (pushed ≡ last → IsIdle s)
-    → AreEntries pushed pages live s requests
-    → AreEntries pushed pages live s (requests ++ x ∷ [])
-entries_more pushed last pages live s requests x number few idle h = record {
+    → AreEntries pushed pages live s ending requests
+    → AreEntries pushed pages live s ending (requests ++ x ∷ [])
+entries_more pushed last pages live s ending requests x number few idle h = record {
   each = All-push (IsGranted pushed pages live s) requests x h.each (record {
     named = λ le. absurd (omega arith);
-    named_next = λ e t. let rest : IsIdle s = idle (omega arith) in let no = rest.unnamed in absurd (cc);
+    named_next = λ e place t. absurd (let rest : IsIdle s = idle (omega arith) in let none = rest.unnamed in omega arith);
     flags = λ le. absurd (omega arith);
-    flags_next = λ e t. let rest : IsIdle s = idle (omega arith) in let no = rest.ungranted in absurd (cc);
+    flags_next = λ e place t. absurd (let rest : IsIdle s = idle (omega arith) in let none = rest.ungranted in omega arith);
   });
   ending = h.ending;
 }
@@ -146,15 +147,18 @@ works_more submitted fetched works x h = record {
 }
 
 ending_more : (submitted : List Request) (replies : List Reply) (x : Request) (e : Ending) → IsEnding submitted replies e → IsEnding (submitted ++ x ∷ []) replies e
-ending_more submitted replies x e h = record { r = h.r; known = get_append submitted (x ∷ []) (e.number - 1) h.r h.known; positive = h.positive; transfer = h.transfer; frame = h.frame; alone = h.alone }
+ending_more submitted replies x e h = record { known = get_append submitted (x ∷ []) (e.request.number - 1) e.request h.known; positive = h.positive; alone = h.alone }
 
-pub front_at_grown : (start pushed taken front_seen : ℕ) (submitted : List Request) (replies : List Reply) (next : Option Request) (entry : List ℕ) (x : Request) (s : FrontStage)
-    → FrontAt start pushed taken front_seen submitted replies next entry s
-    → FrontAt start pushed taken front_seen (submitted ++ x ∷ []) replies next entry s
-front_at_grown start pushed taken front_seen submitted replies next entry x (front.GrantRead e) h = ending_more submitted replies x e h
-front_at_grown start pushed taken front_seen submitted replies next entry x (front.GrantEnd e before) h = (ending_more submitted replies x e h.0, h.1)
-front_at_grown start pushed taken front_seen submitted replies next entry x (front.ReadData e k) h = (ending_more submitted replies x e h.0, h.1, h.2, h.3)
-front_at_grown start pushed taken front_seen submitted replies next entry x s h = h
+pub front_at_grown : (start pushed taken front_seen : ℕ) (submitted : List Request) (replies : List Reply) (next : Option Request) (entry : List ℕ) (ending : Option Ending) (x : Request) (s : FrontStage)
+    → FrontAt start pushed taken front_seen submitted replies next entry ending s
+    → FrontAt start pushed taken front_seen (submitted ++ x ∷ []) replies next entry ending s
+front_at_grown start pushed taken front_seen submitted replies next entry ending x (front.GrantRead place) h =
+    (h.0, h.1, ending_more submitted replies x h.0 h.2, h.3)
+front_at_grown start pushed taken front_seen submitted replies next entry ending x (front.GrantEnd place before) h =
+    (h.0, h.1, ending_more submitted replies x h.0 h.2, h.3)
+front_at_grown start pushed taken front_seen submitted replies next entry ending x (front.ReadData n) h =
+    (h.0, h.1, ending_more submitted replies x h.0 h.2, h.3)
+front_at_grown start pushed taken front_seen submitted replies next entry ending x s h = h
 
 pub back_at_grown : (start fetched back_seen replied : ℕ) (submitted : List Request) (works : List Work) (entry : List ℕ) (x : Request) (b : BackStage)
     → BackAt start fetched back_seen replied submitted works entry b

@@ -15,7 +15,7 @@ use Rattle.xen_pages.specs.Pages.{word_of}
 use Rattle.blk_layout.specs.declared.response.Response.{Response}
 use Rattle.blk_layout.specs.Response.{response_of}
 use Rattle.blk_front.specs.declared.request.Request.{Request}
-use Rattle.blk_front.specs.Request.{grant_flags}
+use Rattle.blk_front.specs.Request.{grant_flags, frame_at, IsShaped}
 use Rattle.blk_front.specs.declared.stage.Ending.{Ending}
 use Rattle.blk_front.specs.declared.stage.Stage.TheVariants as front
 use Rattle.blk_front.specs.View.{View, slot_frame, slot_word}
@@ -26,14 +26,14 @@ use Rattle.blk_back.specs.declared.stage.Reply.{Reply}
 use Rattle.blk_back.specs.Ask.{response_word}
 use Rattle.split_model.specs.World.{World}
 use Rattle.split_model.specs.Shown.{front_lines}
-use Rattle.machine_pipeline.proofs.Flow.{Flow, wrapped, is_fetching, reply_at, worked}
+use Rattle.machine_pipeline.proofs.Flow.{Flow, wrapped, is_fetching, reply_at, worked, frames_of}
 use Rattle.machine_pipeline.proofs.Holds.{Holds, AreQueued, IsReply, IsTaken, IsFilled, IsGranted, IsWork, flags_with, AreIndices}
 use Rattle.pipeline_laws.specs.Station.{Replied}
 use Rattle.machine_pipeline.proofs.Turns.{Goes, FrontGoes, Stepped, does_step}
 use Rattle.machine_pipeline.proofs.Lists.{all_at, all_from, pair_at}
 use Rattle.machine_pipeline.proofs.Removals.{removed_was}
 use Rattle.machine_pipeline.proofs.Wrapped.{next_wrapped}
-use Rattle.machine_pipeline.proofs.Frames.{unmapped}
+use Rattle.machine_pipeline.proofs.Frames.{unmapped, is_submitted}
 use Rattle.machine_pipeline.proofs.Resting.{at_read, at_last, ring_rests, granted_rests, data_rests}
 use Rattle.machine_pipeline.proofs.Resuming.{response_read}
 use Rattle.machine_pipeline.proofs.Finding.{IsFound, finds, read_back, first_two, response_for}
@@ -43,13 +43,18 @@ use Rattle.machine_pipeline.proofs.StationsFront.{takes}
 use Rattle.machine_pipeline.specs.Step.{IsSame}
 use Rattle.blk_front.specs.Submit.{ending_of}
 
+-- a request has a frame
+some_of : (r : Request) → IsShaped r → 0 < frames_of r
+some_of r shaped = let some = shaped.some in let frames = shaped.frames in omega arith
+
 -- the front once it took the oldest response
 taken_holds : (config : Options) (w : World) (g : Flow) (d d' : Pipeline) (low high : ℕ) (rep : Reply)
     → Holds config w g d (front.ResponseLast low high) w.back.stage
     → slice_get g.replies 0 ≡ Some rep
     → g.taken < g.front_seen
     → (f : IsFound w g rep.id)
-    → AreStations config (record g { taken = g.taken + 1; replies = drop 1 g.replies }) d' true false (is_fetching w.back.stage) (Some (record { number = f.r.number; transfer = f.r.transfer; frame = f.r.frame; status = rep.status })) false (reply_at w.back.stage) (remove w.front.requests f.place) w.back.jobs.works w.under.pages
+    → AreStations config (record g { taken = g.taken + 1; replies = drop 1 g.replies }) d' true false (is_fetching w.back.stage)
+    (Some (record { request = f.r; status = rep.status })) None (reply_at w.back.stage) (remove w.front.requests f.place) w.back.jobs.works w.under.pages
     → (let x : View = taken w.front f.place f.r rep.status in let v : World = record { front = record x { told = None }; back = w.back; under = w.under } in
     Holds config v (record g { taken = g.taken + 1; replies = drop 1 g.replies }) d' x.stage w.back.stage)
 taken_holds config w g d d' low high rep h oldest seen f stations = record {
@@ -64,38 +69,42 @@ taken_holds config w g d d' low high rep h oldest seen f stations = record {
   counted = h.counted;
   info = h.info;
   replies = replies_without g.fetched g.taken g.replied g.replies rep oldest h.replies;
-  front_at = record {
-    r = f.r;
-    known = all_at (λ (x : Request). slice_get g.submitted (x.number - 1) ≡ Some x) w.front.requests f.place f.r queue.known f.here;
-    positive = (let number = f.number in let positive = is.positive in omega arith);
-    transfer = refl;
-    frame = refl;
-    alone = all_from (λ (x : Reply). x.id ≢ f.r.number) (drop 1 g.replies) (λ i x at. let replies = h.replies in
-        let apart = pair_at (λ (a b : Reply). a.id ≢ b.id) g.replies 0 (suc i) rep x replies.distinct (omega arith) oldest (sym (dropped g.replies i) ∙ at) in
-        λ same. apart (sym (same ∙ f.number)));
-  };
+  front_at = (
+    e,
+    refl,
+    record {
+      known = all_at (λ (x : Request). slice_get g.submitted (x.number - 1) ≡ Some x) w.front.requests f.place f.r queue.known f.here;
+      positive = (let number = f.number in let positive = is.positive in omega arith);
+      alone = all_from (λ (x : Reply). x.id ≢ f.r.number) (drop 1 g.replies) (λ i x at. let replies = h.replies in
+          let apart = pair_at (λ (a b : Reply). a.id ≢ b.id) g.replies 0 (suc i) rep x replies.distinct (omega arith) oldest (sym (dropped g.replies i) ∙ at) in
+          λ same. apart (sym (same ∙ f.number)));
+    },
+    some_frame,
+  );
   unused = tt;
   back_at = h.back_at;
   unhalted = h.unhalted;
   memory = h.memory;
-  ring = ring_rests g.start g.pushed g.replied w.under.pages (front.ResponseLast low high) (front.GrantRead e) w.back.stage (at_last low high) (at_read e) h.ring;
+  ring = ring_rests g.start g.pushed g.replied w.under.pages (front.ResponseLast low high) (front.GrantRead 0) w.back.stage (at_last low high) (at_read 0) h.ring;
   slots = (let was = h.slots in record {
     entries = was.entries;
     entry = λ r at i lt. absurd (omega arith);
     responses = λ k x at i lt. ap (λ (n : ℕ). word_of w.under.pages 2 (slot_word (wrapped g.start n) i)) (omega arith) ∙ was.responses (suc k) x (sym (dropped g.replies k) ∙ at) i lt;
     response = was.response;
   });
-  frames = all_from (IsFilled g.pushed w.under.pages (front.GrantRead e)) (remove w.front.requests f.place) (λ i x at.
+  frames = all_from (IsFilled g.pushed w.under.pages (front.GrantRead 0)) (remove w.front.requests f.place) (λ i x at.
       let was = removed_was w.front.requests f.place i x at in
       let filled = all_at (IsFilled g.pushed w.under.pages (front.ResponseLast low high)) w.front.requests was.0 x h.frames was.2 in
       record { whole = filled.whole; begun = λ way n j lt. absurd (omega arith) });
-  telling = data_rests w.under.pages w.under.pages w.front.words (front.ResponseLast low high) (front.GrantRead e) refl h.telling;
+  telling = data_rests w.under.pages w.under.pages w.front.words w.front.ending (Some e) (front.ResponseLast low high) (front.GrantRead 0) refl h.telling;
   entries = record {
-    each = all_from (IsGranted g.pushed w.under.pages w.under.grants.live (front.GrantRead e)) (remove w.front.requests f.place) (λ i x at.
+    each = all_from (IsGranted g.pushed w.under.pages w.under.grants.live (front.GrantRead 0)) (remove w.front.requests f.place) (λ i x at.
         let was = removed_was w.front.requests f.place i x at in
         let entries = h.entries in
-        granted_rests g.pushed w.under.pages w.under.grants.live (front.ResponseLast low high) (front.GrantRead e) x (at_read e) (all_at (IsGranted g.pushed w.under.pages w.under.grants.live (front.ResponseLast low high)) w.front.requests was.0 x entries.each was.2));
-    ending = λ x same. subst (λ (y : Ending). entry_word0 w.under.pages (y.frame + 6) ≡ grant_flags y.transfer) (same_Some e x same) unmapped_flags;
+        granted_rests g.pushed w.under.pages w.under.grants.live (front.ResponseLast low high) (front.GrantRead 0) x (at_read 0) (all_at (IsGranted g.pushed w.under.pages w.under.grants.live (front.ResponseLast low high)) w.front.requests was.0 x entries.each was.2));
+    ending = λ x same. subst (λ (y : Ending). (place : ℕ) → 0 ≤ place → place < frames_of y.request
+        → entry_word0 w.under.pages (frame_at y.request place + 6) ≡ grant_flags y.request.transfer) (same_Some e x same)
+        (λ place le lt. unmapped_flags place lt);
   };
   mapped = h.mapped;
   page = h.page;
@@ -132,7 +141,7 @@ taken_holds config w g d d' low high rep h oldest seen f stations = record {
     })
 
     e : Ending
-    e = record { number = f.r.number; transfer = f.r.transfer; frame = f.r.frame; status = rep.status }
+    e = record { request = f.r; status = rep.status }
 
     is : IsReply g.fetched rep
     is = let replies = h.replies in all_at (IsReply g.fetched) g.replies 0 rep replies.each oldest
@@ -150,10 +159,18 @@ taken_holds config w g d d' low high rep h oldest seen f stations = record {
     no_job i t at same =
         let works = h.works in
         let work = all_at (IsWork g.submitted g.fetched) w.back.jobs.works i t works.each at in
-        absurd (apart d.requests (t.number - 1) (rep.id - 1) (worked t.stage) (Replied rep.status) (h.stations.works i t at) (h.stations.replied 0 rep oldest) (omega (arith, worked_kind t.stage)) (omega (arith, f.number, same, work.positive)))
+        absurd (apart d.requests (t.number - 1) (rep.id - 1) (worked t.stage t.moved) (Replied rep.status) (h.stations.works i t at) (h.stations.replied 0 rep oldest) (omega (arith, worked_kind t.stage t.moved)) (omega (arith, f.number, same, work.positive)))
 
-    unmapped_flags : entry_word0 w.under.pages (f.r.frame + 6) ≡ grant_flags f.r.transfer
-    unmapped_flags = granted.flags reached ∙ ap (flags_with f.r.transfer) (unmapped config w g d (front.ResponseLast low high) w.back.stage h f.place f.r f.here no_job (λ (m : Mapping). m.gref == f.r.frame + 6) (λ m apart. grind (arith, nat_tests)))
+    some_frame : 0 < frames_of f.r
+    some_frame =
+        let its = is_submitted config w g d (front.ResponseLast low high) w.back.stage h f.place f.r f.here in
+        some_of f.r its.shaped
+
+    unmapped_flags : (place : ℕ) → place < frames_of f.r → entry_word0 w.under.pages (frame_at f.r place + 6) ≡ grant_flags f.r.transfer
+    unmapped_flags place lt =
+        let none = unmapped config w g d (front.ResponseLast low high) w.back.stage h f.place f.r f.here place lt no_job
+        (λ (m : Mapping). m.gref == frame_at f.r place + 6) (λ m apart. grind (arith, nat_tests)) in
+        granted.flags reached place lt ∙ ap (flags_with f.r.transfer) none
 
 -- the last word of the oldest response is read, and the response taken
 pub last_goes : (config : Options) (w : World) (g : Flow) (d : Pipeline) (low high : ℕ)
@@ -185,9 +202,9 @@ last_goes config w g d low high told h =
     found = finds config w g d (front.ResponseLast low high) rep h refl is (h.stations.replied 0 rep place.0.oldest)
 
     e : Ending
-    e = record { number = found.r.number; transfer = found.r.transfer; frame = found.r.frame; status = rep.status }
+    e = record { request = found.r; status = rep.status }
 
-    s : Stepped None IsSame d [] (λ p. AreStations config (record g { taken = g.taken + 1; replies = drop 1 g.replies }) p true false (is_fetching w.back.stage) (Some e) false (reply_at w.back.stage) (remove w.front.requests found.place) w.back.jobs.works w.under.pages)
+    s : Stepped None IsSame d [] (λ p. AreStations config (record g { taken = g.taken + 1; replies = drop 1 g.replies }) p true false (is_fetching w.back.stage) (Some e) None (reply_at w.back.stage) (remove w.front.requests found.place) w.back.jobs.works w.under.pages)
     s = takes config g d true false (is_fetching w.back.stage) (reply_at w.back.stage) w.front.requests w.back.jobs.works w.under.pages found.place found.r rep e place.0.oldest found.here (sym found.number) refl h.replies h.stations
 
     read : response_of (low ∷ high ∷ last ∷ []) ≡ Ok (response_for rep)

@@ -1,22 +1,23 @@
 -- The front takes a response: its request is unfinished still, and its grant is ended next.
-use Rattle.std.proofs.Common.{◌≡◌, ◌≢◌, ℕ, suc, ◌+◌, ◌-◌, ◌<◌, ◌≤◌, ◌==◌, ◌⊎◌, inl, inr, if◌then◌else◌, Bool, true, false, cond, List, [], ◌∷◌, length, take, drop, refl, ap, sym, ◌∙◌, arith}
-use Rattle.std.specs.Prelude.{Some, None, slice_get, remove}
+use Rattle.std.proofs.Common.{◌≡◌, ◌≢◌, ℕ, suc, ◌+◌, ◌-◌, ◌<◌, ◌≤◌, ◌==◌, ◌⊎◌, inl, inr, Bool, true, false, List, [], ◌∷◌, length, take, drop, refl, ap, sym, ◌∙◌, arith}
+use Rattle.std.specs.Prelude.{Some, None, slice_get, slice_index_or, sum_by, remove}
 use Rattle.std.specs.List.{list_any}
 use Rattle.std.proofs.lemmas.Option.{none-some, same_Some, slice_get_within, get_or_from_slice_get}
 use Rattle.std.proofs.lemmas.List.Edits.{length-remove}
 use Rattle.std.proofs.lemmas.List.Quantifiers.{all_pairs_remove}
 use Rattle.std.proofs.lemmas.List.Folds.{list_any_at}
+use Rattle.std.proofs.lemmas.List.Sums.{sum_by-remove}
 use Rattle.std.proofs.lemmas.Bool.Decides.{nat_tests}
 use Rattle.pipeline_laws.specs.Station.{Request as Asked}
 use Rattle.blk_front.specs.declared.request.Request.{Request}
 use Rattle.blk_front.specs.declared.stage.Ending.{Ending}
 use Rattle.blk_front.specs.Step.{taken}
 use Rattle.blk_back.specs.declared.stage.Reply.{Reply}
-use Rattle.machine_pipeline.proofs.Flow.{frame_count}
+use Rattle.machine_pipeline.proofs.Flow.{uses, frames_of}
 use Rattle.machine_pipeline.proofs.Holds.{AreQueued, ArePooled, AreReplies, IsReply}
 use Rattle.machine_pipeline.proofs.Stations.{AreOpen}
 use Rattle.machine_pipeline.proofs.Lists.{all_at, all_from, pair_at, pairs_from, place_of_any}
-use Rattle.machine_pipeline.proofs.Removals.{removed_was, removed_has, removed_behind, count_removed, taken_was, taken_has}
+use Rattle.machine_pipeline.proofs.Removals.{removed_was, removed_has, removed_behind, taken_was, taken_has}
 
 -- the responses after the oldest
 pub dropped : {X : Type 0} (xs : List X) (k : ℕ) → slice_get (drop 1 xs) k ≡ slice_get xs (suc k)
@@ -56,27 +57,35 @@ queued_without submitted requests pushed waiting place r here early h = record {
     before i j (inl at) lt = omega (arith, at.1)
     before i j (inr at) lt = omega (arith, at.1)
 
-same_count : (a b : ℕ) → ◌≡◌ {A = ℕ} (if a == b then 1 else 0) (cond (a == b) 1 0)
-same_count a b = refl
+-- a sum over the elements without one of them
+pub sum_removed : {X : Type 0} (f : X → ℕ) (xs : List X) (place : ℕ) (x : X) → slice_get xs place ≡ Some x → sum_by f (remove xs place) + f x ≡ sum_by f xs
+sum_removed f xs place x here =
+    let less = sum_by-remove f xs place x (slice_get_within xs place x here) in
+    let it : ◌≡◌ {A = ℕ} (f (slice_index_or xs place x)) (f x) = ap f (get_or_from_slice_get xs place x x here) in
+    omega (arith, less, it)
 
 pub pooled_without : (pool : List Bool) (requests : List Request) (place : ℕ) (r : Request) (e : Ending)
     → slice_get requests place ≡ Some r
-    → e.frame ≡ r.frame
+    → e.request ≡ r
     → ArePooled pool requests None
     → ArePooled pool (remove requests place) (Some e)
-pooled_without pool requests place r e here frame h = record {
+pooled_without pool requests place r e here same h = record {
   size = h.size;
   each = λ f lt.
       let all = h.each f lt in
-      let less = count_removed (λ (x : Request). x.frame == 18 + f) requests place r here in
-      let counted : ◌≡◌ {A = ℕ} (frame_count (Some e) (18 + f)) (cond (r.frame == 18 + f) 1 0) = ap (λ (n : ℕ). if n == 18 + f then 1 else 0) frame in
-      omega arith;
-  used = (let less = length-remove requests place (slice_get_within requests place r here) in let used = h.used in omega arith);
+      let less = sum_removed (uses (18 + f)) requests place r here in
+      let counted : ◌≡◌ {A = ℕ} (uses (18 + f) e.request) (uses (18 + f) r) = ap (uses (18 + f)) same in
+      omega (arith, all, less, counted);
+  used =
+      (let used = h.used in
+      let less = sum_removed frames_of requests place r here in
+      let counted : ◌≡◌ {A = ℕ} (frames_of e.request) (frames_of r) = ap frames_of same in
+      omega (arith, used, less, counted));
 }
 
 pub opened_without : (asked : List Asked) (requests : List Request) (place : ℕ) (r : Request) (e : Ending)
     → slice_get requests place ≡ Some r
-    → e.number ≡ r.number
+    → e.request.number ≡ r.number
     → AreOpen asked requests None
     → AreOpen asked (remove requests place) (Some e)
 opened_without asked requests place r e here number h = record {
@@ -84,13 +93,13 @@ opened_without asked requests place r e here number h = record {
   held = λ k q at unfinished. by_place k (h.held k q at unfinished);
 }
   where
-    by_place : (k : ℕ) → (list_any (λ (x : Request). x.number == k + 1) requests ≡ true) ⊎ ((f : Ending) × (None ≡ Some f) × (f.number ≡ k + 1)) → (list_any (λ (x : Request). x.number == k + 1) (remove requests place) ≡ true) ⊎ ((f : Ending) × (Some e ≡ Some f) × (f.number ≡ k + 1))
+    by_place : (k : ℕ) → (list_any (λ (x : Request). x.number == k + 1) requests ≡ true) ⊎ ((f : Ending) × (None ≡ Some f) × (f.request.number ≡ k + 1)) → (list_any (λ (x : Request). x.number == k + 1) (remove requests place) ≡ true) ⊎ ((f : Ending) × (Some e ≡ Some f) × (f.request.number ≡ k + 1))
     by_place k (inr other) = absurd (none-some other.0 other.1)
     by_place k (inl any) =
         let found = place_of_any (λ (x : Request). x.number == k + 1) requests any in
         by_test found.0 found.1 found.2 found.3 (found.0 == place) refl
       where
-        by_test : (i : ℕ) (x : Request) → slice_get requests i ≡ Some x → (x.number == k + 1) ≡ true → (b : Bool) → (i == place) ≡ b → (list_any (λ (y : Request). y.number == k + 1) (remove requests place) ≡ true) ⊎ ((f : Ending) × (Some e ≡ Some f) × (f.number ≡ k + 1))
+        by_test : (i : ℕ) (x : Request) → slice_get requests i ≡ Some x → (x.number == k + 1) ≡ true → (b : Bool) → (i == place) ≡ b → (list_any (λ (y : Request). y.number == k + 1) (remove requests place) ≡ true) ⊎ ((f : Ending) × (Some e ≡ Some f) × (f.request.number ≡ k + 1))
         by_test i x at passes true t =
             let same : i ≡ place = grind (arith, nat_tests) in
             let it : x ≡ r = same_Some x r (sym at ∙ (ap (slice_get requests) same ∙ here)) in

@@ -1,5 +1,5 @@
 -- Histories of a machine whose ends connect before they do anything else, with the submissions that it carries out.
-use Rattle.std.specs.Prelude.{◌≡◌, ◌^◌, ◌<◌, true, List, [], ◌∷◌}
+use Rattle.std.specs.Prelude.{◌≡◌, ◌^◌, ◌<◌, ◌≤◌, true, List, [], ◌∷◌}
 use Rattle.blk_base.specs.declared.config.Job.{Job}
 use Rattle.blk_base.specs.declared.config.Job.TheVariants.{Read, Write}
 use Rattle.blk_front.specs.Submit.{is_connected}
@@ -7,17 +7,17 @@ use Rattle.split_model.specs.World.{World}
 use Rattle.split_model.specs.Happening.{Happening, BackMoves, JobMoves, Submits, happens}
 use Rattle.hypervisor.specs.Act.{IsGiven}
 
--- a read of one sector, or a write of one, filled with a word of 32 bits
-abbrev pub IsOneSector : Job → Type 0
-IsOneSector (Read sector count) = count ≡ 1
-IsOneSector (Write sector count tag) = (count ≡ 1) × (tag < 2 ^ 32)
-IsOneSector job = ⊥
+-- a read of some sectors, or a write of some whose tag has 32 bits
+abbrev pub IsTransfer : Job → Type 0
+IsTransfer (Read sector count) = 1 ≤ count
+IsTransfer (Write sector count tag) = (1 ≤ count) × (tag < 2 ^ 32)
+IsTransfer job = ⊥
 
--- the back moves only once the front made its ring and its port; a sector that the disk gives has 128 words of 32 bits; what is submitted is a read or a write of one sector
+-- the back moves only once the front made its ring and its port; a sector that the disk gives has 128 words of 32 bits; what is submitted is a read or a write
 abbrev pub IsServed : World → Happening → Type 0
 IsServed w BackMoves = is_connected w.front.stage ≡ true
 IsServed w (JobMoves number outcome) = IsGiven outcome
-IsServed w (Submits job) = IsOneSector job
+IsServed w (Submits job) = IsTransfer job
 IsServed w h = Unit {0}
 
 abbrev pub AreServed : List Happening → World → Type 0

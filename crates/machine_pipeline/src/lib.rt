@@ -4,7 +4,7 @@
 //! plain disk stands here: what a report of the machine is follows from the pipeline's laws.
 //!
 //! The premises: a ring of one page and a disk that may be written (`IsPlain`); the back moves only
-//! once the front is connected, and what is submitted are reads and writes of one sector (`AreServed`).
+//! once the front is connected, and what is submitted are reads and writes (`AreServed`).
 //! The happenings that the events of a schedule make are such.
 #![tactic(auto)]
 

@@ -1,10 +1,10 @@
 -- The front keeps to the frames that both ends share, whatever it is told.
-use Rattle.std.proofs.Common.{◌≡◌, ℕ, ◌+◌, ◌-◌, ◌*◌, ◌^◌, ◌<◌, suc, Bool, true, false, not, if◌then◌else◌, List, [], ◌∷◌, length, take, refl, ◌∙◌, subst, arith, length-set}
-use Rattle.std.specs.Prelude.{All, Option, Some, None, option_map, Result, Ok, Err, slice_get, position, nat_lt, nat_le, ◌==◌}
+use Rattle.std.proofs.Common.{◌≡◌, ℕ, zero, suc, ◌+◌, ◌-◌, ◌*◌, ◌/◌, ◌%◌, ◌^◌, ◌<◌, Bool, true, false, not, if◌then◌else◌, List, [], ◌∷◌, ◌++◌, length, take, refl, ◌∙◌, subst, arith, length-set}
+use Rattle.std.specs.Prelude.{All, Option, Some, None, option_map, option_and_then, Result, Ok, Err, slice_get, slice_set, position, nat_lt, nat_le, ◌==◌}
 use Rattle.std.proofs.lemmas.Option.{none-some, same_Some, slice_get_within, get_or_from_slice_get}
 use Rattle.std.proofs.lemmas.List.Elements.{All-nil, All-push, All-append, All-take, All-drop, All-get_or}
 use Rattle.std.proofs.lemmas.List.Quantifiers.{position-Some}
-use Rattle.std.proofs.lemmas.List.{length-replicate}
+use Rattle.std.proofs.lemmas.List.{length-replicate, get_or_past}
 use Rattle.std.proofs.lemmas.Bool.Decides.{nat_tests}
 use Rattle.blk_base.specs.Distance.{distance_of}
 use Rattle.blk_base.specs.Options.{Options}
@@ -24,34 +24,42 @@ use Rattle.blk_front.specs.declared.request.Transfer.{Transfer}
 use Rattle.blk_front.specs.declared.request.Transfer.TheVariants as transfer
 use Rattle.blk_front.specs.declared.told.Refusal.{Refusal}
 use Rattle.blk_front.specs.declared.told.Refusal.TheVariants as refusal
-use Rattle.blk_front.specs.Pool.{lowest_of}
-use Rattle.blk_front.specs.Request.{has_data}
-use Rattle.blk_front.specs.View.{View, next_request, shape, start_of, slot_frame, slot_word, ring_frame}
-use Rattle.blk_front.specs.Ask.{ask_at, ask_of, issue_ask, loop_ask, StaysInMemory}
-use Rattle.blk_front.specs.Step.{at, broken, looked, issue_stage, loop_step, found_at, issued, response_at, is_mapped, ended, data_step, step_at, step_of}
-use Rattle.blk_front.specs.Submit.{is_ready, unfinished, one_sector, submit_with, submit_one, submit_of}
+use Rattle.blk_front.specs.declared.request.Wish.{Wish}
+use Rattle.blk_front.specs.Pool.{lowest_of, with_taken, with_free, with_all_free, taking}
+use Rattle.blk_front.specs.Request.{has_data, frame_at, frames_for, words_in}
+use Rattle.blk_front.specs.View.{View, next_request, shape, start_of, slot_frame, slot_word, ring_frame, entry_frame, entry_word}
+use Rattle.blk_front.specs.Ask.{ask_at, ask_of, data_ask, name_ask, grant_ask, revoke_ask, end_ask, read_ask, issue_ask, loop_ask, StaysInMemory}
+use Rattle.blk_front.specs.Step.{at, broken, looked, issue_stage, data_stage, granted, loop_step, found_at, issued, response_at, is_mapped, finished, ended, revoked, sector_told, data_step, step_at, step_of}
+use Rattle.blk_front.specs.Submit.{is_ready, unfinished, wish_of, submit_with, submit_one, submit_of}
 
--- a stage is at one of the words that it goes through, of a frame that both ends share
+-- a stage is at one of the words that it goes through
 abbrev pub IsPlaced : Stage → Type 0
 IsPlaced (stage.RingWord k) = k < 16
-IsPlaced (stage.Data r k) = (r.frame < 1018) × (k < 128)
-IsPlaced (stage.GrantFrame r) = r.frame < 1018
-IsPlaced (stage.GrantFence r) = r.frame < 1018
-IsPlaced (stage.GrantFlags r) = r.frame < 1018
 IsPlaced (stage.Slot k) = k < 28
-IsPlaced (stage.GrantRead e) = e.frame < 1018
-IsPlaced (stage.GrantEnd e before) = e.frame < 1018
-IsPlaced (stage.ReadData e k) = (e.frame < 1018) × (k < 128)
 IsPlaced s = Unit {0}
 
+-- a request's frames are some that both ends share
 abbrev Shared : Request → Type 0
-Shared r = r.frame < 1018
+Shared r = All (λ (frame : ℕ). frame < 1018) r.frames.items
+
+abbrev SharedEnding : Option Ending → Type 0
+SharedEnding None = Unit {0}
+SharedEnding (Some e) = Shared e.request
 
 -- so it is with each request, and the pool has frames 18 to 1017
 pub record IsFront (v : View) : Type 0 where
   pub placed : IsPlaced v.stage
   pub shared : All Shared v.requests
+  pub ending : SharedEnding v.ending
   pub pool : length v.pool ≡ 1000
+
+-- whichever place is asked for
+shared_frame : (r : Request) (place : ℕ) → Shared r → frame_at r place < 1018
+shared_frame r place all = by_place (nat_lt place (length r.frames.items)) refl
+  where
+    by_place : (b : Bool) → nat_lt place (length r.frames.items) ≡ b → frame_at r place < 1018
+    by_place true t = all place 18 (grind (arith, nat_tests))
+    by_place false t = rw (get_or_past r.frames.items place 18 (grind (arith, nat_tests))) (omega arith)
 
 in_slot : (index k : ℕ) → k < 28 → (slot_frame index k < 1018) × (slot_word index k < 1024)
 in_slot index k within = (omega arith, omega arith)
@@ -61,53 +69,89 @@ loop_within true new frame word p = tt
 loop_within false true frame word p = (omega arith, omega arith)
 loop_within false false frame word p = p
 
-shared_at : (requests : List Request) (i : ℕ) (r : Request) → All Shared requests → slice_get requests i ≡ Some r → r.frame < 1018
+shared_at : (requests : List Request) (i : ℕ) (r : Request) → All Shared requests → slice_get requests i ≡ Some r → Shared r
 shared_at requests i r all e =
     let within = slice_get_within requests i r e in
     let same = get_or_from_slice_get requests i r r e in
     subst Shared same (All-get_or Shared requests i r within all)
 
-next_by : (b : Bool) (v : View) (r : Request) → All Shared v.requests → (if b then None else slice_get v.requests (length v.requests - v.waiting)) ≡ Some r → r.frame < 1018
+next_by : (b : Bool) (v : View) (r : Request) → All Shared v.requests → (if b then None else slice_get v.requests (length v.requests - v.waiting)) ≡ Some r → Shared r
 next_by true v r all e = absurd (none-some r e)
 next_by false v r all e = shared_at v.requests (length v.requests - v.waiting) r all e
 
-next_shared : (v : View) (r : Request) → All Shared v.requests → next_request v ≡ Some r → r.frame < 1018
+next_shared : (v : View) (r : Request) → All Shared v.requests → next_request v ≡ Some r → Shared r
 next_shared v r all e = next_by (v.waiting == 0) v r all e
 
-issue_within : (r : Request) (way : Transfer) → r.frame < 1018 → StaysInMemory (issue_ask r way)
-issue_within r transfer.Read shared = (omega arith, omega arith)
-issue_within r (transfer.Write tag) shared = (shared, omega arith)
+-- a word of a grant entry of such a frame lies in frames 0 and 1
+entry_within : (frame : ℕ) → frame < 1018 → (entry_frame frame < 1018) × (entry_word frame + 1 < 1024)
+entry_within frame shared = (omega arith, omega arith)
+
+data_within : (r : Request) (n : ℕ) → Shared r → StaysInMemory (data_ask (Some r) n)
+data_within r n shared = (shared_frame r (n / 1024) shared, omega arith)
+
+name_within : (r : Request) (place : ℕ) → Shared r → StaysInMemory (name_ask (Some r) place)
+name_within r place shared = entry_within (frame_at r place) (shared_frame r place shared)
+
+issue_within : (r : Request) (way : Transfer) → Shared r → StaysInMemory (issue_ask r way)
+issue_within r transfer.Read shared = name_within r 0 shared
+issue_within r (transfer.Write tag) shared = data_within r 0 shared
+
+-- while a request is issued
+next_data_within : (v : View) (n : ℕ) (r : Option Request) → All Shared v.requests → next_request v ≡ r → StaysInMemory (data_ask r n)
+next_data_within v n None all e = tt
+next_data_within v n (Some r) all e = data_within r n (next_shared v r all e)
+
+next_name_within : (v : View) (place : ℕ) (r : Option Request) → All Shared v.requests → next_request v ≡ r → StaysInMemory (name_ask r place)
+next_name_within v place None all e = tt
+next_name_within v place (Some r) all e = name_within r place (next_shared v r all e)
+
+next_grant_within : (v : View) (place : ℕ) (r : Option Request) → All Shared v.requests → next_request v ≡ r → StaysInMemory (grant_ask r place)
+next_grant_within v place None all e = tt
+next_grant_within v place (Some r) all e = let entry = entry_within (frame_at r place) (shared_frame r place (next_shared v r all e)) in (entry.0, omega (arith, entry.1))
+
+-- while one is ending
+revoke_within : (place : ℕ) (e : Option Ending) → SharedEnding e → StaysInMemory (revoke_ask e place)
+revoke_within place None shared = tt
+revoke_within place (Some e) shared = let entry = entry_within (frame_at e.request place) (shared_frame e.request place shared) in (entry.0, omega (arith, entry.1))
+
+end_within : (place before : ℕ) (e : Option Ending) → SharedEnding e → StaysInMemory (end_ask e place before)
+end_within place before None shared = tt
+end_within place before (Some e) shared = let entry = entry_within (frame_at e.request place) (shared_frame e.request place shared) in (entry.0, omega (arith, entry.1))
+
+read_within : (n : ℕ) (e : Option Ending) → SharedEnding e → StaysInMemory (read_ask e n)
+read_within n None shared = tt
+read_within n (Some e) shared = (shared_frame e.request (n / 1024) shared, omega arith)
 
 loop_ask_within : (v : View) (r : Option Request) → All Shared v.requests → next_request v ≡ r → StaysInMemory (loop_ask v r)
 loop_ask_within v (Some r) all e = issue_within r r.transfer (next_shared v r all e)
 loop_ask_within v None all e = loop_within v.asleep (responses_of v.ring v.seen == 0) (slot_frame v.ring.cons 0) (slot_word v.ring.cons 0) (in_slot v.ring.cons 0 (omega arith))
 
-within_at : (s : Stage) (v : View) → IsPlaced s → All Shared v.requests → StaysInMemory (ask_at s v)
-within_at (stage.RingWord k) v p all = (omega arith, omega arith)
-within_at stage.RingFrame v p all = (omega arith, omega arith)
-within_at stage.RingFlags v p all = (omega arith, omega arith)
-within_at stage.Loop v p all = loop_ask_within v (next_request v) all refl
-within_at (stage.Data r k) v p all = (p.0, omega (arith, p.1))
-within_at (stage.GrantFrame r) v p all = (omega arith, omega arith)
-within_at (stage.GrantFlags r) v p all = (omega arith, omega arith)
-within_at (stage.Slot k) v p all = in_slot v.ring.prod k p
-within_at stage.Producer v p all = (omega arith, omega arith)
-within_at (stage.RequestEvent old) v p all = (omega arith, omega arith)
-within_at (stage.ResponseHigh low) v p all = in_slot v.ring.cons 1 (omega arith)
-within_at (stage.ResponseLast low high) v p all = in_slot v.ring.cons 2 (omega arith)
-within_at (stage.GrantRead e) v p all = (omega arith, omega arith)
-within_at (stage.GrantEnd e seen) v p all = (omega arith, omega arith)
-within_at (stage.ReadData e k) v p all = (p.0, omega (arith, p.1))
-within_at stage.StoreEvent v p all = (omega arith, omega arith)
-within_at stage.LookAgain v p all = (omega arith, omega arith)
-within_at s v p all = tt
+within_at : (s : Stage) (v : View) → IsPlaced s → All Shared v.requests → SharedEnding v.ending → StaysInMemory (ask_at s v)
+within_at (stage.RingWord k) v p all last = (omega arith, omega arith)
+within_at stage.RingFrame v p all last = (omega arith, omega arith)
+within_at stage.RingFlags v p all last = (omega arith, omega arith)
+within_at stage.Loop v p all last = loop_ask_within v (next_request v) all refl
+within_at (stage.Data n) v p all last = next_data_within v n (next_request v) all refl
+within_at (stage.GrantFrame place) v p all last = next_name_within v place (next_request v) all refl
+within_at (stage.GrantFlags place) v p all last = next_grant_within v place (next_request v) all refl
+within_at (stage.Slot k) v p all last = in_slot v.ring.prod k p
+within_at stage.Producer v p all last = (omega arith, omega arith)
+within_at (stage.RequestEvent old) v p all last = (omega arith, omega arith)
+within_at (stage.ResponseHigh low) v p all last = in_slot v.ring.cons 1 (omega arith)
+within_at (stage.ResponseLast low high) v p all last = in_slot v.ring.cons 2 (omega arith)
+within_at (stage.GrantRead place) v p all last = revoke_within place v.ending last
+within_at (stage.GrantEnd place seen) v p all last = end_within place seen v.ending last
+within_at (stage.ReadData n) v p all last = read_within n v.ending last
+within_at stage.StoreEvent v p all last = (omega arith, omega arith)
+within_at stage.LookAgain v p all last = (omega arith, omega arith)
+within_at s v p all last = tt
 
 -- each word that the front asks for is one of those frames
 pub front_within : (v : View) → IsFront v → StaysInMemory (ask_of v)
-front_within v f = within_at v.stage v f.placed f.shared
+front_within v f = within_at v.stage v f.placed f.shared f.ending
 
 pub front_start : (o : Options) → IsFront (start_of o)
-front_start o = record { placed = omega arith; shared = All-nil Shared; pool = length-replicate 1000 false }
+front_start o = record { placed = omega arith; shared = All-nil Shared; ending = tt; pool = length-replicate 1000 false }
 
 either : (b : Bool) (x y : View) → IsFront x → IsFront y → IsFront (if b then x else y)
 either true x y p q = p
@@ -123,23 +167,23 @@ either_stage false x y p q = q refl
 
 -- the same requests and frames at a stage
 at_stage : (s : Stage) (v : View) → IsPlaced s → IsFront v → IsFront (at s v)
-at_stage s v p f = record { placed = p; shared = f.shared; pool = f.pool }
+at_stage s v p f = record { placed = p; shared = f.shared; ending = f.ending; pool = f.pool }
 
 looked_kept : (v : View) (word : ℕ) (otherwise : View) → IsFront v → IsFront otherwise → IsFront (looked v word otherwise)
 looked_kept v word otherwise f h =
-    either (nat_lt (distance_of v.ring.cons v.ring.prod) (distance_of v.ring.cons word)) (broken word v) (if word == v.ring.cons then otherwise else record v { seen = word; stage = stage.Loop }) (record { placed = tt; shared = f.shared; pool = f.pool })
-    (either (word == v.ring.cons) otherwise (record v { seen = word; stage = stage.Loop }) h (record { placed = tt; shared = f.shared; pool = f.pool }))
+    either (nat_lt (distance_of v.ring.cons v.ring.prod) (distance_of v.ring.cons word)) (broken word v) (if word == v.ring.cons then otherwise else record v { seen = word; stage = stage.Loop }) (record { placed = tt; shared = f.shared; ending = f.ending; pool = f.pool })
+    (either (word == v.ring.cons) otherwise (record v { seen = word; stage = stage.Loop }) h (record { placed = tt; shared = f.shared; ending = f.ending; pool = f.pool }))
 
-issue_placed : (r : Request) (way : Transfer) → r.frame < 1018 → IsPlaced (issue_stage r way)
-issue_placed r transfer.Read shared = shared
-issue_placed r (transfer.Write tag) shared = (shared, omega arith)
+issue_placed : (way : Transfer) → IsPlaced (issue_stage way)
+issue_placed transfer.Read = tt
+issue_placed (transfer.Write tag) = tt
 
 loop_kept : (v : View) (r : Option Request) (x : FrontAnswer) → IsFront v → next_request v ≡ r → IsFront (loop_step v r x)
-loop_kept v (Some r) x f e = at_stage (issue_stage r r.transfer) v (issue_placed r r.transfer (next_shared v r f.shared e)) f
+loop_kept v (Some r) x f e = at_stage (issue_stage r.transfer) v (issue_placed r.transfer) f
 loop_kept v None (answer.Word word) f e =
     either (responses_of v.ring v.seen == 0) (looked v word (record v { seen = word; stage = stage.StoreEvent })) (at (stage.ResponseHigh word) v)
-    (looked_kept v word (record v { seen = word; stage = stage.StoreEvent }) f (record { placed = tt; shared = f.shared; pool = f.pool })) (at_stage (stage.ResponseHigh word) v tt f)
-loop_kept v None answer.Event f e = record { placed = f.placed; shared = f.shared; pool = f.pool }
+    (looked_kept v word (record v { seen = word; stage = stage.StoreEvent }) f (record { placed = tt; shared = f.shared; ending = f.ending; pool = f.pool })) (at_stage (stage.ResponseHigh word) v tt f)
+loop_kept v None answer.Event f e = record { placed = f.placed; shared = f.shared; ending = f.ending; pool = f.pool }
 loop_kept v None x f e = f
 
 -- a request that is found is one of them
@@ -156,37 +200,57 @@ found_shared requests None all = tt
 found_shared requests (Some place) all = found_in requests place (slice_get requests place) all refl
 
 response_kept : (v : View) (response : Result Response ℕ) (low : ℕ) (found : Option (ℕ × Request)) → IsFront v → FoundShared found → IsFront (response_at v response low found)
-response_kept v response low None f h = record { placed = tt; shared = f.shared; pool = f.pool }
-response_kept v (Err word) low (Some found) f h = record { placed = tt; shared = f.shared; pool = f.pool }
-response_kept v (Ok response) low (Some found) f h = record { placed = h; shared = All-append Shared _ _ (All-take Shared found.0 v.requests f.shared) (All-drop Shared (suc found.0) v.requests f.shared); pool = f.pool }
+response_kept v response low None f h = record { placed = tt; shared = f.shared; ending = f.ending; pool = f.pool }
+response_kept v (Err word) low (Some found) f h = record { placed = tt; shared = f.shared; ending = f.ending; pool = f.pool }
+response_kept v (Ok response) low (Some found) f h = record { placed = tt; shared = All-append Shared _ _ (All-take Shared found.0 v.requests f.shared) (All-drop Shared (suc found.0) v.requests f.shared); ending = h; pool = f.pool }
 
--- behind a word of a sector that isn't the last there is another
-further : (k : ℕ) → k < 128 → (k == 127) ≡ false → k + 1 < 128
-further k lt t = grind (arith, nat_tests)
+-- frames that are given back leave the pool as long as it is
+freed_long : (pool : List Bool) (frames : List ℕ) → length (with_all_free pool frames) ≡ length pool
+freed_long pool [] = refl
+freed_long pool (frame ∷ frames) = freed_long (with_free pool frame) frames ∙ length-set pool (frame - 18) false
 
-ended_kept : (v : View) (e : Ending) → e.frame < 1018 → IsFront v → IsFront (ended v e)
-ended_kept v e p f =
-    either (has_data e.transfer e.status) _ _ (record { placed = (p, omega arith); shared = f.shared; pool = f.pool })
-    (record { placed = tt; shared = f.shared; pool = length-set v.pool (e.frame - 18) false ∙ f.pool })
+finished_kept : (v : View) (e : Ending) → IsFront v → IsFront (finished e v)
+finished_kept v e f = record { placed = tt; shared = f.shared; ending = tt; pool = freed_long v.pool e.request.frames.items ∙ f.pool }
 
-data_kept : (v : View) (e : Ending) (k word : ℕ) → e.frame < 1018 → k < 128 → IsFront v → IsFront (data_step v e k word)
-data_kept v e k word p within f =
-    either_when (k == 127) _ _ (record { placed = tt; shared = f.shared; pool = length-set v.pool (e.frame - 18) false ∙ f.pool })
-    (λ t. record { placed = (p, further k within t); shared = f.shared; pool = f.pool })
+ended_kept : (v : View) (e : Ending) → IsFront v → IsFront (ended e v)
+ended_kept v e f =
+    let y = finished_kept v e f in
+    either (has_data e.request.transfer e.status) _ _ (record { placed = tt; shared = f.shared; ending = f.ending; pool = f.pool }) (record { placed = tt; shared = y.shared; ending = tt; pool = y.pool })
+
+revoked_kept : (v : View) (e : Option Ending) (place : ℕ) → IsFront v → IsFront (revoked e place v)
+revoked_kept v None place f = f
+revoked_kept v (Some e) place f = either (nat_lt (place + 1) (length e.request.frames.items)) _ _ (at_stage (stage.GrantRead (place + 1)) v tt f) (ended_kept v e f)
+
+told_kept : (v : View) (e : Ending) (n : ℕ) (words : List ℕ) → IsFront v → IsFront (sector_told e n words v)
+told_kept v e n words f = either (n % 128 == 127) _ _ (record { placed = f.placed; shared = f.shared; ending = f.ending; pool = f.pool }) (record { placed = f.placed; shared = f.shared; ending = f.ending; pool = f.pool })
+
+data_kept : (v : View) (e : Option Ending) (n word : ℕ) → IsFront v → IsFront (data_step e n word v)
+data_kept v None n word f = f
+data_kept v (Some e) n word f =
+    let y = told_kept v e n (slice_set v.words (n % 128) word) f in
+    either (nat_lt (n + 1) (words_in e.request)) _ _ (at_stage (stage.ReadData (n + 1)) _ tt y) (finished_kept _ e y)
+
+data_placed : (r : Option Request) (n : ℕ) → IsPlaced (data_stage r n)
+data_placed None n = tt
+data_placed (Some r) n = either_stage (nat_lt (n + 1) (words_in r)) (stage.Data (n + 1)) (stage.GrantFrame 0) (λ t. tt) (λ t. tt)
+
+granted_kept : (v : View) (r : Option Request) (place : ℕ) → IsFront v → IsFront (granted r place v)
+granted_kept v None place f = f
+granted_kept v (Some r) place f = either (nat_lt (place + 1) (length r.frames.items)) _ _ (at_stage (stage.GrantFrame (place + 1)) v tt f) (record { placed = omega arith; shared = f.shared; ending = f.ending; pool = f.pool })
 
 step_kept : (s : Stage) (v : View) (x : FrontAnswer) → IsPlaced s → IsFront v → IsFront (step_at s v x)
 step_kept (stage.RingWord k) v x p f = at_stage _ v (either_stage (k == 15) stage.RingFrame (stage.RingWord (k + 1)) (λ t. tt) (λ t. grind (arith, nat_tests))) f
 step_kept stage.RingFrame v x p f = at_stage _ v tt f
 step_kept stage.RingFence v x p f = at_stage _ v tt f
 step_kept stage.RingFlags v x p f = at_stage _ v tt f
-step_kept stage.NewPort v x p f = record { placed = tt; shared = f.shared; pool = f.pool }
+step_kept stage.NewPort v x p f = record { placed = tt; shared = f.shared; ending = f.ending; pool = f.pool }
 step_kept stage.Loop v x p f = loop_kept v (next_request v) x f refl
-step_kept (stage.Data r k) v x p f = at_stage _ v (either_stage (k == 127) (stage.GrantFrame r) (stage.Data r (k + 1)) (λ t. p.0) (λ t. (p.0, further k p.1 t))) f
-step_kept (stage.GrantFrame r) v x p f = at_stage _ v p f
-step_kept (stage.GrantFence r) v x p f = at_stage _ v p f
-step_kept (stage.GrantFlags r) v x p f = record { placed = omega arith; shared = f.shared; pool = f.pool }
+step_kept (stage.Data n) v x p f = at_stage _ v (data_placed (next_request v) n) f
+step_kept (stage.GrantFrame place) v x p f = at_stage _ v tt f
+step_kept (stage.GrantFence place) v x p f = at_stage _ v tt f
+step_kept (stage.GrantFlags place) v x p f = granted_kept v (next_request v) place f
 step_kept (stage.Slot k) v x p f = at_stage _ v (either_stage (k == 27) stage.Producer (stage.Slot (k + 1)) (λ t. tt) (λ t. grind (arith, nat_tests))) f
-step_kept stage.Producer v x p f = record { placed = tt; shared = f.shared; pool = f.pool }
+step_kept stage.Producer v x p f = record { placed = tt; shared = f.shared; ending = f.ending; pool = f.pool }
 step_kept (stage.ProducerFence old) v x p f = at_stage _ v tt f
 step_kept (stage.RequestEvent old) v (answer.Word event) p f = at_stage _ v (either_stage (notifies old v.ring.prod event) stage.Send stage.Loop (λ t. tt) (λ t. tt)) f
 step_kept stage.Send v x p f = at_stage _ v tt f
@@ -194,19 +258,19 @@ step_kept (stage.ResponseHigh low) v (answer.Word high) p f = at_stage _ v tt f
 step_kept (stage.ResponseLast low high) v (answer.Word last) p f =
     response_kept v (response_of (low ∷ high ∷ last ∷ [])) low (issued v (low + high * 2 ^ 32)) f
     (found_shared v.requests (position (λ (r : Request). r.number == low + high * 2 ^ 32) (take (length v.requests - v.waiting) v.requests)) f.shared)
-step_kept (stage.GrantRead e) v (answer.Word word) p f = either (is_mapped word) (broken word v) (at (stage.GrantEnd e word) v) (record { placed = tt; shared = f.shared; pool = f.pool }) (at_stage (stage.GrantEnd e word) v p f)
-step_kept (stage.GrantEnd e before) v (answer.Word word) p f =
-    either (word == before) (ended v e) (broken word v) (ended_kept v e p f) (record { placed = tt; shared = f.shared; pool = f.pool })
-step_kept (stage.ReadData e k) v (answer.Word word) p f = data_kept v e k word p.0 p.1 f
+step_kept (stage.GrantRead place) v (answer.Word word) p f = either (is_mapped word) (broken word v) (at (stage.GrantEnd place word) v) (record { placed = tt; shared = f.shared; ending = f.ending; pool = f.pool }) (at_stage (stage.GrantEnd place word) v tt f)
+step_kept (stage.GrantEnd place before) v (answer.Word word) p f =
+    either (word == before) (revoked v.ending place v) (broken word v) (revoked_kept v v.ending place f) (record { placed = tt; shared = f.shared; ending = f.ending; pool = f.pool })
+step_kept (stage.ReadData n) v (answer.Word word) p f = data_kept v v.ending n word f
 step_kept stage.StoreEvent v x p f = at_stage _ v tt f
 step_kept stage.EventFence v x p f = at_stage _ v tt f
-step_kept stage.LookAgain v (answer.Word word) p f = looked_kept v word (record v { seen = word; stage = stage.Loop; asleep = true }) f (record { placed = tt; shared = f.shared; pool = f.pool })
+step_kept stage.LookAgain v (answer.Word word) p f = looked_kept v word (record v { seen = word; stage = stage.Loop; asleep = true }) f (record { placed = tt; shared = f.shared; ending = f.ending; pool = f.pool })
 step_kept s v x p f = f
 
 pub front_step : (v : View) (x : FrontAnswer) → IsFront v → IsFront (record (step_of v x) { told = None })
 front_step v x f =
     let y : IsFront (step_of v x) = step_kept v.stage v x f.placed f in
-    record { placed = y.placed; shared = y.shared; pool = y.pool }
+    record { placed = y.placed; shared = y.shared; ending = y.ending; pool = y.pool }
 
 either_submit : (b : Bool) (x y : Result ℕ Refusal × View) → IsFront x.1 → IsFront y.1 → IsFront (if b then x else y).1
 either_submit true x y p q = p
@@ -219,21 +283,37 @@ lowest_in pool (Some place) frame long e is =
     let same : 18 + place ≡ frame = same_Some (18 + place) frame is in
     omega arith
 
-submit_frame : (v : View) (what : ℕ × Transfer) (frame : Option ℕ) → lowest_of v.pool ≡ frame → IsFront v → IsFront (submit_with v what frame).1
-submit_frame v what None e f = f
-submit_frame v what (Some frame) e f = record {
-  placed = f.placed;
-  shared = All-push Shared v.requests _ f.shared (lowest_in v.pool (position not v.pool) frame f.pool refl e);
-  pool = length-set v.pool (frame - 18) true ∙ f.pool;
-}
+-- frames that are taken into use are of the pool
+taken_in : (n : ℕ) (pool : List Bool) (frames : List ℕ) (taken : List ℕ × List Bool) → length pool ≡ 1000 → All (λ (frame : ℕ). frame < 1018) frames → taking n pool frames ≡ Some taken
+    → All (λ (frame : ℕ). frame < 1018) taken.0 × (length taken.1 ≡ 1000)
+taken_in zero pool frames taken long all e =
+    let same : (frames, pool) ≡ taken = same_Some (frames, pool) taken e in
+    subst (λ (t : List ℕ × List Bool). All (λ (frame : ℕ). frame < 1018) t.0 × (length t.1 ≡ 1000)) same (all, long)
+taken_in (suc n) pool frames taken long all e = by_lowest (lowest_of pool) refl (λ frame. taken_in n (with_taken pool frame) (frames ++ frame ∷ []) taken (length-set pool (frame - 18) true ∙ long)) e
+  where
+    by_lowest : (lowest : Option ℕ) → lowest_of pool ≡ lowest
+        → ((frame : ℕ) → All (λ (x : ℕ). x < 1018) (frames ++ frame ∷ []) → taking n (with_taken pool frame) (frames ++ frame ∷ []) ≡ Some taken → All (λ (x : ℕ). x < 1018) taken.0 × (length taken.1 ≡ 1000))
+        → option_and_then (λ (frame : ℕ). taking n (with_taken pool frame) (frames ++ frame ∷ [])) lowest ≡ Some taken
+        → All (λ (x : ℕ). x < 1018) taken.0 × (length taken.1 ≡ 1000)
+    by_lowest None is rest f = absurd (none-some taken f)
+    by_lowest (Some frame) is rest f = rest frame (All-push (λ (x : ℕ). x < 1018) frames frame all (lowest_in pool (position not pool) frame long refl is)) f
 
-submit_sector : (v : View) (what : Option (ℕ × Transfer)) → IsFront v → IsFront (submit_one v what).1
-submit_sector v None f = f
-submit_sector v (Some what) f =
-    either_submit (nat_le v.sectors what.0) (Err refusal.Range, v) (if nat_le (entries_of shape.order) (unfinished v) then (Err refusal.Full, v) else submit_with v what (lowest_of v.pool)) f
-    (either_submit (nat_le (entries_of shape.order) (unfinished v)) (Err refusal.Full, v) (submit_with v what (lowest_of v.pool)) f (submit_frame v what (lowest_of v.pool) refl f))
+submit_frames : (v : View) (wish : Wish) (n : ℕ) (taken : Option (List ℕ × List Bool)) → taking n v.pool [] ≡ taken → IsFront v → IsFront (submit_with v wish taken).1
+submit_frames v wish n None e f = f
+submit_frames v wish n (Some taken) e f =
+    let is = taken_in n v.pool [] taken f.pool (All-nil (λ (frame : ℕ). frame < 1018)) e in
+    record { placed = f.placed; shared = All-push Shared v.requests _ f.shared is.0; ending = f.ending; pool = is.1 }
+
+submit_wish : (v : View) (wish : Option Wish) → IsFront v → IsFront (submit_one v wish).1
+submit_wish v None f = f
+submit_wish v (Some wish) f =
+    let frames = taking (frames_for wish.count) v.pool [] in
+    let unless_full = if nat_le (entries_of shape.order) (unfinished v) then (Err refusal.Full, v) else submit_with v wish frames in
+    either_submit (nat_lt v.sectors (wish.sector + wish.count)) (Err refusal.Range, v) (if nat_lt 11 (frames_for wish.count) then (Err refusal.Long, v) else unless_full) f
+    (either_submit (nat_lt 11 (frames_for wish.count)) (Err refusal.Long, v) unless_full f
+    (either_submit (nat_le (entries_of shape.order) (unfinished v)) (Err refusal.Full, v) (submit_with v wish frames) f (submit_frames v wish (frames_for wish.count) frames refl f)))
 
 pub front_submit : (v : View) (job : Job) → IsFront v → IsFront (submit_of v job).1
 front_submit v job f =
-    either_submit (v.last == 4294967295) (Err refusal.Spent, v) (if not (is_ready v.stage) then (Err refusal.NotReady, v) else submit_one v (one_sector job)) f
-    (either_submit (not (is_ready v.stage)) (Err refusal.NotReady, v) (submit_one v (one_sector job)) f (submit_sector v (one_sector job) f))
+    either_submit (v.last == 4294967295) (Err refusal.Spent, v) (if not (is_ready v.stage) then (Err refusal.NotReady, v) else submit_one v (wish_of job)) f
+    (either_submit (not (is_ready v.stage)) (Err refusal.NotReady, v) (submit_one v (wish_of job)) f (submit_wish v (wish_of job) f))

@@ -1,6 +1,6 @@
 -- Whatever happens, the consumer of responses is as far ahead of the first index as answers were told.
-use Rattle.std.proofs.Common.{◌≡◌, ℕ, Bool, true, false, not, cond, if◌then◌else◌, List, [], ◌∷◌, ◌++◌, refl, sym, ap, subst, append_assoc, arith}
-use Rattle.std.specs.Prelude.{Option, Some, None, Result, Ok, Err, ◌==◌, nat_le}
+use Rattle.std.proofs.Common.{◌≡◌, ℕ, ◌+◌, Bool, true, false, not, cond, if◌then◌else◌, List, [], ◌∷◌, ◌++◌, refl, sym, ap, subst, append_assoc, arith}
+use Rattle.std.specs.Prelude.{Option, Some, None, Result, Ok, Err, ◌==◌, nat_lt, nat_le}
 use Rattle.std.specs.List.{AllByRecursion}
 use Rattle.std.proofs.lemmas.List.{append-nil}
 use Rattle.std.proofs.lemmas.List.Sums.{sum_by-cons, sum_by-append}
@@ -14,13 +14,14 @@ use Rattle.schedule_text.specs.declared.line.Line.TheVariants as lines
 use Rattle.hypervisor.specs.Act.{FrontAct, BackAct, Took}
 use Rattle.blk_front.specs.declared.told.Told.{Told}
 use Rattle.blk_front.specs.declared.told.Told.TheVariants as told
-use Rattle.blk_front.specs.declared.request.Transfer.{Transfer}
+use Rattle.blk_front.specs.declared.request.Wish.{Wish}
 use Rattle.blk_front.specs.declared.told.Refusal.{Refusal}
 use Rattle.blk_front.specs.declared.told.Refusal.TheVariants as refusal
-use Rattle.blk_front.specs.Pool.{lowest_of}
+use Rattle.blk_front.specs.Pool.{taking}
+use Rattle.blk_front.specs.Request.{frames_for}
 use Rattle.blk_front.specs.View.{View, shape}
 use Rattle.blk_front.specs.Step.{step_of}
-use Rattle.blk_front.specs.Submit.{is_ready, unfinished, one_sector, submit_with, submit_one, submit_of}
+use Rattle.blk_front.specs.Submit.{is_ready, unfinished, wish_of, submit_with, submit_one, submit_of}
 use Rattle.split_model.specs.World.{World, start_of, is_quiet}
 use Rattle.split_model.specs.Safe.{IsSafe}
 use Rattle.split_model.specs.Shown.{front_lines}
@@ -97,20 +98,23 @@ either_submit : (b : Bool) (v : View) (x y : Result ℕ Refusal × View) → IsU
 either_submit true v x y p q = p
 either_submit false v x y p q = q
 
-with_frame : (v : View) (what : ℕ × Transfer) (frame : Option ℕ) → IsUntaken v (submit_with v what frame).1
-with_frame v what None = untaken v
-with_frame v what (Some frame) = record { cons = refl; stage = refl }
+with_frames : (v : View) (wish : Wish) (taken : Option (List ℕ × List Bool)) → IsUntaken v (submit_with v wish taken).1
+with_frames v wish None = untaken v
+with_frames v wish (Some taken) = record { cons = refl; stage = refl }
 
-one_submitted : (v : View) (what : Option (ℕ × Transfer)) → IsUntaken v (submit_one v what).1
-one_submitted v None = untaken v
-one_submitted v (Some what) =
-    either_submit (nat_le v.sectors what.0) v (Err refusal.Range, v) (if nat_le (entries_of shape.order) (unfinished v) then (Err refusal.Full, v) else submit_with v what (lowest_of v.pool)) (untaken v)
-    (either_submit (nat_le (entries_of shape.order) (unfinished v)) v (Err refusal.Full, v) (submit_with v what (lowest_of v.pool)) (untaken v) (with_frame v what (lowest_of v.pool)))
+wish_submitted : (v : View) (wish : Option Wish) → IsUntaken v (submit_one v wish).1
+wish_submitted v None = untaken v
+wish_submitted v (Some wish) =
+    let frames = taking (frames_for wish.count) v.pool [] in
+    let unless_full = if nat_le (entries_of shape.order) (unfinished v) then (Err refusal.Full, v) else submit_with v wish frames in
+    either_submit (nat_lt v.sectors (wish.sector + wish.count)) v (Err refusal.Range, v) (if nat_lt 11 (frames_for wish.count) then (Err refusal.Long, v) else unless_full) (untaken v)
+    (either_submit (nat_lt 11 (frames_for wish.count)) v (Err refusal.Long, v) unless_full (untaken v)
+    (either_submit (nat_le (entries_of shape.order) (unfinished v)) v (Err refusal.Full, v) (submit_with v wish frames) (untaken v) (with_frames v wish frames)))
 
 submit_untaken : (v : View) (job : Job) → IsUntaken v (submit_of v job).1
 submit_untaken v job =
-    either_submit (v.last == 4294967295) v (Err refusal.Spent, v) (if not (is_ready v.stage) then (Err refusal.NotReady, v) else submit_one v (one_sector job)) (untaken v)
-    (either_submit (not (is_ready v.stage)) v (Err refusal.NotReady, v) (submit_one v (one_sector job)) (untaken v) (one_submitted v (one_sector job)))
+    either_submit (v.last == 4294967295) v (Err refusal.Spent, v) (if not (is_ready v.stage) then (Err refusal.NotReady, v) else submit_one v (wish_of job)) (untaken v)
+    (either_submit (not (is_ready v.stage)) v (Err refusal.NotReady, v) (submit_one v (wish_of job)) (untaken v) (wish_submitted v (wish_of job)))
 
 submit_unanswered : (job : Job) (r : Result ℕ Refusal) → AreUnanswered (submit_line job r ∷ [])
 submit_unanswered job (Ok number) = (refl, tt)

@@ -1,6 +1,6 @@
 -- What the back and its jobs ask has the widths of the grammar.
-use Rattle.std.proofs.Common.{◌≡◌, ℕ, ◌-◌, ◌^◌, ◌<◌, ◌==◌, ◌⊎◌, inl, inr, Bool, true, false, if◌then◌else◌, List, [], ◌∷◌, refl, sym, ap, subst, arith}
-use Rattle.std.specs.Prelude.{Option, Some, None, nat_lt, slice_get, slice_index}
+use Rattle.std.proofs.Common.{◌≡◌, ℕ, ◌+◌, ◌-◌, ◌^◌, ◌<◌, ◌≤◌, length, ◌∙◌, ◌==◌, ◌⊎◌, inl, inr, Bool, true, false, if◌then◌else◌, List, refl, sym, ap, subst, arith}
+use Rattle.std.specs.Prelude.{All, Option, Some, None, nat_lt, slice_get, slice_index, drop}
 use Rattle.std.specs.List.{AllByRecursion}
 use Rattle.std.proofs.lemmas.List.Elements.{recursion_from_All}
 use Rattle.std.proofs.lemmas.Bool.Decides.{nat_tests}
@@ -19,7 +19,7 @@ use Rattle.pipeline_laws.specs.Station.{Request as Asked}
 use Rattle.hypervisor.specs.Act.{Outcome, back_act}
 use Rattle.line_text.specs.Sector.{IsSector}
 use Rattle.blk_front.specs.declared.request.Request.{Request}
-use Rattle.blk_front.specs.Request.{is_write}
+use Rattle.blk_front.specs.Request.{is_write, IsShaped}
 use Rattle.machine_pipeline.proofs.ReadBack.{ReadAt}
 use Rattle.machine_pipeline.proofs.Stations.{StandsAt}
 use Rattle.back_jobs.specs.declared.stage.Stage.{Stage as JobStage}
@@ -35,9 +35,11 @@ use Rattle.blk_back.specs.Ask.{ask_at, ask_of, loop_ask, next_reply, response_wo
 use Rattle.blk_back.specs.Step.{job_ask_of}
 use Rattle.split_model.specs.World.{World}
 use Rattle.split_model.specs.Happening.{job_turn}
-use Rattle.machine_pipeline.proofs.Flow.{Flow, worked, segment_for}
-use Rattle.machine_pipeline.proofs.Holds.{Holds, Stands, AtWork, IsWork, IsSubmitted, IsReplying}
-use Rattle.machine_pipeline.proofs.Lists.{all_at, found_at}
+use Rattle.machine_pipeline.proofs.Flow.{Flow, worked, frames_of, own_segments}
+use Rattle.machine_pipeline.proofs.Holds.{Holds, Stands, IsPooled, IsMoving, AtWork, IsWork, IsSubmitted, IsReplying}
+use Rattle.machine_pipeline.proofs.Data.{pooled_at}
+use Rattle.machine_pipeline.proofs.Segments.{own_here, within_last}
+use Rattle.machine_pipeline.proofs.Lists.{all_at, found_at, get_last}
 use Rattle.machine_pipeline.proofs.BackReplyBegins.{IsLowestDone, lowest_done, replying}
 use Rattle.report_laws.proofs.Words.{each_fits}
 use Rattle.report_laws.proofs.Acts.{IsMover, BackFits}
@@ -96,25 +98,35 @@ pub record JobAsks (w : World) (number : ℕ) : Type 0 where
   pub mover : IsMover (Job number)
   pub fits : BackFits (Job number) (job_ask_of w.back number)
 
-segment_fits : (number : ℕ) (rest : List Segment) (writes : Bool) (r : Request) → r.frame < 1018 → rest ≡ segment_for r ∷ [] → BackFits (Job number) (map_ask rest writes)
-segment_fits number rest writes r low e = subst (λ (x : List Segment). BackFits (Job number) (map_ask x writes)) (sym e) (omega arith)
+-- a segment of its own is mapped by its frame's reference
+segment_fits : (number : ℕ) (r : Request) (place : ℕ) (rest : List Segment) (writes : Bool) → IsShaped r → All IsPooled r.frames.items → place < frames_of r → rest ≡ drop place (own_segments r) → BackFits (Job number) (map_ask rest writes)
+segment_fits number r place rest writes shaped frames here e =
+    let pooled = pooled_at r frames place in
+    subst (λ (x : List Segment). BackFits (Job number) (map_ask x writes)) (sym (e ∙ own_here r place shaped here)) (omega (arith, pooled.1))
 
 -- the words that a read's job writes are those that were noted
-hand_fits : (pages hand : List ℕ) (noted : List (List ℕ)) (frame j i : ℕ) (m : Mapping) → AreSectors noted → ReadAt pages frame hand noted (job.WriteWord m j) → slice_index hand i < 2 ^ 32
-hand_fits pages hand noted frame j i m all at =
-    let sector : IsSector hand = all 0 hand (ap (λ (ws : List (List ℕ)). slice_get ws 0) at.0) in
+hand_fits : (pages hand : List ℕ) (noted : List (List ℕ)) (r : Request) (moved j i : ℕ) (m : Mapping) → AreSectors noted → ReadAt pages r moved hand noted (job.WriteWord m j) → slice_index hand i < 2 ^ 32
+hand_fits pages hand noted r moved j i m all at =
+    let sector : IsSector hand = all (length at.earlier) hand (ap (λ (ws : List (List ℕ)). slice_get ws (length at.earlier)) at.with_hand ∙ get_last at.earlier hand) in
     each_fits hand (recursion_from_All (λ (v : ℕ). v < 2 ^ 32) hand sector.fits) i
 
-work_fits : (number : ℕ) (pages : List ℕ) (noted : List (List ℕ)) (r : Request) (t : Work) (s : JobStage) → r.frame < 1018 → r.sector < 2 ^ 64 → number < 2 ^ 64 → nat_lt 0 number ≡ true
-    → AreSectors noted → (is_write r.transfer ≡ false → ReadAt pages r.frame t.words noted s) → AtWork r t s → BackFits (Job number) (task.ask_at s t)
-work_fits number pages noted r t job.Map low sector long positive sectors back at = segment_fits number t.rest t.writes r low at.rest
-work_fits number pages noted r t (job.ReadWord m i) low sector long positive sectors back at = tt
-work_fits number pages noted r t (job.DiskWrite m) low sector long positive sectors back at = (subst (λ (n : ℕ). n < 2 ^ 64) (sym at.0.disk) sector, (long, positive))
-work_fits number pages noted r t (job.DiskRead m) low sector long positive sectors back at = (subst (λ (n : ℕ). n < 2 ^ 64) (sym at.0.disk) sector, (long, positive))
-work_fits number pages noted r t (job.WriteWord m i) low sector long positive sectors back at = hand_fits pages t.words noted r.frame i i m sectors (back at.3)
-work_fits number pages noted r t (job.Unmap m) low sector long positive sectors back at = tt
-work_fits number pages noted r t (job.GiveUp m) low sector long positive sectors back at = tt
-work_fits number pages noted r t (job.Done status) low sector long positive sectors back at = tt
+-- the sector that it moves next is one of the request's
+moving_fits : (r : Request) (t : Work) (sectors : ℕ) → IsMoving t r → IsShaped r → r.sector + r.count ≤ sectors → sectors ≤ 2 ^ 64 → t.disk < 2 ^ 64
+moving_fits r t sectors x shaped fits sized =
+    let few = within_last r.count (frames_of r) x.place t.within t.moved 1 shaped.frames x.here x.within x.moved shaped.some in
+    let disk = x.disk in
+    omega arith
+
+work_fits : (number : ℕ) (pages : List ℕ) (noted : List (List ℕ)) (sectors k : ℕ) (r : Request) (t : Work) (s : JobStage) → IsSubmitted sectors k r → sectors ≤ 2 ^ 64 → number < 2 ^ 64 → nat_lt 0 number ≡ true
+    → AreSectors noted → (is_write r.transfer ≡ false → ReadAt pages r t.moved t.words noted s) → AtWork r t s → BackFits (Job number) (task.ask_at s t)
+work_fits number pages noted sectors k r t job.Map is sized long positive all back at = let x : IsMoving t r = at.0 in segment_fits number r x.place t.rest t.writes is.shaped is.frames x.here x.rest
+work_fits number pages noted sectors k r t (job.ReadWord m i) is sized long positive all back at = tt
+work_fits number pages noted sectors k r t (job.DiskWrite m) is sized long positive all back at = (moving_fits r t sectors at.0 is.shaped is.sector sized, (long, positive))
+work_fits number pages noted sectors k r t (job.DiskRead m) is sized long positive all back at = (moving_fits r t sectors at.0 is.shaped is.sector sized, (long, positive))
+work_fits number pages noted sectors k r t (job.WriteWord m i) is sized long positive all back at = hand_fits pages t.words noted r t.moved i i m all (back at.3)
+work_fits number pages noted sectors k r t (job.Unmap m) is sized long positive all back at = tt
+work_fits number pages noted sectors k r t (job.GiveUp m) is sized long positive all back at = tt
+work_fits number pages noted sectors k r t (job.Done status) is sized long positive all back at = tt
 
 found_asks : (config : Options) (w : World) (g : Flow) (d : Pipeline) (number p : ℕ) (t : Work) → Stands config w g d → AreNoted d.requests → place_of w.back.jobs.works number ≡ Some p → slice_get w.back.jobs.works p ≡ Some t → (t.number == number) ≡ true → IsWork g.submitted g.fetched t → JobAsks w number
 found_asks config w g d number p t stands noted place here same work =
@@ -126,14 +138,13 @@ found_asks config w g d number p t stands noted place here same work =
     let above : nat_lt 0 number ≡ true = grind (arith, nat_tests) in
     let submitted : IsSubmitted w.front.sectors (t.number - 1) work.r = stands.holds.submitted.each (t.number - 1) work.r work.known in
     let sized = stands.holds.submitted.sized in
-    let sector = submitted.sector in
-    let stands_at : StandsAt d.requests (t.number - 1) (worked t.stage) = stands.holds.stations.works p t here in
+    let stands_at : StandsAt d.requests (t.number - 1) (worked t.stage t.moved) = stands.holds.stations.works p t here in
     let sectors = (noted (t.number - 1) stands_at.q stands_at.at).words in
     let back = stands.holds.stations.reads.working p t work.r stands_at.q here work.known stands_at.at in
     let asked : job_ask_of w.back number ≡ task.ask_at t.stage t = rw (stands.holds.unhalted, place, here) refl in
     record {
       mover = record { widths = long; allowed = above };
-      fits = subst (BackFits (Job number)) (sym asked) (work_fits number w.under.pages (let q : Asked = stands_at.q in q.words) work.r t t.stage submitted.high (omega arith) long above sectors back work.at);
+      fits = subst (BackFits (Job number)) (sym asked) (work_fits number w.under.pages (let q : Asked = stands_at.q in q.words) w.front.sectors (t.number - 1) work.r t t.stage submitted sized long above sectors back work.at);
     }
 
 -- a job that isn't held does nothing

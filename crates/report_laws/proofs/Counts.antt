@@ -1,5 +1,5 @@
--- A front told as many answers as it took responses, but for one whose grant is being ended.
-use Rattle.std.proofs.Common.{◌≡◌, ℕ, ◌+◌, ◌*◌, ◌^◌, ◌==◌, Bool, true, false, if◌then◌else◌, [], ◌∷◌, sym, subst}
+-- A front told as many answers as it took responses, but for one whose grants are being ended.
+use Rattle.std.proofs.Common.{◌≡◌, ℕ, ◌+◌, ◌*◌, ◌/◌, ◌%◌, ◌^◌, ◌==◌, Bool, true, false, if◌then◌else◌, List, [], ◌∷◌, length, sym, subst}
 use Rattle.std.specs.Prelude.{Option, Some, None, Result, Ok, Err, nat_lt, slice_set}
 use Rattle.blk_base.specs.Distance.{distance_of}
 use Rattle.blk_base.specs.declared.ask.FrontAnswer.{FrontAnswer}
@@ -10,21 +10,21 @@ use Rattle.blk_layout.specs.Response.{response_of}
 use Rattle.blk_front.specs.declared.request.Request.{Request}
 use Rattle.blk_front.specs.declared.request.Transfer.{Transfer}
 use Rattle.blk_front.specs.declared.request.Transfer.TheVariants as transfer
-use Rattle.blk_front.specs.Request.{has_data}
-use Rattle.blk_front.specs.Pool.{with_free}
+use Rattle.blk_front.specs.declared.stage.Ending.{Ending}
+use Rattle.blk_front.specs.Request.{has_data, words_in}
 use Rattle.blk_front.specs.declared.stage.Stage.{Stage}
 use Rattle.blk_front.specs.declared.stage.Stage.TheVariants as stage
 use Rattle.blk_front.specs.declared.told.Told.{Told}
 use Rattle.blk_front.specs.declared.told.Told.TheVariants as told
 use Rattle.blk_front.specs.View.{View, next_request}
-use Rattle.blk_front.specs.Step.{broken, looked, issue_stage, loop_step, issued, response_at, is_mapped, at, ended, step_at}
+use Rattle.blk_front.specs.Step.{broken, looked, entry_of, issue_stage, data_stage, granted, loop_step, issued, response_at, is_mapped, at, finished, ended, revoked, sector_told, data_step, step_at}
 use Rattle.machine_pipeline.proofs.Flow.{wrapped}
 use Rattle.machine_pipeline.proofs.Wrapped.{next_wrapped}
 
 -- the consumer of responses, by how many answers were told; nothing is said of a front that broke
 abbrev pub CountsAt : (start answers cons : ℕ) → Stage → Type 0
-CountsAt start answers cons (stage.GrantRead e) = cons ≡ wrapped start (answers + 1)
-CountsAt start answers cons (stage.GrantEnd e before) = cons ≡ wrapped start (answers + 1)
+CountsAt start answers cons (stage.GrantRead place) = cons ≡ wrapped start (answers + 1)
+CountsAt start answers cons (stage.GrantEnd place before) = cons ≡ wrapped start (answers + 1)
 CountsAt start answers cons (stage.Broken word) = Unit {0}
 CountsAt start answers cons s = cons ≡ wrapped start answers
 
@@ -52,12 +52,49 @@ looked_counts start answers v word otherwise e h p =
     either start answers (nat_lt (distance_of v.ring.cons v.ring.prod) (distance_of v.ring.cons word)) (broken word v) (if word == v.ring.cons then otherwise else record v { seen = word; stage = stage.Loop }) tt
     (either start answers (word == v.ring.cons) otherwise (record v { seen = word; stage = stage.Loop }) p (untold start answers v.ring.cons v.told stage.Loop e h))
 
-issue_counts : (start answers cons : ℕ) (r : Request) (way : Transfer) → cons ≡ wrapped start answers → CountsAt start answers cons (issue_stage r way)
-issue_counts start answers cons r transfer.Read h = h
-issue_counts start answers cons r (transfer.Write tag) h = h
+issue_counts : (start answers cons : ℕ) (way : Transfer) → cons ≡ wrapped start answers → CountsAt start answers cons (issue_stage way)
+issue_counts start answers cons transfer.Read h = h
+issue_counts start answers cons (transfer.Write tag) h = h
+
+data_counts : (start answers cons : ℕ) (next : Option Request) (n : ℕ) → cons ≡ wrapped start answers → CountsAt start answers cons (data_stage next n)
+data_counts start answers cons None n h = h
+data_counts start answers cons (Some r) n h = either_stage start answers cons (nat_lt (n + 1) (words_in r)) (stage.Data (n + 1)) (stage.GrantFrame 0) h h
+
+granted_counts : (start answers : ℕ) (v : View) (next : Option Request) (place : ℕ) → v.told ≡ None → v.stage ≡ stage.GrantFlags place → v.ring.cons ≡ wrapped start answers → Counts start answers (granted next place v)
+granted_counts start answers v None place e s h = untold start answers v.ring.cons v.told v.stage e (subst (CountsAt start answers v.ring.cons) (sym s) h)
+granted_counts start answers v (Some r) place e s h =
+    either start answers (nat_lt (place + 1) (length r.frames.items)) (at (stage.GrantFrame (place + 1)) v) (record v { stage = stage.Slot 0; entry = entry_of r })
+    (untold start answers v.ring.cons v.told (stage.GrantFrame (place + 1)) e h) (untold start answers v.ring.cons v.told (stage.Slot 0) e h)
+
+-- a grant of the ending request was ended: the next one is, or its answer is told
+ended_counts : (start answers : ℕ) (v : View) (x : Ending) → v.ring.cons ≡ wrapped start (answers + 1) → Counts start answers (ended x v)
+ended_counts start answers v x h =
+    either start answers (has_data x.request.transfer x.status) (record v { stage = stage.ReadData 0; told = Some (told.Answer x.request.number x.status) })
+    (record (finished x v) { told = Some (told.Answer x.request.number x.status) }) h h
+
+revoked_counts : (start answers : ℕ) (v : View) (ending : Option Ending) (place before : ℕ) → v.told ≡ None → v.stage ≡ stage.GrantEnd place before → v.ring.cons ≡ wrapped start (answers + 1) → Counts start answers (revoked ending place v)
+revoked_counts start answers v None place before e s h = untold start answers v.ring.cons v.told v.stage e (subst (CountsAt start answers v.ring.cons) (sym s) h)
+revoked_counts start answers v (Some x) place before e s h =
+    either start answers (nat_lt (place + 1) (length x.request.frames.items)) (at (stage.GrantRead (place + 1)) v) (ended x v)
+    (untold start answers v.ring.cons v.told (stage.GrantRead (place + 1)) e h) (ended_counts start answers v x h)
+
+-- a sector that is told is no answer
+told_counts : (start answers : ℕ) (v : View) (x : Ending) (n : ℕ) (words : List ℕ) (s : Stage) → v.told ≡ None → CountsAt start answers v.ring.cons s → (let y : View = sector_told x n words v in CountsAt start (with_told answers y.told) y.ring.cons s)
+told_counts start answers v x n words s e h = by_last (n % 128 == 127)
+  where
+    by_last : (b : Bool) → (let y : View = (if b then record v { words = words; told = Some (told.Sector x.request.number (n / 128) words) } else record v { words = words }) in CountsAt start (with_told answers y.told) y.ring.cons s)
+    by_last true = h
+    by_last false = untold start answers v.ring.cons v.told s e h
+
+read_counts : (start answers : ℕ) (v : View) (ending : Option Ending) (n word : ℕ) → v.told ≡ None → v.stage ≡ stage.ReadData n → v.ring.cons ≡ wrapped start answers → Counts start answers (data_step ending n word v)
+read_counts start answers v None n word e s h = untold start answers v.ring.cons v.told v.stage e (subst (CountsAt start answers v.ring.cons) (sym s) h)
+read_counts start answers v (Some x) n word e s h =
+    let words = slice_set v.words (n % 128) word in
+    either start answers (nat_lt (n + 1) (words_in x.request)) (at (stage.ReadData (n + 1)) (sector_told x n words v)) (finished x (sector_told x n words v))
+    (told_counts start answers v x n words (stage.ReadData (n + 1)) e h) (told_counts start answers v x n words stage.Loop e h)
 
 loop_counts : (start answers : ℕ) (v : View) (next : Option Request) (a : FrontAnswer) → v.told ≡ None → v.stage ≡ stage.Loop → v.ring.cons ≡ wrapped start answers → Counts start answers (loop_step v next a)
-loop_counts start answers v (Some r) a e s h = untold start answers v.ring.cons v.told (issue_stage r r.transfer) e (issue_counts start answers v.ring.cons r r.transfer h)
+loop_counts start answers v (Some r) a e s h = untold start answers v.ring.cons v.told (issue_stage r.transfer) e (issue_counts start answers v.ring.cons r.transfer h)
 loop_counts start answers v None (answer.Word word) e s h =
     either start answers (responses_of v.ring v.seen == 0) (looked v word (record v { seen = word; stage = stage.StoreEvent })) (at (stage.ResponseHigh word) v)
     (looked_counts start answers v word (record v { seen = word; stage = stage.StoreEvent }) e h (untold start answers v.ring.cons v.told stage.StoreEvent e h))
@@ -68,7 +105,7 @@ response_counts : (start answers : ℕ) (v : View) (response : Result Response �
 response_counts start answers v response low None e h = tt
 response_counts start answers v (Err word) low (Some found) e h = tt
 response_counts start answers v (Ok response) low (Some found) e h =
-    untold start answers (next_of v.ring.cons) v.told (stage.GrantRead (record { number = found.1.number; transfer = found.1.transfer; frame = found.1.frame; status = response.status })) e (next_wrapped start answers v.ring.cons h)
+    untold start answers (next_of v.ring.cons) v.told (stage.GrantRead 0) e (next_wrapped start answers v.ring.cons h)
 
 pub front_counts : (start answers : ℕ) (s : Stage) (v : View) (a : FrontAnswer) → v.told ≡ None → v.stage ≡ s → CountsAt start answers v.ring.cons s → Counts start answers (step_at s v a)
 front_counts start answers (stage.RingWord k) v a e same h = untold start answers v.ring.cons v.told (if k == 15 then stage.RingFrame else stage.RingWord (k + 1)) e (either_stage start answers v.ring.cons (k == 15) stage.RingFrame (stage.RingWord (k + 1)) h h)
@@ -77,10 +114,10 @@ front_counts start answers stage.RingFence v a e same h = untold start answers v
 front_counts start answers stage.RingFlags v a e same h = untold start answers v.ring.cons v.told stage.NewPort e h
 front_counts start answers stage.NewPort v a e same h = h
 front_counts start answers stage.Loop v a e same h = loop_counts start answers v (next_request v) a e same h
-front_counts start answers (stage.Data r k) v a e same h = untold start answers v.ring.cons v.told (if k == 127 then stage.GrantFrame r else stage.Data r (k + 1)) e (either_stage start answers v.ring.cons (k == 127) (stage.GrantFrame r) (stage.Data r (k + 1)) h h)
-front_counts start answers (stage.GrantFrame r) v a e same h = untold start answers v.ring.cons v.told (stage.GrantFence r) e h
-front_counts start answers (stage.GrantFence r) v a e same h = untold start answers v.ring.cons v.told (stage.GrantFlags r) e h
-front_counts start answers (stage.GrantFlags r) v a e same h = untold start answers v.ring.cons v.told (stage.Slot 0) e h
+front_counts start answers (stage.Data n) v a e same h = untold start answers v.ring.cons v.told (data_stage (next_request v) n) e (data_counts start answers v.ring.cons (next_request v) n h)
+front_counts start answers (stage.GrantFrame place) v a e same h = untold start answers v.ring.cons v.told (stage.GrantFence place) e h
+front_counts start answers (stage.GrantFence place) v a e same h = untold start answers v.ring.cons v.told (stage.GrantFlags place) e h
+front_counts start answers (stage.GrantFlags place) v a e same h = granted_counts start answers v (next_request v) place e same h
 front_counts start answers (stage.Slot k) v a e same h = untold start answers v.ring.cons v.told (if k == 27 then stage.Producer else stage.Slot (k + 1)) e (either_stage start answers v.ring.cons (k == 27) stage.Producer (stage.Slot (k + 1)) h h)
 front_counts start answers stage.Producer v a e same h = untold start answers v.ring.cons v.told (stage.ProducerFence v.ring.prod) e h
 front_counts start answers (stage.ProducerFence old) v a e same h = untold start answers v.ring.cons v.told (stage.RequestEvent old) e h
@@ -88,15 +125,10 @@ front_counts start answers (stage.RequestEvent old) v (answer.Word event) e same
 front_counts start answers stage.Send v a e same h = untold start answers v.ring.cons v.told stage.Loop e h
 front_counts start answers (stage.ResponseHigh low) v (answer.Word high) e same h = untold start answers v.ring.cons v.told (stage.ResponseLast low high) e h
 front_counts start answers (stage.ResponseLast low high) v (answer.Word last) e same h = response_counts start answers v (response_of (low ∷ high ∷ last ∷ [])) low (issued v (low + high * 2 ^ 32)) e h
-front_counts start answers (stage.GrantRead x) v (answer.Word word) e same h = either start answers (is_mapped word) (broken word v) (at (stage.GrantEnd x word) v) tt (untold start answers v.ring.cons v.told (stage.GrantEnd x word) e h)
-front_counts start answers (stage.GrantEnd x before) v (answer.Word word) e same h = either start answers (word == before) (ended v x) (broken word v)
-    (either start answers (has_data x.transfer x.status) (record v { stage = stage.ReadData x 0; told = Some (told.Answer x.number x.status) }) (record v { stage = stage.Loop; pool = with_free v.pool x.frame; told = Some (told.Answer x.number x.status) }) h h)
-    tt
-front_counts start answers (stage.ReadData x k) v (answer.Word word) e same h =
-    either start answers (k == 127)
-    (record v { words = slice_set v.words k word; stage = stage.Loop; pool = with_free v.pool x.frame; told = Some (told.Sector x.number 0 (slice_set v.words k word)) })
-    (record v { words = slice_set v.words k word; stage = stage.ReadData x (k + 1) })
-    h (untold start answers v.ring.cons v.told (stage.ReadData x (k + 1)) e h)
+front_counts start answers (stage.GrantRead place) v (answer.Word word) e same h = either start answers (is_mapped word) (broken word v) (at (stage.GrantEnd place word) v) tt (untold start answers v.ring.cons v.told (stage.GrantEnd place word) e h)
+front_counts start answers (stage.GrantEnd place before) v (answer.Word word) e same h =
+    either start answers (word == before) (revoked v.ending place v) (broken word v) (revoked_counts start answers v v.ending place before e same h) tt
+front_counts start answers (stage.ReadData n) v (answer.Word word) e same h = read_counts start answers v v.ending n word e same h
 front_counts start answers stage.StoreEvent v a e same h = untold start answers v.ring.cons v.told stage.EventFence e h
 front_counts start answers stage.EventFence v a e same h = untold start answers v.ring.cons v.told stage.LookAgain e h
 front_counts start answers stage.LookAgain v (answer.Word word) e same h = looked_counts start answers v word (record v { seen = word; stage = stage.Loop; asleep = true }) e h (untold start answers v.ring.cons v.told stage.Loop e h)

@@ -1,5 +1,5 @@
 -- Whatever happens, each line is one of the grammar, with no text in it.
-use Rattle.std.proofs.Common.{◌≡◌, ℕ, ◌+◌, ◌^◌, ◌<◌, ◌⊎◌, inl, inr, Bool, true, false, if◌then◌else◌, List, [], ◌∷◌, ◌++◌, length, map, refl, sym, ap, ◌∙◌, subst, arith}
+use Rattle.std.proofs.Common.{◌≡◌, ℕ, ◌+◌, ◌^◌, ◌<◌, ◌≤◌, ◌⊎◌, inl, inr, Bool, true, false, if◌then◌else◌, List, [], ◌∷◌, ◌++◌, length, map, refl, sym, ap, ◌∙◌, subst, arith}
 use Rattle.std.specs.Prelude.{Option, Some, None, Result, Ok, Err, slice_get}
 use Rattle.std.specs.List.{AllByRecursion}
 use Rattle.std.proofs.lemmas.Option.{none-some, slice_get_within}
@@ -58,7 +58,7 @@ use Rattle.report_laws.proofs.Words.{AreWords, fresh_words}
 use Rattle.report_laws.proofs.Acts.{ActFits, front_act_fits, back_act_fits}
 use Rattle.report_laws.proofs.Told.{IsGood, AreGood, AreFit, good, both_good, AreFew, shown_fit, front_lines_good, back_lines_good}
 use Rattle.report_laws.proofs.Given.{ShowSectors, shows_sectors}
-use Rattle.report_laws.proofs.Noted.{AreNoted, AreOnes, none_noted, step_shows, noted_after}
+use Rattle.report_laws.proofs.Noted.{AreNoted, AreShort, none_noted, step_shows, noted_after}
 use Rattle.report_laws.proofs.FrontAsks.{front_asks}
 use Rattle.report_laws.proofs.BackAsks.{few_fetched, back_asks, JobAsks, job_asks}
 use Rattle.report_laws.proofs.Maps.{FewMaps}
@@ -68,29 +68,33 @@ use Rattle.machine_pipeline.specs.Step.{CallAt, IsSame, after_step}
 use Rattle.machine_pipeline.specs.Submissions.{submitted_at}
 
 -- each request that was asked is one of the front's
-asked_of : (config : Options) (w : World) (g : Flow) (d : Pipeline) → Stands config w g d → (k : ℕ) (q : Asked) → slice_get d.requests k ≡ Some q → (r : Request) × (q.job ≡ job_of r.transfer r.sector) × IsSubmitted w.front.sectors k r
+asked_of : (config : Options) (w : World) (g : Flow) (d : Pipeline) → Stands config w g d → (k : ℕ) (q : Asked) → slice_get d.requests k ≡ Some q → (r : Request) × (q.job ≡ job_of r.transfer r.sector r.count) × IsSubmitted w.front.sectors k r
 asked_of config w g d stands k q e =
     let within = slice_get_within d.requests k q e in
     let many = stands.holds.stations.known.as_many in
     let its = get_within g.submitted k (omega arith) in
     (its.0, stands.holds.stations.known.each k its.0 q its.1 e, stands.holds.submitted.each k its.0 its.1)
 
-one_place : (way : Transfer) (sector : ℕ) → places_of (job_of way sector) ≡ 1
-one_place transfer.Read sector = refl
-one_place (transfer.Write tag) sector = refl
+places_are : (way : Transfer) (sector count : ℕ) → places_of (job_of way sector count) ≡ count
+places_are transfer.Read sector count = refl
+places_are (transfer.Write tag) sector count = refl
 
-all_ones : (config : Options) (w : World) (g : Flow) (d : Pipeline) → Stands config w g d → AreOnes d.requests
-all_ones config w g d stands k q e =
+all_short : (config : Options) (w : World) (g : Flow) (d : Pipeline) → Stands config w g d → AreShort d.requests
+all_short config w g d stands k q e =
     let its = asked_of config w g d stands k q e in
     let r : Request = its.0 in
-    ap places_of its.1 ∙ one_place r.transfer r.sector
+    let is : IsSubmitted w.front.sectors k r = its.2 in
+    let shaped = is.shaped in
+    let few = shaped.few in
+    let places : places_of q.job ≡ r.count = ap places_of its.1 ∙ places_are r.transfer r.sector r.count in
+    omega arith
 
 few_asked : (config : Options) (w : World) (g : Flow) (d : Pipeline) → Stands config w g d → AreNoted d.requests → AreFew d.requests
 few_asked config w g d stands noted =
     let many = stands.holds.stations.known.as_many in
     let counted = stands.holds.submitted.counted in
     let few = stands.holds.indices.few in
-    record { few = omega arith; ones = all_ones config w g d stands; noted = noted }
+    record { few = omega arith; short = all_short config w g d stands; noted = noted }
 
 asked_fits : (config : Options) (w : World) (g : Flow) (d : Pipeline) (k : ℕ) (q : Asked) → Stands config w g d → slice_get d.requests k ≡ Some q → JobHasWidths q.job
 asked_fits config w g d k q stands e =
@@ -99,11 +103,14 @@ asked_fits config w g d k q stands e =
     let is : IsSubmitted w.front.sectors k r = its.2 in
     let sector = is.sector in
     let sized = stands.holds.submitted.sized in
-    subst JobHasWidths (sym its.1) (by_way r.transfer is.tag (omega arith))
+    let shaped = is.shaped in
+    let some = shaped.some in
+    let few = shaped.few in
+    subst JobHasWidths (sym its.1) (by_way r.transfer is.tag (omega arith) some few)
   where
-    by_way : (way : Transfer) {sector : ℕ} → tag_of way < 2 ^ 32 → sector < 2 ^ 64 → JobHasWidths (job_of way sector)
-    by_way transfer.Read small low = (low, (omega arith, omega arith))
-    by_way (transfer.Write tag) small low = (low, (omega arith, omega arith), small)
+    by_way : (way : Transfer) {sector count : ℕ} → tag_of way < 2 ^ 32 → sector < 2 ^ 64 → 1 ≤ count → count ≤ 88 → JobHasWidths (job_of way sector count)
+    by_way transfer.Read small low some few = (low, (omega arith, omega arith))
+    by_way (transfer.Write tag) small low some few = (low, (omega arith, omega arith), small)
 
 -- fewer mappings than 2 ^ 64 are made
 few_made : (config : Options) (w : World) (g : Flow) (d : Pipeline) → Stands config w g d → FewMaps w.under.grants.made w.back → w.under.grants.made + 1 < 2 ^ 64
@@ -143,7 +150,7 @@ went_fit {v = v} config w g d stands noted shows gone = shown_fit _ _ _ d gone.s
 unbroken : (config : Options) (w : World) (g : Flow) (d : Pipeline) (word : ℕ) → Stands config w g d → w.front.stage ≡ front_stage.Broken word → ⊥
 unbroken config w g d word stands e =
     let h : Holds config w g d w.front.stage w.back.stage = stands.holds in
-    subst (FrontAt g.start g.pushed g.taken g.front_seen g.submitted g.replies (front.next_request w.front) w.front.entry) e h.front_at
+    subst (FrontAt g.start g.pushed g.taken g.front_seen g.submitted g.replies (front.next_request w.front) w.front.entry w.front.ending) e h.front_at
 
 front_good : (config : Options) (before : List Line) (w : World) (act : Option FrontAct) → IsPlain config → (is : IsWell config before w) → IsPermitted w FrontMoves → front_turn w ≡ act → ShowSectors (front_shows w act) → HasGone None IsSame config (front_shows w act) (front_after w act) is.pipeline → ShowsGood (front_shows w act) (front_after w act)
 front_good config before w None plain is within e shows gone = record { good_lines = tt; words = is.words; few = is.few }
@@ -227,7 +234,7 @@ all_good config (h ∷ hs) before w plain is may within =
       flow = gone.flow;
       pipeline = after_step is.pipeline gone.step;
       stands = gone.stands;
-      noted = noted_after is.pipeline gone.step is.noted (all_ones config w is.flow is.pipeline is.stands) gone.does.allowed (step_shows is.pipeline gone.step gone.does sectors);
+      noted = noted_after is.pipeline gone.step is.noted (all_short config w is.flow is.pipeline is.stands) gone.does.allowed (step_shows is.pipeline gone.step gone.does sectors);
       follows = follows_happens w h before is.stands.safe within.0 is.follows;
       words = shows.words;
       few = shows.few;

@@ -1,5 +1,5 @@
 -- Each move of the back or a job leaves few mappings made.
-use Rattle.std.proofs.Common.{◌≡◌, ℕ, ◌+◌, ◌^◌, ◌<◌, ◌≤◌, ◌==◌, Bool, true, false, cond, if◌then◌else◌, List, [], ◌∷◌, refl, sym, ap, ◌∙◌, subst, arith, true≢false}
+use Rattle.std.proofs.Common.{◌≡◌, ℕ, ◌+◌, ◌-◌, ◌^◌, ◌<◌, ◌≤◌, ◌==◌, Bool, true, false, if◌then◌else◌, List, [], ◌∷◌, length, refl, sym, ap, ◌∙◌, subst, arith, true≢false}
 use Rattle.std.specs.Prelude.{Option, Some, None, Result, Ok, Err, slice_get, slice_set}
 use Rattle.std.proofs.lemmas.Option.{none-some}
 use Rattle.blk_base.specs.Options.{Options}
@@ -23,7 +23,6 @@ use Rattle.blk_layout.specs.declared.segment.Segment.{Segment}
 use Rattle.pipeline_laws.specs.Pipeline.{Pipeline}
 use Rattle.hypervisor.specs.Hypervisor.{Hypervisor}
 use Rattle.hypervisor.specs.Act.{BackAct, Outcome, Took, back_act, map_act, bind_act, wait_act}
-use Rattle.blk_front.specs.declared.request.Request.{Request}
 use Rattle.back_jobs.specs.declared.stage.Stage.{Stage as JobStage}
 use Rattle.back_jobs.specs.declared.stage.Stage.TheVariants as job
 use Rattle.back_jobs.specs.Task as task
@@ -38,10 +37,10 @@ use Rattle.blk_back.specs.Step.{step_at, step_of, job_ask_of, job_step}
 use Rattle.split_model.specs.World.{World}
 use Rattle.split_model.specs.Happening.{back_turn, job_turn}
 use Rattle.split_model.proofs.SafeActs.{of_back, back_test, of_read, of_disk}
-use Rattle.machine_pipeline.proofs.Flow.{Flow, segment_for}
-use Rattle.machine_pipeline.proofs.Holds.{Stands, AtWork, IsWork}
-use Rattle.machine_pipeline.proofs.Lists.{all_at, found_at, count_set}
-use Rattle.report_laws.proofs.Maps.{maps_next, ring_to_map, FewAt, FewMaps, step_few, ring_few}
+use Rattle.machine_pipeline.proofs.Flow.{Flow}
+use Rattle.machine_pipeline.proofs.Holds.{Stands, IsWork}
+use Rattle.machine_pipeline.proofs.Lists.{all_at, found_at, sum_set}
+use Rattle.report_laws.proofs.Maps.{maps_left, work_maps, ring_to_map, FewAt, FewMaps, step_few, ring_few}
 use Rattle.report_laws.proofs.BackAsks.{few_fetched}
 
 abbrev is_map : BackAsk → Bool
@@ -104,70 +103,79 @@ back_few config w g d a stands few e =
     let count = stands.holds.indices.count in
     back_few_at w.back.stage w.back w.under a refl (omega arith) e few
 
--- a job maps once
-sector_unmapped : (writes : Bool) (m : Mapping) → maps_next (sector_stage writes m) ≡ false
-sector_unmapped true m = refl
-sector_unmapped false m = refl
+-- a job maps each of its segments once
+sector_maps : (writes : Bool) (m : Mapping) (rest : List Segment) → maps_left (sector_stage writes m) rest ≡ length rest - 1
+sector_maps true m rest = refl
+sector_maps false m rest = refl
 
-either_stage : (b : Bool) (s s' : JobStage) → maps_next s ≡ false → maps_next s' ≡ false → maps_next (if b then s else s') ≡ false
-either_stage true s s' p q = p
-either_stage false s s' p q = q
+either_stage : (b : Bool) (s s' : JobStage) (rest : List Segment) (n : ℕ) → maps_left s rest ≤ n → maps_left s' rest ≤ n → maps_left (if b then s else s') rest ≤ n
+either_stage true s s' rest n p q = p
+either_stage false s s' rest n p q = q
 
-either_work : (b : Bool) (t t' : Work) → maps_next t.stage ≡ false → maps_next t'.stage ≡ false → maps_next (let x : Work = if b then t else t' in x.stage) ≡ false
-either_work true t t' p q = p
-either_work false t t' p q = q
+either_work : (b : Bool) (t t' : Work) (n : ℕ) → work_maps t ≤ n → work_maps t' ≤ n → work_maps (if b then t else t') ≤ n
+either_work true t t' n p q = p
+either_work false t t' n p q = q
 
-last_segment : (t : Work) (r : Request) → t.rest ≡ segment_for r ∷ [] → maps_next (let x : Work = next_segment t (rest_of t.rest) in x.stage) ≡ false
-last_segment t r e = subst (λ (rest : List Segment). maps_next (let x : Work = next_segment t (rest_of rest) in x.stage) ≡ false) (sym e) refl
+next_maps : (t : Work) (m : Mapping) → work_maps (next_sector t m) ≤ length t.rest - 1
+next_maps t m =
+    let sector = sector_maps t.writes m t.rest in
+    either_work (t.within == last_of t.rest) (record t { stage = job.Unmap m }) (record t { within = t.within + 1; stage = sector_stage t.writes m }) (length t.rest - 1) (omega arith) (omega arith)
 
-later_unmapped : (r : Request) (t : Work) (s : JobStage) (a : BackAnswer) → maps_next s ≡ false → t.stage ≡ s → AtWork r t s → maps_next (let x : Work = task.step_at s t a in x.stage) ≡ false
-later_unmapped r t job.Map a free same at = absurd (true≢false free)
-later_unmapped r t (job.ReadWord m i) (answer.Word word) free same at = either_stage (i == 127) (job.DiskWrite m) (job.ReadWord m (i + 1)) refl refl
-later_unmapped r t (job.DiskWrite m) answer.Done free same at =
-    let next = counted t in
-    either_work (next.within == last_of next.rest) (record next { stage = job.Unmap m }) (record next { within = next.within + 1; stage = sector_stage next.writes m }) refl (sector_unmapped next.writes m)
-later_unmapped r t (job.DiskWrite m) answer.DiskFailed free same at = refl
-later_unmapped r t (job.DiskRead m) (answer.Sector words) free same at = refl
-later_unmapped r t (job.DiskRead m) answer.DiskFailed free same at = refl
-later_unmapped r t (job.WriteWord m i) answer.Done free same at =
-    either_work (i == 127) (next_sector t m) (record t { stage = job.WriteWord m (i + 1) })
-    (either_work (t.within == last_of t.rest) (record t { stage = job.Unmap m }) (record t { within = t.within + 1; stage = sector_stage t.writes m }) refl (sector_unmapped t.writes m)) refl
-later_unmapped r t (job.Unmap m) answer.Done free same at = last_segment t r at.0
-later_unmapped r t (job.GiveUp m) answer.Done free same at = refl
-later_unmapped r t s a free same at = ap maps_next same ∙ free
+segment_maps : (t : Work) (rest : List Segment) → work_maps (next_segment t rest) ≤ length rest
+segment_maps t [] = omega arith
+segment_maps t (s ∷ rest) = omega arith
 
-work_unmapped : (s : JobStage) (t : Work) → maps_next s ≡ false → is_map (task.ask_at s t) ≡ false
+rest_maps : (rest : List Segment) → length (rest_of rest) ≤ length rest - 1
+rest_maps [] = omega arith
+rest_maps (s ∷ rest) = omega arith
+
+abbrev is_mapping : JobStage → Bool
+is_mapping job.Map = true
+is_mapping s = false
+
+later_maps : (t : Work) (s : JobStage) (a : BackAnswer) → is_mapping s ≡ false → t.stage ≡ s → work_maps (task.step_at s t a) ≤ maps_left s t.rest
+later_maps t job.Map a free same = absurd (true≢false free)
+later_maps t (job.ReadWord m i) (answer.Word word) free same = either_stage (i == 127) (job.DiskWrite m) (job.ReadWord m (i + 1)) t.rest (length t.rest - 1) (omega arith) (omega arith)
+later_maps t (job.DiskWrite m) answer.Done free same = next_maps (counted t) m
+later_maps t (job.DiskWrite m) answer.DiskFailed free same = omega arith
+later_maps t (job.DiskRead m) (answer.Sector words) free same = omega arith
+later_maps t (job.DiskRead m) answer.DiskFailed free same = omega arith
+later_maps t (job.WriteWord m i) answer.Done free same = either_work (i == 127) (next_sector t m) (record t { stage = job.WriteWord m (i + 1) }) (length t.rest - 1) (next_maps t m) (omega arith)
+later_maps t (job.Unmap m) answer.Done free same = let rest = rest_maps t.rest in let next = segment_maps t (rest_of t.rest) in omega arith
+later_maps t (job.GiveUp m) answer.Done free same = omega arith
+later_maps t s a free same = let stays : work_maps t ≡ maps_left s t.rest = ap (λ (x : JobStage). maps_left x t.rest) same in omega arith
+
+work_unmapped : (s : JobStage) (t : Work) → is_mapping s ≡ false → is_map (task.ask_at s t) ≡ false
 work_unmapped job.Map t free = absurd (true≢false free)
 work_unmapped s t free = refl
 
--- the mappings that were made, and one more where this job maps next
-abbrev MadeWith : ℕ → JobStage → ℕ
-MadeWith made s = made + cond (maps_next s) 1 0
+map_few : (h : Hypervisor) (number gref : ℕ) (mode : Mode) (t : Work) (n : ℕ) (verdict : Result ℕ MapRefusal) → length t.rest ≡ n + 1
+    → (let a : BackAct = map_act h (Job number) gref mode verdict in a.under.grants.made + work_maps (task.step_at job.Map t a.answer)) ≤ h.grants.made + (n + 1)
+map_few h number gref mode t n (Ok frame) e = let sector = sector_maps t.writes (record { number = h.grants.made + 1; gref = gref; mode = mode }) t.rest in omega arith
+map_few h number gref mode t n (Err refusal) e = omega arith
 
-made_few : (made : ℕ) (s : JobStage) → maps_next s ≡ false → MadeWith (made + 1) s ≤ MadeWith made job.Map
-made_few made s free = let none : ◌≡◌ {A = ℕ} (cond (maps_next s) 1 0) 0 = ap (λ (b : Bool). cond b 1 0) free in omega arith
-
-map_few : (h : Hypervisor) (number gref : ℕ) (mode : Mode) (t : Work) (verdict : Result ℕ MapRefusal) → (let a : BackAct = map_act h (Job number) gref mode verdict in MadeWith a.under.grants.made (let x : Work = task.step_at job.Map t a.answer in x.stage)) ≤ MadeWith h.grants.made job.Map
-map_few h number gref mode t (Ok frame) = made_few (h.grants.made) (sector_stage t.writes (record { number = h.grants.made + 1; gref = gref; mode = mode })) (sector_unmapped t.writes (record { number = h.grants.made + 1; gref = gref; mode = mode }))
-map_few h number gref mode t (Err refusal) = omega arith
-
-still_few : (made made' : ℕ) (s s' : JobStage) → made' ≡ made → maps_next s' ≡ false → MadeWith made' s' ≤ MadeWith made s
-still_few made made' s s' same free = let none : ◌≡◌ {A = ℕ} (cond (maps_next s') 1 0) 0 = ap (λ (b : Bool). cond b 1 0) free in omega arith
-
-work_few : (number : ℕ) (h : Hypervisor) (r : Request) (t : Work) (s : JobStage) (o : Outcome) (a : BackAct) → t.stage ≡ s → AtWork r t s → back_act h (Job number) (task.ask_at s t) o ≡ Some a → MadeWith a.under.grants.made (let x : Work = task.step_at s t a.answer in x.stage) ≤ MadeWith h.grants.made s
-work_few number h r t job.Map o a same at e =
-    let asks : back_act h (Job number) (ask.Map (r.frame + 6) (mode_of t.writes)) o ≡ Some a = subst (λ (rest : List Segment). back_act h (Job number) (map_ask rest t.writes) o ≡ Some a) at.rest e in
-    of_back (λ (x : BackAct). MadeWith x.under.grants.made (let y : Work = task.step_at job.Map t x.answer in y.stage) ≤ MadeWith h.grants.made job.Map) _ a (map_few h number (r.frame + 6) (mode_of t.writes) t (verdict_at h.pages (r.frame + 6) (mode_of t.writes))) asks
-work_few number h r t s o a same at e =
-    still_few h.grants.made a.under.grants.made s _ (unmade h (Job number) (task.ask_at s t) o a (work_unmapped s t refl) e) (later_unmapped r t s a.answer refl same at)
+work_few : (number : ℕ) (h : Hypervisor) (t : Work) (s : JobStage) (o : Outcome) (a : BackAct) → t.stage ≡ s → back_act h (Job number) (task.ask_at s t) o ≡ Some a → a.under.grants.made + work_maps (task.step_at s t a.answer) ≤ h.grants.made + maps_left s t.rest
+work_few number h t job.Map o a same e = by_rest t.rest refl e
+  where
+    by_rest : (rest : List Segment) → t.rest ≡ rest → back_act h (Job number) (map_ask rest t.writes) o ≡ Some a → a.under.grants.made + work_maps (task.step_at job.Map t a.answer) ≤ h.grants.made + length t.rest
+    by_rest [] is f = absurd (none-some a f)
+    by_rest (s ∷ rest) is f =
+        let all : length t.rest ≡ length (s ∷ rest) = ap length is in
+        let long : length t.rest ≡ length rest + 1 = omega arith in
+        let few = of_back (λ (x : BackAct). x.under.grants.made + work_maps (task.step_at job.Map t x.answer) ≤ h.grants.made + (length rest + 1)) _ a (map_few h number s.gref (mode_of t.writes) t (length rest) (verdict_at h.pages s.gref (mode_of t.writes)) long) f in
+        omega arith
+work_few number h t s o a same e =
+    let none = unmade h (Job number) (task.ask_at s t) o a (work_unmapped s t refl) e in
+    let later = later_maps t s a.answer refl same in
+    omega arith
 
 found_few : (config : Options) (w : World) (g : Flow) (d : Pipeline) (number p : ℕ) (t : Work) (o : Outcome) (a : BackAct) → Stands config w g d → FewMaps w.under.grants.made w.back → job_turn w number o ≡ Some a → place_of w.back.jobs.works number ≡ Some p → slice_get w.back.jobs.works p ≡ Some t → IsWork g.submitted g.fetched t → FewMaps a.under.grants.made (job_step w.back number a.answer)
 found_few config w g d number p t o a stands few e place here work =
     let asked : job_ask_of w.back number ≡ task.ask_at t.stage t = rw (stands.holds.unhalted, place, here) refl in
     let acts : back_act w.under (Job number) (task.ask_at t.stage t) o ≡ Some a = subst (λ (x : BackAsk). back_act w.under (Job number) x o ≡ Some a) asked e in
-    let less = work_few number w.under work.r t t.stage o a refl work.at acts in
+    let less = work_few number w.under t t.stage o a refl acts in
     let now : Work = task.step_at t.stage t a.answer in
-    let set = count_set (λ (x : Work). maps_next x.stage) w.back.jobs.works p t now here in
+    let set = sum_set work_maps w.back.jobs.works p t now here in
     let works : (let v : View = job_step w.back number a.answer in v.jobs.works) ≡ slice_set w.back.jobs.works p now = rw (place, here) refl in
     subst (λ (ws : List Work). FewAt a.under.grants.made ws w.back.stage w.back.fetched) (sym works) (omega arith)
 

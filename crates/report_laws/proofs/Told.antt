@@ -1,5 +1,5 @@
 -- The lines that tell what came of a move are lines of the grammar without text, as the pipeline's steps are.
-use Rattle.std.proofs.Common.{◌≡◌, ℕ, ◌+◌, ◌^◌, ◌<◌, ◌&&◌, Bool, true, false, List, [], ◌∷◌, ◌++◌, length, refl, sym, ap, subst, arith, true≢false}
+use Rattle.std.proofs.Common.{◌≡◌, ℕ, ◌+◌, ◌^◌, ◌<◌, ◌≤◌, ◌&&◌, Bool, true, false, List, [], ◌∷◌, ◌++◌, length, refl, sym, ap, subst, arith, true≢false}
 use Rattle.std.specs.Prelude.{Option, Some, None}
 use Rattle.std.specs.List.{AllByRecursion, list_all}
 use Rattle.std.proofs.lemmas.Option.{slice_get_within}
@@ -22,7 +22,7 @@ use Rattle.pipeline_laws.specs.Pipeline.{Pipeline, Step, Submits, Refuses, Moves
 use Rattle.pipeline_laws.specs.Allowed.{IsAt, IsAllowed, May, is_aside}
 use Rattle.machine_pipeline.specs.Step.{Does, IsAllowedStep, shown_of}
 use Rattle.report_laws.proofs.Given.{ShowSectors}
-use Rattle.report_laws.proofs.Noted.{AreNoted, AreOnes, TellsFirst, step_shows}
+use Rattle.report_laws.proofs.Noted.{AreNoted, AreShort, TellsWord, step_shows}
 
 -- a line of the grammar, with nothing unused behind its texts
 pub record IsGood (line : Line) : Type 0 where
@@ -39,10 +39,10 @@ pub both_good : (a b : List Line) → AreGood a → AreGood b → AreGood (a ++ 
 both_good [] b p q = q
 both_good (line ∷ a) b p q = (p.0, both_good a b p.1 q)
 
--- fewer requests than 2 ^ 32 were asked, each of one place, and what was noted of them is sectors
+-- fewer requests than 2 ^ 32 were asked, each of few places, and what was noted of them is sectors
 pub record AreFew (asked : List Asked) : Type 0 where
   pub few : length asked < 2 ^ 32
-  pub ones : AreOnes asked
+  pub short : AreShort asked
   pub noted : AreNoted asked
 
 -- of the lines that tell of a request, each is a line of the grammar
@@ -76,21 +76,21 @@ move_fit d k x move all shows at may = by_move move shows at may
     small : k + 1 < 2 ^ 64
     small = let within = slice_get_within d.requests k x at.here in let few = all.few in omega arith
 
-    one : places_of x.job ≡ 1
-    one = all.ones k x at.here
+    short : places_of x.job ≤ 88
+    short = all.short k x at.here
 
     by_move : (move : Move) → ShowSectors (move_lines k move) → IsAt d k x (station_before x.job move) → May d k x move → AreFit (move_lines k move)
-    by_move (Fills index) shows here may = (good (lines.Effect (k + 1) index) (small, omega (arith, may.1, one)) refl refl, tt)
-    by_move (Reads index words) shows here may = (good (lines.EffectRead (k + 1) index words) (small, omega (arith, may.1, one), shows.0) refl refl, tt)
+    by_move (Fills index) shows here may = (good (lines.Effect (k + 1) index) (small, omega (arith, may.1, short)) refl refl, tt)
+    by_move (Reads index words) shows here may = (good (lines.EffectRead (k + 1) index words) (small, omega (arith, may.1, short), shows.0) refl refl, tt)
     by_move Flushes shows here may = (tt, tt)
     by_move Trims shows here may = (tt, tt)
-    by_move (Fails index) shows here may = (good (lines.Fault (k + 1) index) (small, omega (arith, may.0, one)) refl refl, tt)
+    by_move (Fails index) shows here may = (good (lines.Fault (k + 1) index) (small, omega (arith, may.0, short)) refl refl, tt)
     by_move (Replies status) shows here may = (good (lines.Reply (k + 1) status) small refl refl, tt)
     by_move (Answers status) shows here may = (good (lines.Answer (k + 1) status) small refl refl, tt)
     by_move (Tells index words) shows here may =
         let its = all.noted k x here.here in
-        let first : index ≡ 0 = subst TellsFirst here.there its.first in
-        (good (lines.Data (k + 1) index words) (small, omega arith, its.words index words may) refl refl, tt)
+        let few : index < 2 ^ 32 = subst TellsWord here.there its.told in
+        (good (lines.Data (k + 1) index words) (small, few, its.words index words may) refl refl, tt)
     by_move move shows here may = tt
 
 step_fit : (d : Pipeline) (s : Step) → AreFew d.requests → ShowSectors (step_lines d s) → ((job : Job) → s ≡ Submits job → JobHasWidths job) → IsAllowed d s → AreFit (step_lines d s)

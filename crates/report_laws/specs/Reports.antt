@@ -18,7 +18,7 @@ OfEachReport Rule = (config : Options) (detail : Detail) (history : List Happeni
 abbrev pub OfEachEnded : (Options → Detail → List Line → Type 0) → Type 0
 OfEachEnded Rule = (config : Options) (detail : Detail) (history : List Happening) → Rule config detail (kept_of detail (ended_report_of config detail history))
 
--- of the report of each history of reads and writes of one sector, on a ring of one page over a disk that may be written
+-- of the report of each history of reads and writes, on a ring of one page over a disk that may be written
 abbrev pub OfPlainReports : (Options → Detail → List Line → Type 0) → Type 0
 OfPlainReports Rule =
     (config : Options) (detail : Detail) (history : List Happening) → IsPlain config → AreServed history (start_of config)

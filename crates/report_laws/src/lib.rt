@@ -3,7 +3,7 @@
 //! (`io/ring.h`), and its text gives back exactly its lines. The machine is the pure function of
 //! `split_model`; each law is over every list of happenings, of what a recorder keeps of the
 //! report, so with and without the lines of moves (`OfEachReport`), and where it says `OfPlain`
-//! the premises are those of `machine_pipeline`: reads and writes of one sector, of which the disk
+//! the premises are those of `machine_pipeline`: reads and writes, of which the disk
 //! gives 128 words of 32 bits. What obeys a rule obeys it up to each of its lines.
 #![tactic(auto)]
 

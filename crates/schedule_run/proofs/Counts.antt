@@ -1,21 +1,31 @@
 -- How many happenings an event makes at most, in a machine that events alone led to.
-use Rattle.std.proofs.Common.{◌≡◌, ℕ, zero, suc, ◌+◌, ◌*◌, ◌^◌, ◌≤◌, inl, inr, Bool, true, false, if◌then◌else◌, List, [], ◌∷◌, ◌++◌, length, refl, ap, sym, ◌∙◌, subst, arith, length-append}
-use Rattle.std.specs.Prelude.{replicate}
+use Rattle.std.proofs.Common.{◌≡◌, ℕ, zero, suc, ◌+◌, ◌-◌, ◌*◌, ◌^◌, ◌≤◌, inl, inr, Bool, true, false, if◌then◌else◌, List, [], ◌∷◌, ◌++◌, length, refl, ap, sym, ◌∙◌, subst, arith, length-append}
+use Rattle.std.specs.Prelude.{replicate, sum_by, Option, Some, None, ◌==◌}
+use Rattle.std.proofs.lemmas.List.Sums.{sum_by-le}
 use Rattle.std.proofs.lemmas.Bool.Decides.{nat_tests}
 use Rattle.blk_base.specs.Options.{Options}
 use Rattle.schedule_text.specs.Event.{is_number}
 use Rattle.schedule_text.specs.declared.event.Event.{Event}
 use Rattle.schedule_text.specs.declared.event.Event.TheVariants as events
-use Rattle.blk_front.specs.Submit.{unfinished, is_connected}
+use Rattle.blk_front.specs.declared.request.Request.{Request}
+use Rattle.blk_front.specs.declared.stage.Ending.{Ending}
+use Rattle.blk_front.specs.declared.stage.Stage.{Stage as FrontStage}
+use Rattle.blk_front.specs.declared.stage.Stage.TheVariants as front
+use Rattle.blk_front.specs.Submit.{unfinished, sectors_owed, ending_of, ending_sectors, is_connected}
+use Rattle.pipeline_laws.specs.Pipeline.{Pipeline}
 use Rattle.split_model.specs.World.{World, start_of, is_quiet}
 use Rattle.split_model.specs.Happening.{Happening, FrontMoves, BackMoves, Settles, happens, after, job_turn}
-use Rattle.split_model.specs.Kind.{is_carried, connecting, front_move, front_moves, back_moves, AreEachJobs, round_start, IsBeginning, IsRoundSoFar, AreRounds, never, settle_bound, AreRoundsSoFar, IsSettling, IsSettlingSoFar, Makes, MakesSoFar, AreOf, AreOfSoFar, AreOfAll}
+use Rattle.split_model.specs.Kind.{is_carried, connecting, front_move, front_moves, back_moves, AreEachJobs, round_start, IsBeginning, IsRoundSoFar, AreRounds, never, settle_bound, most_rounds, AreRoundsSoFar, IsSettling, IsSettlingSoFar, Makes, MakesSoFar, AreOf, AreOfSoFar, AreOfAll}
 use Rattle.split_model.specs.Safe.{above}
 use Rattle.split_model.proofs.Running.{after-append}
 use Rattle.split_model.proofs.Joining.{job_above, next_above}
 use Rattle.split_model.proofs.SafeGrowth.{above_few}
 use Rattle.machine_pipeline.specs.Plain.{IsPlain}
 use Rattle.machine_pipeline.specs.Allowed.{AreServed}
+use Rattle.machine_pipeline.proofs.Flow.{Flow, ending_at}
+use Rattle.machine_pipeline.proofs.Holds.{Holds}
+use Rattle.machine_pipeline.proofs.Lists.{all_from}
+use Rattle.machine_pipeline.proofs.Frames.{is_submitted, ending_is}
 use Rattle.machine_pipeline.proofs.Together.{always_stands}
 use Rattle.machine_pipeline.proofs.KindsFront.{start_connects, connects_after}
 use Rattle.machine_pipeline.proofs.KindsEvents.{served_append, served_first, event_served, event_so_far_served}
@@ -48,6 +58,30 @@ allowed_rest (h ∷ first) rest w p = allowed_rest first rest (happens w h) p.1
 record IsFew (w : World) : Type 0 where
   works : length w.back.jobs.works ≤ 32
   requests : unfinished w.front ≤ 32
+  sectors : sectors_owed w.front ≤ 33 * 88
+
+-- nor sectors that they move
+ending_few : (s : FrontStage) (ending : Option Ending) → ((e : Ending) → ending_at s ending ≡ Some e → (let r : Request = e.request in r.count ≤ 88)) → (if ending_of s == 0 then 0 else ending_sectors ending) ≤ 88
+ending_few (front.GrantRead place) None few = omega arith
+ending_few (front.GrantEnd place before) None few = omega arith
+ending_few (front.ReadData n) None few = omega arith
+ending_few (front.GrantRead place) (Some e) few = few e refl
+ending_few (front.GrantEnd place before) (Some e) few = few e refl
+ending_few (front.ReadData n) (Some e) few = few e refl
+ending_few s ending few = omega arith
+
+sectors_few : (config : Options) (w : World) (g : Flow) (d : Pipeline) → Holds config w g d w.front.stage w.back.stage → sectors_owed w.front ≤ 88 * length w.front.requests + 88
+sectors_few config w g d h =
+    let all = sum_by-le (λ (r : Request). r.count) 88 w.front.requests (all_from (λ (r : Request). r.count ≤ 88) w.front.requests (λ i r e.
+    let is = is_submitted config w g d w.front.stage w.back.stage h i r e in
+    let shaped = is.shaped in
+    shaped.few)) in
+    let last = ending_few w.front.stage w.front.ending (λ e same.
+    let ending = ending_is _ _ _ _ _ _ _ _ w.front.ending w.front.stage e h.front_at same in
+    let its = h.submitted.each (e.request.number - 1) e.request ending.known in
+    let shaped = its.shaped in
+    shaped.few) in
+    omega arith
 
 few_after : (config : Options) (history : List Happening) → IsPlain config → AreServed history (start_of config) → IsFew (after history (start_of config))
 few_after config history plain may =
@@ -60,7 +94,8 @@ few_after config history plain may =
     let all = indices.all in
     let held = indices.held in
     let room = indices.room in
-    record { works = omega arith; requests = omega arith }
+    let sectors = sectors_few config (after history (start_of config)) gone.flow gone.pipeline holds in
+    record { works = omega arith; requests = omega arith; sectors = omega arith }
 
 few_here : (w : World) → IsReached w → IsFew w
 few_here w r = subst IsFew (sym r.here) (few_after r.config r.history r.plain r.allowed)
@@ -126,10 +161,10 @@ rounds_so_far_few test bound w hs r may are =
     let both : length hs ≡ length are.whole + length are.begun = ap length are.all ∙ length-append are.whole are.begun in
     omega arith
 
-settle_few : (w : World) → IsReached w → settle_bound w ≤ 148000
-settle_few w r = let few = few_here w r in let requests = few.requests in omega arith
+settle_few : (w : World) → IsReached w → settle_bound w ≤ most_rounds
+settle_few w r = let few = few_here w r in let requests = few.requests in let sectors = few.sectors in omega arith
 
-settling_few : (w : World) (hs : List Happening) → IsReached w → AreServed hs w → IsSettling w hs → length hs ≤ 10 ^ 8
+settling_few : (w : World) (hs : List Happening) → IsReached w → AreServed hs w → IsSettling w hs → length hs ≤ 10 ^ 9
 settling_few w hs r may is =
     let here = subst (λ (l : List Happening). AreServed l w) is.all may in
     let are = is.are_rounds in
@@ -139,7 +174,7 @@ settling_few w hs r may is =
     let both : length hs ≡ length is.rounds + 1 = ap length is.all ∙ length-append is.rounds (Settles ∷ []) in
     omega arith
 
-settling_so_far_few : (w : World) (hs : List Happening) → IsReached w → AreServed hs w → IsSettlingSoFar w hs → length hs ≤ 10 ^ 8
+settling_so_far_few : (w : World) (hs : List Happening) → IsReached w → AreServed hs w → IsSettlingSoFar w hs → length hs ≤ 10 ^ 9
 settling_so_far_few w hs r may (inl are) = let bound = settle_few w r in let rounds = rounds_so_far_few is_quiet (settle_bound w) w hs r may are in omega arith
 settling_so_far_few w hs r may (inr is) = settling_few w hs r may is
 
@@ -153,7 +188,7 @@ same_length : (n : ℕ) (h : Happening) → length (replicate n h) ≡ n
 same_length zero h = refl
 same_length (suc n) h = let rest = same_length n h in omega arith
 
-front_moves_few : (w : World) (n : ℕ) → n ≤ 1000000 → length (front_moves w n) ≤ 10 ^ 8
+front_moves_few : (w : World) (n : ℕ) → n ≤ 1000000 → length (front_moves w n) ≤ 10 ^ 9
 front_moves_few w zero le = omega arith
 front_moves_few w (suc n) le =
     let first = front_few w in
@@ -161,17 +196,17 @@ front_moves_few w (suc n) le =
     let both = length-append (front_move w) (replicate n FrontMoves) in
     omega arith
 
-back_moves_few : (w : World) (n : ℕ) → n ≤ 1000000 → length (back_moves w n) ≤ 10 ^ 8
+back_moves_few : (w : World) (n : ℕ) → n ≤ 1000000 → length (back_moves w n) ≤ 10 ^ 9
 back_moves_few w n le = by_test (is_connected w.front.stage)
   where
-    by_test : (b : Bool) → length (if b then replicate n BackMoves else []) ≤ 10 ^ 8
+    by_test : (b : Bool) → length (if b then replicate n BackMoves else []) ≤ 10 ^ 9
     by_test true = let same = same_length n BackMoves in omega arith
     by_test false = omega arith
 
-made_few : (e : Event) (w : World) (hs : List Happening) → IsReached w → AreServed hs w → is_carried e ≡ true → Makes e w hs → length hs ≤ 10 ^ 8
+made_few : (e : Event) (w : World) (hs : List Happening) → IsReached w → AreServed hs w → is_carried e ≡ true → Makes e w hs → length hs ≤ 10 ^ 9
 made_few (events.Submit job) w hs r may carried k = let one : length hs ≡ 1 = ap length k.0 in omega arith
-made_few (events.Front n) w hs r may carried k = subst (λ (l : List Happening). length l ≤ 10 ^ 8) (sym k) (front_moves_few w n (number_few n carried))
-made_few (events.Back n) w hs r may carried k = subst (λ (l : List Happening). length l ≤ 10 ^ 8) (sym k) (back_moves_few w n (number_few n carried))
+made_few (events.Front n) w hs r may carried k = subst (λ (l : List Happening). length l ≤ 10 ^ 9) (sym k) (front_moves_few w n (number_few n carried))
+made_few (events.Back n) w hs r may carried k = subst (λ (l : List Happening). length l ≤ 10 ^ 9) (sym k) (back_moves_few w n (number_few n carried))
 made_few (events.Job number n) w hs r may carried k = let few = second_number number n carried in let all : length hs ≡ n = k.1 in omega arith
 made_few (events.Turn n) w hs r may carried k = let few = number_few n carried in let rounds = rounds_few never n w hs r may k in omega arith
 made_few events.Settle w hs r may carried k = settling_few w hs r may k
@@ -179,27 +214,27 @@ made_few events.Look w hs r may carried k = let one : length hs ≡ 1 = ap lengt
 made_few (events.Notify at) w hs r may carried k = let one : length hs ≡ 1 = ap length k in omega arith
 made_few e w hs r may carried k = absurd k
 
-made_so_far_few : (e : Event) (w : World) (hs : List Happening) → IsReached w → AreServed hs w → is_carried e ≡ true → MakesSoFar e w hs → length hs ≤ 10 ^ 8
-made_so_far_few (events.Front n) w hs r may carried k = beginning_few hs (front_moves w n) (10 ^ 8) k (front_moves_few w n (number_few n carried))
-made_so_far_few (events.Back n) w hs r may carried k = beginning_few hs (back_moves w n) (10 ^ 8) k (back_moves_few w n (number_few n carried))
+made_so_far_few : (e : Event) (w : World) (hs : List Happening) → IsReached w → AreServed hs w → is_carried e ≡ true → MakesSoFar e w hs → length hs ≤ 10 ^ 9
+made_so_far_few (events.Front n) w hs r may carried k = beginning_few hs (front_moves w n) (10 ^ 9) k (front_moves_few w n (number_few n carried))
+made_so_far_few (events.Back n) w hs r may carried k = beginning_few hs (back_moves w n) (10 ^ 9) k (back_moves_few w n (number_few n carried))
 made_so_far_few (events.Job number n) w hs r may carried k = let few = second_number number n carried in let all : length hs ≤ n = k.1 in omega arith
 made_so_far_few (events.Turn n) w hs r may carried k = let few = number_few n carried in let rounds = rounds_so_far_few never n w hs r may k in omega arith
 made_so_far_few events.Settle w hs r may carried k = settling_so_far_few w hs r may k
 made_so_far_few e w hs r may carried k = made_few e w hs r may carried k
 
--- an event makes at most 10^8 happenings, and so it does where it was stopped
-pub event_few : (config : Options) (earlier : List Happening) (e : Event) (hs : List Happening) → IsPlain config → AreServed earlier (start_of config) → AreOf e (after earlier (start_of config)) hs → length hs ≤ 10 ^ 8
+-- an event makes at most 10^9 happenings, and so it does where it was stopped
+pub event_few : (config : Options) (earlier : List Happening) (e : Event) (hs : List Happening) → IsPlain config → AreServed earlier (start_of config) → AreOf e (after earlier (start_of config)) hs → length hs ≤ 10 ^ 9
 event_few config earlier e hs plain may k =
     let w : World = after earlier (start_of config) in
     made_few e w hs (reached_on (start_of config) earlier (reached_start config plain) may) (event_served e w hs (connects_after earlier (start_of config) (start_connects config)) k) k.0 k.1
 
-pub event_so_far_few : (config : Options) (earlier : List Happening) (e : Event) (hs : List Happening) → IsPlain config → AreServed earlier (start_of config) → AreOfSoFar e (after earlier (start_of config)) hs → length hs ≤ 10 ^ 8
+pub event_so_far_few : (config : Options) (earlier : List Happening) (e : Event) (hs : List Happening) → IsPlain config → AreServed earlier (start_of config) → AreOfSoFar e (after earlier (start_of config)) hs → length hs ≤ 10 ^ 9
 event_so_far_few config earlier e hs plain may k =
     let w : World = after earlier (start_of config) in
     made_so_far_few e w hs (reached_on (start_of config) earlier (reached_start config plain) may) (event_so_far_served e w hs (connects_after earlier (start_of config) (start_connects config)) k) k.0 k.1
 
 -- so are those of many events
-pub events_few : (config : Options) (earlier : List Happening) (es : List Event) (hs : List Happening) → IsPlain config → AreServed earlier (start_of config) → AreOfAll es (after earlier (start_of config)) hs → length hs ≤ 10 ^ 8 * length es
+pub events_few : (config : Options) (earlier : List Happening) (es : List Event) (hs : List Happening) → IsPlain config → AreServed earlier (start_of config) → AreOfAll es (after earlier (start_of config)) hs → length hs ≤ 10 ^ 9 * length es
 events_few config earlier [] hs plain may k = let none : length hs ≡ 0 = ap length k in omega arith
 events_few config earlier (e ∷ es) hs plain may k =
     let w : World = after earlier (start_of config) in

@@ -91,7 +91,7 @@ begun_by config detail history n few = let lines = lines_by history (start_of co
 pub report_short : (config : Options) (detail : Detail) (es : List Event) (history : List Happening) → IsPlain config → AreOfAll es (start_of config) history → length es ≤ 10 ^ 9 → length (report_of config detail history) < 2 ^ 64
 report_short config detail es history plain are few =
     let all = events_few config [] es history plain tt are in
-    let lines = begun_by config detail history (10 ^ 8 * length es) all in
+    let lines = begun_by config detail history (10 ^ 9 * length es) all in
     omega arith
 
 -- and of one more, as far as it came
@@ -100,5 +100,5 @@ report_so_far_short config detail es e first more plain are far few =
     let all = events_few config [] es first plain tt are in
     let last = event_so_far_few config first e more plain (events_served es (start_of config) first (start_connects config) are) far in
     let both = length-append first more in
-    let lines = begun_by config detail (first ++ more) (10 ^ 8 * length es + 10 ^ 8) (omega arith) in
+    let lines = begun_by config detail (first ++ more) (10 ^ 9 * length es + 10 ^ 9) (omega arith) in
     omega arith

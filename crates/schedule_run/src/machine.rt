@@ -140,13 +140,13 @@ pub fn can_serve(config: &Config) -> bool
 }
 
 /// Whether an event is one that the machine carries out yet, with the numbers of the grammar: a
-/// submission of a read or a write of one sector, moves of the front, of the back or of a job, rounds,
+/// submission of a read or a write, moves of the front, of the back or of a job, rounds,
 /// settling, a look, and a spurious event.
 pub fn can_carry_out(event: &Event) -> bool
     ensures { result ≡ is_carried event.now }
 {
     match *event {
-        Event::Submit(Job::Read { count, .. } | Job::Write { count, .. }) => count.get() == 1,
+        Event::Submit(Job::Read { .. } | Job::Write { .. }) => true,
         Event::Submit(_) => false,
         Event::Front(n) | Event::Back(n) | Event::Turn(n) => is_number(n),
         Event::Job { number, moves } => is_number(number) && is_number(moves),

@@ -272,6 +272,7 @@ fn refusal_word(refusal: Refusal) -> RefusalWord
         Refusal::NotReady => RefusalWord::NotReady,
         Refusal::Unsupported => RefusalWord::Unsupported,
         Refusal::Range => RefusalWord::Range,
+        Refusal::Long => RefusalWord::Long,
         Refusal::Full => RefusalWord::Full,
         Refusal::Buffers => RefusalWord::Buffers,
     }

@@ -1,5 +1,6 @@
 // Both ends in their machine, and the moves of each.
 ghost use Rattle.std.specs.Prelude.{◌≡◌, ◌<◌, ◌∷◌, [], IfOk};
+ghost use Rattle.blk_base.specs.declared.parts.Mode.TheVariants.{ReadWrite};
 ghost use Rattle.blk_io.specs.Disk.{DiskSeen};
 ghost use Rattle.schedule_text.specs.Range.{JobHasWidths};
 ghost use Rattle.grant_table.specs.Table.{IsLive};
@@ -66,13 +67,16 @@ impl Split {
     pub fn front_move<R: Recorder>(&mut self, recorder: &mut R) -> Result<(), RecordStop>
         ensures { FrontGoes result self.old self.new (R.seen recorder.old) (R.seen recorder.new) }
     {
-        if let FrontAsk::Write { frame, word, value } = self.front.ask() {
-            return self.front_writes(frame, word, value, recorder);
+        match self.front.ask() {
+            FrontAsk::Write { frame, word, value } => {
+                self.front_writes(frame, word, value, recorder)
+            }
+            FrontAsk::Read { frame, word } => self.front_reads(frame, word, recorder),
+            _ => self.front_acts(recorder),
         }
-        self.front_acts(recorder)
     }
 
-    // The front writes a word, as it asks: most of its moves are of this kind.
+    // The front writes a word, as it asks: most of its moves of a write are of this kind.
     #[inline(always)]
     fn front_writes<R: Recorder>(
         &mut self,
@@ -90,6 +94,25 @@ impl Split {
         let _ = self.front.tell(&answer);
         self.under.write_front(frame, word, value);
         let shown = show_front(recorder, &FrontAsk::Write { frame, word, value }, &answer);
+        follow_told(&mut self.front, recorder, shown)
+    }
+
+    // The front reads a word, as it asks: most of its moves of a read are of this kind.
+    #[inline(always)]
+    fn front_reads<R: Recorder>(
+        &mut self,
+        frame: u32,
+        word: u32,
+        recorder: &mut R,
+    ) -> Result<(), RecordStop>
+        requires asked { FrontAsk.Read frame word ≡ front_asks self.old.front }
+        requires place { IsPlace frame word }
+        ensures { FrontGoes result self.old self.new (R.seen recorder.old) (R.seen recorder.new) }
+    {
+        let answer = FrontAnswer::Word(self.under.read_front(frame, word));
+        // A front takes no memory once it is made.
+        let _ = self.front.tell(&answer);
+        let shown = show_front(recorder, &FrontAsk::Read { frame, word }, &answer);
         follow_told(&mut self.front, recorder, shown)
     }
 
@@ -162,13 +185,18 @@ impl Split {
             (moment self.old (D.seen disk.old) (R.seen recorder.old))
             (moment self.new (D.seen disk.new) (R.seen recorder.new)) }
     {
-        if let BackAsk::Read { mapping, word } = self.back.job_ask(number) {
-            return self.job_reads(number, mapping, word, recorder);
+        match self.back.job_ask(number) {
+            BackAsk::Read { mapping, word } => self.job_reads(number, mapping, word, recorder),
+            BackAsk::Write {
+                mapping,
+                word,
+                value,
+            } => self.job_writes(number, mapping, word, value, recorder),
+            _ => self.job_acts(number, disk, recorder),
         }
-        self.job_acts(number, disk, recorder)
     }
 
-    // The job of a number reads a word, as it asks: most of its moves are of this kind.
+    // The job of a number reads a word, as it asks: most of its moves of a write are of this kind.
     #[inline(always)]
     fn job_reads<R: Recorder>(
         &mut self,
@@ -189,6 +217,38 @@ impl Split {
         self.back.job_tell(number, &answer);
         let told = self.back.take_told();
         let ask = BackAsk::Read { mapping, word };
+        let shown = show_back(recorder, &self.under, who, &ask, &answer);
+        follow_job(recorder, shown, told, &answer)
+    }
+
+    // The job of a number writes a word, as it asks: most of its moves of a read are of this kind.
+    #[inline(always)]
+    fn job_writes<R: Recorder>(
+        &mut self,
+        number: u64,
+        mapping: Mapping,
+        word: u32,
+        value: u32,
+        recorder: &mut R,
+    ) -> Result<(), RecordStop>
+        requires asked { BackAsk.Write mapping word value ≡ job_ask_of self.old.back number }
+        requires live { IsLive self.old.under.grants mapping }
+        requires writable { mapping.mode ≡ ReadWrite }
+        requires word_in { word < 1024 }
+        ensures { (disk : DiskSeen) → Goes (IsJobMove number) (IsJobMove number) 0 result
+            (moment self.old disk (R.seen recorder.old))
+            (moment self.new disk (R.seen recorder.new)) }
+    {
+        let who = BackMover::Job(number);
+        let answer = BackAnswer::Done;
+        self.under.write(mapping, word, value);
+        self.back.job_tell(number, &answer);
+        let told = self.back.take_told();
+        let ask = BackAsk::Write {
+            mapping,
+            word,
+            value,
+        };
         let shown = show_back(recorder, &self.under, who, &ask, &answer);
         follow_job(recorder, shown, told, &answer)
     }

@@ -26,7 +26,7 @@ fn writes_a_sector<D: SectorDisk, R: Recorder>(
     recorder: &mut R,
 ) -> Result<(), RecordStop>
     requires carried { are_carried config ≡ true }
-    requires one_sector { is_carried_job write ≡ true }
+    requires transfer { is_carried_job write ≡ true }
     requires attached { attached_of (D.seen disk.old) ≡ Some config.sectors }
     requires sectors { HasLength (content_of (outside (D.seen disk.old) (R.seen recorder.old))) config.sectors }
     ensures { OnOk result (HasLawfulReport config (Settle ∷ Submit write ∷ Settle ∷ Look ∷ [])
@@ -52,7 +52,7 @@ fn lists_a_write(
     disk: &mut MemoryDisk,
 ) -> Result<LineList, RecordStop>
     requires carried { are_carried config ≡ true }
-    requires one_sector { is_carried_job write ≡ true }
+    requires transfer { is_carried_job write ≡ true }
     requires attached { attached_of (image_seen disk.old) ≡ Some config.sectors }
     requires sectors { length disk.old.content ≡ config.sectors }
     ensures { IfOk result (λ list. IsLawful config Lines (write ∷ []) (Some disk.old.content) (Some disk.new.content) list.lines.items) }
@@ -85,6 +85,12 @@ fn a_list_holds_a_lawful_report(rt: HostRuntime) -> Result<(), Fail> {
     assert_eq!(rt; disk.content().get(3), Some(&[7; 128]));
     Ok(())
 }
+
+// The words of nine sectors that are written with the tag fffffffe.
+const FILLED: [&str; 9] = [
+    "fffffffe", "ffffffff", "00000000", "00000001", "00000002", "00000003", "00000004", "00000005",
+    "00000006",
+];
 
 // The options of a run with none of its own.
 fn config(sectors: u64) -> Config
@@ -213,6 +219,84 @@ fn a_read_past_the_end_of_the_disk_is_refused(rt: HostRuntime) -> Result<(), Fai
 }
 
 #[test]
+fn nine_sectors_are_written_and_read_back(rt: HostRuntime) -> Result<(), Fail> {
+    let alloc = rt.alloc();
+    let disk = MemoryDisk::new(alloc, vec![in alloc; [0; 128]; 9]?)?;
+    let schedule = "settle\nsubmit write 0 9 fffffffe\nsettle\nsubmit read 0 9\nsettle\n";
+    let sink = report(alloc, schedule, disk, Detail::Lines)?;
+    let mut wanted =
+        "begin 64 0 0 0 0 rw 9 lines\nready\nquiet\nsubmit 1 write 0 9 fffffffe\n".to_string(
+            alloc,
+        )?;
+    for index in 0..9 {
+        wanted.push_str(&format!(in alloc; "effect 1 {index}\n")?)?;
+    }
+    wanted.push_str("reply 1 ok\nanswer 1 ok\nquiet\nsubmit 2 read 0 9\n")?;
+    for index in 0..9 {
+        let word = FILLED[index];
+        wanted.push_str(&format!(in alloc; "effect 2 {index} fill {word}\n")?)?;
+    }
+    wanted.push_str("reply 2 ok\nanswer 2 ok\n")?;
+    for index in 0..9 {
+        let word = FILLED[index];
+        wanted.push_str(&format!(in alloc; "data 2 {index} fill {word}\n")?)?;
+    }
+    wanted.push_str("quiet\nend\n")?;
+    assert_eq!(rt; sink.bytes(), wanted.as_bytes());
+    Ok(())
+}
+
+#[test]
+fn a_read_of_three_sectors_ends_where_the_disk_fails(rt: HostRuntime) -> Result<(), Fail> {
+    let alloc = rt.alloc();
+    let listed = ListedCalls {
+        attaches: Vec::new(alloc),
+        reads: [2].to_vec(alloc)?,
+        writes: Vec::new(alloc),
+        flushes: Vec::new(alloc),
+        trims: Vec::new(alloc),
+    };
+    let disk = FailsAtCalls::new(zeros(alloc)?, listed);
+    let schedule = "settle\nsubmit read 0 3\nsettle\n";
+    let sink = report(alloc, schedule, disk, Detail::Lines)?;
+    assert_eq!(rt;
+        sink.bytes(),
+        b"begin 64 0 0 0 0 rw 8 lines\nready\nquiet\nsubmit 1 read 0 3\neffect 1 0 fill 00000000\nfault 1 1\nreply 1 error\nanswer 1 error\nquiet\nend\n".as_slice()
+    );
+    Ok(())
+}
+
+#[test]
+fn more_sectors_than_an_entry_names_are_refused(rt: HostRuntime) -> Result<(), Fail> {
+    let alloc = rt.alloc();
+    let disk = MemoryDisk::new(alloc, vec![in alloc; [0; 128]; 200]?)?;
+    let schedule =
+        "settle\nsubmit read 0 89\nsubmit write 112 89 00000000\nsubmit read 0 201\nsubmit read 112 88\n";
+    let sink = report(alloc, schedule, disk, Detail::Lines)?;
+    assert_eq!(rt;
+        sink.bytes(),
+        b"begin 64 0 0 0 0 rw 200 lines\nready\nquiet\nrefuse long\nrefuse range\nrefuse range\nsubmit 1 read 112 88\nend\n".as_slice()
+    );
+    Ok(())
+}
+
+#[test]
+fn jobs_of_several_segments_are_served_in_another_order(rt: HostRuntime) -> Result<(), Fail> {
+    let alloc = rt.alloc();
+    let disk = MemoryDisk::new(alloc, vec![in alloc; [0; 128]; 9]?)?;
+    let schedule =
+        "settle\nsubmit write 0 9 00000001\nsubmit write 7 2 00000010\nfront 4000\nback 4000\njob 2 4000\njob 1 4000\nback 4000\nsubmit read 7 2\nsettle\n";
+    let sink = report(alloc, schedule, disk, Detail::Lines)?;
+    assert_eq!(rt;
+        sink.bytes().ends_with(
+            b"\neffect 1 8\nreply 1 ok\nreply 2 ok\nsubmit 3 read 7 2\nanswer 1 ok\nanswer 2 ok\neffect 3 0 fill 00000008\neffect 3 1 fill 00000009\nreply 3 ok\nanswer 3 ok\ndata 3 0 fill 00000008\ndata 3 1 fill 00000009\nquiet\nend\n"
+        ),
+        true
+    );
+    Ok(())
+}
+
+#[test]
 fn a_read_that_the_disk_fails_shows_no_data(rt: HostRuntime) -> Result<(), Fail> {
     let alloc = rt.alloc();
     let listed = ListedCalls {
@@ -323,11 +407,13 @@ fn a_machine_carries_out_events_and_counts_them(rt: HostRuntime) -> Result<(), F
         lines.lines.as_slice(),
         [Line::Busy, Line::Ready, Line::Quiet].as_slice()
     );
-    let Some(count) = SectorCount::new(2) else {
+    let Some(count) = SectorCount::new(4294967295) else {
         return Err(Fail::from("count"));
     };
     let read = Job::Read { sector: 0, count };
-    assert_eq!(rt; can_carry_out(&Event::Submit(read)), false);
+    let discard = Job::Discard { sector: 0, count };
+    assert_eq!(rt; can_carry_out(&Event::Submit(read)), true);
+    assert_eq!(rt; can_carry_out(&Event::Submit(discard)), false);
     assert_eq!(rt; can_carry_out(&Event::Submit(Job::Flush)), false);
     assert_eq!(rt; can_carry_out(&Event::Turn(1000001)), false);
     Ok(())

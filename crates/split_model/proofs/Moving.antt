@@ -223,11 +223,11 @@ job_goes w k seen b u more c c' r s result given e under does stepped said shown
     (job_moved w k seen b u e under stepped) (back_made w (JobOf k) (back_step.job_ask_of w.back k) o u under) refl does
     (subst (λ (l : List Line). Adds l result r s) (job_shows_did w k (job_turn w k o) seen more (back_did_at (job_turn w k o) seen e) said) shown)
 
--- a move that makes no call of the disk and leaves what lies under the ends
-pub job_goes_still : (w : World) (k : ℕ) (seen : BackAnswer × Shown) (b : back.View) (u : Hypervisor) (more : List Line) (c : DiskSeen) (r s : RecorderSeen) (result : Result (Unit {0}) RecordStop) → IsGiven (outcome_told seen.0) → Some seen ≡ back_seen (job_turn w k (outcome_told seen.0)) → u ≡ back_under w.under (job_turn w k (outcome_told seen.0)) → DiskDoes (back_step.job_ask_of w.back k) (outcome_told seen.0) c c → u ≡ w.under → b ≡ record (back_step.job_step w.back k seen.0) { told = None } → more ≡ back_lines (let g : back.View = back_step.job_step w.back k seen.0 in g.told) seen.0 → Adds (Move seen.1 ∷ (more ++ [])) result r s → Goes (IsJobMove k) (IsJobMove k) 0 result (moment w c r) (moment (record { front = w.front; back = b; under = u }) c s)
+-- a move that makes no call of the disk and maps nothing
+job_goes_still : (w : World) (k : ℕ) (seen : BackAnswer × Shown) (b : back.View) (u : Hypervisor) (more : List Line) (c : DiskSeen) (r s : RecorderSeen) (result : Result (Unit {0}) RecordStop) → IsGiven (outcome_told seen.0) → Some seen ≡ back_seen (job_turn w k (outcome_told seen.0)) → u ≡ back_under w.under (job_turn w k (outcome_told seen.0)) → DiskDoes (back_step.job_ask_of w.back k) (outcome_told seen.0) c c → u.grants ≡ w.under.grants → b ≡ record (back_step.job_step w.back k seen.0) { told = None } → more ≡ back_lines (let g : back.View = back_step.job_step w.back k seen.0 in g.told) seen.0 → Adds (Move seen.1 ∷ (more ++ [])) result r s → Goes (IsJobMove k) (IsJobMove k) 0 result (moment w c r) (moment (record { front = w.front; back = b; under = u }) c s)
 job_goes_still w k seen b u more c r s result given e under does still stepped said shown =
     let gone = job_goes w k seen b u more c c r s result given e under does stepped said shown in
-    let same : u.grants.made ≡ w.under.grants.made = ap (λ (h : Hypervisor). h.grants.made) still in
+    let same : u.grants.made ≡ w.under.grants.made = ap (λ (g : GrantTable). g.made) still in
     record { ends = gone.ends; keeps = record { made = omega arith; sectors = gone.keeps.sectors; attachment = gone.keeps.attachment } }
 
 -- the back has no move
@@ -297,6 +297,27 @@ back_said x y a told more stepped took said = said ∙ ap (λ (t : Option BackTo
 
 pub back_halts : (v x b y : back.View) (before after : Option Halt) (halts : List Line) → x ≡ y → b ≡ record x { told = None } → before ≡ v.halted → after ≡ b.halted → halts ≡ halt_lines before after → halts ≡ halt_lines v.halted y.halted
 back_halts v x b y before after halts stepped taken was now e = rw (← stepped) (e ∙ (ap (λ (h : Option Halt). halt_lines h after) was ∙ ap (halt_lines v.halted) (now ∙ ap (λ (z : back.View). z.halted) taken)))
+
+-- A move by what was asked of the front, what its call told and did, and the lines that followed.
+pub front_goes_as : (w : World) (ask : FrontAsk) (seen : FrontAnswer × Shown) (x f : front.View) (u : Hypervisor) (c : DiskSeen) (r s : RecorderSeen) (result : Result (Unit {0}) RecordStop) → ask ≡ front_ends.ask_of w.front → Some seen ≡ front_seen (front_act w.under ask) → u ≡ front_under w.under (front_act w.under ask) → x ≡ front_step.step_of w.front seen.0 → f ≡ record x { told = None } → Adds (Move seen.1 ∷ front_lines x.told) result r s → Goes (Is (FrontMoves ∷ [])) (Is (FrontMoves ∷ [])) 0 result (moment w c r) (moment (record { front = f; back = w.back; under = u }) c s)
+front_goes_as w ask seen x f u c r s result asked e under stepped taken shown =
+    front_goes w seen f u (front_lines x.told) c r s result (front_asked w ask seen asked e) (front_left w ask u asked under)
+    (front_stepped w.front x f seen.0 stepped taken) (front_said w.front x seen.0 x.told (front_lines x.told) stepped refl refl)
+    (rw (append-nil (front_lines x.told)) shown)
+
+pub front_safe_as : (w : World) (ask : FrontAsk) (seen : FrontAnswer × Shown) (x f : front.View) (u : Hypervisor) → IsSafe w → ask ≡ front_ends.ask_of w.front → Some seen ≡ front_seen (front_act w.under ask) → u ≡ front_under w.under (front_act w.under ask) → x ≡ front_step.step_of w.front seen.0 → f ≡ record x { told = None } → IsSafe (record { front = f; back = w.back; under = u })
+front_safe_as w ask seen x f u safe asked e under stepped taken =
+    front_safe w seen f u safe (front_asked w ask seen asked e) (front_left w ask u asked under) (front_stepped w.front x f seen.0 stepped taken)
+
+-- The same of a job, where it makes no call of the disk and maps nothing.
+pub job_goes_as : (w : World) (k : ℕ) (ask : BackAsk) (seen : BackAnswer × Shown) (x b : back.View) (u : Hypervisor) (told : Option BackTold) (c : DiskSeen) (r s : RecorderSeen) (result : Result (Unit {0}) RecordStop) → ask ≡ back_step.job_ask_of w.back k → IsGiven (outcome_told seen.0) → Some seen ≡ back_seen (back_act w.under (JobOf k) ask (outcome_told seen.0)) → u ≡ back_under w.under (back_act w.under (JobOf k) ask (outcome_told seen.0)) → DiskDoes ask (outcome_told seen.0) c c → u.grants ≡ w.under.grants → x ≡ back_step.job_step w.back k seen.0 → told ≡ x.told → b ≡ record x { told = None } → Adds (Move seen.1 ∷ back_lines told seen.0) result r s → Goes (IsJobMove k) (IsJobMove k) 0 result (moment w c r) (moment (record { front = w.front; back = b; under = u }) c s)
+job_goes_as w k ask seen x b u told c r s result asked given e under does still stepped took taken shown =
+    let turn = back_step.job_ask_of w.back k in
+    let after = back_step.job_step w.back k seen.0 in
+    job_goes_still w k seen b u (back_lines told seen.0) c r s result given
+    (back_asked w.under (JobOf k) ask turn seen asked e) (back_left w.under (JobOf k) ask turn (outcome_told seen.0) u asked under)
+    (back_did_disk ask turn (outcome_told seen.0) c c asked does) still (back_stepped x b after stepped taken)
+    (back_said x after seen.0 told (back_lines told seen.0) stepped took refl) (rw (append-nil (back_lines told seen.0)) shown)
 
 -- what was asked may be carried out
 pub front_asked_may : (w : World) (ask : FrontAsk) → IsSafe w → ask ≡ front_ends.ask_of w.front → front_ends.StaysInMemory ask → FrontMay w.under ask

@@ -21,6 +21,7 @@ use Rattle.event_channel.specs.Channels.{ChannelState, fresh_channels, state_of,
 use Rattle.hypervisor.specs.Hypervisor.{Hypervisor}
 use Rattle.hypervisor.specs.Act.{FrontAct, BackAct, Outcome, Gave, Took, Failed, front_act, back_act, map_act, bind_act, read_act, disk_act}
 use Rattle.blk_front.specs.declared.request.Request.{Request}
+use Rattle.blk_front.specs.declared.stage.Ending.{Ending}
 use Rattle.blk_front.specs.declared.request.Transfer.{Transfer}
 use Rattle.blk_front.specs.declared.request.Transfer.TheVariants as transfer
 use Rattle.blk_front.specs.declared.stage.Stage.{Stage as FrontStage}
@@ -61,6 +62,30 @@ loop_fronts : (c : ChannelState) (v : front.View) (r : Option Request) → IsFro
 loop_fronts c v (Some r) = issue_fronts c r r.transfer
 loop_fronts c v None = either_fronts c v.asleep front_ask.Wait _ tt (either_fronts c (responses_of v.ring v.seen == 0) (front_ask.Read front.ring_frame 2) (front_ask.Read (front.slot_frame v.ring.cons 0) (front.slot_word v.ring.cons 0)) tt tt)
 
+issue_data_fronts : (c : ChannelState) (r : Option Request) (n : ℕ) → IsFronts c (front_ends.data_ask r n)
+issue_data_fronts c None n = tt
+issue_data_fronts c (Some r) n = tt
+
+name_fronts : (c : ChannelState) (r : Option Request) (place : ℕ) → IsFronts c (front_ends.name_ask r place)
+name_fronts c None place = tt
+name_fronts c (Some r) place = tt
+
+grant_fronts : (c : ChannelState) (r : Option Request) (place : ℕ) → IsFronts c (front_ends.grant_ask r place)
+grant_fronts c None place = tt
+grant_fronts c (Some r) place = tt
+
+revoke_fronts : (c : ChannelState) (e : Option Ending) (place : ℕ) → IsFronts c (front_ends.revoke_ask e place)
+revoke_fronts c None place = tt
+revoke_fronts c (Some e) place = tt
+
+end_fronts : (c : ChannelState) (e : Option Ending) (place seen : ℕ) → IsFronts c (front_ends.end_ask e place seen)
+end_fronts c None place seen = tt
+end_fronts c (Some e) place seen = tt
+
+read_fronts : (c : ChannelState) (e : Option Ending) (n : ℕ) → IsFronts c (front_ends.read_ask e n)
+read_fronts c None n = tt
+read_fronts c (Some e) n = tt
+
 pub fronts_at : (c : ChannelState) (s : FrontStage) (v : front.View) → IsPorted s c → IsFronts c (front_ends.ask_at s v)
 fronts_at c front_stage.NewPort v ported = ported
 fronts_at c front_stage.Loop v ported = loop_fronts c v (front.next_request v)
@@ -68,10 +93,10 @@ fronts_at c (front_stage.RingWord k) v ported = tt
 fronts_at c front_stage.RingFrame v ported = tt
 fronts_at c front_stage.RingFence v ported = tt
 fronts_at c front_stage.RingFlags v ported = tt
-fronts_at c (front_stage.Data r k) v ported = tt
-fronts_at c (front_stage.GrantFrame r) v ported = tt
-fronts_at c (front_stage.GrantFence r) v ported = tt
-fronts_at c (front_stage.GrantFlags r) v ported = tt
+fronts_at c (front_stage.Data n) v ported = issue_data_fronts c (front.next_request v) n
+fronts_at c (front_stage.GrantFrame place) v ported = name_fronts c (front.next_request v) place
+fronts_at c (front_stage.GrantFence place) v ported = tt
+fronts_at c (front_stage.GrantFlags place) v ported = grant_fronts c (front.next_request v) place
 fronts_at c (front_stage.Slot k) v ported = tt
 fronts_at c front_stage.Producer v ported = tt
 fronts_at c (front_stage.ProducerFence old) v ported = tt
@@ -79,9 +104,9 @@ fronts_at c (front_stage.RequestEvent old) v ported = tt
 fronts_at c front_stage.Send v ported = tt
 fronts_at c (front_stage.ResponseHigh low) v ported = tt
 fronts_at c (front_stage.ResponseLast low high) v ported = tt
-fronts_at c (front_stage.GrantRead e) v ported = tt
-fronts_at c (front_stage.GrantEnd e seen) v ported = tt
-fronts_at c (front_stage.ReadData e k) v ported = tt
+fronts_at c (front_stage.GrantRead place) v ported = revoke_fronts c v.ending place
+fronts_at c (front_stage.GrantEnd place seen) v ported = end_fronts c v.ending place seen
+fronts_at c (front_stage.ReadData n) v ported = read_fronts c v.ending n
 fronts_at c front_stage.StoreEvent v ported = tt
 fronts_at c front_stage.EventFence v ported = tt
 fronts_at c front_stage.LookAgain v ported = tt

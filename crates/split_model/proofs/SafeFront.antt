@@ -1,5 +1,5 @@
 -- What a step and a submission leave of the front: its disk, and that it made its port once.
-use Rattle.std.proofs.Common.{◌≡◌, ℕ, ◌+◌, ◌*◌, ◌^◌, Bool, true, false, not, if◌then◌else◌, [], ◌∷◌, refl}
+use Rattle.std.proofs.Common.{◌≡◌, ℕ, ◌+◌, ◌*◌, ◌/◌, ◌%◌, ◌^◌, Bool, true, false, not, if◌then◌else◌, List, [], ◌∷◌, length, refl}
 use Rattle.std.specs.Prelude.{Option, Some, None, Result, Ok, Err, nat_lt, nat_le, ◌==◌}
 use Rattle.blk_base.specs.Distance.{distance_of}
 use Rattle.blk_base.specs.declared.config.Job.{Job}
@@ -20,12 +20,14 @@ use Rattle.blk_front.specs.declared.request.Transfer.{Transfer}
 use Rattle.blk_front.specs.declared.request.Transfer.TheVariants as transfer
 use Rattle.blk_front.specs.declared.told.Refusal.{Refusal}
 use Rattle.blk_front.specs.declared.told.Refusal.TheVariants as refusal
-use Rattle.blk_front.specs.Pool.{lowest_of}
-use Rattle.blk_front.specs.Request.{has_data}
+use Rattle.blk_front.specs.declared.request.Wish.{Wish}
+use Rattle.blk_front.specs.declared.told.Told.TheVariants as told
+use Rattle.blk_front.specs.Pool.{taking}
+use Rattle.blk_front.specs.Request.{has_data, words_in, frames_for}
 use Rattle.blk_front.specs.View.{View, next_request, shape}
 use Rattle.blk_front.specs.Ask.{ask_at}
-use Rattle.blk_front.specs.Step.{at, broken, looked, issue_stage, loop_step, issued, response_at, is_mapped, ended, data_step, step_at, step_of}
-use Rattle.blk_front.specs.Submit.{is_ready, unfinished, one_sector, submit_with, submit_one, submit_of}
+use Rattle.blk_front.specs.Step.{at, broken, looked, issue_stage, data_stage, granted, loop_step, issued, response_at, is_mapped, ended, revoked, sector_told, data_step, step_at, step_of}
+use Rattle.blk_front.specs.Submit.{is_ready, unfinished, wish_of, submit_with, submit_one, submit_of}
 use Rattle.split_model.specs.Safe.{IsPorted}
 use Rattle.split_model.proofs.SafeActs.{of_front}
 
@@ -62,12 +64,20 @@ looked_fits v word otherwise c h =
     either (nat_lt (distance_of v.ring.cons v.ring.prod) (distance_of v.ring.cons word)) (broken word v) (if word == v.ring.cons then otherwise else record v { seen = word; stage = stage.Loop }) v.sectors c (tt, refl)
     (either (word == v.ring.cons) otherwise (record v { seen = word; stage = stage.Loop }) v.sectors c h (tt, refl))
 
-issue_fits : (r : Request) (way : Transfer) (c : ChannelState) → IsPorted (issue_stage r way) c
-issue_fits r transfer.Read c = tt
-issue_fits r (transfer.Write tag) c = tt
+issue_fits : (way : Transfer) (c : ChannelState) → IsPorted (issue_stage way) c
+issue_fits transfer.Read c = tt
+issue_fits (transfer.Write tag) c = tt
+
+data_stage_fits : (r : Option Request) (n : ℕ) (c : ChannelState) → IsPorted (data_stage r n) c
+data_stage_fits None n c = tt
+data_stage_fits (Some r) n c = either_stage (nat_lt (n + 1) (words_in r)) (stage.Data (n + 1)) (stage.GrantFrame 0) c tt tt
+
+granted_fits : (v : View) (r : Option Request) (place : ℕ) (c : ChannelState) → v.stage ≡ stage.GrantFlags place → Fits v.sectors c (granted r place v)
+granted_fits v None place c here = stays (stage.GrantFlags place) v c here tt
+granted_fits v (Some r) place c here = either (nat_lt (place + 1) (length r.frames.items)) _ _ v.sectors c (tt, refl) (tt, refl)
 
 loop_fits : (v : View) (r : Option Request) (x : FrontAnswer) (c : ChannelState) → v.stage ≡ stage.Loop → Fits v.sectors c (loop_step v r x)
-loop_fits v (Some r) x c here = (issue_fits r r.transfer c, refl)
+loop_fits v (Some r) x c here = (issue_fits r.transfer c, refl)
 loop_fits v None (answer.Word word) c here =
     either (responses_of v.ring v.seen == 0) (looked v word (record v { seen = word; stage = stage.StoreEvent })) (at (stage.ResponseHigh word) v) v.sectors c
     (looked_fits v word (record v { seen = word; stage = stage.StoreEvent }) c (tt, refl)) (tt, refl)
@@ -79,11 +89,24 @@ response_fits v response low None c = (tt, refl)
 response_fits v (Err word) low (Some found) c = (tt, refl)
 response_fits v (Ok response) low (Some found) c = (tt, refl)
 
-ended_fits : (v : View) (e : Ending) (c : ChannelState) → Fits v.sectors c (ended v e)
-ended_fits v e c = either (has_data e.transfer e.status) _ _ v.sectors c (tt, refl) (tt, refl)
+ended_fits : (v : View) (e : Ending) (c : ChannelState) → Fits v.sectors c (ended e v)
+ended_fits v e c = either (has_data e.request.transfer e.status) _ _ v.sectors c (tt, refl) (tt, refl)
 
-data_fits : (v : View) (e : Ending) (k word : ℕ) (c : ChannelState) → Fits v.sectors c (data_step v e k word)
-data_fits v e k word c = either (k == 127) _ _ v.sectors c (tt, refl) (tt, refl)
+revoked_fits : (v : View) (e : Option Ending) (place before : ℕ) (c : ChannelState) → v.stage ≡ stage.GrantEnd place before → Fits v.sectors c (revoked e place v)
+revoked_fits v None place before c here = stays (stage.GrantEnd place before) v c here tt
+revoked_fits v (Some e) place before c here = either (nat_lt (place + 1) (length e.request.frames.items)) _ _ v.sectors c (tt, refl) (ended_fits v e c)
+
+-- what is told of a sector leaves the disk
+told_sectors : (v : View) (e : Ending) (n : ℕ) (words : List ℕ) → (sector_told e n words v).sectors ≡ v.sectors
+told_sectors v e n words = by_last (n % 128 == 127)
+  where
+    by_last : (b : Bool) → (if b then record v { words = words; told = Some (told.Sector e.request.number (n / 128) words) } else record v { words = words }).sectors ≡ v.sectors
+    by_last true = refl
+    by_last false = refl
+
+data_fits : (v : View) (e : Option Ending) (n word : ℕ) (c : ChannelState) → v.stage ≡ stage.ReadData n → Fits v.sectors c (data_step e n word v)
+data_fits v None n word c here = stays (stage.ReadData n) v c here tt
+data_fits v (Some e) n word c here = either (nat_lt (n + 1) (words_in e.request)) _ _ v.sectors c (tt, told_sectors v e n _) (tt, told_sectors v e n _)
 
 step_fits_at : (s : Stage) (v : View) (x : FrontAnswer) (c : ChannelState) → v.stage ≡ s → IsUnported s c → Fits v.sectors c (step_at s v x)
 step_fits_at (stage.RingWord k) v x c here p = (either_stage (k == 15) stage.RingFrame (stage.RingWord (k + 1)) c p p, refl)
@@ -92,10 +115,10 @@ step_fits_at stage.RingFence v x c here p = (p, refl)
 step_fits_at stage.RingFlags v x c here p = (p, refl)
 step_fits_at stage.NewPort v x c here p = (tt, refl)
 step_fits_at stage.Loop v x c here p = loop_fits v (next_request v) x c here
-step_fits_at (stage.Data r k) v x c here p = (either_stage (k == 127) (stage.GrantFrame r) (stage.Data r (k + 1)) c tt tt, refl)
-step_fits_at (stage.GrantFrame r) v x c here p = (tt, refl)
-step_fits_at (stage.GrantFence r) v x c here p = (tt, refl)
-step_fits_at (stage.GrantFlags r) v x c here p = (tt, refl)
+step_fits_at (stage.Data n) v x c here p = (data_stage_fits (next_request v) n c, refl)
+step_fits_at (stage.GrantFrame place) v x c here p = (tt, refl)
+step_fits_at (stage.GrantFence place) v x c here p = (tt, refl)
+step_fits_at (stage.GrantFlags place) v x c here p = granted_fits v (next_request v) place c here
 step_fits_at (stage.Slot k) v x c here p = (either_stage (k == 27) stage.Producer (stage.Slot (k + 1)) c tt tt, refl)
 step_fits_at stage.Producer v x c here p = (tt, refl)
 step_fits_at (stage.ProducerFence old) v x c here p = (tt, refl)
@@ -103,9 +126,9 @@ step_fits_at (stage.RequestEvent old) v (answer.Word event) c here p = (either_s
 step_fits_at stage.Send v x c here p = (tt, refl)
 step_fits_at (stage.ResponseHigh low) v (answer.Word high) c here p = (tt, refl)
 step_fits_at (stage.ResponseLast low high) v (answer.Word last) c here p = response_fits v (response_of (low ∷ high ∷ last ∷ [])) low (issued v (low + high * 2 ^ 32)) c
-step_fits_at (stage.GrantRead e) v (answer.Word word) c here p = either (is_mapped word) (broken word v) (at (stage.GrantEnd e word) v) v.sectors c (tt, refl) (tt, refl)
-step_fits_at (stage.GrantEnd e before) v (answer.Word word) c here p = either (word == before) (ended v e) (broken word v) v.sectors c (ended_fits v e c) (tt, refl)
-step_fits_at (stage.ReadData e k) v (answer.Word word) c here p = data_fits v e k word c
+step_fits_at (stage.GrantRead place) v (answer.Word word) c here p = either (is_mapped word) (broken word v) (at (stage.GrantEnd place word) v) v.sectors c (tt, refl) (tt, refl)
+step_fits_at (stage.GrantEnd place before) v (answer.Word word) c here p = either (word == before) (revoked v.ending place v) (broken word v) v.sectors c (revoked_fits v v.ending place before c here) (tt, refl)
+step_fits_at (stage.ReadData n) v (answer.Word word) c here p = data_fits v v.ending n word c here
 step_fits_at stage.StoreEvent v x c here p = (tt, refl)
 step_fits_at stage.EventFence v x c here p = (tt, refl)
 step_fits_at stage.LookAgain v (answer.Word word) c here p = looked_fits v word (record v { seen = word; stage = stage.Loop; asleep = true }) c (tt, refl)
@@ -139,17 +162,20 @@ either_submit : (b : Bool) (v : View) (x y : Result ℕ Refusal × View) → IsU
 either_submit true v x y p q = p
 either_submit false v x y p q = q
 
-submit_with_frame : (v : View) (what : ℕ × Transfer) (frame : Option ℕ) → IsUndisturbed v (submit_with v what frame).1
-submit_with_frame v what None = undisturbed v
-submit_with_frame v what (Some frame) = record { stage = refl; sectors = refl; told = refl }
+submit_with_frames : (v : View) (wish : Wish) (taken : Option (List ℕ × List Bool)) → IsUndisturbed v (submit_with v wish taken).1
+submit_with_frames v wish None = undisturbed v
+submit_with_frames v wish (Some taken) = record { stage = refl; sectors = refl; told = refl }
 
-submit_sector : (v : View) (what : Option (ℕ × Transfer)) → IsUndisturbed v (submit_one v what).1
-submit_sector v None = undisturbed v
-submit_sector v (Some what) =
-    either_submit (nat_le v.sectors what.0) v (Err refusal.Range, v) (if nat_le (entries_of shape.order) (unfinished v) then (Err refusal.Full, v) else submit_with v what (lowest_of v.pool)) (undisturbed v)
-    (either_submit (nat_le (entries_of shape.order) (unfinished v)) v (Err refusal.Full, v) (submit_with v what (lowest_of v.pool)) (undisturbed v) (submit_with_frame v what (lowest_of v.pool)))
+submit_wish : (v : View) (wish : Option Wish) → IsUndisturbed v (submit_one v wish).1
+submit_wish v None = undisturbed v
+submit_wish v (Some wish) =
+    let frames = taking (frames_for wish.count) v.pool [] in
+    let unless_full = if nat_le (entries_of shape.order) (unfinished v) then (Err refusal.Full, v) else submit_with v wish frames in
+    either_submit (nat_lt v.sectors (wish.sector + wish.count)) v (Err refusal.Range, v) (if nat_lt 11 (frames_for wish.count) then (Err refusal.Long, v) else unless_full) (undisturbed v)
+    (either_submit (nat_lt 11 (frames_for wish.count)) v (Err refusal.Long, v) unless_full (undisturbed v)
+    (either_submit (nat_le (entries_of shape.order) (unfinished v)) v (Err refusal.Full, v) (submit_with v wish frames) (undisturbed v) (submit_with_frames v wish frames)))
 
 pub submit_kept : (v : View) (job : Job) → IsUndisturbed v (submit_of v job).1
 submit_kept v job =
-    either_submit (v.last == 4294967295) v (Err refusal.Spent, v) (if not (is_ready v.stage) then (Err refusal.NotReady, v) else submit_one v (one_sector job)) (undisturbed v)
-    (either_submit (not (is_ready v.stage)) v (Err refusal.NotReady, v) (submit_one v (one_sector job)) (undisturbed v) (submit_sector v (one_sector job)))
+    either_submit (v.last == 4294967295) v (Err refusal.Spent, v) (if not (is_ready v.stage) then (Err refusal.NotReady, v) else submit_one v (wish_of job)) (undisturbed v)
+    (either_submit (not (is_ready v.stage)) v (Err refusal.NotReady, v) (submit_one v (wish_of job)) (undisturbed v) (submit_wish v (wish_of job)))

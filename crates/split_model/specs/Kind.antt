@@ -10,7 +10,7 @@ use Rattle.schedule_text.specs.Event.{is_number}
 use Rattle.schedule_text.specs.Range.{JobHasWidths}
 use Rattle.schedule_text.specs.declared.event.Event.{Event}
 use Rattle.schedule_text.specs.declared.event.Event.TheVariants as events
-use Rattle.blk_front.specs.Submit.{unfinished, is_connected}
+use Rattle.blk_front.specs.Submit.{unfinished, sectors_owed, is_connected}
 use Rattle.blk_back.specs.Step.{next_job_of}
 use Rattle.split_model.specs.World.{World, is_quiet}
 use Rattle.split_model.specs.Happening.{Happening, FrontMoves, BackMoves, JobMoves, Submits, Notifies, Looks, Settles, happens, after}
@@ -23,10 +23,10 @@ is_x64 X32 = false
 abbrev pub are_carried : Options → Bool
 are_carried o = is_x64 o.abi && (o.order == 0) && (o.persistent == 0) && (o.indirect == 0) && not o.read_only
 
--- a read or a write of one sector, the only submissions that are carried out yet
+-- a read or a write, the only submissions that are carried out yet
 abbrev pub is_carried_job : Job → Bool
-is_carried_job (jobs.Read sector count) = count == 1
-is_carried_job (jobs.Write sector count tag) = count == 1
+is_carried_job (jobs.Read sector count) = true
+is_carried_job (jobs.Write sector count tag) = true
 is_carried_job job = false
 
 -- the events that are carried out yet, with the numbers of the grammar
@@ -118,9 +118,13 @@ AreRounds test (suc n) w hs =
 abbrev pub never : World → Bool
 never w = false
 
--- how many rounds `settle` makes at most: 20,000, and for each unfinished request 2,000 and 2,000 for its sector
+-- how many rounds `settle` makes at most: 20,000, and for each unfinished request 2,000 and 2,000 for each of its sectors
 abbrev pub settle_bound : World → ℕ
-settle_bound w = 20000 + 4000 * unfinished w.front
+settle_bound w = 20000 + 2000 * unfinished w.front + 2000 * sectors_owed w.front
+
+-- and never more than these: 32 requests at most are unfinished, of 88 sectors each, and one more may be ending
+abbrev pub most_rounds : ℕ
+most_rounds = 20000 + 2000 * 32 + 2000 * (33 * 88)
 
 -- rounds, each begun where not all is quiet, until all is or there were that many
 pub record AreRoundsUntilQuiet (bound : ℕ) (w : World) (hs : List Happening) : Type 0 where

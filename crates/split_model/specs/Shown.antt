@@ -50,5 +50,6 @@ refusal_word refusal.Spent = words.Spent
 refusal_word refusal.NotReady = words.NotReady
 refusal_word refusal.Unsupported = words.Unsupported
 refusal_word refusal.Range = words.Range
+refusal_word refusal.Long = words.Long
 refusal_word refusal.Full = words.Full
 refusal_word refusal.Buffers = words.Buffers

@@ -1,20 +1,21 @@
 // What the front makes of each answer.
-ghost use Rattle.std.specs.Prelude.{◌≡◌, ◌<◌, ◌≤◌, ◌+◌, ◌-◌, ◌*◌, ◌^◌, length, position, IfSome, ◌==◌};
+ghost use Rattle.std.specs.Prelude.{◌≡◌, ◌<◌, ◌≤◌, ◌+◌, ◌-◌, ◌*◌, ◌^◌, length, position, slice_get, IfSome, ◌==◌};
 ghost use Rattle.blk_base.specs.declared.ask.FrontAnswer.TheVariants.{Word, Done};
 ghost use Rattle.blk_front.specs.declared.stage.Stage.TheVariants as stage;
 ghost use Rattle.blk_front.specs.View.{next_request};
 ghost use Rattle.blk_front.specs.Ask.{loop_ask, IsAnswer};
 ghost use Rattle.blk_front.specs.Sound.{AreAscending};
-ghost use Rattle.blk_front.specs.Step.{step_at, loop_step, loop_word, looked, broken, issued, taken, response_step, end_step, exchanged, pushed, entry_request, data_step, issue_stage, IsTaking};
+ghost use Rattle.blk_front.specs.Step.{step_at, loop_step, loop_word, looked, broken, found_at, issued, taken, response_step, end_step, exchanged, ended, finished, pushed, entry_request, data_step, issue_stage, IsTaking, IsRevoking, IsEndingStage};
+ghost use Rattle.blk_front.specs.Request.{IsShaped};
 ghost use Rattle.blk_layout.specs.Entry.{raw_of};
 ghost use Rattle.blk_front.specs.declared.request.Request.{Request};
 
 use super::Front;
-use crate::request::{Request, Transfer};
+use crate::request::{Request, SECTOR_WORDS, Transfer, frames_for};
 use crate::stage::{Ending, Stage};
 use crate::told::Told;
 use blk_base::{Abi, FrontAnswer, Status};
-use blk_layout::{DirectOp, Request as Wire, Segment, read_response, request_words};
+use blk_layout::{DirectOp, Request as Wire, read_response, request_words};
 use ring_words::notify;
 
 impl Front {
@@ -45,7 +46,7 @@ impl Front {
         ensures { self.new ≡ loop_step self.old (next_request self.old) answer.now }
     {
         match (self.next_request(), answer) {
-            (Some(r), _) => self.stage = begun(r),
+            (Some(r), _) => self.stage = begun(r.transfer),
             (None, FrontAnswer::Word(word)) => self.read_in_loop(*word),
             (None, FrontAnswer::Event) => self.asleep = false,
             _ => {}
@@ -106,25 +107,36 @@ impl Front {
         self.told = Some(Told::Broken(word));
     }
 
-    pub(super) fn wrote_data(&mut self, r: Request, word: u32)
-        requires stage { self.old.stage ≡ stage.Data r word }
-        requires placed { word < 128 }
-        ensures { self.new ≡ step_at (stage.Data r word) self.old Done }
+    pub(super) fn wrote_data(&mut self, n: u32)
+        requires stage { self.old.stage ≡ stage.Data n }
+        requires placed { n < 11264 }
+        ensures { self.new ≡ step_at (stage.Data n) self.old Done }
     {
-        if word == 127 {
-            self.stage = Stage::GrantFrame(r);
+        let Some(r) = self.next_request() else {
+            return;
+        };
+        self.stage = if n + 1 < SECTOR_WORDS * r.count {
+            Stage::Data(n + 1)
         } else {
-            self.stage = Stage::Data(r, word + 1);
-        }
+            Stage::GrantFrame(0)
+        };
     }
 
     #[inline(never)]
-    pub(super) fn granted(&mut self, r: Request)
-        requires { self.old.stage ≡ stage.GrantFlags r }
-        ensures { self.new ≡ step_at (stage.GrantFlags r) self.old Done }
+    pub(super) fn granted(&mut self, place: u32)
+        requires stage { self.old.stage ≡ stage.GrantFlags place }
+        requires placed { place < 11 }
+        ensures { self.new ≡ step_at (stage.GrantFlags place) self.old Done }
     {
-        self.entry = request_words(Abi::X64, &wire(&r));
-        self.stage = Stage::Slot(0);
+        let Some(r) = self.next_request() else {
+            return;
+        };
+        if place + 1 < r.frames.len() as u32 {
+            self.stage = Stage::GrantFrame(place + 1);
+        } else {
+            self.entry = request_words(Abi::X64, &wire(r));
+            self.stage = Stage::Slot(0);
+        }
     }
 
     pub(super) fn wrote_slot(&mut self, word: u32)
@@ -160,14 +172,13 @@ impl Front {
         };
     }
 
-    // The issued request of an id, and where it stands.
-    fn issued(&self, id: u64) -> Option<(usize, Request)>
-        ensures value { result ≡ issued self.now id }
-        ensures within { IfSome result (λ found. found.0 < length self.now.requests) }
+    // Where the issued request of an id stands.
+    fn issued(&self, id: u64) -> Option<usize>
+        ensures value { found_at self.now.requests result ≡ issued self.now id }
+        ensures within { IfSome result (λ place. place < length self.now.requests) }
     {
         let count = self.requests.len() - self.waiting as usize;
-        let place = place_of(&self.requests[..count], id)?;
-        Some((place, self.requests[place]))
+        place_of(&self.requests[..count], id)
     }
 
     /// A response was read whole.
@@ -176,86 +187,124 @@ impl Front {
         requires { self.old.stage ≡ stage.ResponseLast low high }
         ensures { self.new ≡ response_step self.old low high last }
     {
-        let id = u64::from(low) | u64::from(high) << 32;
-        match (self.issued(id), read_response([low, high, last])) {
+        match (
+            self.issued(id_of(low, high)),
+            read_response([low, high, last]),
+        ) {
             (None, _) => self.break_with(low),
             (Some(_), Err(word)) => self.break_with(word),
-            (Some((place, r)), Ok(response)) => self.take(place, r, response.status),
+            (Some(place), Ok(response)) => self.take(place, response.status),
         }
     }
 
     // The response to an issued request is taken.
-    fn take(&mut self, place: usize, r: Request, status: Status)
+    fn take(&mut self, place: usize, status: Status)
         requires stage { IsTaking self.old.stage }
         requires within { place < length self.old.requests }
-        ensures { self.new ≡ taken self.old place r status }
+        ensures { IfSome (slice_get self.old.requests place) (λ r. self.new ≡ taken self.old place r status) }
     {
         self.ring.consume();
-        self.requests.remove(place);
-        self.stage = Stage::GrantRead(Ending {
-            number: r.number,
-            transfer: r.transfer,
-            frame: r.frame,
-            status,
-        });
+        let request = self.requests.remove(place);
+        self.ending = Some(Ending { request, status });
+        self.stage = Stage::GrantRead(0);
     }
 
     /// The flags of a grant's entry were read.
     #[inline(never)]
-    pub(super) fn end_grant(&mut self, ending: Ending, word: u32)
-        requires { self.old.stage ≡ stage.GrantRead ending }
-        ensures { self.new ≡ end_step self.old ending word }
+    pub(super) fn end_grant(&mut self, place: u32, word: u32)
+        requires stage { self.old.stage ≡ stage.GrantRead place }
+        requires placed { place < 11 }
+        ensures { self.new ≡ end_step self.old place word }
     {
         if word / 8 % 4 != 0 {
             self.break_with(word);
         } else {
-            self.stage = Stage::GrantEnd(ending, word);
+            self.stage = Stage::GrantEnd(place, word);
         }
     }
 
     /// A grant's entry was exchanged for 0 if it was still the word read.
     #[inline(never)]
-    pub(super) fn ended_grant(&mut self, ending: Ending, before: u32, word: u32)
-        requires { self.old.stage ≡ stage.GrantEnd ending before }
-        ensures { self.new ≡ exchanged self.old ending before word }
+    pub(super) fn ended_grant(&mut self, place: u32, before: u32, word: u32)
+        requires stage { self.old.stage ≡ stage.GrantEnd place before }
+        requires placed { place < 11 }
+        ensures { self.new ≡ exchanged self.old place before word }
     {
         if word != before {
             self.break_with(word);
             return;
         }
+        let Some(ending) = &self.ending else {
+            return;
+        };
+        if place + 1 < ending.request.frames.len() as u32 {
+            self.stage = Stage::GrantRead(place + 1);
+        } else {
+            self.answer();
+        }
+    }
+
+    // The last grant of the ending request was ended: its answer is told.
+    fn answer(&mut self)
+        requires { IsRevoking self.old.stage }
+        ensures { IfSome self.old.ending (λ e. self.new ≡ ended e self.old) }
+    {
+        let Some(ending) = &self.ending else {
+            return;
+        };
         self.told = Some(Told::Answer {
-            id: ending.number,
+            id: ending.request.number,
             status: ending.status,
         });
-        match (ending.transfer, ending.status) {
-            (Transfer::Read, Status::Okay) => self.stage = Stage::ReadData(ending, 0),
-            _ => {
-                self.pool.free(&ending.frame);
-                self.stage = Stage::Loop;
-            }
+        match (ending.request.transfer, ending.status) {
+            (Transfer::Read, Status::Okay) => self.stage = Stage::ReadData(0),
+            _ => self.finish(),
+        }
+    }
+
+    // All of the ending request was told.
+    fn finish(&mut self)
+        requires { IsEndingStage self.old.stage }
+        ensures { IfSome self.old.ending (λ e. self.new ≡ finished e self.old) }
+    {
+        if let Some(ending) = self.ending.take() {
+            self.pool.free_all(ending.request.frames.as_slice());
+            self.stage = Stage::Loop;
         }
     }
 
     /// A word of an answered read's data was read.
     #[inline(never)]
-    pub(super) fn read_data(&mut self, ending: Ending, place: u32, word: u32)
-        requires stage { self.old.stage ≡ stage.ReadData ending place }
-        requires placed { place < 128 }
-        ensures { self.new ≡ data_step self.old ending place word }
+    pub(super) fn read_data(&mut self, n: u32, word: u32)
+        requires stage { self.old.stage ≡ stage.ReadData n }
+        requires placed { n < 11264 }
+        ensures { self.new ≡ data_step self.old.ending n word self.old }
     {
-        self.words[place as usize] = word;
-        if place == 127 {
-            self.pool.free(&ending.frame);
+        let Some(ending) = &self.ending else {
+            return;
+        };
+        let (id, all) = (ending.request.number, SECTOR_WORDS * ending.request.count);
+        self.words[(n % SECTOR_WORDS) as usize] = word;
+        if n % SECTOR_WORDS == SECTOR_WORDS - 1 {
             self.told = Some(Told::Sector {
-                id: ending.number,
-                index: 0,
+                id,
+                index: n / SECTOR_WORDS,
                 words: self.words,
             });
-            self.stage = Stage::Loop;
+        }
+        if n + 1 < all {
+            self.stage = Stage::ReadData(n + 1);
         } else {
-            self.stage = Stage::ReadData(ending, place + 1);
+            self.finish();
         }
     }
+}
+
+// The id that two words of a response have, the lower half first.
+fn id_of(low: u32, high: u32) -> u64
+    ensures { result ≡ low + high * 2 ^ 32 }
+{
+    u64::from(low) | u64::from(high) << 32
 }
 
 // Where the request of an id stands, among requests whose numbers ascend: a binary search.
@@ -270,31 +319,30 @@ fn place_of(requests: &[Request], id: u64) -> Option<usize>
 }
 
 // What a front does after it began a request.
-fn begun(r: Request) -> Stage
-    ensures { result ≡ issue_stage r r.transfer }
+fn begun(transfer: Transfer) -> Stage
+    ensures { result ≡ issue_stage transfer }
 {
-    match r.transfer {
-        Transfer::Write(_) => Stage::Data(r, 1),
-        Transfer::Read => Stage::GrantFence(r),
+    match transfer {
+        Transfer::Write(_) => Stage::Data(1),
+        Transfer::Read => Stage::GrantFence(0),
     }
 }
 
 // The request as its entry has it.
 fn wire(r: &Request) -> Wire
+    requires { IsShaped r.now }
     ensures { raw_of result ≡ entry_request r.now }
 {
-    let mut segments = [Segment::default(); 11];
-    segments[0].gref = r.frame.reference();
     let op = match r.transfer {
         Transfer::Read => DirectOp::Read,
         Transfer::Write(_) => DirectOp::Write,
     };
     Wire::Direct {
         op,
-        count: 1,
+        count: frames_for(r.count) as u8,
         device: 51712,
         id: u64::from(r.number),
         sector: r.sector,
-        segments,
+        segments: r.segments(),
     }
 }

@@ -1,12 +1,18 @@
 // What the front is handed, and what it tells.
-ghost use Rattle.std.specs.Prelude.{◌≡◌, ◌≤◌, None, is_some};
+ghost use Rattle.std.specs.Prelude.{◌≡◌, ◌≤◌, ◌<◌, ◌+◌, ◌*◌, ◌==◌, if◌then◌else◌, [], None, All, length, sum_by, is_some, option_map, IfSome};
+ghost use Rattle.arrayvec.specs.ArrayVec.{array_vec_len};
+ghost use Rattle.blk_front.specs.declared.request.Request.{Request};
+ghost use Rattle.blk_front.specs.Request.{IsShaped, frames_for};
 ghost use Rattle.blk_front.specs.Ask.{ask_of};
-ghost use Rattle.blk_front.specs.Submit.{submit_of, submit_one, is_ready, is_connected, one_sector, unfinished, is_wait};
+ghost use Rattle.blk_front.specs.Submit.{submit_of, submit_one, is_ready, is_connected, wish_of, accepted, unfinished, ending_of, ending_sectors, sectors_owed, is_wait};
+ghost use Rattle.blk_front.specs.Pool.{taking};
 
 use super::Front;
-use crate::request::{Request, Transfer};
+use crate::pool::{Pool, PoolFrame};
+use crate::request::{MAX_SEGMENTS, Request, Transfer, Wish, frames_for};
 use crate::stage::Stage;
 use crate::told::{Refusal, Told};
+use arrayvec::ArrayVec;
 use blk_base::{Abi, Endpoint, FrontAsk, Job};
 use ring_words::RingShape;
 
@@ -23,31 +29,50 @@ impl Front {
         if !is_ready(self.stage) {
             return Err(Refusal::NotReady);
         }
-        let Some((sector, transfer)) = one_sector(&job) else {
+        let Some(wish) = wish_of(&job) else {
             return Err(Refusal::Unsupported);
         };
-        if sector >= self.sectors {
+        let count = u64::from(wish.count);
+        if count > self.sectors || wish.sector > self.sectors - count {
             return Err(Refusal::Range);
+        }
+        let needed = frames_for(wish.count);
+        if needed > MAX_SEGMENTS {
+            return Err(Refusal::Long);
         }
         if self.unfinished() >= RingShape::of(Abi::X64, 0).entries() {
             return Err(Refusal::Full);
         }
-        let Some(frame) = self.pool.lowest() else {
+        let Some((frames, pool)) = take_frames(self.pool, needed) else {
             return Err(Refusal::Buffers);
         };
+        Ok(self.accept(wish, frames, pool))
+    }
+
+    // Queues the next request.
+    fn accept(&mut self, wish: Wish, frames: ArrayVec<PoolFrame, 11>, pool: Pool) -> u32
+        requires spent { self.old.last < 4294967295 }
+        requires room { unfinished self.old < 32 }
+        requires some { 1 ≤ wish.count }
+        requires few { wish.count ≤ 88 }
+        requires frames { array_vec_len frames ≡ frames_for wish.count }
+        ensures number { result ≡ self.old.last + 1 }
+        ensures front { self.new ≡ accepted self.old wish (frames.items, pool) }
+    {
         let number = self.last + 1;
-        self.pool.take(&frame);
+        self.pool = pool;
         self.requests
             .push(Request {
                 number,
-                sector,
-                transfer,
-                frame,
+                sector: wish.sector,
+                count: wish.count,
+                transfer: wish.transfer,
+                frames,
             })
             .unwrap();
         self.last = number;
         self.waiting += 1;
-        Ok(number)
+        number
     }
 
     // How many requests are unfinished.
@@ -55,13 +80,7 @@ impl Front {
         ensures value { result ≡ unfinished self.now }
         ensures few { result ≤ 32 }
     {
-        let ending = match self.stage {
-            Stage::GrantRead(_) => 1,
-            Stage::GrantEnd(_, _) => 1,
-            Stage::ReadData(_, _) => 1,
-            _ => 0,
-        };
-        self.requests.len() as u32 + ending
+        self.requests.len() as u32 + ending_of(self.stage)
     }
 
     /// Whether its ring and the port of its events are made.
@@ -88,11 +107,23 @@ impl Front {
     /// How many requests are unfinished, and how many sectors they move.
     pub fn owed(&self) -> (u32, u64)
         ensures requests { result.0 ≡ unfinished self.now }
-        ensures sectors { result.1 ≡ unfinished self.now }
+        ensures sectors { result.1 ≡ sectors_owed self.now }
         ensures few { result.0 ≤ 32 }
+        ensures short { result.1 ≤ 2904 }
     {
-        let count = self.unfinished();
-        (count, u64::from(count))
+        let sectors = sectors_of(self.requests.as_slice());
+        (self.unfinished(), sectors + self.ending_sectors())
+    }
+
+    // The sectors of the request that is ending.
+    fn ending_sectors(&self) -> u64
+        ensures value { result ≡ (if ending_of self.now.stage == 0 then 0 else ending_sectors self.now.ending) }
+        ensures short { result ≤ 88 }
+    {
+        match &self.ending {
+            Some(ending) if ending_of(self.stage) == 1 => u64::from(ending.request.count),
+            _ => 0,
+        }
     }
 
     /// Whether something is left to tell.
@@ -115,6 +146,31 @@ impl Front {
     }
 }
 
+// A request whose grants are being ended, or whose data are told, is unfinished still.
+fn ending_of(stage: Stage) -> u32
+    ensures value { result ≡ ending_of stage }
+    ensures few { result ≤ 1 }
+{
+    match stage {
+        Stage::GrantRead(_) | Stage::GrantEnd(_, _) | Stage::ReadData(_) => 1,
+        _ => 0,
+    }
+}
+
+// How many sectors these requests move, 88 each at most.
+fn sectors_of(requests: &[Request]) -> u64
+    requires few { length requests.now ≤ 32 }
+    requires shaped { All IsShaped requests.now }
+    ensures value { result ≡ sum_by (λ (r : Request). r.count) requests.now }
+    ensures short { result ≤ 88 * length requests.now }
+{
+    let mut sectors = 0;
+    for r in requests {
+        sectors += u64::from(r.count);
+    }
+    sectors
+}
+
 // Whether a front at this stage is connected and not broken.
 fn is_ready(stage: Stage) -> bool
     ensures { result ≡ is_ready stage }
@@ -130,25 +186,38 @@ fn is_ready(stage: Stage) -> bool
     )
 }
 
-// The sector of a read or a write of one sector, and which way it goes.
-fn one_sector(job: &Job) -> Option<(u64, Transfer)>
-    ensures { result ≡ one_sector job.now }
+// The sectors of a read or a write, and which way they go.
+fn wish_of(job: &Job) -> Option<Wish>
+    ensures value { result ≡ wish_of job.now }
+    ensures some { IfSome result (λ wish. 1 ≤ wish.count) }
 {
     match *job {
-        Job::Read { sector, count } => {
-            if count.get() == 1 {
-                Some((sector, Transfer::Read))
-            } else {
-                None
-            }
-        }
-        Job::Write { sector, count, tag } => {
-            if count.get() == 1 {
-                Some((sector, Transfer::Write(tag)))
-            } else {
-                None
-            }
-        }
+        Job::Read { sector, count } => Some(Wish {
+            sector,
+            count: count.get(),
+            transfer: Transfer::Read,
+        }),
+        Job::Write { sector, count, tag } => Some(Wish {
+            sector,
+            count: count.get(),
+            transfer: Transfer::Write(tag),
+        }),
         _ => None,
     }
+}
+
+// So many of the pool's free frames, the lowest ones, and the pool with them in use; `None` exactly
+// where fewer are free.
+fn take_frames(mut pool: Pool, needed: u32) -> Option<(ArrayVec<PoolFrame, 11>, Pool)>
+    requires { needed ≤ 11 }
+    ensures value { option_map (λ taken. (taken.0.items, taken.1)) result ≡ taking needed pool [] }
+    ensures length { IfSome result (λ taken. array_vec_len taken.0 ≡ needed) }
+{
+    let mut frames = ArrayVec::new();
+    for _ in 0..needed {
+        let frame = pool.lowest()?;
+        pool.take(&frame);
+        frames.push(frame);
+    }
+    Some((frames, pool))
 }

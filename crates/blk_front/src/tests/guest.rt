@@ -32,7 +32,7 @@ impl Memory {
         }
     }
 
-    /// Writes the response of an index, and the responses' producer behind it.
+    /// Writes the response of an index, and the responses' producer after it.
     pub fn respond(&mut self, index: u32, words: [u32; 3]) {
         let first = 16 + index % 32 * 28;
         self.write(2, first, words[0]);
@@ -96,17 +96,28 @@ fn kept(ask: &FrontAsk) -> Option<FrontAsk<'static>> {
     }
 }
 
-/// The next move: what was asked, and what the front tells then. A `Wait` is answered by an event.
-pub fn one_move(
+/// The next move: what was asked. What the front tells then isn't taken. A `Wait` is answered by an
+/// event.
+pub fn untold_move(
     rt: &impl Abort,
     front: &mut Front,
     memory: &mut Memory,
-) -> Result<(FrontAsk<'static>, Option<Told>), Fail> {
+) -> Result<FrontAsk<'static>, Fail> {
     assert_eq!(rt; front.take_told(), None);
     let ask = front.ask();
     let answer = memory.answer(&ask).ok_or("never asked")?;
     let asked = kept(&ask).ok_or("never asked")?;
     front.tell(&answer)?;
+    Ok(asked)
+}
+
+/// The next move: what was asked, and what the front tells then.
+pub fn one_move(
+    rt: &impl Abort,
+    front: &mut Front,
+    memory: &mut Memory,
+) -> Result<(FrontAsk<'static>, Option<Told>), Fail> {
+    let asked = untold_move(rt, front, memory)?;
     Ok((asked, front.take_told()))
 }
 
@@ -125,6 +136,11 @@ pub fn quiet_moves(
 
 /// A front over a disk of 8 sectors.
 pub fn front_of(alloc: Global, start: u32) -> Result<Front, Fail> {
+    front_over(alloc, start, 8)
+}
+
+/// A front over a disk of so many sectors.
+fn front_over(alloc: Global, start: u32, sectors: u64) -> Result<Front, Fail> {
     let config = Config {
         abi: Abi::X64,
         order: 0,
@@ -132,7 +148,7 @@ pub fn front_of(alloc: Global, start: u32) -> Result<Front, Fail> {
         indirect: 0,
         start,
         read_only: false,
-        sectors: 8,
+        sectors,
     };
     Ok(Front::new(alloc, &config)?)
 }
@@ -152,7 +168,22 @@ pub fn asks(
     Ok(())
 }
 
-/// A front that is connected: 16 words of the ring, the 3 moves of its grant, and the port.
+// The moves that connect a front: 16 words of the ring, the 3 of its grant, and the port.
+fn connect(rt: &impl Abort, front: &mut Front, memory: &mut Memory) -> Result<(), Fail> {
+    quiet_moves(rt, front, memory, 19)?;
+    let port = one_move(rt, front, memory)?;
+    assert_eq!(rt; port, (FrontAsk::NewPort, Some(Told::Ready)));
+    Ok(())
+}
+
+// The moves after which a connected front sleeps: the event word and its fence between two looks.
+fn fall_asleep(rt: &impl Abort, front: &mut Front, memory: &mut Memory) -> Result<(), Fail> {
+    quiet_moves(rt, front, memory, 4)?;
+    assert!(rt; front.idle());
+    Ok(())
+}
+
+/// A front that is connected.
 pub fn connected(
     rt: &impl Abort,
     alloc: Global,
@@ -160,13 +191,11 @@ pub fn connected(
     start: u32,
 ) -> Result<Front, Fail> {
     let mut front = front_of(alloc, start)?;
-    quiet_moves(rt, &mut front, memory, 19)?;
-    let port = one_move(rt, &mut front, memory)?;
-    assert_eq!(rt; port, (FrontAsk::NewPort, Some(Told::Ready)));
+    connect(rt, &mut front, memory)?;
     Ok(front)
 }
 
-/// A connected front that sleeps: the event word and its fence between two looks.
+/// A connected front that sleeps.
 pub fn asleep(
     rt: &impl Abort,
     alloc: Global,
@@ -174,19 +203,41 @@ pub fn asleep(
     start: u32,
 ) -> Result<Front, Fail> {
     let mut front = connected(rt, alloc, memory, start)?;
-    quiet_moves(rt, &mut front, memory, 4)?;
-    assert!(rt; front.idle());
+    fall_asleep(rt, &mut front, memory)?;
+    Ok(front)
+}
+
+/// The same over a disk of so many sectors.
+pub fn asleep_over(
+    rt: &impl Abort,
+    alloc: Global,
+    memory: &mut Memory,
+    sectors: u64,
+) -> Result<Front, Fail> {
+    let mut front = front_over(alloc, 0, sectors)?;
+    connect(rt, &mut front, memory)?;
+    fall_asleep(rt, &mut front, memory)?;
     Ok(front)
 }
 
 /// A read of one sector.
 pub fn read(sector: u64) -> Result<Job, Fail> {
-    let count = SectorCount::new(1).ok_or("a count above 0")?;
-    Ok(Job::Read { sector, count })
+    read_of(sector, 1)
 }
 
 /// A write of one sector.
 pub fn write(sector: u64, tag: u32) -> Result<Job, Fail> {
-    let count = SectorCount::new(1).ok_or("a count above 0")?;
+    write_of(sector, 1, tag)
+}
+
+/// A read of so many sectors.
+pub fn read_of(sector: u64, count: u32) -> Result<Job, Fail> {
+    let count = SectorCount::new(count).ok_or("a count above 0")?;
+    Ok(Job::Read { sector, count })
+}
+
+/// A write of so many sectors.
+pub fn write_of(sector: u64, count: u32, tag: u32) -> Result<Job, Fail> {
+    let count = SectorCount::new(count).ok_or("a count above 0")?;
     Ok(Job::Write { sector, count, tag })
 }

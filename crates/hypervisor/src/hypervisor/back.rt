@@ -2,11 +2,11 @@
 ghost use Rattle.std.specs.Prelude.{◌≡◌, ◌<◌, IfSome, Some};
 ghost use Rattle.blk_base.specs.declared.parts.Mode.TheVariants.{ReadWrite};
 ghost use Rattle.blk_io.specs.Disk.{IsIn, AreIn, attached_of};
-ghost use Rattle.xen_pages.specs.Pages.{word_of};
+ghost use Rattle.xen_pages.specs.Pages.{word_of, with_word};
 ghost use Rattle.grant_table.specs.Table.{IsLive, frame_of};
 ghost use Rattle.blk_base.specs.declared.moves.Move.{Move};
 ghost use Rattle.hypervisor.specs.Hypervisor.{Hypervisor};
-ghost use Rattle.hypervisor.specs.Act.{back_act, back_seen, back_under, back_with_move, outcome_of, outcome_told, IsGiven, read_act, disk_act, wait_act};
+ghost use Rattle.hypervisor.specs.Act.{back_act, back_seen, back_under, back_with_move, outcome_of, outcome_told, with_pages, IsGiven, read_act, disk_act, wait_act};
 ghost use Rattle.hypervisor.specs.Act.Outcome.{Took};
 ghost use Rattle.hypervisor.specs.May.{BackMay, IsCall, MayShow, HasMappingLeft};
 ghost use Rattle.hypervisor.specs.Disk.{DiskDoes, DiskReads, DiskWrites, DiskFlushes, DiskTrims};
@@ -44,7 +44,7 @@ impl Hypervisor {
                 word,
                 value,
             } => {
-                self.grants.write(&mut self.pages, *mapping, *word, *value);
+                self.write(*mapping, *word, *value);
                 Some(BackAnswer::Done)
             }
             _ => self.call(who, ask, disk, room),
@@ -100,6 +100,18 @@ impl Hypervisor {
         ensures { result ≡ word_of self.now.pages (frame_of self.now.grants mapping) word }
     {
         self.grants.read(&self.pages, mapping, word)
+    }
+
+    /// Writes a word through a mapping for writing that lives, as `back` does where that is asked; the
+    /// answer is then `Done`.
+    #[inline(always)]
+    pub fn write(&mut self, mapping: Mapping, word: u32, value: u32)
+        requires live { IsLive self.old.grants mapping }
+        requires writable { mapping.mode ≡ ReadWrite }
+        requires word_in { word < 1024 }
+        ensures { self.new ≡ with_pages self.old (with_word self.old.pages (frame_of self.old.grants mapping) word value) }
+    {
+        self.grants.write(&mut self.pages, mapping, word, value);
     }
 
     // The back takes its event, if there is one.

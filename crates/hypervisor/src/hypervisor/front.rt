@@ -1,6 +1,6 @@
 // What is done at an ask of the front.
 ghost use Rattle.std.specs.Prelude.{◌≡◌};
-ghost use Rattle.xen_pages.specs.Pages.{with_word};
+ghost use Rattle.xen_pages.specs.Pages.{word_of, with_word};
 ghost use Rattle.hypervisor.specs.Act.{front_act, front_seen, front_under, front_with_move, with_pages};
 ghost use Rattle.hypervisor.specs.May.{FrontMay, IsPlace};
 
@@ -20,7 +20,7 @@ impl Hypervisor {
             FrontAsk::Wait => self.front_event(),
             FrontAsk::Fence => Some(FrontAnswer::Done),
             FrontAsk::Read { frame, word } => {
-                Some(FrontAnswer::Word(self.pages.read(*frame, *word)))
+                Some(FrontAnswer::Word(self.read_front(*frame, *word)))
             }
             FrontAsk::Write { frame, word, value } => {
                 self.write_front(*frame, *word, *value);
@@ -43,6 +43,16 @@ impl Hypervisor {
             }
             FrontAsk::GetKey(_) | FrontAsk::SetKey(_, _) | FrontAsk::Watch(_) => None,
         }
+    }
+
+    /// Reads a word of the front's memory, as `front` does where that is asked; the answer is then that
+    /// word.
+    #[inline(always)]
+    pub fn read_front(&self, frame: u32, word: u32) -> u32
+        requires place { IsPlace frame word }
+        ensures { result ≡ word_of self.now.pages frame word }
+    {
+        self.pages.read(frame, word)
     }
 
     /// Writes a word of the front's memory, as `front` does where that is asked; the answer is then

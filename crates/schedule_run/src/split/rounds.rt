@@ -4,7 +4,7 @@ ghost use Rattle.blk_io.specs.Disk.{DiskSeen};
 ghost use Rattle.split_model.specs.World.{is_quiet};
 ghost use Rattle.split_model.specs.Happening.{FrontMoves, BackMoves, Looks};
 ghost use Rattle.split_model.specs.Kind.{connecting, front_move, front_moves, back_moves, AreSomeJobMoves, AreFewJobMoves, AreAllJobs, HasEachJobs};
-ghost use Rattle.split_model.specs.Kind.{IsRound, IsRoundSoFar, AreRounds, never, AreRoundsSoFar, AreRoundsUntilQuiet, IsSettling, IsSettlingSoFar};
+ghost use Rattle.split_model.specs.Kind.{most_rounds, IsRound, IsRoundSoFar, AreRounds, never, AreRoundsSoFar, AreRoundsUntilQuiet, IsSettling, IsSettlingSoFar};
 ghost use Rattle.split_model.specs.Leads.{Goes, Is, IsReadyFor, moment};
 ghost use Rattle.schedule_run.specs.Going.{GoesThrough};
 
@@ -215,13 +215,13 @@ impl Split {
         disk: &mut D,
         recorder: &mut R,
     ) -> Result<(), RecordStop>
-        requires { IsReadyFor 5180000 self.old (D.seen disk.old) }
-        ensures { Goes (IsSettling self.old) (IsSettlingSoFar self.old) 5180000 result
+        requires { IsReadyFor (35 * most_rounds) self.old (D.seen disk.old) }
+        ensures { Goes (IsSettling self.old) (IsSettlingSoFar self.old) (35 * most_rounds) result
             (moment self.old (D.seen disk.old) (R.seen recorder.old))
             (moment self.new (D.seen disk.new) (R.seen recorder.new)) }
     {
-        let (requests, _) = self.front.owed();
-        let bound = 20_000 + 4_000 * u64::from(requests);
+        let (requests, sectors) = self.front.owed();
+        let bound = 20_000 + 2_000 * u64::from(requests) + 2_000 * sectors;
         self.rounds_until_quiet(bound, disk, recorder)?;
         let line = if self.is_quiet() {
             Line::Quiet

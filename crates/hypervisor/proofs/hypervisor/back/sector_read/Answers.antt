@@ -1,7 +1,6 @@
-use Rattle.std.proofs.Common.{◌≡◌, ◌∙◌, ℕ, ◌^◌, ◌<◌, List, length, get_or, ap, sym, subst}
-use Rattle.std.specs.Prelude.{All}
+use Rattle.std.proofs.Common.{◌≡◌, ℕ, ◌^◌, ◌<◌, List, length, get_or, sym, subst}
 use Rattle.std.proofs.lemmas.List.{get_or_default}
-use Rattle.hypervisor.specs.Act.{outcome_told, IsGiven, Gave}
+use Rattle.hypervisor.specs.Act.{IsGiven, Gave}
 use Rattle.hypervisor.proofs.hypervisor.back.sector_read.Goals as goal
 
 -- 128 words of 32 bits

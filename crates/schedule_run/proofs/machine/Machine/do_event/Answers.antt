@@ -1,5 +1,6 @@
-use Rattle.std.proofs.Common.{◌<◌, ◌^◌, refl, sym, subst, arith}
+use Rattle.std.proofs.Common.{◌*◌, ◌<◌, ◌^◌, refl, sym, subst, arith}
 use Rattle.split_model.specs.Happening.{Notifies}
+use Rattle.split_model.specs.Kind.{most_rounds}
 use Rattle.split_model.proofs.Running.{goes_as, goes_one}
 use Rattle.schedule_text.proofs.Adding.{gained_none}
 use Rattle.schedule_run.specs.Machine.{Run}
@@ -23,7 +24,7 @@ returns-in-Submit-clause-goes g c =
     rw (c.in-Submit.is, ← c.self.view_is) (goes_as _ _ _ _ 0 (10 ^ 10) _ _ _ (omega arith) (λ hs k. (k, c.submit.ensures.widths)) (λ hs k. (k, c.submit.ensures.widths)) (c.submit.ensures.goes (g.D.SectorDisk.seen c.args.disk.now)))
 
 pub returns-in-Settle-clause-goes : goal.returns-in-Settle-clause-goes
-returns-in-Settle-clause-goes g c = rw (c.in-Settle.is, ← c.self.view_is) (goes_as _ _ _ _ 5180000 (10 ^ 10) _ _ _ (omega arith) (λ hs k. k) (λ hs k. k) c.settle.ensures)
+returns-in-Settle-clause-goes g c = rw (c.in-Settle.is, ← c.self.view_is) (goes_as _ _ _ _ (35 * most_rounds) (10 ^ 10) _ _ _ (omega arith) (λ hs k. k) (λ hs k. k) c.settle.ensures)
 
 pub returns-in-Look-clause-goes : goal.returns-in-Look-clause-goes
 returns-in-Look-clause-goes g c = rw (c.in-Look.is, ← c.self.view_is) (goes_as _ _ _ _ 0 (10 ^ 10) _ _ _ (omega arith) (λ hs k. k) (λ hs k. k) (c.look.ensures (g.D.SectorDisk.seen c.args.disk.now)))

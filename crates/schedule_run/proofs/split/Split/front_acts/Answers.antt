@@ -1,10 +1,8 @@
-use Rattle.std.proofs.Common.{◌∷◌, [], refl}
-use Rattle.std.proofs.lemmas.List.{append-nil}
+use Rattle.std.proofs.Common.{◌∷◌, []}
 use Rattle.schedule_text.specs.declared.line.Line.TheVariants.{Move}
 use Rattle.hypervisor.specs.Act.{front_shown}
-use Rattle.split_model.specs.Shown.{front_lines}
 use Rattle.split_model.specs.World.{World}
-use Rattle.split_model.proofs.Moving.{front_asked_may, front_asked, front_unasked, front_told, front_left, front_rests, front_stepped, front_said, front_safe, front_goes}
+use Rattle.split_model.proofs.Moving.{front_asked_may, front_asked, front_unasked, front_told, front_left, front_rests, front_safe_as, front_goes_as}
 use Rattle.schedule_run.proofs.split.Split.front_acts.Goals as goal
 
 pub front-requires : goal.front-requires
@@ -27,17 +25,13 @@ tell-requires g c =
 pub invariant_of-self-2 : goal.invariant_of-self-2
 invariant_of-self-2 g c =
     let w : World = record { front = c.self.inside.front; back = c.self.inside.back; under = c.self.inside.under } in
-    front_safe w (c.in-Some.answer, front_shown c.ask-ask.result c.in-Some.answer) c.follow_told.new.front c.front.new.self c.self.invariant
-    (front_asked w _ _ c.ask-ask.ensures.value c.in-Some.ensures.acted)
-    (front_left w _ _ c.ask-ask.ensures.value c.in-Some.ensures.under)
-    (front_stepped c.self.inside.front _ _ c.in-Some.answer c.tell.ensures.told c.follow_told.ensures.taken)
+    front_safe_as w c.ask-ask.result (c.in-Some.answer, front_shown c.ask-ask.result c.in-Some.answer) c.tell.new.self c.follow_told.new.front c.front.new.self c.self.invariant
+    c.ask-ask.ensures.value c.in-Some.ensures.acted c.in-Some.ensures.under c.tell.ensures.told c.follow_told.ensures.taken
 
 pub returns : goal.returns
 returns g c =
     let w : World = record { front = c.self.inside.front; back = c.self.inside.back; under = c.self.inside.under } in
-    rw (← c.self.view_is) (λ disk. front_goes w (c.in-Some.answer, front_shown c.ask-ask.result c.in-Some.answer) c.follow_told.new.front c.front.new.self (front_lines c.tell.new.self.told) disk _ _ c.follow_told.result
-    (front_asked w _ _ c.ask-ask.ensures.value c.in-Some.ensures.acted)
-    (front_left w _ _ c.ask-ask.ensures.value c.in-Some.ensures.under)
-    (front_stepped c.self.inside.front _ _ c.in-Some.answer c.tell.ensures.told c.follow_told.ensures.taken)
-    (front_said c.self.inside.front _ c.in-Some.answer _ _ c.tell.ensures.told refl refl)
-    (rw (append-nil (front_lines c.tell.new.self.told)) (c.follow_told.ensures.lines (Move (front_shown c.ask-ask.result c.in-Some.answer) ∷ []) _ c.show_front-shown.ensures)))
+    let shown = front_shown c.ask-ask.result c.in-Some.answer in
+    rw (← c.self.view_is) (λ disk. front_goes_as w c.ask-ask.result (c.in-Some.answer, shown) c.tell.new.self c.follow_told.new.front c.front.new.self disk _ _ c.follow_told.result
+    c.ask-ask.ensures.value c.in-Some.ensures.acted c.in-Some.ensures.under c.tell.ensures.told c.follow_told.ensures.taken
+    (c.follow_told.ensures.lines (Move shown ∷ []) _ c.show_front-shown.ensures))

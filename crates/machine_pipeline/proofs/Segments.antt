@@ -1,0 +1,171 @@
+-- The segments of a request's entry: one for each of its frames, and no sector more than it has.
+use Rattle.std.proofs.Common.{◌≡◌, ℕ, zero, suc, ◌+◌, ◌-◌, ◌*◌, ◌/◌, ◌%◌, ◌^◌, ◌<◌, ◌≤◌, Bool, false, List, [], ◌∷◌, length, drop, refl, ap, sym, ◌∙◌, arith}
+use Rattle.std.specs.Prelude.{All, Option, Some, None, map, min, sum_by, slice_get, nat_lt}
+use Rattle.std.specs.List.{range_with_len, list_any}
+use Rattle.std.proofs.lemmas.Bool.Decides.{nat_tests}
+use Rattle.std.proofs.lemmas.Option.{slice_get-get_or}
+use Rattle.std.proofs.lemmas.List.FromFn.{length-map-range_with_len, take-map-range_with_len, sum_by-map-range_with_len_more}
+use Rattle.blk_layout.specs.declared.segment.Segment.{Segment}
+use Rattle.blk_layout.specs.Range.{AreSegments}
+use Rattle.segment_list.specs.Segments.{fails_test, length_of, sectors_of}
+use Rattle.blk_front.specs.declared.request.Request.{Request}
+use Rattle.blk_front.specs.Request.{frame_at, frames_for, segment_in, segment_at, segments_of, IsShaped}
+use Rattle.xen_pages.specs.Pages.{word_of}
+use Rattle.machine_pipeline.proofs.Flow.{frames_of, own_segments, data_word}
+use Rattle.machine_pipeline.proofs.Holds.{IsPooled, last_in}
+use Rattle.machine_pipeline.proofs.Lists.{all_at}
+
+-- a list made of a function from some place on
+drop-range : {X : Type 0} (f : ℕ → X) (a n i : ℕ) → i ≤ n → drop i (map f (range_with_len a n)) ≡ map f (range_with_len (a + i) (n - i))
+drop-range f a n zero le =
+    let start : a + 0 ≡ a = omega arith in
+    let all : n - 0 ≡ n = omega arith in
+    rw (start, all) refl
+drop-range f a zero (suc i) le = absurd (omega arith)
+drop-range f a (suc n) (suc i) le =
+    let start : a + suc i ≡ a + 1 + i = omega arith in
+    let rest : suc n - suc i ≡ n - i = omega arith in
+    rw (start, rest) (drop-range f (a + 1) n i (omega arith))
+
+none_passes : {X : Type 0} (p : X → Bool) (f : ℕ → X) (a n : ℕ)
+    → ((i : ℕ) → a ≤ i → i < a + n → p (f i) ≡ false)
+    → list_any p (map f (range_with_len a n)) ≡ false
+none_passes p f a zero none = refl
+none_passes p f a (suc n) none = rw (none a (omega arith) (omega arith)) (none_passes p f (a + 1) n (λ i low high. none i (omega arith) (omega arith)))
+
+all_segments : (f : ℕ → Segment) (a n : ℕ)
+    → ((i : ℕ) → (let s : Segment = f i in (s.gref < 2 ^ 32) × (s.first < 2 ^ 8) × (s.last < 2 ^ 8)))
+    → AreSegments (map f (range_with_len a n))
+all_segments f a zero each = tt
+all_segments f a (suc n) each = let its = each a in (its.0, its.1, its.2, all_segments f (a + 1) n each)
+
+-- the segment of its frame of this place
+abbrev pub frame_segment : Request → ℕ → Segment
+frame_segment r place = record { gref = frame_at r place + 6; first = 0; last = last_in r place }
+
+pub segment_is : (r : Request) (place : ℕ) → place < frames_of r → segment_at r place ≡ frame_segment r place
+segment_is r place lt = ap (segment_in r.count place) (slice_get-get_or r.frames.items place 18 lt)
+
+-- it has no more frames than an entry can name
+pub few_frames : (r : Request) → IsShaped r → (1 ≤ frames_of r) × (frames_of r ≤ 11)
+few_frames r shaped = let some = shaped.some in let few = shaped.few in let frames = shaped.frames in (omega arith, omega arith)
+
+own_made : (r : Request) → IsShaped r → own_segments r ≡ map (segment_at r) (range_with_len 0 (frames_of r))
+own_made r shaped =
+    let few = few_frames r shaped in
+    let frames = shaped.frames in
+    take-map-range_with_len (segment_at r) 0 11 (frames_for r.count) (omega (arith, few.1))
+    ∙ ap (λ (n : ℕ). map (segment_at r) (range_with_len 0 n)) (sym frames)
+
+-- its segments from this place on
+pub own_here : (r : Request) (place : ℕ)
+    → IsShaped r
+    → place < frames_of r
+    → drop place (own_segments r) ≡ frame_segment r place ∷ drop (place + 1) (own_segments r)
+own_here r place shaped lt =
+    let whole = own_made r shaped in
+    let from : 0 + place ≡ place = omega arith in
+    let next : 0 + (place + 1) ≡ place + 1 = omega arith in
+    let left : frames_of r - place ≡ suc (frames_of r - (place + 1)) = omega arith in
+    let first : drop place (own_segments r) ≡ map (segment_at r) (range_with_len place (suc (frames_of r - (place + 1)))) = ap (drop place) whole
+    ∙ (drop-range (segment_at r) 0 (frames_of r) place (omega arith)
+    ∙ (ap (λ (n : ℕ). map (segment_at r) (range_with_len n (frames_of r - place))) from
+    ∙ ap (λ (n : ℕ). map (segment_at r) (range_with_len place n)) left)) in
+    let rest : drop (place + 1) (own_segments r) ≡ map (segment_at r) (range_with_len (place + 1) (frames_of r - (place + 1))) = ap (drop (place + 1)) whole
+    ∙ (drop-range (segment_at r) 0 (frames_of r) (place + 1) (omega arith)
+    ∙ ap (λ (n : ℕ). map (segment_at r) (range_with_len n (frames_of r - (place + 1)))) next) in
+    first ∙ (ap (λ (s : Segment). s ∷ map (segment_at r) (range_with_len (place + 1) (frames_of r - (place + 1)))) (segment_is r place lt)
+    ∙ ap (λ (ss : List Segment). frame_segment r place ∷ ss) (sym rest))
+
+pub own_end : (r : Request) (place : ℕ) → IsShaped r → place ≡ frames_of r → drop place (own_segments r) ≡ []
+own_end r place shaped at =
+    let none : frames_of r - place ≡ 0 = omega arith in
+    ap (drop place) (own_made r shaped) ∙ (drop-range (segment_at r) 0 (frames_of r) place (omega arith)
+    ∙ ap (λ (n : ℕ). map (segment_at r) (range_with_len (0 + place) n)) none)
+
+-- each is sound
+pub own_sound : (r : Request) → IsShaped r → list_any fails_test (own_segments r) ≡ false
+own_sound r shaped = ap (list_any fails_test) (own_made r shaped)
+    ∙ none_passes fails_test (segment_at r) 0 (frames_of r) (λ i low lt. ap fails_test (segment_is r i (omega arith)) ∙ passes i)
+  where
+    passes : (i : ℕ) → fails_test (frame_segment r i) ≡ false
+    passes i =
+        let inside : nat_lt 7 (last_in r i) ≡ false = grind (arith, nat_tests) in
+        let nonempty : nat_lt (last_in r i) 0 ≡ false = grind (arith, nat_tests) in
+        rw (inside, nonempty) refl
+
+-- together they have its sectors
+first_sectors : (r : Request) (n : ℕ) → IsShaped r → n ≤ frames_of r → sum_by length_of (map (segment_at r) (range_with_len 0 n)) ≡ min (8 * n) r.count
+first_sectors r zero shaped le = omega arith
+first_sectors r (suc n) shaped le =
+    let before = first_sectors r n shaped (omega arith) in
+    let more : sum_by length_of (map (segment_at r) (range_with_len 0 (n + 1))) ≡ sum_by length_of (map (segment_at r) (range_with_len 0 n)) + length_of (segment_at r n) =
+    sum_by-map-range_with_len_more length_of (segment_at r) 0 n n (omega arith) in
+    let last : length_of (segment_at r n) ≡ last_in r n - 0 + 1 = ap length_of (segment_is r n (omega arith)) in
+    let frames = shaped.frames in
+    let some = shaped.some in
+    let next : suc n ≡ n + 1 = omega arith in
+    ap (λ (k : ℕ). sum_by length_of (map (segment_at r) (range_with_len 0 k))) next ∙ (more ∙ omega arith)
+
+pub own_sectors : (r : Request) → IsShaped r → sectors_of (own_segments r) ≡ r.count
+own_sectors r shaped =
+    let all = first_sectors r (frames_of r) shaped (omega arith) in
+    let frames = shaped.frames in
+    ap sectors_of (own_made r shaped) ∙ (all ∙ omega arith)
+
+-- its entry's segments have the ranges of their words
+pub ranged : (r : Request) → All IsPooled r.frames.items → AreSegments (segments_of r)
+ranged r pooled = all_segments (segment_at r) 0 11 (λ i. by_frame i (slice_get r.frames.items i) refl)
+  where
+    by_frame : (i : ℕ) (frame : Option ℕ)
+        → slice_get r.frames.items i ≡ frame
+        → (let s : Segment = segment_in r.count i frame in (s.gref < 2 ^ 32) × (s.first < 2 ^ 8) × (s.last < 2 ^ 8))
+    by_frame i None e = (omega arith, omega arith, omega arith)
+    by_frame i (Some frame) e = let its = all_at IsPooled r.frames.items i frame pooled e in (omega (arith, its.1), omega arith, omega arith)
+
+pub eleven : (r : Request) → length (segments_of r) ≡ 11
+eleven r = length-map-range_with_len (segment_at r) 0 11
+
+-- how many sectors a job moved: never more than there are, all of them after its last segment, and those before the next frame after another one
+pub within_last : (count frames place within moved ahead : ℕ)
+    → frames ≡ (count + 7) / 8
+    → place < frames
+    → within ≤ min 7 (count - 1 - 8 * place)
+    → moved + ahead ≡ 8 * place + within + 1
+    → 1 ≤ count
+    → moved + ahead ≤ count
+within_last count frames place within moved ahead whole lt few at some = omega arith
+
+pub all_moved : (count frames place within moved : ℕ)
+    → frames ≡ (count + 7) / 8
+    → place + 1 ≡ frames
+    → within ≡ min 7 (count - 1 - 8 * place)
+    → moved + 0 ≡ 8 * place + within + 1
+    → 1 ≤ count
+    → moved ≡ count
+all_moved count frames place within moved whole last few at some = omega arith
+
+pub frame_moved : (count frames place within moved : ℕ)
+    → frames ≡ (count + 7) / 8
+    → place + 1 < frames
+    → within ≡ min 7 (count - 1 - 8 * place)
+    → moved + 0 ≡ 8 * place + within + 1
+    → moved ≡ 8 * (place + 1)
+frame_moved count frames place within moved whole more few at = omega arith
+
+-- word k of a sector of its data, by the sector's place
+pub word_place : (place within moved k : ℕ)
+    → within ≤ 7
+    → moved ≡ 8 * place + within
+    → k < 128
+    → ((128 * moved + k) / 1024 ≡ place) × ((128 * moved + k) % 1024 ≡ within * 128 + k) × ((128 * moved + k) / 128 ≡ moved)
+word_place place within moved k few at lt = (omega arith, omega arith, omega arith)
+
+pub data_place : (pages : List ℕ) (r : Request) (place within moved k : ℕ)
+    → within ≤ 7
+    → moved ≡ 8 * place + within
+    → k < 128
+    → data_word pages r (128 * moved + k) ≡ word_of pages (frame_at r place) (within * 128 + k)
+data_place pages r place within moved k few at lt =
+    let its = word_place place within moved k few at lt in
+    ap (λ (f : ℕ). word_of pages (frame_at r f) ((128 * moved + k) % 1024)) its.0 ∙ ap (λ (i : ℕ). word_of pages (frame_at r place) i) its.1
