@@ -38,6 +38,7 @@ pub fn frames_of(job: &Job) -> u32
     }
 }
 
+/// Whether a request is a barrier, flush or discard, of which a read-only disk has none.
 pub fn is_unsupported(config: &Config, job: &Job) -> bool
     ensures { result ≡ is_unsupported config.now job.now }
 {
@@ -50,6 +51,7 @@ pub fn is_unsupported(config: &Config, job: &Job) -> bool
     }
 }
 
+/// Whether a request writes on a disk that is read-only.
 pub fn is_refused_write(config: &Config, job: &Job) -> bool
     ensures { result ≡ is_refused_write config.now job.now }
 {
@@ -59,6 +61,7 @@ pub fn is_refused_write(config: &Config, job: &Job) -> bool
     }
 }
 
+/// Whether a request's sectors lie past the disk's end.
 pub fn is_past_end(config: &Config, job: &Job) -> bool
     ensures { result ≡ is_past_end config.now job.now }
 {
@@ -67,6 +70,7 @@ pub fn is_past_end(config: &Config, job: &Job) -> bool
     sector > config.sectors || config.sectors - sector < count
 }
 
+/// Whether a request has more segments than one may have.
 pub fn is_long(config: &Config, job: &Job) -> bool
     ensures { result ≡ is_long config.now job.now }
 {

@@ -59,48 +59,56 @@ pub fn filling(job: &Job, index: u32) -> SectorWords
     }
 }
 
+/// Whether a request reads.
 pub fn is_read(job: &Job) -> bool
     ensures { result ≡ is_read job.now }
 {
     matches!(*job, Job::Read { .. })
 }
 
+/// Whether a request is a flush.
 pub fn is_flush(job: &Job) -> bool
     ensures { result ≡ is_flush job.now }
 {
     matches!(*job, Job::Flush)
 }
 
+/// Whether a request is a discard.
 pub fn is_discard(job: &Job) -> bool
     ensures { result ≡ is_discard job.now }
 {
     matches!(*job, Job::Discard { .. })
 }
 
+/// Whether a request is a barrier.
 pub fn is_barrier(job: &Job) -> bool
     ensures { result ≡ is_barrier job.now }
 {
     matches!(*job, Job::Barrier { .. })
 }
 
+/// Whether a request is a write or a barrier, whose sectors are filled one by one.
 pub fn is_write(job: &Job) -> bool
     ensures { result ≡ is_write job.now }
 {
     matches!(*job, Job::Write { .. } | Job::Barrier { .. })
 }
 
+/// Whether a barrier orders a request: a write, a barrier or a discard.
 pub fn is_ordered(job: &Job) -> bool
     ensures { result ≡ is_ordered job.now }
 {
     is_write(job) || is_discard(job)
 }
 
+/// Whether a request's answer wasn't told.
 pub fn is_open(stage: Stage) -> bool
     ensures { result ≡ is_open stage }
 {
     matches!(stage, Stage::Open)
 }
 
+/// Whether all of a request was told.
 pub fn is_finished(stage: Stage) -> bool
     ensures { result ≡ is_finished stage }
 {

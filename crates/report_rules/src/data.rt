@@ -8,7 +8,8 @@ use crate::standing::this_epoch;
 use blk_base::{BackMover, Move, SectorWords};
 use schedule_text::Line;
 
-fn words_in(line: &Line) -> Option<SectorWords>
+/// The words that the effect of a read shows.
+pub fn words_in(line: &Line) -> Option<SectorWords>
     ensures { result ≡ words_in line.now }
 {
     match *line {

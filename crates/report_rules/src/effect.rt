@@ -9,31 +9,32 @@ use blk_base::{Move, OutOfMemory};
 use schedule_text::Line;
 use std::alloc::Global;
 
-// What a job asks of the disk.
+/// What a job asks of the disk.
 #[derive(Clone, Copy, PartialEq, Eq)]
-enum DiskCall {
+pub enum DiskCall {
     Read,
     Write,
     Flush,
     Trim,
 }
 
-// A move of the disk, and the job that makes it.
+/// A move of the disk, and the job that makes it.
 #[derive(Clone, Copy)]
-struct DiskMove {
-    job: u64,
-    call: DiskCall,
+pub struct DiskMove {
+    pub job: u64,
+    pub call: DiskCall,
 }
 
-// What came of a move of the disk: the call that was done, or none where it failed.
+/// What came of a move of the disk: the call that was done, or none where it failed.
 #[derive(Clone, Copy)]
-struct Outcome {
-    call: Option<DiskCall>,
-    id: u64,
-    index: u32,
+pub struct Outcome {
+    pub call: Option<DiskCall>,
+    pub id: u64,
+    pub index: u32,
 }
 
-fn disk_move_of(line: &Line) -> Option<DiskMove>
+/// The move of the disk that a line is.
+pub fn disk_move_of(line: &Line) -> Option<DiskMove>
     ensures { result ≡ disk_move_of line.now }
 {
     let (job, call) = match *line {
@@ -56,7 +57,8 @@ fn disk_move_shown(before: &[Line]) -> Option<DiskMove>
     disk_move_of(&before[count - 1])
 }
 
-fn outcome_of(line: &Line) -> Option<Outcome>
+/// The outcome of a move of the disk that a line tells.
+pub fn outcome_of(line: &Line) -> Option<Outcome>
     ensures { result ≡ outcome_of line.now }
 {
     let (call, id, index) = match *line {
@@ -70,7 +72,8 @@ fn outcome_of(line: &Line) -> Option<Outcome>
     Some(Outcome { call, id, index })
 }
 
-fn is_done(o: Outcome, call: DiskCall) -> bool
+/// Whether an outcome is that of a call, where it was done.
+pub fn is_done(o: Outcome, call: DiskCall) -> bool
     ensures { Decides result (IfSome o.call (λ done. done ≡ call)) }
 {
     match o.call {

@@ -71,8 +71,8 @@ fn entry_words(abi: Abi) -> usize
     }
 }
 
-// The request of job `k`, where all words of its entry are among these.
-fn entry_of(abi: Abi, values: &[u32], k: u64) -> Option<RawRequest>
+/// The request of job `k`, where all words of its entry are among these.
+pub fn entry_of(abi: Abi, values: &[u32], k: u64) -> Option<RawRequest>
     ensures { result ≡ entry_of abi values.now k }
 {
     let size = entry_words(abi);
@@ -154,7 +154,8 @@ pub fn id_of(request: &RawRequest) -> u64
     }
 }
 
-fn disk_mover(line: &Line) -> Option<u64>
+/// The job that moves the disk in a line.
+pub fn disk_mover(line: &Line) -> Option<u64>
     ensures { result ≡ disk_mover line.now }
 {
     match *line {

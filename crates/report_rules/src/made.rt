@@ -12,8 +12,8 @@ use crate::standing::{Standing, is_unmapped, this_epoch};
 use blk_base::{BackMover, Mode, Move};
 use schedule_text::Line;
 
-// The mapping that a job made in a line.
-fn made_by(k: u64, line: &Line) -> Option<Standing>
+/// The mapping that a job made in a line.
+pub fn made_by(k: u64, line: &Line) -> Option<Standing>
     ensures { result ≡ made_by k line.now }
 {
     match *line {
@@ -47,7 +47,8 @@ fn left_to(k: u64, line: &Line, later: &[Line]) -> Option<Standing>
     }
 }
 
-fn may_stand(persistent: bool, s: Standing) -> bool
+/// Whether a mapping may stand longer than its job.
+pub fn may_stand(persistent: bool, s: Standing) -> bool
     ensures { result ≡ may_stand persistent s }
 {
     persistent && s.mode == Mode::ReadWrite
@@ -74,8 +75,8 @@ pub fn gave_up(before: &[Line], k: u64) -> bool
     gave_up_in(is_persistent(before), k, this_epoch(before))
 }
 
-// The mapping for writing that a job made in a line.
-fn made_for_writing(line: &Line) -> Option<Standing>
+/// The mapping for writing that a job made in a line.
+pub fn made_for_writing(line: &Line) -> Option<Standing>
     ensures { result ≡ made_for_writing line.now }
 {
     match *line {

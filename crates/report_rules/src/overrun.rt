@@ -10,11 +10,11 @@ use crate::standing::is_epoch;
 use blk_base::{Idx, Move};
 use schedule_text::{Halt, Line};
 
-// A producer that overran, and the one that was last replied with.
+/// A producer that overran, and the one that was last replied with.
 #[derive(Clone, Copy)]
-struct Overrun {
-    produced: u32,
-    replied: u32,
+pub struct Overrun {
+    pub produced: u32,
+    pub replied: u32,
 }
 
 // The overrun that a line shows.
@@ -79,7 +79,8 @@ fn is_service_move(step: &Move) -> bool
     )
 }
 
-fn is_service(line: &Line) -> bool
+/// Whether the back serves in a line: it touches memory, maps, moves the disk, or replies.
+pub fn is_service(line: &Line) -> bool
     ensures { result ≡ is_service line.now }
 {
     match *line {
@@ -94,8 +95,8 @@ fn is_service(line: &Line) -> bool
     }
 }
 
-// Whether a line is the halt of an overrun, if there is one.
-fn is_halted(shown: Option<Overrun>, line: &Line) -> bool
+/// Whether a line is the halt of an overrun, if there is one.
+pub fn is_halted(shown: Option<Overrun>, line: &Line) -> bool
     ensures { Decides result (IfSome shown (λ o. line.now ≡ lines.Halt (halts.Overrun o.produced o.replied))) }
 {
     match (shown, line) {
@@ -107,8 +108,8 @@ fn is_halted(shown: Option<Overrun>, line: &Line) -> bool
     }
 }
 
-// Whether a line is no halt of an overrun, or that of the one that was shown.
-fn is_only_halt(shown: Option<Overrun>, line: &Line) -> bool
+/// Whether a line is no halt of an overrun, or that of the one that was shown.
+pub fn is_only_halt(shown: Option<Overrun>, line: &Line) -> bool
     ensures { Decides result ((produced replied : ℕ) → line.now ≡ lines.Halt (halts.Overrun produced replied)
         → shown ≡ Some (record { produced = produced; replied = replied })) }
 {

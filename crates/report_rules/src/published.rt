@@ -11,23 +11,24 @@ use blk_base::{Config, Move, Mover, Path, Text};
 use schedule_text::Line;
 use segment_list::DiskInfo;
 
-// Whether both ends published persistent grants.
+/// Whether both ends published persistent grants.
 #[derive(Clone, Copy)]
-struct Keeping {
-    offered: bool,
-    asked: bool,
+pub struct Keeping {
+    pub offered: bool,
+    pub asked: bool,
 }
 
-// What the back published that it serves beside reads and writes.
+/// What the back published that it serves beside reads and writes.
 #[derive(Clone, Copy)]
-struct Serving {
-    barrier: bool,
-    flush: bool,
-    discard: bool,
-    indirect: bool,
+pub struct Serving {
+    pub barrier: bool,
+    pub flush: bool,
+    pub discard: bool,
+    pub indirect: bool,
 }
 
-fn info_of(config: &Config) -> DiskInfo
+/// The disk that the options of a run let the back publish.
+pub fn info_of(config: &Config) -> DiskInfo
     ensures { result ≡ info_of config.now }
 {
     DiskInfo {
@@ -40,7 +41,8 @@ fn info_of(config: &Config) -> DiskInfo
     }
 }
 
-fn info_told(info: DiskInfo, line: &Line) -> DiskInfo
+/// The same, after a line more.
+pub fn info_told(info: DiskInfo, line: &Line) -> DiskInfo
     ensures { result ≡ info_told info line.now }
 {
     match line {
@@ -74,7 +76,8 @@ fn is_offer(digits: &[u8]) -> bool
     !are_zeros(digits)
 }
 
-fn serving_after(s: Serving, line: &Line) -> Serving
+/// What the back published that it serves, after a line more.
+pub fn serving_after(s: Serving, line: &Line) -> Serving
     ensures { result ≡ serving_after s line.now }
 {
     match line {
@@ -168,7 +171,8 @@ fn says_one(text: &Option<Text>) -> bool
     }
 }
 
-fn keeping_after(s: Keeping, line: &Line) -> Keeping
+/// What both ends published of persistent grants, after a line more.
+pub fn keeping_after(s: Keeping, line: &Line) -> Keeping
     ensures { result ≡ keeping_after s line.now }
 {
     match line {

@@ -11,13 +11,16 @@ mod written;
 
 use crate::ring::{replied_before, ring_shape};
 use crate::stretch::is_back_move;
+pub use answered::is_like;
 use answered::{answered_in, is_answer, job_replied};
 use blk_base::OutOfMemory;
 use blk_layout::read_response;
+pub use due::end_of;
 use ring_words::RingShape;
 use schedule_text::Line;
 use std::alloc::Global;
-use written::{is_reply, row_of, value_written, values_written, word_written};
+pub use written::{are_alike, is_event, is_reply};
+use written::{row_of, value_written, values_written, word_written};
 
 fn next_place(before: &[Line], within: u32, shape: &RingShape) -> u32
     requires { within ≡ within_reply before.now }
@@ -92,8 +95,8 @@ fn reply_pushed(alloc: Global, before: &[Line]) -> Result<Option<[u32; 3]>, OutO
     }
 }
 
-// Whether a line tells of the response of these words.
-fn tells_of(row: [u32; 3], line: &Line) -> bool
+/// Whether a line tells of the response of these words.
+pub fn tells_of(row: [u32; 3], line: &Line) -> bool
     ensures { Decides result (line_of (response_of row) ≡ Some line.now) }
 {
     match (read_response(row), line) {
@@ -129,8 +132,8 @@ fn is_told(
     }
 }
 
-// Whether a line is one of the back's own: one of its moves, or its halt.
-fn is_of_back(line: &Line) -> bool
+/// Whether a line is one of the back's own: one of its moves, or its halt.
+pub fn is_of_back(line: &Line) -> bool
     ensures { result ≡ is_of_back line.now }
 {
     match line {

@@ -8,7 +8,8 @@ use blk_base::{Abi, BackMover, Move, Mover, Path, Text};
 use ring_words::RingShape;
 use schedule_text::Line;
 
-fn page_made(line: &Line) -> Option<Standing>
+/// The page of the ring that a line made: a mapping of the back's own.
+pub fn page_made(line: &Line) -> Option<Standing>
     ensures { result ≡ page_made line.now }
 {
     match *line {
@@ -53,7 +54,8 @@ fn count_of(lines: &[Line]) -> usize
     count
 }
 
-fn order_of(pages: usize) -> Option<u32>
+/// The order of a ring of so many pages, at most 4; none of another number of pages has one.
+pub fn order_of(pages: usize) -> Option<u32>
     ensures value { result ≡ order_of pages }
     ensures small { IfSome result (λ order. order ≤ 4) }
 {
@@ -85,7 +87,8 @@ pub fn is_first_page(before: &[Line], number: u64) -> bool
     }
 }
 
-fn start_told(start: u32, line: &Line) -> u32
+/// The index at which rings start, after a line more.
+pub fn start_told(start: u32, line: &Line) -> u32
     ensures { result ≡ start_told start line.now }
 {
     match *line {
@@ -213,13 +216,15 @@ pub fn ring_word(before: &[Line], number: u64, word: u32) -> Option<u128>
     }
 }
 
-fn is_protocol(path: &Path) -> bool
+/// Whether a path is that of the front's key `protocol`.
+pub fn is_protocol(path: &Path) -> bool
     ensures { result ≡ is_protocol path.now }
 {
     path.as_str() == "/local/domain/1/device/vbd/51712/protocol"
 }
 
-fn abi_named(text: &Option<Text>) -> Option<Abi>
+/// The layout that a text of the key `protocol` names (`io/blkif.h`, XEN_IO_PROTO_ABI_*).
+pub fn abi_named(text: &Option<Text>) -> Option<Abi>
     ensures { result ≡ abi_named text.now }
 {
     match text {
@@ -230,7 +235,8 @@ fn abi_named(text: &Option<Text>) -> Option<Abi>
     }
 }
 
-fn abi_after(abi: Option<Abi>, line: &Line) -> Option<Abi>
+/// The layout of entries, after a line more.
+pub fn abi_after(abi: Option<Abi>, line: &Line) -> Option<Abi>
     ensures { result ≡ abi_after abi line.now }
 {
     match line {

@@ -64,7 +64,8 @@ pub fn mapping_made(line: &Line) -> Option<Standing>
     }
 }
 
-fn is_unmap_of(number: u64, line: &Line) -> bool
+/// Whether a line unmaps that number.
+pub fn is_unmap_of(number: u64, line: &Line) -> bool
     ensures { result ≡ is_unmap_of number line.now }
 {
     match *line {

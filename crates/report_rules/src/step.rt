@@ -96,7 +96,8 @@ fn first_step(task: &Task) -> Step
     }
 }
 
-fn step_at(task: &Task, place: u64) -> Option<Step>
+/// The step at a place of a task, from 0; none after its end.
+pub fn step_at(task: &Task, place: u64) -> Option<Step>
     ensures { result ≡ step_at task.now place }
 {
     if place == 0 {
@@ -133,8 +134,8 @@ fn is_map(gref: u32, mode: Mode, step: &Move) -> bool
     }
 }
 
-// Whether a move is that step.
-fn is_step(step: &Step, made: &Move) -> bool
+/// Whether a move is that step.
+pub fn is_step(step: &Step, made: &Move) -> bool
     ensures { result ≡ is_step step.now made.now }
 {
     match (*step, *made) {

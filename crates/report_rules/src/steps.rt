@@ -28,7 +28,8 @@ pub fn work_of(
     work_tasks(alloc, &f.request, &f.disk, f.persistent, values.as_slice())
 }
 
-fn touched_by(made: &Move) -> Option<u64>
+/// The mapping that a move touches, if it touches one.
+pub fn touched_by(made: &Move) -> Option<u64>
     ensures { result ≡ touched_by made.now }
 {
     match *made {
@@ -38,7 +39,8 @@ fn touched_by(made: &Move) -> Option<u64>
     }
 }
 
-fn is_same(mapping: Option<u64>, touched: Option<u64>) -> bool
+/// Whether a mapping that is touched is the one that was named, where both are.
+pub fn is_same(mapping: Option<u64>, touched: Option<u64>) -> bool
     ensures { Decides result (IfSome mapping (λ mine. IfSome touched (λ number. number ≡ mine))) }
 {
     match (mapping, touched) {

@@ -114,7 +114,8 @@ fn is_between(before: &[Line]) -> bool
     }
 }
 
-fn is_back(who: BackMover) -> bool
+/// Whether the back itself moves, and not a job.
+pub fn is_back(who: BackMover) -> bool
     ensures { result ≡ is_back who }
 {
     matches!(who, BackMover::Back)
@@ -184,7 +185,8 @@ fn word_touched(before: &[Line], line: &Line) -> Option<u32>
     }
 }
 
-fn is_inside(word: Option<u32>) -> bool
+/// Whether a word that is touched, if one is, lies in a page.
+pub fn is_inside(word: Option<u32>) -> bool
     ensures { Decides result (IfSome word (λ w. w < 1024)) }
 {
     match word {

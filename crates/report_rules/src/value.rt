@@ -54,7 +54,8 @@ fn with_writing(word0: u32) -> u32
     }
 }
 
-fn mapped(word0: u32, mode: Mode) -> u32
+/// The first word of a grant entry after a map (GTF_reading, GTF_writing).
+pub fn entry_mapped(word0: u32, mode: Mode) -> u32
     ensures { result ≡ mapped_entry word0 mode }
 {
     match mode {
@@ -79,7 +80,9 @@ fn without_writing(word0: u32) -> u32
     }
 }
 
-fn unmapped(word0: u32, mappings: usize, writers: usize) -> u32
+/// The first word of a grant entry after an unmap that leaves so many mappings of it, and so many
+/// of them for writing.
+pub fn entry_unmapped(word0: u32, mappings: usize, writers: usize) -> u32
     ensures { result ≡ unmapped_entry word0 mappings writers }
 {
     let kept = if writers == 0 {
@@ -98,7 +101,7 @@ fn after_map(cell: Cell, value: u32, gref: u32, mode: Mode) -> u32
     ensures { result ≡ after_map cell value gref mode }
 {
     if is_flags_of(cell, gref) {
-        mapped(value, mode)
+        entry_mapped(value, mode)
     } else {
         value
     }
@@ -116,7 +119,7 @@ fn after_unmap(cell: Cell, value: u32, before: &[Line], number: u64) -> u32
             }
             let mappings = standing::others_of(epoch, s.gref, s.number);
             let writers = standing::other_writers_of(epoch, s.gref, s.number);
-            unmapped(value, mappings, writers)
+            entry_unmapped(value, mappings, writers)
         }
     }
 }

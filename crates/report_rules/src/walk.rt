@@ -50,7 +50,8 @@ pub fn gref_of(task: &Task) -> u32
     }
 }
 
-fn is_refusal(made: &Move) -> bool
+/// Whether a move is a map that was refused.
+pub fn is_refusal(made: &Move) -> bool
     ensures { result ≡ is_refusal made.now }
 {
     matches!(*made, Move::MapRefused { .. })
@@ -76,8 +77,8 @@ fn mapping_after(mapping: Option<u64>, made: &Move) -> Option<u64>
     }
 }
 
-// How far a job came after the step at a place of a task.
-fn spot_behind(done: usize, task: &Task, place: u64, mapping: Option<u64>, made: &Move) -> Spot
+/// How far a job came after the step at a place of a task.
+pub fn spot_behind(done: usize, task: &Task, place: u64, mapping: Option<u64>, made: &Move) -> Spot
     requires { done < 2 ^ 63 }
     ensures { result ≡ spot_behind done task.now place mapping made.now }
 {
@@ -105,8 +106,8 @@ pub fn is_unmapped_step(persistent: bool, task: &Task, place: u64, made: &Move) 
     persistent && is_on_data(task) && place == 0 && is_step_at(task, 1, made)
 }
 
-// A move takes a job one step on.
-fn advanced(persistent: bool, work: &[Task], made: &Move, s: Spot) -> Option<Spot>
+/// A move takes a job one step on.
+pub fn advanced(persistent: bool, work: &[Task], made: &Move, s: Spot) -> Option<Spot>
     ensures { result ≡ advanced persistent work.now made.now s }
 {
     if s.refused || s.done >= work.len() {
@@ -194,7 +195,8 @@ pub fn walk_of(persistent: bool, work: &[Task], k: u64, epoch: &[Line]) -> Optio
     s
 }
 
-fn value_read(k: u64, line: &Line) -> Option<u32>
+/// The word that job `k` read in a line.
+pub fn value_read(k: u64, line: &Line) -> Option<u32>
     ensures { result ≡ value_read k line.now }
 {
     match *line {

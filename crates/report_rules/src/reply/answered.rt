@@ -13,7 +13,8 @@ use blk_base::OutOfMemory;
 use schedule_text::Line;
 use std::alloc::Global;
 
-fn is_like(last: usize, row: &[u32; 3], words: &Option<[u32; 3]>) -> bool
+/// Whether a row has the words of a response, up to the last one that is looked at.
+pub fn is_like(last: usize, row: &[u32; 3], words: &Option<[u32; 3]>) -> bool
     ensures { result ≡ is_like last row.now words.now }
 {
     match words {

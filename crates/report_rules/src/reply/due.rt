@@ -12,8 +12,8 @@ use blk_layout::response_words;
 use schedule_text::Line;
 use std::alloc::Global;
 
-// How a job's work ended, if it did.
-fn end_of(failed: bool, tasks: usize, served: Status, s: Option<Spot>) -> Option<Status>
+/// How a job's work ended, if it did.
+pub fn end_of(failed: bool, tasks: usize, served: Status, s: Option<Spot>) -> Option<Status>
     ensures { result ≡ end_of failed tasks served s }
 {
     if failed {

@@ -8,7 +8,8 @@ use blk_base::{BackMover, Move, OutOfMemory};
 use schedule_text::Line;
 use std::alloc::Global;
 
-fn is_event(word: Option<u128>) -> bool
+/// Whether a word of the ring is `req_event`.
+pub fn is_event(word: Option<u128>) -> bool
     ensures { result ≡ is_event word }
 {
     match word {
@@ -87,7 +88,8 @@ pub(super) fn row_of(values: &[u32], r: usize) -> [u32; 3]
     ]
 }
 
-pub(super) fn are_alike(last: usize, xs: &[u32; 3], ys: &[u32; 3]) -> bool
+/// Whether two rows have the same words, up to the last one that is looked at.
+pub fn are_alike(last: usize, xs: &[u32; 3], ys: &[u32; 3]) -> bool
     ensures { result ≡ are_alike last xs.now ys.now }
 {
     value_at(xs, 0) == value_at(ys, 0)
@@ -110,7 +112,8 @@ pub(super) fn lines_before(before: &[Line], n: usize) -> &[Line]
     &before[..at]
 }
 
-pub(super) fn is_reply(line: &Line) -> bool
+/// Whether a line tells of a reply.
+pub fn is_reply(line: &Line) -> bool
     ensures { result ≡ is_reply line.now }
 {
     matches!(*line, Line::Reply { .. })
