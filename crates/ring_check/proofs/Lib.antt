@@ -1,0 +1,4 @@
+pub mod Telling
+pub mod Untouched
+pub mod Following
+pub mod Decided

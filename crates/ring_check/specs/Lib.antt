@@ -1,0 +1,3 @@
+pub mod State
+pub mod Verdict
+pub mod Kept
