@@ -1,0 +1,10 @@
+pub mod Undone
+pub mod Lookups
+pub mod Written
+pub mod Counts
+pub mod Numbered
+pub mod Sees
+pub mod Unmapped
+pub mod Told
+pub mod Decided
+pub mod EachNumber

@@ -1,0 +1,7 @@
+use Rattle.memory_check.specs.State.{state_after}
+use Rattle.memory_check.proofs.Told.{sees_all}
+use Rattle.memory_check.proofs.Decided.{map_answers_decided}
+use Rattle.memory_check.proofs.laws.the_verdict_on_map_answers_is_the_rule.Goals as goal
+
+pub returns : goal.returns
+returns c before line obeys = map_answers_decided before line (state_after before) (sees_all before obeys)
