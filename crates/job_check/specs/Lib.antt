@@ -1,0 +1,6 @@
+pub mod Kept
+pub mod Open
+pub mod Published
+pub mod Replies
+pub mod State
+pub mod Verdict
