@@ -1,0 +1,3 @@
+pub mod Feeds
+pub mod Taking
+pub mod Giving
