@@ -1,0 +1,6 @@
+pub mod Rules
+pub mod Words
+pub mod Progress
+pub mod State
+pub mod Verdicts
+pub mod Laws
