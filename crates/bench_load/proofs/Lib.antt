@@ -1,0 +1,6 @@
+pub mod Short
+pub mod Left
+pub mod Unbroken
+pub mod Widths
+pub mod Spoken
+pub mod Counting

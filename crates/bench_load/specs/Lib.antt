@@ -1,0 +1,6 @@
+pub mod Generated
+pub mod Left
+pub mod Text
+pub mod Summary
+pub mod Counts
+pub mod Grammar

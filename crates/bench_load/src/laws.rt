@@ -1,0 +1,15 @@
+// What holds of every generated schedule, and of every tally.
+ghost use Rattle.bench_load.specs.Grammar.{EachIsSpoken};
+ghost use Rattle.bench_load.specs.Counts.{CountsThemAll};
+
+/// Each line of a generated schedule is in the grammar of schedules, and its text is read as that
+/// line and as no other: so the text asks for exactly this schedule.
+pub fn the_schedule_is_in_the_grammar()
+    ensures { EachIsSpoken }
+{}
+
+/// A tally has the numbers of the lines of each kind: a refused request is among the refused alone,
+/// and both forms of an effect are effects.
+pub fn the_counts_are_those_of_the_lines()
+    ensures { CountsThemAll }
+{}
