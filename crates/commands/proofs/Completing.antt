@@ -5,65 +5,15 @@ use Rattle.schedule_text.specs.declared.event.Event.{Event}
 use Rattle.schedule_text.specs.declared.line.Detail.{Detail}
 use Rattle.ring_inspect.specs.Stop.{bytes_of, IsCount}
 use Rattle.schedule_run.specs.Reading.{text_of, HasNoLineFeed, first_line, IsLineOf, IsBadLine, AreLinesOf, last_line, IsWholeSchedule, HasBadLine, IsTooLong, Tells}
-use Rattle.schedule_run.proofs.Lines.{first_line_whole, first_line_all}
+use Rattle.bench_load.specs.Text.{schedule_bytes}
 use Rattle.commands.specs.declared.status.Stop.{Stop}
 use Rattle.commands.specs.declared.status.Stop.TheVariants.{Length, Words, BadLine, Source, Sink, OutOfMemory, Image, TooLong}
-use Rattle.commands.specs.Words.{Wish, a_run, a_ring, wish_of}
+use Rattle.commands.specs.Words.{Wish, a_run, a_ring, a_bench, wish_of}
 use Rattle.commands.specs.Scene.{Scene, bytes_limit}
 use Rattle.commands.specs.Ending.{CommandEnds, CarriesOut}
 use Rattle.commands.specs.Complete.{IsInputOf, MayBeDone}
+use Rattle.commands.proofs.SameLines.{whole_or_bad}
 use Rattle.commands.proofs.Settling.{status_at, wish_settles, same_wish, no_wish}
-
--- ---- a whole schedule has no bad line
-
-text_first : (line text last : List ℕ) → ((line ++ 10 ∷ []) ++ text) ++ last ≡ line ++ 10 ∷ (text ++ last)
-text_first [] text last = refl
-text_first (b ∷ line) text last = ap (λ l. b ∷ l) (text_first line text last)
-
-tails : (a b : ℕ) (x y : List ℕ) → a ∷ x ≡ b ∷ y → x ≡ y
-tails a b x y e = cc
-
-behind : (line x y : List ℕ) → line ++ 10 ∷ x ≡ line ++ 10 ∷ y → x ≡ y
-behind [] x y e = tails 10 10 x y e
-behind (b ∷ line) x y e = behind line x y (tails b b (line ++ 10 ∷ x) (line ++ 10 ∷ y) e)
-
--- two texts that begin with a line begin with the same one
-same_line : (line other x y : List ℕ) → HasNoLineFeed line → HasNoLineFeed other → line ++ 10 ∷ x ≡ other ++ 10 ∷ y → (line ≡ other) × (x ≡ y)
-same_line line other x y one two e =
-    let same : line ≡ other = sym (first_line_whole line x one) ∙ (ap first_line e ∙ first_line_whole other y two) in
-    (same, behind line x y (e ∙ ap (λ l. l ++ 10 ∷ y) (sym same)))
-
--- a text without a line feed begins with no line that has one
-no_line : (last other y : List ℕ) → HasNoLineFeed last → HasNoLineFeed other → last ≡ other ++ 10 ∷ y → ⊥
-no_line last other y one two e =
-    let same : last ≡ other = sym (first_line_all last one) ∙ (ap first_line e ∙ first_line_whole other y two) in
-    let long : length last ≡ length other + length (10 ∷ y) = ap length e ∙ length-append other (10 ∷ y) in
-    let short : length last ≡ length other = ap length same in
-    omega arith
-
-never_empty : (other y : List ℕ) → [] ≡ other ++ 10 ∷ y → ⊥
-never_empty other y e =
-    let long : 0 ≡ length other + length (10 ∷ y) = ap length e ∙ length-append other (10 ∷ y) in
-    omega arith
-
-no_bad : (lines others : List (List ℕ)) (last rest : List ℕ) (events asked : List Event) → text_of lines ++ last ≡ text_of others ++ rest → AreLinesOf (lines ++ last_line last) events → AreLinesOf others asked → rest ≢ [] → IsBadLine (first_line rest) → ⊥
-no_bad [] [] [] rest events asked e are too some bad = some (sym e)
-no_bad [] [] (b ∷ last) rest events asked e are too some bad =
-    let first : b ∷ last ≡ first_line rest = sym (first_line_all (b ∷ last) are.2) ∙ ap first_line e in
-    bad are.0 (subst (λ line. IsLineOf line are.0) first are.3)
-no_bad (line ∷ lines) [] last rest events asked e are too some bad =
-    let first : line ≡ first_line rest = sym (first_line_whole line (text_of lines ++ last) are.2) ∙ ap first_line (sym (text_first line (text_of lines) last) ∙ e) in
-    bad are.0 (subst (λ line. IsLineOf line are.0) first are.3)
-no_bad [] (other ∷ others) [] rest events asked e are too some bad = never_empty other (text_of others ++ rest) (e ∙ text_first other (text_of others) rest)
-no_bad [] (other ∷ others) (b ∷ last) rest events asked e are too some bad =
-    no_line (b ∷ last) other (text_of others ++ rest) are.2 too.2 (e ∙ text_first other (text_of others) rest)
-no_bad (line ∷ lines) (other ∷ others) last rest events asked e are too some bad =
-    let same = same_line line other (text_of lines ++ last) (text_of others ++ rest) are.2 too.2 (sym (text_first line (text_of lines) last) ∙ (e ∙ text_first other (text_of others) rest)) in
-    no_bad lines others last rest are.1 too.1 same.1 are.5 too.5 some bad
-
-whole_or_bad : (limit : ℕ) (bytes : List ℕ) (events asked : List Event) (number : ℕ) → IsWholeSchedule limit bytes events → HasBadLine limit bytes asked number → ⊥
-whole_or_bad limit bytes events asked number whole bad =
-    no_bad whole.lines bad.lines whole.last bad.rest events asked (sym whole.all ∙ bad.all) whole.are_lines bad.are_lines bad.some bad.bad
 
 -- ---- no cause of another status is there
 
@@ -113,9 +63,24 @@ ring_completes abi order (Err TooLong) old new h may = absurd h.0
 ring_completes abi order (Err Image) old new h may = absurd h.0
 ring_completes abi order (Err Words) old new h may = absurd h.0
 
+bench_completes : (seed count : ℕ) (result : Result (Unit {0}) Stop) (old new : Scene) → CommandEnds (a_bench seed count) result old new → MayBeDone (a_bench seed count) old new → (status_at result ≡ 0) ⊎ (status_at result ≡ 6)
+bench_completes seed count (Ok done) old new h may = inl refl
+bench_completes seed count (Err OutOfMemory) old new h may = inr refl
+bench_completes seed count (Err Sink) old new h may = absurd (may.written ((wish_settles (a_bench seed count) (Err Sink) old new h).output_failed refl))
+bench_completes seed count (Err TooLong) old new h may =
+    let long : bytes_limit ≤ length (schedule_bytes seed count) = h.0.0 in
+    let below : length (schedule_bytes seed count) < bytes_limit = may.input in
+    absurd (omega arith)
+bench_completes seed count (Err Source) old new h may = absurd h.0
+bench_completes seed count (Err (BadLine number)) old new h may = absurd h.0
+bench_completes seed count (Err Image) old new h may = absurd h.0
+bench_completes seed count (Err (Length count' expected)) old new h may = absurd h.0
+bench_completes seed count (Err Words) old new h may = absurd h.0
+
 wish_completes : (wish : Wish) (result : Result (Unit {0}) Stop) (old new : Scene) → CommandEnds wish result old new → MayBeDone wish old new → (status_at result ≡ 0) ⊎ (status_at result ≡ 6)
 wish_completes (a_run image detail) result old new h may = run_completes image detail result old new h may
 wish_completes (a_ring abi order) result old new h may = ring_completes abi order result old new h may
+wish_completes (a_bench seed count) result old new h may = bench_completes seed count result old new h may
 
 pub completes : (words : List (List ℕ)) (result : Result (Unit {0}) Stop) (status : ℕ) (old new : Scene) (wish : Wish) → status ≡ status_at result → CarriesOut words result old new → wish_of words ≡ Some wish → MayBeDone wish old new → (status ≡ 0) ⊎ (status ≡ 6)
 completes words result status old new wish same (inl refused) asks may = absurd (no_wish words wish refused.1 asks)

@@ -3,4 +3,8 @@ pub mod Reading
 pub mod Runs
 pub mod Reporting
 pub mod Settling
+pub mod SameLines
 pub mod Completing
+pub mod Zeros
+pub mod GeneratedLines
+pub mod Tallying

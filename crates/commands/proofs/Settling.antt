@@ -8,7 +8,8 @@ use Rattle.schedule_run.specs.declared.schedule.RunStop.{RunStop}
 use Rattle.schedule_run.specs.declared.schedule.RunStop.TheVariants as run
 use Rattle.commands.specs.declared.status.Stop.{Stop}
 use Rattle.commands.specs.declared.status.Stop.TheVariants.{Length, Words, BadLine, Source, Sink, OutOfMemory, Image, TooLong}
-use Rattle.commands.specs.Words.{Wish, a_run, a_ring, wish_of, AsksRing, AsksNothing}
+use Rattle.commands.specs.Words.{Wish, a_run, a_ring, a_bench, wish_of, AsksRing, AsksBench, AsksNothing}
+use Rattle.commands.specs.Bench.{FailsToSay, BenchEnds, BenchAt}
 use Rattle.commands.specs.Status.{status_of}
 use Rattle.commands.specs.Scene.{Scene, options_of, bytes_limit, with_image, reporting}
 use Rattle.commands.specs.Ending.{RunsOn, RunEnds, RingEnds, CommandEnds, CarriesOut}
@@ -122,9 +123,25 @@ run_settles image detail (Err Image) old new h =
 run_settles image detail (Err (Length count expected)) old new h = absurd h
 run_settles image detail (Err Words) old new h = absurd h
 
+fails_to_say : (text : List ℕ) (before after : SinkSeen) → FailsToSay text before after → Rose before.faults after.faults
+fails_to_say text before after (inl h) = h.rose
+fails_to_say text before after (inr h) = subst (λ f. Rose f after.faults) h.1.faults h.2.rose
+
+bench_settles : (seed count : ℕ) (result : Result (Unit {0}) Stop) (old new : Scene) → BenchEnds seed count result old.output new.output → new.source.faults ≡ old.source.faults → Settles (status_at result) old new
+bench_settles seed count (Ok done) old new h same = settles_done old new same (ap (λ s. s.kept_back) h.handed_on) (ap (λ s. s.faults) h.handed_on ∙ h.written.faults)
+bench_settles seed count (Err Sink) old new h same = settles_output old new same (fails_to_say _ old.output new.output h.failed)
+bench_settles seed count (Err OutOfMemory) old new h same = settles_other 6 old new (omega arith) (omega arith) (omega arith) (omega arith) same (same_output old.output new.output h)
+bench_settles seed count (Err TooLong) old new h same = settles_other 8 old new (omega arith) (omega arith) (omega arith) (omega arith) same (same_output old.output new.output h.1)
+bench_settles seed count (Err Source) old new h same = absurd h
+bench_settles seed count (Err (BadLine number)) old new h same = absurd h
+bench_settles seed count (Err Image) old new h same = absurd h
+bench_settles seed count (Err (Length count' expected)) old new h same = absurd h
+bench_settles seed count (Err Words) old new h same = absurd h
+
 pub wish_settles : (wish : Wish) (result : Result (Unit {0}) Stop) (old new : Scene) → CommandEnds wish result old new → Settles (status_at result) old new
 wish_settles (a_ring abi order) result old new h = ring_settles (record { abi = abi; order = order }) result old new h.0
 wish_settles (a_run image detail) result old new h = run_settles image detail result old new h
+wish_settles (a_bench seed count) result old new h = bench_settles seed count result old new h.0 (ap (λ s. s.faults) h.1)
 
 -- where nothing was done, at a status that says of no failure
 untouched_settles : (n : ℕ) (old new : Scene) → n ≢ 0 → n ≢ 4 → n ≢ 5 → n ≢ 7 → new ≡ old → Settles n old new
@@ -158,6 +175,7 @@ not_bad wish (Ok done) old new h e = let no : 0 ≡ 2 = e in omega arith
 not_bad wish (Err (Length count expected)) old new h e = let no : 1 ≡ 2 = e in omega arith
 not_bad (a_run image detail) (Err Words) old new h e = h
 not_bad (a_ring abi order) (Err Words) old new h e = h.0
+not_bad (a_bench seed count) (Err Words) old new h e = h.0
 not_bad wish (Err (BadLine number)) old new h e = let no : 3 ≡ 2 = e in omega arith
 not_bad wish (Err Source) old new h e = let no : 4 ≡ 2 = e in omega arith
 not_bad wish (Err Sink) old new h e = let no : 5 ≡ 2 = e in omega arith
@@ -188,3 +206,61 @@ untouched words result old new abi order (inr (inl starved)) asks = ap (λ s. s.
 untouched words result old new abi order (inr (inr h)) asks =
     let ends : CommandEnds (a_ring abi order) result old new = subst (λ wish. CommandEnds wish result old new) (same_wish h.0 (a_ring abi order) words h.1 asks) h.2 in
     ends.1
+
+-- ---- a bench
+
+bench_at : (seed count : ℕ) (result : Result (Unit {0}) Stop) (old new : Scene) → CommandEnds (a_bench seed count) result old new → BenchAt (status_at result) seed count old new
+bench_at seed count (Ok done) old new h = record {
+  done = λ e. h.0;
+  output = λ e. absurd (omega (arith, e));
+  too_long = λ e. absurd (omega (arith, e));
+  only = inl refl;
+  source = h.1;
+  disk = h.2;
+}
+bench_at seed count (Err Sink) old new h = record {
+  done = λ e. absurd (omega (arith, e));
+  output = λ e. h.0;
+  too_long = λ e. absurd (omega (arith, e));
+  only = inr (inl refl);
+  source = h.1;
+  disk = h.2;
+}
+bench_at seed count (Err OutOfMemory) old new h = record {
+  done = λ e. absurd (omega (arith, e));
+  output = λ e. absurd (omega (arith, e));
+  too_long = λ e. absurd (omega (arith, e));
+  only = inr (inr (inl refl));
+  source = h.1;
+  disk = h.2;
+}
+bench_at seed count (Err TooLong) old new h = record {
+  done = λ e. absurd (omega (arith, e));
+  output = λ e. absurd (omega (arith, e));
+  too_long = λ e. h.0.0;
+  only = inr (inr (inr refl));
+  source = h.1;
+  disk = h.2;
+}
+bench_at seed count (Err Source) old new h = absurd h.0
+bench_at seed count (Err (BadLine number)) old new h = absurd h.0
+bench_at seed count (Err Image) old new h = absurd h.0
+bench_at seed count (Err (Length count' expected)) old new h = absurd h.0
+bench_at seed count (Err Words) old new h = absurd h.0
+
+starved_at : (seed count : ℕ) (old new : Scene) → new ≡ old → BenchAt 6 seed count old new
+starved_at seed count old new same = record {
+  done = λ e. absurd (omega (arith, e));
+  output = λ e. absurd (omega (arith, e));
+  too_long = λ e. absurd (omega (arith, e));
+  only = inr (inr (inl refl));
+  source = ap (λ s. s.source) same;
+  disk = ap (λ s. s.disk) same;
+}
+
+pub benched : (words : List (List ℕ)) (result : Result (Unit {0}) Stop) (status : ℕ) (old new : Scene) (seed count : ℕ) → status ≡ status_at result → CarriesOut words result old new → AsksBench words seed count → BenchAt status seed count old new
+benched words result status old new seed count same (inl h) asks = absurd (no_wish words (a_bench seed count) h.1 asks)
+benched words result status old new seed count same (inr (inl starved)) asks = rw (same, starved.0) (starved_at seed count old new starved.1)
+benched words result status old new seed count same (inr (inr h)) asks =
+    let ends : CommandEnds (a_bench seed count) result old new = subst (λ wish. CommandEnds wish result old new) (same_wish h.0 (a_bench seed count) words h.1 asks) h.2 in
+    rw same (bench_at seed count result old new ends)

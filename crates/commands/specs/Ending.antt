@@ -15,7 +15,8 @@ use Rattle.schedule_run.specs.declared.schedule.RunStop.TheVariants as run
 use Rattle.commands.specs.declared.status.Stop.{Stop}
 use Rattle.commands.specs.declared.status.Stop.TheVariants.{Length, Words, BadLine, Source, Sink, OutOfMemory, Image, TooLong}
 use Rattle.commands.specs.Scene.{Scene, options_of, bytes_limit, with_image, reporting}
-use Rattle.commands.specs.Words.{Wish, a_run, a_ring, wish_of, AsksNothing}
+use Rattle.commands.specs.Bench.{BenchEnds}
+use Rattle.commands.specs.Words.{Wish, a_run, a_ring, a_bench, wish_of, AsksNothing}
 use Rattle.commands.specs.Status.{status_of, line_of}
 
 -- the image of that name was attached for writing, and the schedule was run on it
@@ -78,10 +79,11 @@ abbrev pub RingEnds : Shape → Result (Unit {0}) Stop → (a b : SourceSeen) �
 RingEnds shape (Ok done) a b before after = ShowsRing shape a b before after
 RingEnds shape (Err stop) a b before after = RingStops shape stop a b before after
 
--- what the carrying out of this wish made of the outside; the showing of a ring leaves the disk as it was
+-- what the carrying out of this wish made of the outside; the showing of a ring leaves the disk as it was, and a bench the input too
 abbrev pub CommandEnds : Wish → Result (Unit {0}) Stop → Scene → Scene → Type 0
 CommandEnds (a_ring abi order) result old new = RingEnds (record { abi = abi; order = order }) result old.source new.source old.output new.output × (new.disk ≡ old.disk)
 CommandEnds (a_run image detail) result old new = RunEnds image detail result old new
+CommandEnds (a_bench seed count) result old new = BenchEnds seed count result old.output new.output × (new.source ≡ old.source) × (new.disk ≡ old.disk)
 
 -- the words ask for nothing, and nothing was done
 abbrev pub IsRefused : List (List ℕ) → Result (Unit {0}) Stop → Scene → Scene → Type 0

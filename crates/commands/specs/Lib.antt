@@ -2,6 +2,7 @@ pub mod Words
 pub mod Reading
 pub mod Status
 pub mod Scene
+pub mod Bench
 pub mod Ending
 pub mod Reported
 pub mod Settled

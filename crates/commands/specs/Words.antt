@@ -12,7 +12,7 @@ use Rattle.blk_base.specs.declared.operation.Abi.TheVariants.{X64, X32}
 use Rattle.schedule_text.specs.declared.line.Detail.{Detail}
 use Rattle.schedule_text.specs.declared.line.Detail.TheVariants.{Lines, Moves}
 use Rattle.commands.specs.declared.words.Command.{Command}
-use Rattle.commands.specs.declared.words.Command.TheVariants.{Inspect, Run}
+use Rattle.commands.specs.declared.words.Command.TheVariants.{Inspect, Run, Bench}
 
 -- ---- the command set
 
@@ -32,6 +32,10 @@ abi_rule = record (new_rule (codes "abi")) { long = Some (codes "abi"); defaults
 abbrev pub order_rule : Rule
 order_rule = record (new_rule (codes "order")) { long = Some (codes "order"); defaults = codes "0" ∷ []; parser = Some (parser.Unsigned 0 4) }
 
+-- a number of 64 bits, which has to be there
+abbrev pub number_rule : Text → Rule
+number_rule id = record (new_rule id) { required = true; parser = Some (parser.Unsigned 0 18446744073709551615) }
+
 -- `run`
 abbrev pub run_set : App
 run_set = with_rule (with_rule (new_app (codes "run")) image_rule) moves_rule
@@ -40,13 +44,21 @@ run_set = with_rule (with_rule (new_app (codes "run")) image_rule) moves_rule
 abbrev pub inspect_set : App
 inspect_set = with_rule (with_rule (new_app (codes "inspect")) abi_rule) order_rule
 
+-- `bench`, with a seed and a count
+abbrev pub bench_set : App
+bench_set = with_rule (with_rule (new_app (codes "bench")) (number_rule (codes "seed"))) (number_rule (codes "count"))
+
 -- a program that wants a subcommand, and whose words don't begin with its own name
 abbrev pub bare_set : App
 bare_set = on_top (λ s. record s { no_binary_name = true; subcommand_required = true }) (new_app (codes "blkring"))
 
+-- the commands that read an input
+abbrev pub read_set : App
+read_set = with_subcommand (with_subcommand bare_set run_set.top) inspect_set.top
+
 -- what the program may be told
 abbrev pub command_set : App
-command_set = with_subcommand (with_subcommand bare_set run_set.top) inspect_set.top
+command_set = with_subcommand read_set bench_set.top
 
 -- ---- what the words ask for
 
@@ -72,10 +84,11 @@ is_yes (Some text) = bytes_eq text (codes "true")
 abbrev pub detail_in : List Row → Detail
 detail_in rows = if is_yes (first_of (codes "moves") rows) then Moves else Lines
 
--- a run on the image of that name, or the showing of a ring of that layout and order
+-- a run on the image of that name, the showing of a ring of that layout and order, or a bench of that seed and that many lines
 pub data Wish : Type 0 where
   a_run : Text → Detail → Wish
   a_ring : Abi → ℕ → Wish
+  a_bench : ℕ → ℕ → Wish
 
 abbrev pub run_in : List Row → Option Wish
 run_in rows = option_map (λ image. a_run image (detail_in rows)) (first_of (codes "image") rows)
@@ -87,12 +100,20 @@ ring_with (Some abi) order = option_map (a_ring abi) order
 abbrev pub ring_in : List Row → Option Wish
 ring_in rows = ring_with (option_and_then layout_of (number_in (codes "abi") rows)) (option_and_then order_of (number_in (codes "order") rows))
 
+abbrev pub bench_with : Option ℕ → Option ℕ → Option Wish
+bench_with None count = None
+bench_with (Some seed) count = option_map (a_bench seed) count
+
+abbrev pub bench_in : List Row → Option Wish
+bench_in rows = bench_with (number_in (codes "seed") rows) (number_in (codes "count") rows)
+
 -- what the matches of a subcommand ask for
 abbrev pub wish_in : Text → List Row → Option Wish
 wish_in name rows =
     if bytes_eq name (codes "run") then run_in rows
     else (if bytes_eq name (codes "inspect") then ring_in rows
-    else None)
+    else (if bytes_eq name (codes "bench") then bench_in rows
+    else None))
 
 abbrev pub wish_where : Kinds → Option (Text × List Row) → Option Wish
 wish_where [] entered = option_and_then (λ s. wish_in s.0 s.1) entered
@@ -102,12 +123,15 @@ wish_where (fault ∷ faults) entered = None
 abbrev pub wish_of : List Text → Option Wish
 wish_of words = wish_where (fault_of command_set words) (subcommand_of command_set words)
 
--- the words ask for a run, for a ring, or for nothing
+-- the words ask for a run, for a ring, for a bench, or for nothing
 abbrev pub AsksRun : List Text → Text → Detail → Type 0
 AsksRun words image detail = wish_of words ≡ Some (a_run image detail)
 
 abbrev pub AsksRing : List Text → Abi → ℕ → Type 0
 AsksRing words abi order = wish_of words ≡ Some (a_ring abi order)
+
+abbrev pub AsksBench : List Text → ℕ → ℕ → Type 0
+AsksBench words seed count = wish_of words ≡ Some (a_bench seed count)
 
 abbrev pub AsksNothing : List Text → Type 0
 AsksNothing words = wish_of words ≡ None
@@ -116,3 +140,4 @@ AsksNothing words = wish_of words ≡ None
 abbrev pub wish_by : Command → Wish
 wish_by (Inspect abi order) = a_ring abi order
 wish_by (Run image detail) = a_run image.now detail
+wish_by (Bench seed count) = a_bench seed count

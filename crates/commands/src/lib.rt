@@ -3,6 +3,7 @@
 //! those over the real streams and files.
 #![tactic(auto)]
 
+mod bench;
 mod status;
 mod top;
 mod words;

@@ -68,6 +68,36 @@ fn words_that_ask_for_a_ring(rt: HostRuntime) -> Result<(), Fail> {
 }
 
 #[test]
+fn words_that_ask_for_a_bench(rt: HostRuntime) -> Result<(), Fail> {
+    let alloc = rt.alloc();
+    for (line, seed, count) in [
+        ("bench 7 10", 7, 10),
+        ("bench 0 0", 0, 0),
+        ("bench +007 +1", 7, 1),
+        (
+            "bench 18446744073709551615 18446744073709551615",
+            u64::MAX,
+            u64::MAX,
+        ),
+    ] {
+        assert!(rt; ask_for(alloc, line, Some(Command::Bench { seed, count }))?);
+    }
+    for line in [
+        "bench",
+        "bench 7",
+        "bench 7 10 1",
+        "bench 7 x",
+        "bench 18446744073709551616 1",
+        "bench 7 18446744073709551616",
+        "bench 7 -1",
+        "bench 7 10 --moves",
+    ] {
+        assert!(rt; ask_for(alloc, line, None)?);
+    }
+    Ok(())
+}
+
+#[test]
 fn words_that_ask_for_no_ring(rt: HostRuntime) -> Result<(), Fail> {
     let alloc = rt.alloc();
     for line in [
@@ -308,5 +338,42 @@ fn the_first_reason_stands_though_the_output_fails_after_it(rt: HostRuntime) -> 
         b"begin 64 0 0 0 0 rw 8 lines\n".as_slice()
     );
     assert_eq!(rt; err.bytes(), b"blkring: the input failed\n".as_slice());
+    Ok(())
+}
+
+#[test]
+fn a_bench_says_its_counts_and_leaves_input_and_disk(rt: HostRuntime) -> Result<(), Fail> {
+    let alloc = rt.alloc();
+    let words = words(alloc, "bench 7 10")?;
+    let mut disk = MemoryDisk::new(alloc, vec![in alloc; [1; 128]; 1]?)?;
+    let mut src = FailsAt::new(MemorySource::new(Vec::new(alloc)), [1].to_vec(alloc)?);
+    let mut out = MemorySink::with_room(alloc, 4096)?;
+    let mut err = MemorySink::with_room(alloc, 4096)?;
+    let status = blkring(
+        alloc,
+        words.as_slice(),
+        &mut src,
+        &mut disk,
+        &mut out,
+        &mut err,
+    );
+    assert_eq!(rt; status, 0);
+    assert_eq!(rt;
+        out.bytes(),
+        b"submitted 8\nrefused 0\neffects 62\nanswered 8\nquiet\n".as_slice()
+    );
+    assert_eq!(rt; src.faults, 0);
+    assert_eq!(rt; disk.content()[0], [1u32; 128]);
+    let mut full = MemorySink::with_room(alloc, 20)?;
+    let status = blkring(
+        alloc,
+        words.as_slice(),
+        &mut src,
+        &mut disk,
+        &mut full,
+        &mut err,
+    );
+    assert_eq!(rt; status, 5);
+    assert_eq!(rt; err.bytes(), b"blkring: the output failed\n".as_slice());
     Ok(())
 }

@@ -2,7 +2,8 @@
 ghost use Rattle.std.specs.Prelude.{◌≡◌, ◌≢◌, ◌≤◌, ◌⊎◌, ℕ, List, Some, map, IfErr};
 ghost use Rattle.std.specs.String.{string_bytes};
 ghost use Rattle.blk_io.specs.Outside.{HandsOn};
-ghost use Rattle.commands.specs.Words.{Wish, wish_of, AsksRun, AsksRing, AsksNothing};
+ghost use Rattle.commands.specs.Words.{Wish, wish_of, AsksRun, AsksRing, AsksBench, AsksNothing};
+ghost use Rattle.commands.specs.Bench.{BenchAt};
 ghost use Rattle.commands.specs.Status.{status_of, line_of};
 ghost use Rattle.commands.specs.Scene.{scene};
 ghost use Rattle.commands.specs.Ending.{RunEnds, RingEnds, CarriesOut, EndsSilently, StopsWithReason, IsSaid, run_stop};
@@ -10,6 +11,7 @@ ghost use Rattle.commands.specs.Reported.{RunReports, ReportsAt};
 ghost use Rattle.commands.specs.Settled.{Settles};
 ghost use Rattle.commands.specs.Complete.{MayBeDone};
 
+use crate::bench::bench;
 use crate::status::Stop;
 use crate::words::{Command, read_command};
 use blk_base::{Abi, Config};
@@ -26,6 +28,8 @@ use std::alloc::Global;
 ///   echoes the whole schedule and is a run of the plain disk, from what the image held to what it
 ///   holds; with `--moves` each move in it obeys the rules of the ring, of grants and of the work
 ///   (`io/ring.h`, `io/blkif.h`, `grant_table.h`).
+///   For `bench` the output gained the summary of a run of exactly the generated schedule on zeros in
+///   memory; neither input nor image was touched.
 /// - 1: `inspect` found another number of bytes than the ring's. Nothing was written.
 /// - 2: the words ask for nothing, or for help. Nothing was read or written.
 /// - 3: a line of the schedule isn't carried out. Those before it were, and are reported.
@@ -35,7 +39,7 @@ use std::alloc::Global;
 /// - 6: there was no memory; likewise. Reading the words takes memory too.
 /// - 7: the image failed where it was attached. Nothing was read or written.
 /// - 8: 4294967296 bytes of the schedule were taken, and the source didn't end before. Their whole
-///   lines were carried out, and are reported.
+///   lines were carried out, and are reported. A generated schedule can be as long, and nothing is said.
 ///
 /// The first reason ends the run: an output that fails after it to hand on what it kept back changes
 /// no status. The image of a run is the one that the words name, attached for writing; `inspect`
@@ -69,6 +73,11 @@ pub fn blkring<S: Source, D: SectorDisk, O: Sink, E: Sink>(
     // A ring's showing leaves the disk as it was.
     ensures untouched { (abi : Abi) → (order : ℕ) → AsksRing (map string_bytes words.now) abi order
         → D.seen disk.new ≡ D.seen disk.old }
+    // A bench says the counts of exactly its schedule, and touches neither input nor image.
+    ensures benched { (seed : ℕ) → (count : ℕ) → AsksBench (map string_bytes words.now) seed count
+        → BenchAt result seed count
+        (scene (S.seen src.old) (D.seen disk.old) (O.seen out.old))
+        (scene (S.seen src.new) (D.seen disk.new) (O.seen out.new)) }
     // The first reason stands, and each count of faults rose only where it says so; what was written
     // was handed on, or the output failed.
     ensures settled { Settles result
@@ -125,6 +134,7 @@ fn do_command<S: Source, D: SectorDisk, O: Sink>(
     match read_command(alloc, words)? {
         Some(Command::Inspect { abi, order }) => show_ring(alloc, src, abi, order, out),
         Some(Command::Run { image, detail }) => run_schedule(alloc, image, detail, src, disk, out),
+        Some(Command::Bench { seed, count }) => bench(alloc, seed, count, out),
         None => Err(Stop::Words),
     }
 }
@@ -152,8 +162,8 @@ fn show_ring<S: Source, O: Sink>(
     }
 }
 
-// Hands on what the output keeps back.
-fn hand_on<O: Sink>(out: &mut O) -> Result<(), Stop>
+/// Hands on what the output keeps back.
+pub fn hand_on<O: Sink>(out: &mut O) -> Result<(), Stop>
     ensures handed_on { HandsOn result (O.seen out.old) (O.seen out.new) }
     ensures reason { IfErr result (λ stop. stop ≡ Stop.Sink) }
 {
@@ -200,8 +210,8 @@ fn run_schedule<S: Source, D: SectorDisk, O: Sink>(
     }
 }
 
-// Why the program stops where the run did.
-fn run_stop(stop: RunStop) -> Stop
+/// Why the program stops where the run did.
+pub fn run_stop(stop: RunStop) -> Stop
     ensures { result ≡ run_stop stop }
 {
     match stop {

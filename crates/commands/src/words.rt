@@ -2,8 +2,8 @@
 ghost use Rattle.std.specs.Prelude.{◌≡◌, ℕ, IfOk, codes, map, option_map, option_and_then};
 ghost use Rattle.std.specs.String.{string_bytes};
 ghost use Rattle.clap.specs.Words.{first_of, found_of, rows_of, subcommand_rows_of, rule_of};
-ghost use Rattle.commands.specs.Words.{wish_of, wish_by, wish_in, run_in, ring_in, detail_in, number_in, layout_of, order_of};
-ghost use Rattle.commands.specs.Words.{command_set, run_set, inspect_set, image_rule, moves_rule, abi_rule, order_rule};
+ghost use Rattle.commands.specs.Words.{wish_of, wish_by, wish_in, run_in, ring_in, bench_in, detail_in, number_in, layout_of, order_of};
+ghost use Rattle.commands.specs.Words.{command_set, read_set, run_set, inspect_set, bench_set, image_rule, moves_rule, abi_rule, order_rule, number_rule};
 ghost use Rattle.commands.specs.Reading.{IsArgument, IsSet};
 
 use blk_base::{Abi, OutOfMemory};
@@ -20,11 +20,14 @@ pub enum Command<'a> {
     /// Run the schedule that the input holds on the image of that name, and report with or without
     /// each move.
     Run { image: &'a str, detail: Detail },
+    /// Run the schedule of that seed and that many lines on zeros in memory, and count what comes.
+    Bench { seed: u64, count: u64 },
 }
 
 /// The command that the words after the program's name ask for, as `clap` reads them: `run` with an
-/// image's name, and `--moves` before or after it; or `inspect`, with `--abi` 64 or 32 and `--order`
-/// from 0 to 4. Each option comes at most once, and its number may have a plus and zeros before it.
+/// image's name, and `--moves` before or after it; `inspect`, with `--abi` 64 or 32 and `--order`
+/// from 0 to 4; or `bench`, with a seed and a count, numbers of 64 bits. Each option comes at most
+/// once, and a number may have a plus and zeros before it.
 /// Without them the layout is that of x86_64 and the order 0.
 ///
 /// `None` where `clap` finds a fault in the words, of which a wish for help is one, and at an `--abi`
@@ -47,6 +50,13 @@ pub fn read_command<'a>(
 // What the program may be told.
 fn command_set<'a>(alloc: Global) -> Result<clap::Command<'a>, AllocError>
     ensures { IfOk result (IsSet command_set) }
+{
+    read_commands(alloc)?.subcommand(bench_command(alloc)?)
+}
+
+// The commands that read an input, `run` and `inspect`.
+fn read_commands<'a>(alloc: Global) -> Result<clap::Command<'a>, AllocError>
+    ensures { IfOk result (IsSet read_set) }
 {
     clap::Command::new(alloc, "blkring")
         .no_binary_name(true)
@@ -73,10 +83,27 @@ fn inspect_command<'a>(alloc: Global) -> Result<clap::Command<'a>, AllocError>
         .arg(order_option(alloc))
 }
 
+// `bench SEED COUNT`.
+fn bench_command<'a>(alloc: Global) -> Result<clap::Command<'a>, AllocError>
+    ensures { IfOk result (IsSet bench_set) }
+{
+    clap::Command::new(alloc, "bench")
+        .arg(number_argument(alloc, "seed"))?
+        .arg(number_argument(alloc, "count"))
+}
+
 fn image_argument<'a>(alloc: Global) -> Arg<'a>
     ensures { IsArgument image_rule result }
 {
     Arg::new(alloc, "image").required(true)
+}
+
+fn number_argument<'a>(alloc: Global, id: &'a str) -> Arg<'a>
+    ensures { IsArgument (number_rule id.now) result }
+{
+    Arg::new(alloc, id)
+        .required(true)
+        .value_parser(value_parser!(u64))
 }
 
 fn moves_flag<'a>(alloc: Global) -> Arg<'a>
@@ -113,6 +140,7 @@ fn asked<'a>(matches: &ArgMatches<'a>) -> Option<Command<'a>>
     match name {
         "run" => run(found),
         "inspect" => inspect(found),
+        "bench" => bench(found),
         _ => None,
     }
 }
@@ -133,6 +161,14 @@ fn inspect<'a>(found: &ArgMatches<'a>) -> Option<Command<'a>>
     let abi = layout(number(found, "abi")?)?;
     let order = order(number(found, "order")?)?;
     Some(Command::Inspect { abi, order })
+}
+
+fn bench<'a>(found: &ArgMatches<'a>) -> Option<Command<'a>>
+    ensures { option_map wish_by result ≡ bench_in (rows_of (found_of found.now)) }
+{
+    let seed = number(found, "seed")?;
+    let count = number(found, "count")?;
+    Some(Command::Bench { seed, count })
 }
 
 // A flag that was used has the text `true`.

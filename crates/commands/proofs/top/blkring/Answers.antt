@@ -1,5 +1,5 @@
 use Rattle.std.proofs.Common.{Ok, Err, refl}
-use Rattle.commands.proofs.Settling.{settles, reports, bad_words, refused, untouched}
+use Rattle.commands.proofs.Settling.{settles, reports, bad_words, refused, untouched, benched}
 use Rattle.commands.proofs.Completing.{completes}
 use Rattle.commands.proofs.top.blkring.Goals as goal
 
@@ -11,6 +11,12 @@ returns-in-Err-clause-settled g c = settles _ (Err c.in-Err.stop) _ _ _ c.stop_w
 
 pub returns-in-Err-clause-untouched : goal.returns-in-Err-clause-untouched
 returns-in-Err-clause-untouched g c abi order asks = untouched _ (Err c.in-Err.stop) _ _ abi order c.in-Err.ensures.carried_out asks
+
+pub returns-in-Err-clause-benched : goal.returns-in-Err-clause-benched
+returns-in-Err-clause-benched g c seed count asks = benched _ (Err c.in-Err.stop) _ _ _ seed count c.stop_with.ensures.status c.in-Err.ensures.carried_out asks
+
+pub returns-in-Ok-clause-benched : goal.returns-in-Ok-clause-benched
+returns-in-Ok-clause-benched g c seed count asks = benched _ (Ok tt) 0 _ _ seed count refl c.in-Ok.ensures.carried_out asks
 
 pub returns-in-Err-clause-bad_words : goal.returns-in-Err-clause-bad_words
 returns-in-Err-clause-bad_words g c two = bad_words _ (Err c.in-Err.stop) _ _ _ c.stop_with.ensures.status c.in-Err.ensures.carried_out two
