@@ -1,12 +1,12 @@
 -- The next line among the bytes that are still to be read, over plain lists.
-use Rattle.std.proofs.Common.{◌≡◌, ◌≢◌, ℕ, ◌+◌, ◌<◌, ◌≤◌, ◌⊎◌, inl, inr, List, [], ◌∷◌, ◌++◌, length, take, drop, Option, Some, None, refl, sym, ap, subst, ◌∙◌, arith, append_assoc, append-nil, length-append, rules}
+use Rattle.std.proofs.Common.{◌≡◌, ◌≢◌, ℕ, ◌+◌, ◌-◌, ◌<◌, ◌≤◌, ◌⊎◌, inl, inr, List, [], ◌∷◌, ◌++◌, length, take, drop, Option, Some, None, refl, sym, ap, subst, ◌∙◌, arith, append_assoc, append-nil, length-append, length-drop, rules}
 use Rattle.std.proofs.lemmas.List.{take_at, drop_at}
 use Rattle.schedule_text.specs.declared.line.Line.{Line}
 use Rattle.schedule_text.specs.Range.{IsTextOf}
 use Rattle.blk_io.specs.Outside.{SourceSeen}
 use Rattle.report_lines.specs.Text.{HasNoLineFeed, HasBadText, first_line}
 use Rattle.report_lines.specs.Filling.{Ahead, IsTaken, IsAtEnd, Fills, IsLineAhead, IsBadAhead}
-use Rattle.report_lines.specs.Giving.{unread, IsNext, Tells, IsNoLine}
+use Rattle.report_lines.specs.Giving.{unread, IsNext, Tells, IsNoLine, IsRoomSpent, Spends}
 use Rattle.report_lines.proofs.Feeds.{first_line_whole, first_line_long}
 
 -- bytes that go from the source to those ahead are still to be read
@@ -35,20 +35,43 @@ ahead_is n b ahead =
     let sizes = length-append ahead.line (10 ∷ ahead.rest) in
     (front, back, omega (arith, size, sizes, ahead.long))
 
-pub gives_next : (line : Line) (n : ℕ) (a b c : Ahead) (s t : SourceSeen) → Fills a b s t → IsLineAhead n b.bytes → IsTextOf line (take n b.bytes) → c ≡ record b { bytes = drop (n + 1) b.bytes } → IsNext line (unread a.bytes s.left) (unread c.bytes t.left) × (t.faults ≡ s.faults)
+pub room_spent : (room less : ℕ) (got : List ℕ) (s t : Option (List ℕ)) → less + length got ≡ room → IsTaken got s t → IsRoomSpent room less s t
+room_spent room less got None t is taken = tt
+room_spent room less got (Some bytes) t is taken = subst (IsRoomSpent room less (Some bytes)) (sym taken.2) (room_of taken.0 taken.1)
+  where
+    room_of : (rest : List ℕ) → bytes ≡ got ++ rest → length bytes + less ≡ room + length rest
+    room_of rest all = let whole = ap length all ∙ length-append got rest in omega (arith, whole, is)
+
+-- what is ahead and what may still be taken are fewer by its bytes
+spent : (n : ℕ) (a b c : Ahead) (s t : SourceSeen) → Fills a b s t → n + 1 ≤ length b.bytes → c.bytes ≡ drop (n + 1) b.bytes → c.room ≡ b.room → Spends a c s t
+spent n a b c s t f low bytes same =
+    let whole : length b.bytes ≡ length a.bytes + length f.got = ap length f.ahead ∙ length-append a.bytes f.got in
+    let rest : length c.bytes ≡ length b.bytes - (n + 1) = ap length bytes ∙ length-drop (n + 1) b.bytes in
+    record {
+      fewer = omega (arith, whole, rest, f.room, low, same);
+      room = room_spent a.room c.room f.got s.left t.left (omega (arith, f.room, same)) f.taken;
+    }
+
+pub gives_next : (line : Line) (n : ℕ) (a b c : Ahead) (s t : SourceSeen) → Fills a b s t → IsLineAhead n b.bytes → IsTextOf line (take n b.bytes) → c ≡ record b { bytes = drop (n + 1) b.bytes } → IsNext line (unread a.bytes s.left) (unread c.bytes t.left) × (t.faults ≡ s.faults) × Spends a c s t
 gives_next line n a b c s t f ahead is skipped =
     let parts = ahead_is n b.bytes ahead in
     let next = next_ahead line n b.bytes c.bytes t.left ahead (subst (IsTextOf line) parts.0 is) (ap (λ (x : Ahead). x.bytes) skipped ∙ parts.1) in
-    (subst (λ o. IsNext line o (unread c.bytes t.left)) (unread_filled a.bytes b.bytes f.got s.left t.left f.ahead f.taken) next, f.faults)
+    (subst (λ o. IsNext line o (unread c.bytes t.left)) (unread_filled a.bytes b.bytes f.got s.left t.left f.ahead f.taken) next, f.faults, spent n a b c s t f parts.2 (ap (λ (x : Ahead). x.bytes) skipped) (ap (λ (x : Ahead). x.room) skipped))
 
 -- nothing is left to be read
 none_left : (b : List ℕ) (t : Option (List ℕ)) → b ≡ [] → IsAtEnd t → Tells (λ bytes. bytes ≡ []) (unread b t)
 none_left b None none end = tt
 none_left b (Some left) none end = ap (λ l. l ++ left) none ∙ end
 
-pub gives_end : (a b : Ahead) (s t : SourceSeen) → Fills a b s t → b.bytes ≡ [] → IsAtEnd t.left → Tells (λ bytes. bytes ≡ []) (unread a.bytes s.left) × (t.faults ≡ s.faults)
-gives_end a b s t f none end =
-    (subst (Tells (λ bytes. bytes ≡ [])) (unread_filled a.bytes b.bytes f.got s.left t.left f.ahead f.taken) (none_left b.bytes t.left none end), f.faults)
+nothing_of : (a got b : List ℕ) → b ≡ a ++ got → b ≡ [] → (a ≡ []) × (length got ≡ 0)
+nothing_of [] [] b is none = (refl, refl)
+nothing_of [] (x ∷ got) b is none = absurd (search (rules, sym is ∙ none))
+nothing_of (x ∷ a) got b is none = absurd (search (rules, sym is ∙ none))
+
+pub gives_end : (a b : Ahead) (s t : SourceSeen) → Fills a b s t → b.bytes ≡ [] → IsAtEnd t.left → 0 < b.room → Tells (λ bytes. bytes ≡ []) (unread a.bytes s.left) × (t.faults ≡ s.faults) × (a.bytes ≡ []) × (0 < a.room)
+gives_end a b s t f none end some =
+    let nothing = nothing_of a.bytes f.got b.bytes f.ahead none in
+    (subst (Tells (λ bytes. bytes ≡ [])) (unread_filled a.bytes b.bytes f.got s.left t.left f.ahead f.taken) (none_left b.bytes t.left none end), f.faults, nothing.0, omega (arith, f.room, nothing.1, some))
 
 some_more : (b left : List ℕ) → b ≢ [] → b ++ left ≢ []
 some_more [] left some = absurd (some refl)

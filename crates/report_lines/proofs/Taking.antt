@@ -30,7 +30,7 @@ end_by_read (Some bytes) after buffer room h =
     let none : bytes ≡ [] = h.3 refl room in
     ((bytes, refl, h.2), subst IsAtEnd (sym h.2) none)
 
-pub takes_none : (a : Ahead) (s t : SourceSeen) (buffer : List ℕ) → 0 < length buffer → GivesBytes 0 buffer s t → Fills a a s t × (a.bytes ≡ a.bytes) × IsAtEnd t.left
+pub takes_none : (a : Ahead) (s t : SourceSeen) (buffer : List ℕ) → 0 < length buffer → GivesBytes 0 buffer s t → Fills a a s t × (a ≡ a) × IsAtEnd t.left
 takes_none a s t buffer room given =
     let e = end_by_read s.left t.left buffer room given.read in
     (record { got = []; ahead = sym (append-nil a.bytes); taken = e.0; room = omega arith; faults = given.faults }, refl, e.1)

@@ -38,7 +38,7 @@ pub record IsLineAhead (n : ℕ) (bytes : List ℕ) : Type 0 where
 -- more of the source was taken, or it has come to its end
 abbrev pub TakesMore : Result Bool ReadStop → Ahead → Ahead → SourceSeen → SourceSeen → Type 0
 TakesMore (Ok true) a b s t = Fills a b s t × (b.room < a.room)
-TakesMore (Ok false) a b s t = Fills a b s t × (b.bytes ≡ a.bytes) × IsAtEnd t.left
+TakesMore (Ok false) a b s t = Fills a b s t × (b ≡ a) × IsAtEnd t.left
 TakesMore (Err Source) a b s t = Rose s.faults t.faults
 TakesMore (Err OutOfMemory) a b s t = t.faults ≡ s.faults
 TakesMore (Err stop) a b s t = ⊥
@@ -58,7 +58,7 @@ pub record IsFull (b : Ahead) : Type 0 where
 -- a line is ahead, the source has come to its end with none begun, or there is a reason why neither is so
 abbrev pub FillsLine : Result (Option ℕ) ReadStop → Ahead → Ahead → SourceSeen → SourceSeen → Type 0
 FillsLine (Ok (Some n)) a b s t = Fills a b s t × IsLineAhead n b.bytes
-FillsLine (Ok None) a b s t = Fills a b s t × (b.bytes ≡ []) × IsAtEnd t.left
+FillsLine (Ok None) a b s t = Fills a b s t × (b.bytes ≡ []) × IsAtEnd t.left × (0 < b.room)
 FillsLine (Err BadLine) a b s t = Fills a b s t × IsBadAhead b t
 FillsLine (Err TooLong) a b s t = Fills a b s t × IsFull b
 FillsLine (Err Source) a b s t = Rose s.faults t.faults

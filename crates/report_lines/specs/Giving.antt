@@ -1,5 +1,5 @@
 -- The next line of a report, by all bytes that are still to be read: those that were taken of the source, and those that it has left.
-use Rattle.std.specs.Prelude.{◌≡◌, ◌≢◌, ℕ, List, [], ◌∷◌, ◌++◌, Option, Some, None, Result, Ok, Err}
+use Rattle.std.specs.Prelude.{◌≡◌, ◌≢◌, ℕ, ◌+◌, ◌<◌, List, [], ◌∷◌, ◌++◌, length, Option, Some, None, Result, Ok, Err}
 use Rattle.schedule_text.specs.declared.line.Line.{Line}
 use Rattle.schedule_text.specs.Range.{IsTextOf}
 use Rattle.blk_io.specs.Outside.{SourceSeen, Rose}
@@ -28,10 +28,21 @@ Tells claim (Some bytes) = claim bytes
 abbrev pub IsNoLine : List ℕ → Type 0
 IsNoLine bytes = (bytes ≢ []) × HasBadText bytes
 
+-- what may still be taken falls by each byte that was taken, where the source exposes what it has left
+abbrev pub IsRoomSpent : ℕ → ℕ → Option (List ℕ) → Option (List ℕ) → Type 0
+IsRoomSpent room less (Some left) (Some rest) = length left + less ≡ room + length rest
+IsRoomSpent room less (Some left) None = ⊥
+IsRoomSpent room less None after = Unit {0}
+
+-- a line was read: what is ahead and what may still be taken are fewer together
+pub record Spends (a b : Ahead) (s t : SourceSeen) : Type 0 where
+  pub fewer : b.room + length b.bytes < a.room + length a.bytes
+  pub room : IsRoomSpent a.room b.room s.left t.left
+
 -- the next line, the end, or why there is none
 abbrev pub GivesLine : Result (Option Line) ReadStop → Ahead → Ahead → SourceSeen → SourceSeen → Type 0
-GivesLine (Ok (Some line)) a b s t = IsNext line (unread a.bytes s.left) (unread b.bytes t.left) × (t.faults ≡ s.faults)
-GivesLine (Ok None) a b s t = Tells (λ bytes. bytes ≡ []) (unread a.bytes s.left) × (t.faults ≡ s.faults)
+GivesLine (Ok (Some line)) a b s t = IsNext line (unread a.bytes s.left) (unread b.bytes t.left) × (t.faults ≡ s.faults) × Spends a b s t
+GivesLine (Ok None) a b s t = Tells (λ bytes. bytes ≡ []) (unread a.bytes s.left) × (t.faults ≡ s.faults) × (a.bytes ≡ []) × (0 < a.room)
 GivesLine (Err BadLine) a b s t = Tells IsNoLine (unread a.bytes s.left) × (t.faults ≡ s.faults)
 GivesLine (Err TooLong) a b s t = Fills a b s t × IsFull b
 GivesLine (Err Source) a b s t = Rose s.faults t.faults
