@@ -1,5 +1,5 @@
 -- What the state keeps of the front is what the lines before showed of it.
-use Rattle.std.proofs.Common.{◌≡◌, ℕ, ◌||◌, Bool, true, false, List, [], ◌∷◌, refl, sym, ap, subst, ◌∙◌}
+use Rattle.std.proofs.Common.{◌≡◌, ℕ, ◌||◌, Bool, true, false, List, [], ◌∷◌, refl, sym, ap, ◌∙◌}
 use Rattle.std.specs.Prelude.{Option, Some, None, fold}
 use Rattle.std.specs.Bool.{Decides}
 use Rattle.std.specs.List.{list_any}
@@ -14,7 +14,7 @@ use Rattle.plain_disk.specs.Step.{told_stage, next_stage}
 use Rattle.plain_disk.specs.Refusal as refusals
 use Rattle.plain_disk.specs.Refusal.{nothing_seen, requests_in}
 use Rattle.request_check.specs.Rules.{disk_after, is_closed_line, keeps_state, IsStateAt}
-use Rattle.request_check.specs.State.{Open, State, start, open_of, filled, shown, flushed, trimmed, failed, replied, without, with_open, told_to, answered, told, stepped, seen, state_after}
+use Rattle.request_check.specs.State.{Open, State, start, open_of, filled, shown, flushed, trimmed, failed, replied, told_to, answered, told, stepped, seen, state_after}
 use Rattle.request_check.specs.Verdicts.{allows_state}
 
 -- two states show the same of the front
@@ -93,7 +93,7 @@ sight_seen before = sight_from before start
 pub closed_seen : (before : List Line) → (state_after before).closed ≡ list_any is_closed_line before
 closed_seen before = closed_from before start
 
-same_verdict : (s : State) (requests : List Request) (line : Line) → (line ≡ lines.Closed → ⊥) → allows_state s line ≡ keeps_state s.sight s.closed requests line
+pub same_verdict : (s : State) (requests : List Request) (line : Line) → (line ≡ lines.Closed → ⊥) → allows_state s line ≡ keeps_state s.sight s.closed requests line
 same_verdict s requests lines.Closed other = absurd (other refl)
 same_verdict s requests lines.Ready other = refl
 same_verdict s requests lines.Closing other = refl

@@ -1,5 +1,5 @@
 -- Reports that keep the rules on requests, and runs of the plain disk.
-use Rattle.std.proofs.Common.{append_assoc, ◌≡◌, ℕ, ◌+◌, Bool, true, List, [], ◌∷◌, ◌++◌, length, refl, sym, ◌∙◌, ap, subst}
+use Rattle.std.proofs.Common.{append_assoc, ◌≡◌, ◌+◌, Bool, true, List, [], ◌∷◌, ◌++◌, length, refl, sym, ◌∙◌, ap, subst}
 use Rattle.std.specs.Prelude.{Option, Some, None, option_and_then, IfSome}
 use Rattle.std.proofs.lemmas.Option.{none-some}
 use Rattle.schedule_text.specs.declared.line.Line.{Line}
@@ -8,7 +8,7 @@ use Rattle.report_rules.specs.Obeys.{Obeys}
 use Rattle.plain_disk.specs.Disk.{Disk, disk_of}
 use Rattle.plain_disk.specs.Step.{step, after}
 use Rattle.plain_disk.specs.Refusal.{requests_in}
-use Rattle.request_check.specs.Rules.{disk_after, OnDisk, IsStateAt, IsSubmitAt, IsRefuseAt, IsEffectRuleAt, KeepsRequests, keeps_effect, keeps_barrier, keeps_service, keeps_reply, keeps_answer, keeps_data, keeps_quiet}
+use Rattle.request_check.specs.Rules.{disk_after, IsStateAt, IsSubmitAt, IsRefuseAt, KeepsRequests, keeps_effect, keeps_barrier, keeps_service, keeps_reply, keeps_answer, keeps_data, keeps_quiet}
 use Rattle.request_check.specs.Laws.{IsRun}
 use Rattle.request_check.proofs.Stepping.{HasNext, KeepsSteps, steps_on, kept_by_step}
 
@@ -35,13 +35,13 @@ first_step None rest e h = absurd (none-some e h)
 first_step (Some y) rest e h = (y, refl)
 
 -- a rule of the disk's steps, where the disk is known
-at_disk : (keeps : Disk → Line → Bool) (o : Option Disk) (d : Disk) (line : Line) → o ≡ Some d → IfSome o (λ (x : Disk). keeps x line ≡ true) → keeps d line ≡ true
+pub at_disk : (keeps : Disk → Line → Bool) (o : Option Disk) (d : Disk) (line : Line) → o ≡ Some d → IfSome o (λ (x : Disk). keeps x line ≡ true) → keeps d line ≡ true
 at_disk keeps o d line is h = subst (λ (x : Option Disk). IfSome x (λ (y : Disk). keeps y line ≡ true)) is h
 
-on_disk : (keeps : Disk → Line → Bool) (o : Option Disk) (d : Disk) (line : Line) → o ≡ Some d → keeps d line ≡ true → IfSome o (λ (x : Disk). keeps x line ≡ true)
+pub on_disk : (keeps : Disk → Line → Bool) (o : Option Disk) (d : Disk) (line : Line) → o ≡ Some d → keeps d line ≡ true → IfSome o (λ (x : Disk). keeps x line ≡ true)
 on_disk keeps o d line is h = subst (λ (x : Option Disk). IfSome x (λ (y : Disk). keeps y line ≡ true)) (sym is) h
 
-keeps_steps : (before : List Line) (line : Line) (d : Disk) → disk_after before ≡ Some d → KeepsRequests before line → KeepsSteps d line
+pub keeps_steps : (before : List Line) (line : Line) (d : Disk) → disk_after before ≡ Some d → KeepsRequests before line → KeepsSteps d line
 keeps_steps before line d is k = record {
   effect = at_disk keeps_effect (disk_after before) d line is k.effect;
   barrier = at_disk keeps_barrier (disk_after before) d line is k.barrier;
@@ -52,7 +52,7 @@ keeps_steps before line d is k = record {
   quiet = at_disk keeps_quiet (disk_after before) d line is k.quiet;
 }
 
-has_next : (before : List Line) (line : Line) (d : Disk) → disk_after before ≡ Some d → IsSubmitAt before line → HasNext d line
+pub has_next : (before : List Line) (line : Line) (d : Disk) → disk_after before ≡ Some d → IsSubmitAt before line → HasNext d line
 has_next before (lines.Submit id job) d is h = h.0 ∙ ap (λ (o : Option Disk). length (requests_in o) + 1) is
 has_next before line d is h = tt
 

@@ -8,9 +8,9 @@ use Rattle.schedule_text.specs.declared.line.Line.{Line}
 use Rattle.schedule_text.specs.declared.line.Line.TheVariants as lines
 use Rattle.plain_disk.specs.declared.request.Request.{Request}
 use Rattle.plain_disk.specs.declared.request.Place.{Place}
-use Rattle.plain_disk.specs.Request.{is_read, is_write, is_flush, is_discard, is_ordered, is_open, is_done, may_serve, places_of, opened}
-use Rattle.plain_disk.specs.Disk.{Disk, request_of, noted_at}
-use Rattle.plain_disk.specs.Step.{step, submitted_of, effect_of, read_of, flushed_of, trimmed_of, fault_of, replied_of, answered_of, data_of, quiet_of, is_in_order, place_words, may_hold, may_reply, is_status, is_next, are_noted}
+use Rattle.plain_disk.specs.Request.{is_write, is_flush, is_discard, is_ordered, is_open, is_done, may_serve, places_of}
+use Rattle.plain_disk.specs.Disk.{Disk, request_of}
+use Rattle.plain_disk.specs.Step.{step, effect_of, read_of, flushed_of, trimmed_of, fault_of, replied_of, answered_of, data_of, is_in_order}
 use Rattle.request_check.specs.Rules.{may_fill, may_show, may_end, is_any, is_ordered_so, may_be_replied, may_be_answered, may_be_told, are_finished, keeps_effect, keeps_barrier, keeps_service, keeps_reply, keeps_answer, keeps_data, keeps_quiet}
 
 -- a submission has the next number

@@ -1,4 +1,5 @@
 pub mod Rules
+pub mod Entries
 pub mod Words
 pub mod Progress
 pub mod State

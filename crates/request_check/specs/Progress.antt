@@ -6,6 +6,8 @@ use Rattle.std.specs.BTreeMap.{is_at, insert_entry}
 use Rattle.std.specs.BTreeSet.{insert_key}
 use Rattle.std.specs.Ordering.{nat_cmp}
 use Rattle.blk_base.specs.declared.operation.Status.{Status}
+use Rattle.request_check.specs.declared.progress.Doing.{Doing}
+use Rattle.request_check.specs.declared.progress.Doing.TheVariants as doings
 
 -- whether the disk failed, what was replied, and the places that were done
 pub record Progress : Type 0 where
@@ -27,6 +29,12 @@ with_fault p = record p { faulted = true }
 
 abbrev pub with_reply : Status → Progress → Progress
 with_reply status p = record p { reply = Some status }
+
+-- what one doing makes of it
+abbrev pub with_doing : Doing → Progress → Progress
+with_doing (doings.Done index) = with_done index
+with_doing doings.Failed = with_fault
+with_doing (doings.Replied status) = with_reply status
 
 -- what was done of a request: nothing where nothing is kept of it
 abbrev pub progress_of : List (ℕ × Progress) → ℕ → Progress

@@ -1,12 +1,11 @@
 -- Ten rules on the lines of requests (`io/blkif.h`, `io/xenbus.h`), each over the lines before the line, in the words of the plain disk: whether the front may tell its state, whether a submission and a refusal are by the limits, and whether the plain disk takes the line's step. The disk of a rule is the one after the lines before, of whose sectors nothing is known at first; of lines that are no run of it the rules of its steps say nothing.
-use Rattle.std.specs.Prelude.{◌≡◌, ℕ, ◌+◌, ◌^◌, ◌<◌, Bool, true, false, not, ◌&&◌, ◌||◌, ◌==◌, is_none, List, [], fold, length, Option, Some, None, IfSome}
+use Rattle.std.specs.Prelude.{◌≡◌, ℕ, ◌+◌, ◌^◌, ◌<◌, Bool, true, false, not, ◌&&◌, ◌||◌, is_none, List, [], fold, length, Option, Some, None, IfSome}
 use Rattle.std.specs.List.{list_all, list_any}
 use Rattle.blk_base.specs.declared.config.Job.{Job}
 use Rattle.blk_base.specs.declared.config.Job.TheVariants as jobs
 use Rattle.blk_base.specs.declared.operation.Status.{Status}
 use Rattle.schedule_text.specs.declared.line.Halt.{Halt}
 use Rattle.schedule_text.specs.declared.line.Halt.TheVariants as halts
-use Rattle.schedule_text.specs.declared.line.Refusal.{Refusal}
 use Rattle.schedule_text.specs.declared.line.Line.{Line}
 use Rattle.schedule_text.specs.declared.line.Line.TheVariants as lines
 use Rattle.plain_disk.specs.declared.request.Request.{Request}

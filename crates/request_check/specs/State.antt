@@ -10,11 +10,13 @@ use Rattle.schedule_text.specs.declared.line.Line.TheVariants as lines
 use Rattle.plain_disk.specs.declared.request.Stage.{Stage}
 use Rattle.plain_disk.specs.declared.request.Stage.TheVariants as stages
 use Rattle.plain_disk.specs.declared.sight.Sight.{Sight}
-use Rattle.plain_disk.specs.Request.{is_write, is_discard, is_finished, sector_of, filling}
-use Rattle.plain_disk.specs.Step.{all_sectors, told_stage, next_stage}
+use Rattle.plain_disk.specs.Request.{is_write, is_barrier, is_discard, is_finished, sector_of, count_of, filling}
+use Rattle.plain_disk.specs.Step.{told_stage, next_stage}
 use Rattle.plain_disk.specs.Refusal as refusals
 use Rattle.plain_disk.specs.Refusal.{nothing_seen, frames_of}
 use Rattle.request_check.specs.Rules.{is_closed_line}
+use Rattle.request_check.specs.Entries.{with_entry, with_old_entry}
+use Rattle.request_check.specs.declared.words.Discarded.{Discarded}
 use Rattle.request_check.specs.Words.{Known, nothing_known, with_single, with_range}
 use Rattle.request_check.specs.Progress.{Progress, changed, with_done, with_fault, with_reply}
 
@@ -25,18 +27,19 @@ pub record Open : Type 0 where
   pub stage : Stage
   pub noted : List (ℕ × List ℕ)
 
--- what was seen of the front, whether it was closed, the last number, the frames that unfinished requests hold, these requests, what was done of them in this epoch, and what sectors hold
+-- what was seen of the front, whether it was closed, the last number, the frames that unfinished requests hold, how many of them are barriers, these requests, what was done of them in this epoch, and what sectors hold
 pub record State : Type 0 where
   pub sight : Sight
   pub closed : Bool
   pub submitted : ℕ
   pub frames : ℕ
+  pub barriers : ℕ
   pub requests : List (ℕ × Open)
   pub progress : List (ℕ × Progress)
   pub sectors : Known
 
 abbrev pub start : State
-start = record { sight = nothing_seen; closed = false; submitted = 0; frames = 0; requests = []; progress = []; sectors = nothing_known }
+start = record { sight = nothing_seen; closed = false; submitted = 0; frames = 0; barriers = 0; requests = []; progress = []; sectors = nothing_known }
 
 abbrev pub open_of : List (ℕ × Open) → ℕ → Option Open
 open_of requests id = lookup (is_at (nat_cmp id)) requests
@@ -48,10 +51,15 @@ opened id job = record { number = id; job = job; stage = stages.Open; noted = []
 abbrev pub capped : ℕ → ℕ
 capped n = min n 18446744073709551615
 
+-- how many barriers a job is
+abbrev pub barriers_of : Job → ℕ
+barriers_of job = if is_barrier job then 1 else 0
+
 abbrev pub submitted_to : State → ℕ → Job → State
 submitted_to s id job = record s {
   submitted = id;
   frames = capped (s.frames + frames_of job);
+  barriers = capped (s.barriers + barriers_of job);
   requests = insert_entry nat_cmp s.requests id (opened id job);
 }
 
@@ -67,7 +75,11 @@ filled s id index None = s
 filled s id index (Some o) = record (with_progress s (with_done index) id) { sectors = with_single s.sectors (sector_of o.job + index) (Some (filling o.job index)) }
 
 abbrev pub with_note : Open → ℕ → List ℕ → Open
-with_note o index words = record o { noted = insert_entry nat_cmp o.noted index words }
+with_note o index words = record o { noted = with_entry o.noted index words }
+
+-- a sector of it is noted as it was before
+abbrev pub with_old_note : Open → ℕ → Option (List ℕ) → Open
+with_old_note o index old = record o { noted = with_old_entry o.noted index old }
 
 -- a sector showed these words
 abbrev pub shown : State → ℕ → ℕ → List ℕ → Option Open → State
@@ -78,15 +90,19 @@ abbrev pub flushed : State → ℕ → Option Open → State
 flushed s id None = s
 flushed s id (Some o) = with_progress s (with_done 0) id
 
+-- the sectors of a discard, of which the disk failed or not
+abbrev pub discarded : Job → Bool → Discarded
+discarded job failed = record { sector = sector_of job; count = count_of job; failed = failed }
+
 abbrev pub trimmed : State → ℕ → Option Open → State
 trimmed s id None = s
-trimmed s id (Some o) = record (with_progress s (with_done 0) id) { sectors = with_range s.sectors (all_sectors o.job (Some (filling o.job 0))) }
+trimmed s id (Some o) = record (with_progress s (with_done 0) id) { sectors = with_range s.sectors (discarded o.job false) }
 
 -- what a fault leaves unknown: the sector in hand of a write or barrier, the range of a discard
 abbrev pub lost : Known → Job → ℕ → Known
 lost known job index =
     if is_write job then with_single known (sector_of job + index) None
-    else (if is_discard job then with_range known (all_sectors job None)
+    else (if is_discard job then with_range known (discarded job true)
     else known)
 
 abbrev pub failed : State → ℕ → ℕ → Option Open → State
@@ -101,6 +117,7 @@ replied s id status (Some o) = with_progress s (with_reply status) id
 abbrev pub without : State → ℕ → Job → State
 without s id job = record s {
   frames = s.frames - frames_of job;
+  barriers = s.barriers - barriers_of job;
   requests = remove_entry (is_at (nat_cmp id)) s.requests;
   progress = remove_entry (is_at (nat_cmp id)) s.progress;
 }

@@ -1,9 +1,7 @@
 -- What the state says of the next line: whether it keeps each of the rules on requests (`io/blkif.h`, `io/xenbus.h`).
-use Rattle.std.specs.Prelude.{ℕ, ◌+◌, ◌*◌, ◌/◌, ◌^◌, max, min, Bool, true, false, not, ◌&&◌, ◌||◌, ◌==◌, nat_le, nat_lt, is_none, is_some, List, [], length, Option, Some, None, if◌then◌else◌}
+use Rattle.std.specs.Prelude.{ℕ, ◌+◌, ◌*◌, ◌^◌, max, min, Bool, true, false, not, ◌&&◌, ◌||◌, ◌==◌, nat_le, nat_lt, is_none, is_some, List, length, Option, Some, None, if◌then◌else◌}
 use Rattle.std.specs.List.{list_all}
-use Rattle.std.specs.Map.{lookup, values_of}
-use Rattle.std.specs.BTreeMap.{is_at}
-use Rattle.std.specs.Ordering.{nat_cmp}
+use Rattle.std.specs.Map.{values_of}
 use Rattle.blk_base.specs.Options.{Options}
 use Rattle.blk_base.specs.declared.config.Job.{Job}
 use Rattle.blk_base.specs.declared.config.Job.TheVariants as jobs
@@ -17,6 +15,7 @@ use Rattle.plain_disk.specs.Request.{is_read, is_write, is_barrier, is_flush, is
 use Rattle.plain_disk.specs.Step.{may_hold, is_status, is_next, are_noted}
 use Rattle.plain_disk.specs.Refusal.{is_unsupported, is_refused_write, is_past_end, is_long, frames_of}
 use Rattle.request_check.specs.Rules.{is_any, is_gone}
+use Rattle.request_check.specs.Entries.{entry_at}
 use Rattle.request_check.specs.Words.{words_in}
 use Rattle.request_check.specs.Progress.{Progress, progress_of, is_place_done}
 use Rattle.request_check.specs.State.{Open, State, open_of}
@@ -121,9 +120,13 @@ is_settled_now o p = not (is_open o.stage) || is_some p.reply || p.faulted || le
 abbrev pub lets_pass : List (ℕ × Progress) → ℕ → Bool → Open → Bool
 lets_pass kept id barrier o = nat_le id o.number || not (is_ordered o.job) || not (barrier || is_barrier o.job) || is_settled_now o (progress_of kept o.number)
 
+-- no unfinished request is waited for by request `id`; where no barrier is among them, and it is none, nothing is
+abbrev pub all_pass : State → ℕ → Bool → Bool
+all_pass s id barrier = (not barrier && s.barriers == 0) || list_all (lets_pass s.progress id barrier) (values_of s.requests)
+
 abbrev pub is_in_turn : (Job → Bool) → State → ℕ → Option Open → Bool
 is_in_turn is_kind s id None = true
-is_in_turn is_kind s id (Some r) = not (is_kind r.job && is_open r.stage) || list_all (lets_pass s.progress id (is_barrier r.job)) (values_of s.requests)
+is_in_turn is_kind s id (Some r) = not (is_kind r.job && is_open r.stage) || all_pass s id (is_barrier r.job)
 
 abbrev pub allows_barrier : State → Line → Bool
 allows_barrier s (lines.Effect id index) = is_in_turn is_write s id (open_of s.requests id)
@@ -161,7 +164,7 @@ allows_answer s line = true
 
 abbrev pub may_tell_now : ℕ → List ℕ → Option Open → Bool
 may_tell_now index words None = false
-may_tell_now index words (Some o) = is_next o.stage index && are_noted (lookup (is_at (nat_cmp index)) o.noted) words
+may_tell_now index words (Some o) = is_next o.stage index && are_noted (entry_at o.noted index) words
 
 abbrev pub allows_data : State → Line → Bool
 allows_data s (lines.Data id index words) = may_tell_now index words (open_of s.requests id)

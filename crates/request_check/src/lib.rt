@@ -4,8 +4,10 @@
 //! checker of reports stands on it.
 #![tactic(auto)]
 
+mod effect;
 mod laws;
 mod open;
+mod order;
 mod progress;
 mod refusing;
 mod state;
@@ -13,8 +15,10 @@ mod verdict;
 mod words;
 
 pub use laws::{
+    a_report_keeps_the_rules_where_each_line_is_allowed,
     a_report_that_keeps_the_rules_is_a_run_of_the_plain_disk,
     a_run_of_the_plain_disk_keeps_the_rules, the_verdict_on_states_decides_all_but_closed,
+    the_verdicts_are_the_rules,
 };
 pub use state::RequestCheck;
 

@@ -1,9 +1,7 @@
 // One open request.
-ghost use Rattle.std.specs.Prelude.{◌≡◌, IfOk};
-ghost use Rattle.std.specs.Map.{lookup};
-ghost use Rattle.std.specs.BTreeMap.{is_at};
-ghost use Rattle.std.specs.Ordering.{nat_cmp};
-ghost use Rattle.request_check.specs.State.{opened, with_note};
+ghost use Rattle.std.specs.Prelude.{◌≡◌, OnOk, OnErr};
+ghost use Rattle.request_check.specs.Entries.{entry_at};
+ghost use Rattle.request_check.specs.State.{opened, with_note, with_old_note};
 
 use blk_base::{Job, OutOfMemory, SectorWords};
 use plain_disk::Stage;
@@ -65,18 +63,40 @@ impl OpenRequest {
 
     /// The words that a sector showed last.
     pub fn noted(&self, index: u32) -> Option<SectorWords>
-        ensures { result ≡ lookup (is_at (nat_cmp index)) self.now.noted }
+        ensures { result ≡ entry_at self.now.noted index }
     {
         self.noted.get(&index).copied()
     }
 
-    /// Takes in that a sector showed these words.
+    /// Takes in that a sector showed these words. `OutOfMemory` leaves all as it was.
     pub fn note(&mut self, index: u32, words: &SectorWords) -> Result<(), OutOfMemory>
-        ensures { IfOk result (λ _. self.new ≡ with_note self.old index words.now) }
+        ensures done { OnOk result (self.new ≡ with_note self.old index words.now) }
+        ensures kept { OnErr result (self.new ≡ self.old) }
     {
+        if let Some(noted) = self.noted.get_mut(&index) {
+            *noted = *words;
+            return Ok(());
+        }
         match self.noted.insert(index, *words) {
             Ok(_) => Ok(()),
             Err(_) => Err(OutOfMemory),
+        }
+    }
+
+    /// Sets what a sector showed to what it was before.
+    #[tactic(auto, using(crate::proofs::Undone::set_nothing))]
+    pub fn restore_note(&mut self, index: u32, old: &Option<SectorWords>)
+        ensures { self.new ≡ with_old_note self.old index old.now }
+    {
+        match *old {
+            None => {
+                self.noted.remove(&index);
+            }
+            Some(words) => {
+                if let Some(noted) = self.noted.get_mut(&index) {
+                    *noted = words;
+                }
+            }
         }
     }
 

@@ -1,15 +1,23 @@
 // What was done of requests in this epoch.
-ghost use Rattle.std.specs.Prelude.{◌≡◌, IfOk, [], length};
+ghost use Rattle.std.specs.Prelude.{◌≡◌, OnOk, OnErr, [], length};
 ghost use Rattle.std.specs.Option.{option_copied};
 ghost use Rattle.std.specs.Map.{lookup, remove_entry};
 ghost use Rattle.std.specs.BTreeMap.{is_at, insert_entry};
 ghost use Rattle.std.specs.Ordering.{nat_cmp};
-ghost use Rattle.request_check.specs.Progress.{nothing_done, is_place_done, with_done, with_fault, with_reply, changed};
+ghost use Rattle.request_check.specs.Progress.{nothing_done, is_place_done, with_doing, changed};
 
 use blk_base::{OutOfMemory, Status};
 use std::alloc::Global;
 use std::collections::{BTreeMap, BTreeSet};
 use std::marker::Model;
+
+/// What the lines tell as done of a request: a place, a fault of the disk, or a reply.
+#[derive(Clone, Copy, Debug, PartialEq, Eq)]
+pub enum Doing {
+    Done(u32),
+    Failed,
+    Replied(Status),
+}
 
 /// What was done of one request: whether the disk failed, what was replied, and the places that were
 /// done.
@@ -68,25 +76,25 @@ impl Doings {
         self.done.len()
     }
 
-    fn note_done(&mut self, index: u32) -> Result<(), OutOfMemory>
-        ensures { IfOk result (λ _. self.new ≡ with_done index self.old) }
+    // Takes in one doing.
+    fn note(&mut self, doing: Doing) -> Result<(), OutOfMemory>
+        ensures done { OnOk result (self.new ≡ with_doing doing self.old) }
+        ensures kept { OnErr result (self.new ≡ self.old) }
     {
-        match self.done.insert(index) {
-            Ok(_) => Ok(()),
-            Err(_) => Err(OutOfMemory),
+        match doing {
+            Doing::Done(index) => match self.done.insert(index) {
+                Ok(_) => Ok(()),
+                Err(_) => Err(OutOfMemory),
+            },
+            Doing::Failed => {
+                self.faulted = true;
+                Ok(())
+            }
+            Doing::Replied(status) => {
+                self.reply = Some(status);
+                Ok(())
+            }
         }
-    }
-
-    fn note_fault(&mut self)
-        ensures { self.new ≡ with_fault self.old }
-    {
-        self.faulted = true;
-    }
-
-    fn note_reply(&mut self, status: Status)
-        ensures { self.new ≡ with_reply status self.old }
-    {
-        self.reply = Some(status);
     }
 }
 
@@ -124,56 +132,24 @@ impl EpochDoings {
         self.by_number.get(&id)
     }
 
-    /// Takes in that a place was done.
-    pub fn note_done(&mut self, id: u64, index: u32) -> Result<(), OutOfMemory>
-        ensures { IfOk result (λ _. self.new ≡ changed (with_done index) self.old id) }
+    /// Takes in what was done of a request. `OutOfMemory` leaves all as it was.
+    pub fn note(&mut self, id: u64, doing: Doing) -> Result<(), OutOfMemory>
+        ensures done { OnOk result (self.new ≡ changed (with_doing doing) self.old id) }
+        ensures kept { OnErr result (self.new ≡ self.old) }
     {
         match self.by_number.get_mut(&id) {
-            Some(doings) => doings.note_done(index),
+            Some(doings) => doings.note(doing),
             None => {
                 let mut doings = Doings::new(self.alloc);
-                doings.note_done(index)?;
-                self.add(id, doings)
-            }
-        }
-    }
-
-    /// Takes in that the disk failed.
-    pub fn note_fault(&mut self, id: u64) -> Result<(), OutOfMemory>
-        ensures { IfOk result (λ _. self.new ≡ changed with_fault self.old id) }
-    {
-        match self.by_number.get_mut(&id) {
-            Some(doings) => {
-                doings.note_fault();
-                Ok(())
-            }
-            None => {
-                let mut doings = Doings::new(self.alloc);
-                doings.note_fault();
-                self.add(id, doings)
-            }
-        }
-    }
-
-    /// Takes in a reply.
-    pub fn note_reply(&mut self, id: u64, status: Status) -> Result<(), OutOfMemory>
-        ensures { IfOk result (λ _. self.new ≡ changed (with_reply status) self.old id) }
-    {
-        match self.by_number.get_mut(&id) {
-            Some(doings) => {
-                doings.note_reply(status);
-                Ok(())
-            }
-            None => {
-                let mut doings = Doings::new(self.alloc);
-                doings.note_reply(status);
+                doings.note(doing)?;
                 self.add(id, doings)
             }
         }
     }
 
     fn add(&mut self, id: u64, doings: Doings) -> Result<(), OutOfMemory>
-        ensures { IfOk result (λ _. self.new ≡ insert_entry nat_cmp self.old id doings) }
+        ensures done { OnOk result (self.new ≡ insert_entry nat_cmp self.old id doings) }
+        ensures kept { OnErr result (self.new ≡ self.old) }
     {
         match self.by_number.insert(id, doings) {
             Ok(_) => Ok(()),

@@ -1,21 +1,20 @@
 // What the state says of the next line.
 ghost use Rattle.std.specs.Prelude.{◌≡◌, unwrap_or};
-ghost use Rattle.std.specs.List.{list_all};
-ghost use Rattle.std.specs.Map.{values_of};
 ghost use Rattle.std.specs.Option.{option_copied};
-ghost use Rattle.plain_disk.specs.Request.{is_write, is_flush, is_discard, is_ordered};
+ghost use Rattle.plain_disk.specs.Request.{is_write, is_flush, is_discard};
 ghost use Rattle.request_check.specs.Rules.{is_any, is_gone};
 ghost use Rattle.request_check.specs.Progress.{nothing_done};
 ghost use Rattle.request_check.specs.State.{open_of};
-ghost use Rattle.request_check.specs.Verdicts.{is_idle, allows_state, may_serve_now, may_end_now, may_show_now, allows_effect, is_settled_now, lets_pass, is_in_turn, allows_barrier, allows_service, may_say, may_reply_now, allows_reply, allows_answer, allows_data, allows_quiet};
+ghost use Rattle.request_check.specs.Verdicts.{is_idle, allows_state, may_serve_now, may_end_now, may_show_now, allows_effect, allows_service, may_say, may_reply_now, allows_reply, allows_answer, allows_data, allows_quiet};
 
+use crate::effect::place_sector;
 use crate::open::OpenRequest;
-use crate::progress::{Doings, EpochDoings};
-use crate::state::{RequestCheck, place_sector};
+use crate::progress::Doings;
+use crate::state::RequestCheck;
 use blk_base::{SectorWords, Status};
 use plain_disk::{
-    are_noted, is_barrier, is_discard, is_flush, is_next, is_open, is_ordered, is_read, is_status,
-    is_write, may_hold, places_of,
+    are_noted, is_discard, is_flush, is_next, is_open, is_read, is_status, is_write, may_hold,
+    places_of,
 };
 use schedule_text::{Halt, Line};
 
@@ -36,31 +35,6 @@ fn may_serve(request: &OpenRequest, doings: Option<&Doings>, index: u32) -> bool
         None => true,
         Some(doings) => { doings.reply().is_none() && !doings.faulted() && !doings.is_done(index) }
     }
-}
-
-// Whether what waits for a request may go on.
-fn is_settled(request: &OpenRequest, doings: Option<&Doings>) -> bool
-    ensures { result ≡ is_settled_now request.now (unwrap_or (option_copied doings.entry) nothing_done) }
-{
-    if !is_open(request.stage()) {
-        return true;
-    }
-    let places = places_of(&request.job()) as usize;
-    match doings {
-        None => places == 0,
-        Some(doings) => { doings.reply().is_some() || doings.faulted() || doings.count() == places }
-    }
-}
-
-// Whether a request isn't waited for by request `id`, which is a barrier or not.
-fn lets_pass(kept: &EpochDoings, id: u64, barrier: bool, request: &OpenRequest) -> bool
-    ensures { result ≡ lets_pass kept.now id barrier request.now }
-{
-    let job = request.job();
-    request.number() >= id
-        || !is_ordered(&job)
-        || !barrier && !is_barrier(&job)
-        || is_settled(request, kept.get(request.number()))
 }
 
 // Whether a reply may say this now.
@@ -175,66 +149,6 @@ impl RequestCheck {
         match *line {
             Line::Effect { id, index } => self.may_fill(id, index),
             Line::EffectRead { id, index, words } => self.may_show(id, index, &words),
-            _ => true,
-        }
-    }
-
-    // Whether no open request with a lower number is waited for by this one.
-    fn all_pass(&self, id: u64, barrier: bool) -> bool
-        ensures { result ≡ list_all (lets_pass self.now.progress id barrier) (values_of self.now.requests) }
-    {
-        let kept = &self.progress;
-        self.requests
-            .values()
-            .all(|request| lets_pass(kept, id, barrier, request))
-    }
-
-    fn write_in_turn(&self, id: u64) -> bool
-        ensures { result ≡ is_in_turn is_write self.now id (open_of self.now.requests id) }
-    {
-        match self.requests.get(&id) {
-            None => true,
-            Some(request) => {
-                let job = request.job();
-                !(is_write(&job) && is_open(request.stage())) || self.all_pass(id, is_barrier(&job))
-            }
-        }
-    }
-
-    fn discard_in_turn(&self, id: u64) -> bool
-        ensures { result ≡ is_in_turn is_discard self.now id (open_of self.now.requests id) }
-    {
-        match self.requests.get(&id) {
-            None => true,
-            Some(request) => {
-                let job = request.job();
-                !(is_discard(&job) && is_open(request.stage()))
-                    || self.all_pass(id, is_barrier(&job))
-            }
-        }
-    }
-
-    fn ordered_in_turn(&self, id: u64) -> bool
-        ensures { result ≡ is_in_turn is_ordered self.now id (open_of self.now.requests id) }
-    {
-        match self.requests.get(&id) {
-            None => true,
-            Some(request) => {
-                let job = request.job();
-                !(is_ordered(&job) && is_open(request.stage()))
-                    || self.all_pass(id, is_barrier(&job))
-            }
-        }
-    }
-
-    /// Whether no write, barrier or discard goes past a barrier, and no barrier past one of them.
-    pub fn allows_barrier(&self, line: &Line) -> bool
-        ensures { result ≡ allows_barrier self.now line.now }
-    {
-        match *line {
-            Line::Effect { id, .. } => self.write_in_turn(id),
-            Line::Trimmed { id } => self.discard_in_turn(id),
-            Line::Fault { id, .. } => self.ordered_in_turn(id),
             _ => true,
         }
     }

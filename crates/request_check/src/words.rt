@@ -1,26 +1,33 @@
 // What sectors hold, where that is known.
-ghost use Rattle.std.specs.Prelude.{◌≡◌, ◌+◌, IfOk, drop, Option, Some, None};
-ghost use Rattle.plain_disk.specs.Disk.{covers};
-ghost use Rattle.request_check.specs.Words.{nothing_known, after_ranges, words_in, words_since, with_single, with_range};
+ghost use Rattle.std.specs.Prelude.{◌≡◌, ◌+◌, OnOk, OnErr, drop, Option, Some, None};
+ghost use Rattle.request_check.specs.Entries.{entry_at};
+ghost use Rattle.request_check.specs.Words.{nothing_known, has_sector, words_left, after_ranges, words_in, words_since, with_single, with_old_single, with_range, without_range};
 
 use blk_base::{OutOfMemory, SectorWords};
-use plain_disk::Written;
 use std::alloc::Global;
 use std::collections::BTreeMap;
 use std::marker::Model;
 
-/// What one sector holds, where that is known, and how many ranges were changed before that.
+/// What one sector holds, where that is known, and how many discards came before that.
 #[derive(Clone, Copy, Debug, PartialEq, Eq)]
 pub struct Single {
     pub words: Option<SectorWords>,
     pub since: usize,
 }
 
-/// What sectors hold: sectors one by one, and ranges of them, oldest first.
+/// The sectors of a discard: zeros, or unknown where the disk failed.
+#[derive(Clone, Copy, Debug, PartialEq, Eq)]
+pub struct Discarded {
+    pub sector: u64,
+    pub count: u32,
+    pub failed: bool,
+}
+
+/// What sectors hold: sectors one by one, and those of discards, oldest first.
 #[derive(Drop)]
 pub struct KnownWords {
     singles: BTreeMap<u128, Single>,
-    ranges: Vec<Written>,
+    ranges: Vec<Discarded>,
 }
 
 impl Model for KnownWords {
@@ -31,33 +38,40 @@ impl Model for KnownWords {
     ghost view = { λ k. record { singles = k.singles.entries; ranges = k.ranges.items } };
 }
 
-// Whether a sector is among those of a range.
-fn covers(range: &Written, sector: u128) -> bool
-    ensures { result ≡ covers range.now sector }
+// Whether a sector is among those of a discard.
+fn has_sector(range: &Discarded, sector: u128) -> bool
+    ensures { result ≡ has_sector range.now sector }
 {
-    let first = u128::from(range.sector) + u128::from(range.from);
+    let first = u128::from(range.sector);
     first <= sector && sector < first + u128::from(range.count)
 }
 
-// What a sector holds after these ranges were changed.
+// What a discard leaves in its sectors.
+fn words_left(range: &Discarded) -> Option<SectorWords>
+    ensures { result ≡ words_left range.now }
+{
+    if range.failed { None } else { Some([0; 128]) }
+}
+
+// What a sector holds after these discards.
 fn after_ranges(
     before: Option<SectorWords>,
-    ranges: &[Written],
+    ranges: &[Discarded],
     sector: u128,
 ) -> Option<SectorWords>
     ensures { result ≡ after_ranges before ranges.now sector }
 {
     let mut words = before;
-    for w in ranges {
-        if covers(w, sector) {
-            words = w.words;
+    for range in ranges {
+        if has_sector(range, sector) {
+            words = words_left(range);
         }
     }
     words
 }
 
-// The ranges that were changed after so many others.
-fn ranges_since(ranges: &[Written], since: usize) -> &[Written]
+// The discards after so many others.
+fn ranges_since(ranges: &[Discarded], since: usize) -> &[Discarded]
     ensures { result.now ≡ drop since ranges.now }
 {
     if since < ranges.len() {
@@ -89,22 +103,63 @@ impl KnownWords {
         }
     }
 
-    /// Takes in what one sector holds from now on.
+    /// What is known of a sector by itself.
+    pub fn single(&self, sector: u128) -> Option<Single>
+        ensures { result ≡ entry_at self.now.singles sector }
+    {
+        self.singles.get(&sector).copied()
+    }
+
+    /// Takes in what one sector holds from now on. `OutOfMemory` leaves all as it was.
     pub fn set(&mut self, sector: u128, words: Option<SectorWords>) -> Result<(), OutOfMemory>
-        ensures { IfOk result (λ _. self.new ≡ with_single self.old sector words) }
+        ensures done { OnOk result (self.new ≡ with_single self.old sector words) }
+        ensures kept { OnErr result (self.new ≡ self.old) }
     {
         let since = self.ranges.len();
-        match self.singles.insert(sector, Single { words, since }) {
+        let single = Single { words, since };
+        if let Some(known) = self.singles.get_mut(&sector) {
+            *known = single;
+            return Ok(());
+        }
+        match self.singles.insert(sector, single) {
             Ok(_) => Ok(()),
             Err(_) => Err(OutOfMemory),
         }
     }
 
-    /// Takes in what a range of sectors holds from now on.
-    pub fn set_range(&mut self, range: Written) -> Result<(), OutOfMemory>
-        ensures { IfOk result (λ _. self.new ≡ with_range self.old range) }
+    /// Sets what is known of a sector by itself to what it was before.
+    #[tactic(auto, using(crate::proofs::Undone::set_nothing))]
+    pub fn restore(&mut self, sector: u128, old: &Option<Single>)
+        ensures { self.new ≡ with_old_single self.old sector old.now }
     {
-        self.ranges.push(range)?;
-        Ok(())
+        match *old {
+            None => {
+                self.singles.remove(&sector);
+            }
+            Some(single) => {
+                if let Some(known) = self.singles.get_mut(&sector) {
+                    *known = single;
+                }
+            }
+        }
+    }
+
+    /// Takes in what the sectors of a discard hold from now on. `OutOfMemory` leaves all as it was.
+    /// Each discard is kept to the end, in 16 bytes.
+    pub fn set_range(&mut self, range: Discarded) -> Result<(), OutOfMemory>
+        ensures done { OnOk result (self.new ≡ with_range self.old range) }
+        ensures kept { OnErr result (self.new ≡ self.old) }
+    {
+        match self.ranges.push(range) {
+            Ok(_) => Ok(()),
+            Err(_) => Err(OutOfMemory),
+        }
+    }
+
+    /// Takes the last discard out again.
+    pub fn remove_range(&mut self)
+        ensures { self.new ≡ without_range self.old }
+    {
+        self.ranges.pop();
     }
 }

@@ -3,5 +3,5 @@ use Rattle.request_check.specs.Words.{after_ranges}
 use Rattle.request_check.proofs.words.after_ranges.Given as goal
 
 -- what the sector holds after the ranges so far
-abbrev pub invariant-loop-w : goal.invariant-loop-w
-invariant-loop-w l = l.words ≡ after_ranges l.fn.before (take l.w-index l.ranges) l.sector
+abbrev pub invariant-loop-range : goal.invariant-loop-range
+invariant-loop-range l = l.words ≡ after_ranges l.fn.before (take l.range-index l.ranges) l.sector
