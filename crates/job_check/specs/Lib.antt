@@ -1,4 +1,5 @@
 pub mod Kept
+pub mod Laws
 pub mod Open
 pub mod Published
 pub mod Replies

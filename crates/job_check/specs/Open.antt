@@ -1,5 +1,5 @@
 -- How far an open job of the back came in the work of its entry (`io/blkif.h`), as a state that takes one step a move.
-use Rattle.std.specs.Prelude.{ℕ, ◌+◌, ◌*◌, ◌^◌, ◌-◌, min, Bool, true, false, not, ◌&&◌, ◌||◌, ◌==◌, nat_lt, if◌then◌else◌, List, [], ◌∷◌, ◌++◌, length, slice_get, Option, Some, None, option_and_then}
+use Rattle.std.specs.Prelude.{ℕ, ◌+◌, ◌*◌, Bool, true, false, not, ◌&&◌, ◌||◌, ◌==◌, nat_lt, if◌then◌else◌, List, [], ◌∷◌, ◌++◌, length, slice_get, Option, Some, None, option_and_then}
 use Rattle.blk_base.specs.declared.operation.Status.{Status}
 use Rattle.blk_base.specs.declared.moves.Move.{Move}
 use Rattle.blk_base.specs.declared.moves.Move.TheVariants as moves
@@ -74,9 +74,9 @@ after_word o value = if lacks_words o.request (length o.read) then with_words o 
 abbrev pub walked_by : Open → Move → Open
 walked_by o move = record o { spot = option_and_then (advanced o.persistent o.tasks move) o.spot }
 
--- a job moved the disk; counts of 64 bits end at their last number, far above the places of a request
+-- a job moved the disk
 abbrev pub moved_once : Open → Open
-moved_once o = record o { moved = min (o.moved + 1) (2 ^ 64 - 1); sector = None }
+moved_once o = record o { moved = o.moved + 1; sector = None }
 
 -- a job's move reads a word
 abbrev pub is_word_read : Move → Bool
@@ -104,7 +104,7 @@ with_fault o = record o { failed = true }
 abbrev pub with_sector : Open → List ℕ → Open
 with_sector o words = record o { sector = Some words }
 
--- a word of a frame is touched through the mapping of its task, as soon as one is named
+-- a word of a frame is touched through the mapping of its task, as soon as one is named: what the rule says so (`IsThrough`), as a Bool
 abbrev pub is_same : Option ℕ → Option ℕ → Bool
 is_same None touched = true
 is_same (Some mine) None = true

@@ -1,6 +1,8 @@
 -- Whether a line may come next, by what is kept of the ring and of the back's jobs (`io/blkif.h`, `io/ring.h`).
 use Rattle.std.specs.Prelude.{ℕ, ◌+◌, ◌%◌, Bool, true, false, not, ◌&&◌, ◌||◌, ◌==◌, List, length, slice_index, Option, Some, None, is_some, Result, Ok}
 use Rattle.std.specs.Map.{values_of}
+use Rattle.blk_base.specs.declared.operation.Abi.{Abi}
+use Rattle.blk_base.specs.declared.operation.Abi.TheVariants.{X64, X32}
 use Rattle.blk_base.specs.declared.operation.Status.{Status}
 use Rattle.blk_base.specs.declared.operation.Status.TheVariants as status
 use Rattle.blk_base.specs.declared.moves.BackMover.TheVariants as back
@@ -14,6 +16,8 @@ use Rattle.report_rules.specs.declared.effect.DiskCall.{DiskCall}
 use Rattle.report_rules.specs.declared.effect.DiskCall.TheVariants as calls
 use Rattle.report_rules.specs.declared.effect.DiskMove.{DiskMove}
 use Rattle.report_rules.specs.declared.effect.Outcome.{Outcome}
+use Rattle.report_rules.specs.Standing.{is_epoch}
+use Rattle.report_rules.specs.Ring.{abi_after}
 use Rattle.report_rules.specs.Effect.{outcome_of}
 use Rattle.report_rules.specs.Job.{id_of}
 use Rattle.report_rules.specs.Step.{stepper}
@@ -44,7 +48,7 @@ is_call calls.Flush calls.Flush = true
 is_call calls.Trim calls.Trim = true
 is_call a b = false
 
--- an outcome is that of the call that was made, where it was done
+-- an outcome is that of the call that was made, where it was done: the rule's equation as a Bool
 abbrev pub is_done_by : Option DiskCall → DiskCall → Bool
 is_done_by None call = true
 is_done_by (Some done) call = is_call done call
@@ -90,7 +94,7 @@ is_same_status status.Error status.Error = true
 is_same_status status.Unsupported status.Unsupported = true
 is_same_status a b = false
 
--- a line tells of a response
+-- a line tells of a response: the rule's equation of lines (`line_of`) as a Bool
 abbrev pub tells_of : Result Response ℕ → Line → Bool
 tells_of (Ok r) (lines.Reply id status) = (r.id == id) && is_same_status r.status status
 tells_of r line = false
@@ -105,3 +109,14 @@ abbrev pub allows_reply : RingState → JobState → Line → Bool
 allows_reply ring s line =
     allows_value ring s line (value_seen ring line) && is_told s line s.replies.pushed
     && (not (is_of_back line) || is_some (value_seen ring line) || (length s.replies.row == 0))
+
+-- the same layout, or none: these Bools stand for equations of layouts
+abbrev pub is_same_abi : Option Abi → Option Abi → Bool
+is_same_abi None None = true
+is_same_abi (Some X64) (Some X64) = true
+is_same_abi (Some X32) (Some X32) = true
+is_same_abi a b = false
+
+-- a line leaves the layout of entries, once a word of one was read in its epoch
+abbrev pub keeps_layout : RingState → Line → Bool
+keeps_layout ring line = is_epoch line || (ring.words == 0) || is_same_abi (abi_after ring.abi line) ring.abi

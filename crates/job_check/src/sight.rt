@@ -1,24 +1,19 @@
 // What is kept of the back's jobs, and one line further.
-ghost use Rattle.std.specs.Prelude.{◌≡◌, ◌++◌, ◌∷◌, [], IfOk, OnOk, OnErr, Option, Some, None, false, find};
+ghost use Rattle.std.specs.Prelude.{◌≡◌, OnOk, OnErr, find};
 ghost use Rattle.std.specs.Option.{option_copied};
 ghost use Rattle.std.specs.Map.{values_of};
-ghost use Rattle.schedule_text.specs.declared.line.Line.TheVariants as lines;
-ghost use Rattle.report_rules.specs.Job.{request_in};
-ghost use Rattle.report_rules.specs.Step.{stepper};
-ghost use Rattle.ring_check.specs.State.{shape_seen};
-ghost use Rattle.job_check.specs.Kept.{after_map, after_unmap};
-ghost use Rattle.job_check.specs.Open.{opened, with_end, after_word, walked_by, is_word_read, moved_by, failed_by, with_sector};
-ghost use Rattle.job_check.specs.Published.{disk_of, is_persistent, published_after};
-ghost use Rattle.job_check.specs.Replies.{answers, after_value, after_other};
-ghost use Rattle.job_check.specs.State.{JobState, fetched_with, begun_with, no_lines, job_at, job_changed, fetched_by, after_entry_word, after_step, kept_after, value_seen, entry_value_seen, with_kept, after_other_move, after_read, after_move, job_moved, job_answered, without_job, for_job, after_line, seen};
+ghost use Rattle.job_check.specs.Open.{failed_by, with_sector};
+ghost use Rattle.job_check.specs.Replies.{answers, after_other};
+ghost use Rattle.job_check.specs.State.{JobState, begun_with, no_lines, job_changed, value_seen, job_answered, without_job, after_line, seen};
 
-use crate::kept::{KeptMappings, Made};
+mod moves;
+
+use crate::kept::KeptMappings;
 use crate::open::OpenJob;
 use crate::published::Publication;
 use crate::replies::ReplyRow;
-use blk_base::{BackMover, Mode, Move, OutOfMemory, SectorWords};
-use blk_layout::RawRequest;
-use report_rules::{DiskMove, Fetched, disk_move_of, entry_of, is_epoch, is_event, stepper};
+use blk_base::{BackMover, Move, OutOfMemory, SectorWords};
+use report_rules::{DiskMove, disk_move_of, is_epoch, is_event};
 use ring_check::RingSight;
 use schedule_text::Line;
 use std::alloc::Global;
@@ -79,28 +74,6 @@ pub(crate) fn value_written(ring: &RingSight, line: &Line) -> Option<u32>
     }
 }
 
-// The word of an entry that a line shows.
-fn entry_value(ring: &RingSight, line: &Line) -> Option<u32>
-    ensures { result ≡ entry_value_seen ring.now line.now }
-{
-    match *line {
-        Line::Move(
-            Move::Read {
-                who: BackMover::Back,
-                value,
-                ..
-            },
-        ) => {
-            if ring.entry_word(line).is_some() {
-                Some(value)
-            } else {
-                None
-            }
-        }
-        _ => None,
-    }
-}
-
 fn answers(kept: &KeptMappings, persistent: bool, rows: u128, row: &[u32; 3], job: &OpenJob) -> bool
     ensures { result ≡ answers kept.now persistent rows row.now job.now }
 {
@@ -148,76 +121,6 @@ impl JobSight {
         self.entry.clear();
         self.replies = ReplyRow::new();
         self.moved = None;
-    }
-
-    // The job of an entry whose words were all read.
-    fn opened_job(&self, number: u64, request: &RawRequest) -> Result<OpenJob, OutOfMemory>
-        ensures { IfOk result (λ job. job ≡ opened self.now.replies.rows number (fetched_with self.now request.now)) }
-    {
-        let f = Fetched {
-            request: *request,
-            disk: self.published.disk(),
-            persistent: self.published.is_persistent(),
-        };
-        OpenJob::open(self.alloc, self.replies.rows(), number, &f)
-    }
-
-    // Takes a move of a job that reads no word, if the job is open.
-    fn step_job(&mut self, k: u64, made: &Move)
-        ensures { is_word_read made.now ≡ false → self.new ≡ job_changed self.old k (moved_by self.old.replies.rows made.now) }
-    {
-        let rows = self.replies.rows();
-        if let Some(job) = self.jobs.get_mut(&k) {
-            job.go(rows, made);
-        }
-    }
-
-    // Takes a word that a job read, if the job is open.
-    fn read_by_job(&mut self, k: u64, made: &Move, value: u32) -> Result<(), OutOfMemory>
-        ensures read { OnOk result (self.new ≡ job_changed self.old k (λ o. with_end self.old.replies.rows (after_word (walked_by o made.now) value))) }
-        ensures kept { OnErr result (self.new ≡ self.old) }
-    {
-        let rows = self.replies.rows();
-        match self.jobs.get_mut(&k) {
-            None => Ok(()),
-            Some(job) => job.read(rows, made, value),
-        }
-    }
-
-    // Takes a move that is none of the back's on its ring; `line` is its line.
-    fn act(&mut self, line: &Line, made: &Move) -> Result<(), OutOfMemory>
-        requires { line.now ≡ lines.Move made.now }
-        ensures acted { OnOk result (self.new ≡ after_step (with_kept self.old made.now) (stepper line.now) made.now) }
-        ensures kept { OnErr result (self.new ≡ self.old) }
-    {
-        if let Move::Read { who, value, .. } = *made {
-            return match who {
-                BackMover::Back => Ok(()),
-                BackMover::Job(k) => self.read_by_job(k, made, value),
-            };
-        }
-        self.keep(made)?;
-        if let Some(k) = stepper(line) {
-            self.step_job(k, made);
-        }
-        Ok(())
-    }
-
-    // Takes a move in.
-    fn see_move(&mut self, ring: &RingSight, line: &Line, made: &Move) -> Result<(), OutOfMemory>
-        requires { line.now ≡ lines.Move made.now }
-        ensures seen { OnOk result (self.new ≡ after_line ring.now self.old line.now) }
-        ensures kept { OnErr result (self.new ≡ self.old) }
-    {
-        if let Some(value) = value_written(ring, line) {
-            return self.replies.write(value);
-        }
-        match entry_value(ring, line) {
-            None => self.act(line, made)?,
-            Some(value) => self.take_word(ring, value)?,
-        }
-        self.replies.pass();
-        Ok(())
     }
 
     /// The job that the reply that the last line pushed answers: the lowest that came to its end
@@ -302,77 +205,6 @@ impl JobSight {
     {
         if let Some(job) = self.jobs.get_mut(&k) {
             job.give(words);
-        }
-    }
-
-    // Takes in a word of the entry that is being read: with its last one its job is opened.
-    fn take_word(&mut self, ring: &RingSight, value: u32) -> Result<(), OutOfMemory>
-        ensures taken { OnOk result (self.new ≡ after_entry_word ring.now self.old value) }
-        ensures kept { OnErr result (self.new ≡ self.old) }
-    {
-        self.entry.push(value)?;
-        match self.fetch(ring) {
-            Ok(()) => Ok(()),
-            Err(lack) => {
-                self.entry.pop();
-                Err(lack)
-            }
-        }
-    }
-
-    // The request of the entry, where all its words were read.
-    fn whole_entry(&self, ring: &RingSight) -> Option<RawRequest>
-        ensures { result ≡ request_in self.now.entry 1 (shape_seen ring.now) }
-    {
-        match (ring.abi(), ring.order()) {
-            (Some(abi), Some(_)) => entry_of(abi, self.entry.as_slice(), 1),
-            _ => None,
-        }
-    }
-
-    // Opens the job of the entry, where all its words were read.
-    fn fetch(&mut self, ring: &RingSight) -> Result<(), OutOfMemory>
-        ensures fetched { OnOk result (self.new ≡ fetched_by self.old self.old.entry (request_in self.old.entry 1 (shape_seen ring.now))) }
-        ensures kept { OnErr result (self.new ≡ self.old) }
-    {
-        let Some(request) = self.whole_entry(ring) else {
-            return Ok(());
-        };
-        let Some(number) = self.fetched.checked_add(1) else {
-            return Err(OutOfMemory);
-        };
-        let job = self.opened_job(number, &request)?;
-        match self.jobs.insert(number, job) {
-            Ok(_) => {
-                self.fetched = number;
-                self.entry.clear();
-                Ok(())
-            }
-            Err(_) => Err(OutOfMemory),
-        }
-    }
-
-    // Keeps what a job maps, and forgets what is unmapped.
-    fn keep(&mut self, made: &Move) -> Result<(), OutOfMemory>
-        ensures kept { OnOk result (self.new ≡ with_kept self.old made.now) }
-        ensures same { OnErr result (self.new ≡ self.old) }
-    {
-        match *made {
-            Move::Map {
-                who: BackMover::Job(job),
-                gref,
-                mode,
-                mapping,
-                ..
-            } => {
-                let writes = mode == Mode::ReadWrite;
-                self.kept.add(mapping, Made { job, gref, writes })
-            }
-            Move::Unmap { mapping, .. } => {
-                self.kept.remove(mapping);
-                Ok(())
-            }
-            _ => Ok(()),
         }
     }
 }

@@ -4,16 +4,18 @@ ghost use Rattle.std.specs.List.{list_any};
 ghost use Rattle.std.specs.Map.{values_of};
 ghost use Rattle.blk_layout.specs.Response.{response_of};
 ghost use Rattle.job_check.specs.Open.{may_answer};
-ghost use Rattle.job_check.specs.Replies.{is_next_value, is_place, may_write};
+ghost use Rattle.job_check.specs.Replies.{is_next_value, is_place};
 ghost use Rattle.job_check.specs.State.{value_seen};
-ghost use Rattle.job_check.specs.Verdict.{allows_step, is_call, is_done_by, is_outcome_for, allows_effect, gives, allows_data, word_written_seen, allows_value, is_same_status, tells_of, is_told, allows_reply};
+ghost use Rattle.job_check.specs.Verdict.{allows_step, is_call, is_done_by, is_outcome_for, allows_effect, gives, allows_data, word_written_seen, allows_value, is_same_status, tells_of, is_told, allows_reply, is_same_abi, keeps_layout};
 
 use crate::open::OpenJob;
 use crate::replies::ReplyRow;
 use crate::sight::{JobSight, value_written};
-use blk_base::{BackMover, Move, SectorWords, Status};
+use blk_base::{Abi, BackMover, Move, SectorWords, Status};
 use blk_layout::read_response;
-use report_rules::{DiskCall, DiskMove, Outcome, is_of_back, is_reply, outcome_of, stepper};
+use report_rules::{
+    DiskCall, DiskMove, Outcome, abi_after, is_epoch, is_of_back, is_reply, outcome_of, stepper,
+};
 use ring_check::RingSight;
 use ring_words::RingShape;
 use schedule_text::Line;
@@ -119,6 +121,24 @@ fn is_next_value(r: &ReplyRow, jobs: &BTreeMap<u64, OpenJob>, replied: u32, valu
         return value == replied.wrapping_add(1);
     }
     is_due(r.rows_with(), last, &r.row_with(value), jobs)
+}
+
+fn is_same_abi(a: Option<Abi>, b: Option<Abi>) -> bool
+    ensures { result ≡ is_same_abi a b }
+{
+    matches!(
+        (a, b),
+        (None, None) | (Some(Abi::X64), Some(Abi::X64)) | (Some(Abi::X32), Some(Abi::X32))
+    )
+}
+
+/// Whether a line leaves the layout of entries as it is, once the back read a word of one in this
+/// epoch (`io/blkif.h`, the front's key `protocol`). The rules count all entries of an epoch by its
+/// last layout, so a reader who keeps no lines follows only reports whose layout stays.
+pub fn keeps_layout(ring: &RingSight, line: &Line) -> bool
+    ensures { result ≡ keeps_layout ring.now line.now }
+{
+    is_epoch(line) || ring.words_read() == 0 || is_same_abi(abi_after(ring.abi(), line), ring.abi())
 }
 
 impl JobSight {
