@@ -10,4 +10,5 @@ mod tests;
 mod watches;
 
 pub use keys::{KeyStop, Keys};
+pub use paths::directory_of;
 pub use watches::Watch;

@@ -38,8 +38,8 @@ pub(crate) fn is_under(directory: &str, path: &str) -> bool
     }
 }
 
-/// The directory that an end may write in.
-pub(crate) fn directory_of(end: End) -> &'static str
+/// The directory that an end may write in, without a slash after it.
+pub fn directory_of(end: End) -> &'static str
     ensures { result.now ≡ directory_of end }
 {
     match end {

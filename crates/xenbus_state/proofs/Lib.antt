@@ -1,0 +1,14 @@
+pub mod Powers
+pub mod Early
+pub mod FrontKeeps
+pub mod BackKeeps
+pub mod BackTurns
+pub mod FrontRuns
+pub mod BackRuns
+pub mod Digits
+pub mod Agreement
+pub mod Halting
+pub mod Ports
+pub mod Starting
+pub mod Offering
+pub mod Alone

@@ -1,0 +1,194 @@
+// What the back's end makes of each answer.
+ghost use Rattle.std.specs.Prelude.{◌≡◌, ◌<◌, Some};
+ghost use Rattle.blk_base.specs.declared.ask.BackAnswer.{BackAnswer};
+ghost use Rattle.xenbus_state.specs.declared.stage.BackStage.TheVariants as stage;
+ghost use Rattle.xenbus_state.specs.States.{state_number};
+ghost use Rattle.xenbus_state.specs.Tables.{SuitsBack};
+ghost use Rattle.xenbus_state.specs.BackView.{halted};
+ghost use Rattle.xenbus_state.specs.BackAsk.{ask_at, IsAnswer, next_gref};
+ghost use Rattle.xenbus_state.specs.BackReading.{key_read};
+ghost use Rattle.xenbus_state.specs.BackStep.{step_at, halt_at, acted, action_halt, kept_or_halted, key_halt, mapped, after_state, giving_up, other_pages, last_state};
+
+use super::BackBus;
+use crate::keys::{BackKey, FrontKey};
+use crate::programs::{next_fact, next_feature};
+use crate::stage::BackStage;
+use crate::state::{BusState, read_state};
+use crate::table::{BackAction, BackHalt, back_action};
+use blk_base::{BackAnswer, Lent, Mapping, Text};
+
+impl BackBus {
+    #[tactic(auto, using(crate::proofs::Early::resting_early))]
+    // What an answer makes of what is being done.
+    pub(super) fn step(&mut self, answer: &BackAnswer) -> Option<BackHalt>
+        requires { IsAnswer (ask_at self.old.stage self.old) answer.now }
+        ensures told { self.new ≡ step_at self.old.stage self.old answer.now }
+        ensures halt { result ≡ halt_at self.old.stage self.old answer.now }
+    {
+        match (self.stage, answer) {
+            (BackStage::ReadState, BackAnswer::Key(text)) => {
+                self.act(back_action(self.state, self.unplugged, read_state(text)))
+            }
+            (BackStage::ReadKey(key), BackAnswer::Key(text)) => self.take_key(key, text),
+            (BackStage::MapPage, BackAnswer::MapRefused(status)) => {
+                let gref = self.next_gref();
+                self.halt(BackHalt::MapRefused {
+                    gref,
+                    status: *status,
+                })
+            }
+            (BackStage::Bind, BackAnswer::BindRefused) => {
+                self.halt(BackHalt::BadPort(self.terms.port))
+            }
+            (BackStage::Rest, BackAnswer::Watched(_)) => {
+                self.stage = BackStage::ReadState;
+                None
+            }
+            (BackStage::MapPage, BackAnswer::Mapped(page)) => {
+                self.mapped(*page);
+                None
+            }
+            (_, BackAnswer::Done) => {
+                self.done();
+                None
+            }
+            _ => None,
+        }
+    }
+
+    // What was asked was done.
+    fn done(&mut self)
+        requires { IsAnswer (ask_at self.old.stage self.old) BackAnswer.Done }
+        ensures { self.new ≡ step_at self.old.stage self.old BackAnswer.Done }
+    {
+        match self.stage {
+            BackStage::Publish(key) => {
+                self.stage = match next_feature(key) {
+                    Some(key) => BackStage::Publish(key),
+                    None => BackStage::WriteState(BusState::InitWait),
+                }
+            }
+            BackStage::WriteState(state) => self.wrote(state),
+            BackStage::Watch => self.stage = BackStage::Rest,
+            BackStage::Bind => {
+                self.bound = true;
+                self.stage = BackStage::PublishFact(BackKey::Sectors);
+            }
+            BackStage::PublishFact(key) => {
+                self.stage = match next_fact(key) {
+                    Some(key) => BackStage::PublishFact(key),
+                    None => BackStage::WriteState(BusState::Connected),
+                }
+            }
+            BackStage::UnmapOthers => {
+                self.stage = giving_up(self.pages.as_slice(), self.bound, self.state);
+            }
+            BackStage::UnmapPage => self.unmapped(),
+            BackStage::ClosePort => {
+                self.bound = false;
+                self.stage = BackStage::WriteState(last_state(self.state));
+            }
+            _ => {}
+        }
+    }
+
+    // The front's state was read, and this is to be done.
+    fn act(&mut self, action: BackAction) -> Option<BackHalt>
+        requires stage { self.old.stage ≡ stage.ReadState }
+        requires suits { SuitsBack self.old.state action }
+        requires early { state_number self.old.state < 6 }
+        ensures told { self.new ≡ acted action self.old }
+        ensures halt { result ≡ action_halt action }
+    {
+        match action {
+            BackAction::Nothing => self.stage = BackStage::Rest,
+            BackAction::Connect => self.stage = BackStage::ReadKey(FrontKey::RingPageOrder),
+            BackAction::Halt(reason) => return self.halt(reason),
+        }
+        None
+    }
+
+    // A key of the front was read.
+    fn take_key(&mut self, key: FrontKey, text: &Option<Lent<'_, Text>>) -> Option<BackHalt>
+        requires stage { self.old.stage ≡ stage.ReadKey key }
+        requires early { state_number self.old.state < 6 }
+        ensures told { self.new ≡ kept_or_halted (key_read key text.now self.old) self.old }
+        ensures halt { result ≡ key_halt key (key_read key text.now self.old) }
+    {
+        if self.read_key(key, text) {
+            None
+        } else {
+            self.halt(BackHalt::BadKey(key))
+        }
+    }
+
+    // The back halts, for this reason.
+    fn halt(&mut self, reason: BackHalt) -> Option<BackHalt>
+        requires { state_number self.old.state < 6 }
+        ensures halted { self.new ≡ halted self.old }
+        ensures reason { result ≡ Some reason }
+    {
+        self.stage = BackStage::UnmapOthers;
+        Some(reason)
+    }
+
+    #[tactic(auto, using(crate::proofs::Powers::few_pages))]
+    // A page of the ring was mapped.
+    fn mapped(&mut self, page: Mapping)
+        requires { self.old.stage ≡ stage.MapPage }
+        ensures { self.new ≡ mapped page self.old }
+    {
+        self.pages.push(page);
+        self.stage = if self.pages.len() < self.grefs.len() {
+            BackStage::MapPage
+        } else {
+            BackStage::Bind
+        };
+    }
+
+    // Its own state was written.
+    fn wrote(&mut self, state: BusState)
+        requires { self.old.stage ≡ stage.WriteState state }
+        ensures { self.new ≡ record self.old { state = state; stage = after_state state } }
+    {
+        self.state = state;
+        self.stage = match state {
+            BusState::InitWait => BackStage::Watch,
+            BusState::Closing => BackStage::WriteState(BusState::Closed),
+            BusState::Closed => BackStage::Halted,
+            _ => BackStage::Rest,
+        };
+    }
+
+    // A page of the ring was unmapped.
+    fn unmapped(&mut self)
+        requires { self.old.stage ≡ stage.UnmapPage }
+        ensures { self.new ≡ step_at stage.UnmapPage self.old BackAnswer.Done }
+    {
+        self.pages.remove(0);
+        self.stage = giving_up(self.pages.as_slice(), self.bound, self.state);
+    }
+}
+
+// The state that a halted back writes next, whose own state is this one.
+fn last_state(own: BusState) -> BusState
+    ensures { result ≡ last_state own }
+{
+    match own {
+        BusState::Closing => BusState::Closed,
+        _ => BusState::Closing,
+    }
+}
+
+// What a halted back does next that has these pages mapped.
+fn giving_up(pages: &[Mapping], bound: bool, own: BusState) -> BackStage
+    ensures { result ≡ giving_up pages.now bound own }
+{
+    if !pages.is_empty() {
+        BackStage::UnmapPage
+    } else if bound {
+        BackStage::ClosePort
+    } else {
+        BackStage::WriteState(last_state(own))
+    }
+}

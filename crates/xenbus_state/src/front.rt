@@ -1,0 +1,265 @@
+// The front's end of the negotiation.
+ghost use Rattle.std.specs.Prelude.{◌≡◌, ◌≤◌, unwrap_or};
+ghost use Rattle.blk_base.specs.declared.ask.FrontAnswer.{FrontAnswer};
+ghost use Rattle.xenbus_state.specs.FrontView.{start_of, ring_order, pages_of, terms_of, suspended, closed, close_news, broken, is_broken, keeps_grants};
+ghost use Rattle.xenbus_state.specs.FrontAsk.{due, leaving, ask_at, ask_of, IsAnswer};
+ghost use Rattle.xenbus_state.specs.FrontStep.{step_of, news_of};
+ghost use Rattle.xenbus_state.specs.FrontSound.{Rises, IsPage, IsSound};
+
+mod steps;
+
+use crate::keys::{BackKey, FrontKey};
+use crate::offer::{DiskFacts, Features};
+use crate::stage::FrontStage;
+use crate::state::BusState;
+use crate::values::{FrontTerms, KeyValue, front_value};
+use blk_base::{Abi, Config, FrontAnswer};
+use std::marker::Model;
+
+/// What the front's end asks. Pages of the ring count from 0.
+#[derive(Clone, Copy, Debug, PartialEq, Eq)]
+pub enum FrontBusAsk {
+    /// Nothing is begun: answered by `Event` or `Watched`.
+    Wait,
+    /// Sets a watch on the back's state, answered by `Done`.
+    Watch,
+    /// Reads the back's state, answered by `Key`.
+    GetState,
+    /// Reads a key of the back, answered by `Key`.
+    GetKey(BackKey),
+    /// Writes the front's state, answered by `Done`.
+    SetState(BusState),
+    /// Writes a key of the front, answered by `Done`.
+    SetKey(FrontKey, KeyValue),
+    /// Writes this word of a fresh ring, 0 to 15, answered by `Done`.
+    WriteRingWord(u32),
+    /// Grants a page of the ring to the back, answered by `Done`.
+    Grant(u32),
+    /// Makes an event port for the back to bind, answered by `Port`.
+    NewPort,
+    /// Ends the grant of a page of the ring, answered by `Done`.
+    EndGrant(u32),
+    /// Ends all other grants that are in force, answered by `Done` once there is none.
+    EndOtherGrants,
+    /// Closes the port, answered by `Done`.
+    ClosePort,
+}
+
+/// What has come of an answer.
+#[derive(Clone, Copy, Debug, PartialEq, Eq)]
+pub enum FrontNews {
+    /// Connected was written.
+    Ready,
+    /// The front is closing from now on.
+    Closing,
+    /// Closed was written.
+    Closed,
+    /// This word was met, which no honest back leaves. States count by their numbers, and a state
+    /// or key that can't be read as 9.
+    Broken(u32),
+}
+
+/// The front's end of the negotiation, over any texts that it reads. It takes no memory. Whether the
+/// front is idle, that is, has no unfinished request, is told at each call.
+#[derive(Drop)]
+pub struct FrontBus {
+    abi: Abi,
+    order: u32,
+    persistent: bool,
+    stage: FrontStage,
+    state: BusState,
+    closing: bool,
+    gone: bool,
+    port: Option<u32>,
+    features: Features,
+    disk: DiskFacts,
+}
+
+impl Model for FrontBus {
+    ghost use Rattle.xenbus_state.specs.FrontView.{FrontView};
+    ghost use Rattle.xenbus_state.specs.FrontInside.{view_of};
+    ghost use Rattle.xenbus_state.specs.FrontSound.{IsSound};
+
+    ghost Value = { FrontView };
+
+    ghost view = { view_of };
+
+    ghost invariant = { λ f. IsSound (view_of f) };
+}
+
+impl FrontBus {
+    /// An end that sets its watch first.
+    pub fn new(config: &Config) -> FrontBus
+        ensures { result ≡ start_of config.now }
+    {
+        FrontBus {
+            abi: config.abi,
+            order: config.order,
+            persistent: config.persistent != 0,
+            stage: FrontStage::Start,
+            state: BusState::Initialising,
+            closing: false,
+            gone: false,
+            port: None,
+            features: Features::default(),
+            disk: DiskFacts::default(),
+        }
+    }
+
+    /// What is asked next. A state that is written is above the one that was written before.
+    pub fn ask(&self, idle: bool) -> FrontBusAsk
+        ensures value { result ≡ ask_of self.now idle }
+        ensures rises { Rises self.now.state result }
+        ensures sound { IsSound self.now }
+        ensures page { IsPage self.now result }
+    {
+        match self.due(idle) {
+            FrontStage::Start => FrontBusAsk::Watch,
+            FrontStage::Rest => FrontBusAsk::Wait,
+            FrontStage::ReadState => FrontBusAsk::GetState,
+            FrontStage::ReadFeature(key) => FrontBusAsk::GetKey(key),
+            FrontStage::RingWord(word) => FrontBusAsk::WriteRingWord(word),
+            FrontStage::Grant(page) => FrontBusAsk::Grant(page),
+            FrontStage::NewPort => FrontBusAsk::NewPort,
+            FrontStage::Publish(key) => FrontBusAsk::SetKey(key, front_value(&self.terms(), key)),
+            FrontStage::ReadFact(key) => FrontBusAsk::GetKey(key),
+            FrontStage::WriteState(state) => FrontBusAsk::SetState(state),
+            FrontStage::EndGrant(page) => FrontBusAsk::EndGrant(page),
+            FrontStage::EndOtherGrants => FrontBusAsk::EndOtherGrants,
+            FrontStage::ClosePort => FrontBusAsk::ClosePort,
+            FrontStage::Closed | FrontStage::Broken(_) => FrontBusAsk::Wait,
+        }
+    }
+
+    /// Tells the answer to what is asked.
+    pub fn tell(&mut self, idle: bool, answer: &FrontAnswer) -> Option<FrontNews>
+        requires { IsAnswer (ask_of self.old idle) answer.now }
+        ensures told { self.new ≡ step_of self.old idle answer.now }
+        ensures news { result ≡ news_of self.old idle answer.now }
+    {
+        self.stage = self.due(idle);
+        self.step(idle, answer)
+    }
+
+    /// The front is closing from now on. Where it was closing, closed or broken, nothing happens.
+    pub fn close(&mut self) -> Option<FrontNews>
+        ensures closing { self.new ≡ closed self.old }
+        ensures news { result ≡ close_news self.old }
+    {
+        if self.closing || self.is_broken() {
+            return None;
+        }
+        self.closing = true;
+        Some(FrontNews::Closing)
+    }
+
+    /// The front met a word that no honest back leaves, and does nothing more.
+    pub fn break_off(&mut self, word: u32)
+        ensures { self.new ≡ broken word self.old }
+    {
+        self.stage = FrontStage::Broken(word);
+    }
+
+    /// A new epoch begins: all is negotiated anew, unless the front is closed or broken.
+    pub fn suspend(&mut self)
+        ensures { self.new ≡ suspended self.old }
+    {
+        if matches!(self.stage, FrontStage::Closed | FrontStage::Broken(_)) {
+            return;
+        }
+        self.stage = FrontStage::Start;
+        self.state = BusState::Initialising;
+        self.gone = false;
+        self.port = None;
+    }
+}
+
+impl FrontBus {
+    /// The state that the front wrote last in this epoch, at first Initialising.
+    pub fn state(&self) -> BusState
+        ensures { result ≡ self.now.state }
+    {
+        self.state
+    }
+
+    /// Whether the front has begun to close.
+    pub fn is_closing(&self) -> bool
+        ensures { result ≡ self.now.closing }
+    {
+        self.closing
+    }
+
+    /// Whether the front met a word that no honest back leaves.
+    pub fn is_broken(&self) -> bool
+        ensures { result ≡ is_broken self.now.stage }
+    {
+        matches!(self.stage, FrontStage::Broken(_))
+    }
+
+    /// What the back offered, as last read.
+    pub fn features(&self) -> Features
+        ensures { result ≡ self.now.features }
+    {
+        self.features
+    }
+
+    /// What the disk is, as last read.
+    pub fn disk(&self) -> DiskFacts
+        ensures { result ≡ self.now.disk }
+    {
+        self.disk
+    }
+
+    /// The order of the ring, 0 to 4: the lesser of what the front wishes and what the back takes.
+    pub fn ring_order(&self) -> u32
+        ensures value { result ≡ ring_order self.now }
+        ensures within { result ≤ 4 }
+    {
+        self.order.min(self.features.order)
+    }
+
+    /// Whether both ends keep grants.
+    pub fn keeps_grants(&self) -> bool
+        ensures { result ≡ keeps_grants self.now }
+    {
+        self.persistent && self.features.persistent
+    }
+
+    // What the front has to say.
+    fn terms(&self) -> FrontTerms
+        ensures { result ≡ terms_of self.now }
+    {
+        FrontTerms {
+            abi: self.abi,
+            order: self.ring_order(),
+            persistent: self.persistent,
+            port: self.port.unwrap_or(0),
+        }
+    }
+
+    // The pages of the ring.
+    fn pages(&self) -> u32
+        ensures value { result ≡ pages_of self.now }
+        ensures within { result ≤ 16 }
+    {
+        1 << self.ring_order()
+    }
+
+    // What is begun, or due where nothing is.
+    fn due(&self, idle: bool) -> FrontStage
+        ensures value { result ≡ due self.now idle }
+        ensures sound { IsSound (record self.now { stage = result }) }
+    {
+        if self.stage != FrontStage::Rest || !self.closing || !idle {
+            return self.stage;
+        }
+        if self.state != BusState::Closing {
+            return FrontStage::WriteState(BusState::Closing);
+        }
+        match (self.gone, self.port) {
+            (false, _) => FrontStage::Rest,
+            (true, Some(_)) => FrontStage::EndGrant(0),
+            (true, None) => FrontStage::EndOtherGrants,
+        }
+    }
+}

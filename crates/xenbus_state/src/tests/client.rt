@@ -1,0 +1,171 @@
+// A client: both ends over one directory of keys.
+use super::short;
+use crate::back::{BackBus, BackBusAsk};
+use crate::front::{FrontBus, FrontBusAsk, FrontNews};
+use crate::keys::{back_path, front_path, state_path};
+use crate::offer::{DiskFacts, Features};
+use crate::state::BusState;
+use crate::table::BackHalt;
+use crate::values::FrontTerms;
+use blk_base::{
+    Abi, BackAnswer, Config, End, FrontAnswer, Lent, Mapping, Mode, OutOfMemory, Path, Text,
+};
+use key_directory::{KeyStop, Keys};
+use std::test::Fail;
+
+fn read(keys: &Keys, path: &Path) -> Option<Text> {
+    match keys.read(path) {
+        Some(text) => Some(short(text)),
+        None => None,
+    }
+}
+
+fn write(keys: &mut Keys, who: End, path: &Path, text: &Text) -> Result<(), KeyStop> {
+    keys.write(who, path, text)
+}
+
+fn lent(text: &Option<Text>) -> Option<Lent<'_, Text>> {
+    match text {
+        Some(text) => Some(Lent::at(text)),
+        None => None,
+    }
+}
+
+fn watch(keys: &mut Keys, who: End, path: &Path) -> Result<(), OutOfMemory> {
+    keys.watch(who, path)
+}
+
+fn take(keys: &mut Keys, who: End) -> Option<Path> {
+    keys.take_watch(who).map(|watch| watch.path)
+}
+
+// One move of an idle front; `None` where it only waits.
+fn move_front(front: &mut FrontBus, keys: &mut Keys) -> Result<Option<FrontNews>, Fail> {
+    let news = match front.ask(true) {
+        FrontBusAsk::Wait => match take(keys, End::Front) {
+            Some(path) => front.tell(true, &FrontAnswer::Watched(Lent::at(&path))),
+            None => None,
+        },
+        FrontBusAsk::Watch => {
+            watch(keys, End::Front, &state_path(End::Back))?;
+            front.tell(true, &FrontAnswer::Done)
+        }
+        FrontBusAsk::GetState => {
+            let text = read(keys, &state_path(End::Back));
+            front.tell(true, &FrontAnswer::Key(lent(&text)))
+        }
+        FrontBusAsk::GetKey(key) => {
+            let text = read(keys, &back_path(key));
+            front.tell(true, &FrontAnswer::Key(lent(&text)))
+        }
+        FrontBusAsk::SetState(state) => {
+            write(keys, End::Front, &state_path(End::Front), &state.text())?;
+            front.tell(true, &FrontAnswer::Done)
+        }
+        FrontBusAsk::SetKey(key, value) => {
+            write(keys, End::Front, &front_path(key), &value.text())?;
+            front.tell(true, &FrontAnswer::Done)
+        }
+        FrontBusAsk::NewPort => front.tell(true, &FrontAnswer::Port(1)),
+        _ => front.tell(true, &FrontAnswer::Done),
+    };
+    Ok(news)
+}
+
+// One move of a back.
+fn move_back(back: &mut BackBus, keys: &mut Keys) -> Result<Option<BackHalt>, Fail> {
+    let halt = match back.ask() {
+        BackBusAsk::Wait => match take(keys, End::Back) {
+            Some(path) => back.tell(&BackAnswer::Watched(Lent::at(&path))),
+            None => None,
+        },
+        BackBusAsk::Watch => {
+            watch(keys, End::Back, &state_path(End::Front))?;
+            back.tell(&BackAnswer::Done)
+        }
+        BackBusAsk::GetState => {
+            let text = read(keys, &state_path(End::Front));
+            back.tell(&BackAnswer::Key(lent(&text)))
+        }
+        BackBusAsk::GetKey(key) => {
+            let text = read(keys, &front_path(key));
+            back.tell(&BackAnswer::Key(lent(&text)))
+        }
+        BackBusAsk::SetState(state) => {
+            write(keys, End::Back, &state_path(End::Back), &state.text())?;
+            back.tell(&BackAnswer::Done)
+        }
+        BackBusAsk::SetKey(key, value) => {
+            write(keys, End::Back, &back_path(key), &value.text())?;
+            back.tell(&BackAnswer::Done)
+        }
+        BackBusAsk::Map(gref) => back.tell(&BackAnswer::Mapped(Mapping {
+            number: u64::from(gref),
+            gref,
+            mode: Mode::ReadWrite,
+        })),
+        _ => back.tell(&BackAnswer::Done),
+    };
+    Ok(halt)
+}
+
+// Moves both ends by turns, and gives the last news of each.
+fn settle(
+    front: &mut FrontBus,
+    back: &mut BackBus,
+    keys: &mut Keys,
+) -> Result<(Option<FrontNews>, Option<BackHalt>), Fail> {
+    let (mut news, mut halt) = (None, None);
+    for _ in 0..100 {
+        if let Some(latest) = move_front(front, keys)? {
+            news = Some(latest);
+        }
+        if let Some(reason) = move_back(back, keys)? {
+            halt = Some(reason);
+        }
+    }
+    Ok((news, halt))
+}
+
+#[test]
+fn both_ends_agree_and_close(rt: HostRuntime) -> Result<(), Fail> {
+    let config = Config {
+        abi: Abi::X32,
+        order: 1,
+        persistent: 5,
+        indirect: 32,
+        start: 0,
+        read_only: false,
+        sectors: 8,
+    };
+    let mut keys = Keys::new(rt.alloc())?;
+    let mut front = FrontBus::new(&config);
+    let mut back = BackBus::new(Features::of(&config), DiskFacts::of(&config));
+    let (news, halt) = settle(&mut front, &mut back, &mut keys)?;
+    assert_eq!(rt; (news, halt), (Some(FrontNews::Ready), None));
+    assert_eq!(rt; back.state(), BusState::Connected);
+    assert_eq!(rt;
+        back.terms(),
+        FrontTerms {
+            abi: Abi::X32,
+            order: 1,
+            persistent: true,
+            port: 1,
+        }
+    );
+    assert_eq!(rt; back.pages().len(), 2);
+    assert_eq!(rt; front.features(), Features::of(&config));
+    assert_eq!(rt; front.disk(), DiskFacts::of(&config));
+    assert!(rt; front.keeps_grants() && back.keeps_grants());
+
+    assert_eq!(rt; front.close(), Some(FrontNews::Closing));
+    let (news, halt) = settle(&mut front, &mut back, &mut keys)?;
+    assert_eq!(rt; news, Some(FrontNews::Closed));
+    assert_eq!(rt; halt, Some(BackHalt::Gone(BusState::Closing)));
+    assert_eq!(rt;
+        (front.state(), back.state()),
+        (BusState::Closed, BusState::Closed)
+    );
+    assert!(rt; back.pages().is_empty() && back.is_halted());
+    Ok(())
+}
