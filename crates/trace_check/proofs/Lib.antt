@@ -1,0 +1,7 @@
+pub mod Reading
+pub mod Outlines
+pub mod Follows
+pub mod Firsts
+pub mod Premises
+pub mod Told
+pub mod Sound

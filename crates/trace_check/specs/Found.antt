@@ -1,0 +1,103 @@
+-- What a check of a report finds, by the bytes of its source: the lines that break no rule, up to the end or to the first one that breaks one.
+use Rattle.std.specs.Prelude.{◌≡◌, ℕ, ◌+◌, ◌<◌, ◌≤◌, ◌⊎◌, Bool, if◌then◌else◌, List, [], ◌∷◌, ◌++◌, length, Option, Some, None, Result, Ok, Err}
+use Rattle.schedule_text.specs.declared.line.Line.{Line}
+use Rattle.schedule_text.specs.declared.line.Line.TheVariants as line
+use Rattle.blk_io.specs.Outside.{SourceSeen, Rose}
+use Rattle.report_rules.specs.Obeys.{Obeys}
+use Rattle.report_lines.specs.Text.{BeginsWith, IsReportText}
+use Rattle.report_lines.specs.Giving.{Tells, IsNoLine}
+use Rattle.report_lines.specs.declared.reader.ReadStop.{ReadStop}
+use Rattle.report_lines.specs.declared.reader.ReadStop.TheVariants as read
+use Rattle.trace_check.specs.declared.rule.Rule.{Rule}
+use Rattle.trace_check.specs.declared.rule.Rule.TheVariants as rule
+use Rattle.trace_check.specs.declared.finding.Finding.{Finding}
+use Rattle.trace_check.specs.declared.finding.Finding.TheVariants.{Legal, Broken}
+use Rattle.trace_check.specs.declared.finding.CheckStop.{CheckStop}
+use Rattle.trace_check.specs.declared.finding.CheckStop.TheVariants.{BadLine, Source, TooLong, OutOfMemory}
+use Rattle.trace_check.specs.Trace.{trace_after, broken_by}
+
+-- the rule that a line breaks first, after these lines
+abbrev pub rule_broken : List Line → Line → Option Rule
+rule_broken before line = broken_by (trace_after before) line
+
+-- it breaks none
+abbrev pub IsSoundAt : List Line → Line → Type 0
+IsSoundAt before line = rule_broken before line ≡ None
+
+abbrev pub AreSound : List Line → Type 0
+AreSound report = Obeys IsSoundAt report
+
+-- the last line is `end`
+abbrev pub EndsWell : List Line → Type 0
+EndsWell report = (before : List Line) × (report ≡ before ++ line.End ∷ [])
+
+-- the line of this number is the first that breaks a rule
+pub record IsBrokenAt (number : ℕ) (broken : Rule) (bytes : List ℕ) : Type 0 where
+  pub before : List Line
+  pub line : Line
+  pub rest : List ℕ
+  pub read : BeginsWith (before ++ line ∷ []) bytes rest
+  pub sound : AreSound before
+  pub counted : number ≡ length before + 1
+  pub rule : rule_broken before line ≡ Some broken
+
+-- the bytes are the text of lines that break no rule, and so many would be with one more
+pub record IsSoundText (number : ℕ) (report : List Line) (bytes : List ℕ) : Type 0 where
+  pub read : IsReportText report bytes
+  pub sound : AreSound report
+  pub counted : number ≡ length report + 1
+
+-- a report ends without `end`: the line after its last breaks the order
+pub record LacksEnd (number : ℕ) (broken : Rule) (bytes : List ℕ) : Type 0 where
+  pub report : List Line
+  pub text : IsSoundText number report bytes
+  pub unended : EndsWell report → ⊥
+  pub rule : broken ≡ rule.Order
+
+-- a report is legal: none of its lines breaks a rule, and the last is `end`
+pub record IsLegal (bytes : List ℕ) : Type 0 where
+  pub report : List Line
+  pub read : IsReportText report bytes
+  pub sound : AreSound report
+  pub ended : EndsWell report
+
+-- a finding; the end of the source was seen only where it has fewer bytes than may be taken
+abbrev pub IsFound : ℕ → Finding → List ℕ → Type 0
+IsFound limit Legal bytes = IsLegal bytes × (length bytes < limit)
+IsFound limit (Broken number broken) bytes = IsBrokenAt number broken bytes ⊎ (LacksEnd number broken bytes × (length bytes < limit))
+
+-- the line of this number is none of a report, and those before it break no rule
+pub record IsBadAt (number : ℕ) (bytes : List ℕ) : Type 0 where
+  pub before : List Line
+  pub rest : List ℕ
+  pub read : BeginsWith before bytes rest
+  pub sound : AreSound before
+  pub counted : number ≡ length before + 1
+  pub bad : IsNoLine rest
+
+-- the source has as many bytes as may be taken, or more, and the lines at their head break no rule
+pub record IsLong (limit : ℕ) (bytes : List ℕ) : Type 0 where
+  pub before : List Line
+  pub rest : List ℕ
+  pub read : BeginsWith before bytes rest
+  pub sound : AreSound before
+  pub long : limit ≤ length bytes
+
+-- why a check stops where no line could be read
+abbrev pub stop_at : ℕ → ReadStop → CheckStop
+stop_at number read.BadLine = BadLine number
+stop_at number read.Source = Source
+stop_at number read.TooLong = TooLong
+stop_at number read.OutOfMemory = OutOfMemory
+
+-- what it finds at the source's end, where `end` came or not
+abbrev pub finding_at : ℕ → Bool → Finding
+finding_at number ended = if ended then Legal else Broken number rule.Order
+
+-- what a check gives, where the source exposes its bytes
+abbrev pub Finds : ℕ → Result Finding CheckStop → SourceSeen → SourceSeen → Type 0
+Finds limit (Ok finding) s t = Tells (IsFound limit finding) s.left × (t.faults ≡ s.faults)
+Finds limit (Err (BadLine number)) s t = Tells (IsBadAt number) s.left × (t.faults ≡ s.faults)
+Finds limit (Err Source) s t = Rose s.faults t.faults
+Finds limit (Err TooLong) s t = Tells (IsLong limit) s.left × (t.faults ≡ s.faults)
+Finds limit (Err OutOfMemory) s t = t.faults ≡ s.faults

@@ -1,0 +1,6 @@
+pub mod Outline
+pub mod Rules
+pub mod Trace
+pub mod Found
+pub mod Text
+pub mod Laws
