@@ -1,0 +1,101 @@
+-- A check finds the text of a sound report legal.
+use Rattle.std.proofs.Common.{◌≡◌, ◌≢◌, ℕ, inl, inr, List, [], ◌∷◌, ◌++◌, map, length, refl, ap, sym, subst, ◌∙◌, arith, append-nil}
+use Rattle.std.specs.Prelude.{All, Some, Result, Ok, Err}
+use Rattle.std.proofs.lemmas.Option.{none-some}
+use Rattle.std.proofs.lemmas.List.Elements.{All-head, All-tail}
+use Rattle.blk_io.specs.Outside.{SourceSeen}
+use Rattle.schedule_text.specs.declared.line.Line.{Line}
+use Rattle.schedule_text.specs.declared.line.Line.TheVariants as lines
+use Rattle.schedule_text.specs.Line.{text_of}
+use Rattle.schedule_text.specs.Plain.{plain}
+use Rattle.schedule_text.specs.Range.{IsInRange}
+use Rattle.schedule_text.specs.Recorder.{report_text}
+use Rattle.report_rules.proofs.Obeys.{obeys_before}
+use Rattle.report_lines.specs.Text.{HasBadText, first_line}
+use Rattle.report_lines.specs.Giving.{Tells}
+use Rattle.report_lines.proofs.Feeds.{first_line_whole}
+use Rattle.trace_check.specs.declared.rule.Rule.{Rule}
+use Rattle.trace_check.specs.declared.finding.Finding.{Finding}
+use Rattle.trace_check.specs.declared.finding.Finding.TheVariants.{Legal, Broken}
+use Rattle.trace_check.specs.declared.finding.CheckStop.{CheckStop}
+use Rattle.trace_check.specs.declared.finding.CheckStop.TheVariants.{BadLine, Source, TooLong, OutOfMemory}
+use Rattle.trace_check.specs.Found.{IsSoundAt, AreSound, EndsWell, IsBrokenAt, LacksEnd, IsFound, IsBadAt, IsLong, Finds}
+use Rattle.legal_laws.specs.Found.{FindsLegal}
+use Rattle.legal_laws.proofs.Lists.{all_there}
+use Rattle.legal_laws.proofs.Same.{IsAmong, among, same_sound}
+use Rattle.legal_laws.proofs.Short.{short_text, unbroken_text}
+use Rattle.legal_laws.proofs.Cut.{IsCut, cut, cut_first, some_bytes}
+
+-- lines that a sound report begins with are sound
+begins_sound : (lines report : List Line) (rest : List ℕ) → AreSound report → IsCut lines report rest → AreSound lines
+begins_sound lines report rest sound c = same_sound c.first lines c.same (obeys_before IsSoundAt c.first c.later (subst AreSound c.whole sound))
+
+unbroken : (report : List Line) (number : ℕ) (broken : Rule) → AreSound report → All IsInRange report → IsBrokenAt number broken (report_text report) → ⊥
+unbroken report number broken sound all b =
+    let here = begins_sound (b.before ++ b.line ∷ []) report b.rest sound (cut (b.before ++ b.line ∷ []) report (report_text report) b.rest all refl b.read) in
+    none-some broken (sym (here b.before [] b.line refl) ∙ b.rule)
+
+-- ---- the end
+
+no_text : (report : List Line) → report_text report ≡ [] → report ≡ []
+no_text [] none = refl
+no_text (line ∷ report) none = absurd (some_bytes (text_of line) (report_text report) (sym (cut_first line report) ∙ none))
+
+no_lines : (report : List Line) → map plain report ≡ [] → report ≡ []
+no_lines [] none = refl
+no_lines (line ∷ report) none = absurd cc
+
+is_end : (line : Line) → plain line ≡ lines.End → line ≡ lines.End
+is_end lines.End e = refl
+is_end line e = absurd cc
+
+ends_so : (report : List Line) (before : List Line) → IsAmong before [] lines.End report → EndsWell report
+ends_so report before m =
+    (m.first, m.whole ∙ (ap (λ (later : List Line). m.first ++ m.here ∷ later) (no_lines m.later m.laters) ∙ ap (λ (line : Line). m.first ++ line ∷ []) (is_end m.here m.heres)))
+
+ended : (report : List Line) (number : ℕ) (broken : Rule) → EndsWell report → All IsInRange report → LacksEnd number broken (report_text report) → ⊥
+ended report number broken ends all l =
+    let c = cut l.report report (report_text report) [] all refl l.text.read in
+    let none : c.later ≡ [] = no_text c.later (sym c.left) in
+    let whole : report ≡ c.first = c.whole ∙ (ap (λ (later : List Line). c.first ++ later) none ∙ append-nil c.first) in
+    let same : map plain l.report ≡ map plain (ends.0 ++ lines.End ∷ []) = c.same ∙ ap (map plain) (sym whole ∙ ends.1) in
+    l.unended (ends_so l.report ends.0 (among ends.0 [] lines.End l.report same))
+
+found_legal : (limit : ℕ) (report : List Line) (finding : Finding) → AreSound report → EndsWell report → All IsInRange report → IsFound limit finding (report_text report) → finding ≡ Legal
+found_legal limit report Legal sound ends all found = refl
+found_legal limit report (Broken number broken) sound ends all (inl b) = absurd (unbroken report number broken sound all b)
+found_legal limit report (Broken number broken) sound ends all (inr l) = absurd (ended report number broken ends all l.0)
+
+-- ---- no line is bad
+
+no_bad : (line : Line) (more : List ℕ) → IsInRange line → HasBadText (text_of line ++ 10 ∷ more) → ⊥
+no_bad line more range bad = by_why bad
+  where
+    whole : first_line (text_of line ++ 10 ∷ more) ≡ text_of line
+    whole = first_line_whole (text_of line) more (unbroken_text line range)
+
+    by_why : HasBadText (text_of line ++ 10 ∷ more) → ⊥
+    by_why (inl none) = none line (record { in_range = range; text = sym whole })
+    by_why (inr (inl long)) = let size = ap length whole in let short = short_text line range in omega arith
+    by_why (inr (inr none)) = all_there (λ (b : ℕ). b ≢ 10) (text_of line) more 10 none refl
+
+bad_left : (later : List Line) (rest : List ℕ) → All IsInRange later → rest ≡ report_text later → rest ≢ [] → HasBadText rest → ⊥
+bad_left [] rest all is some bad = some is
+bad_left (line ∷ later) rest all is some bad = no_bad line (report_text later) (All-head IsInRange line later all) (subst HasBadText (is ∙ cut_first line later) bad)
+
+all_after : (xs ys : List Line) → All IsInRange (xs ++ ys) → All IsInRange ys
+all_after [] ys all = all
+all_after (x ∷ xs) ys all = all_after xs ys (All-tail IsInRange x (xs ++ ys) all)
+
+never_bad : (report : List Line) (number : ℕ) → All IsInRange report → IsBadAt number (report_text report) → ⊥
+never_bad report number all b =
+    let c = cut b.before report (report_text report) b.rest all refl b.read in
+    bad_left c.later b.rest (all_after c.first c.later (subst (All IsInRange) c.whole all)) c.left b.bad.0 b.bad.1
+
+pub sound_found_legal : (limit : ℕ) (report : List Line) (found : Result Finding CheckStop) (s t : SourceSeen)
+    → AreSound report → EndsWell report → All IsInRange report → s.left ≡ Some (report_text report) → Finds limit found s t → FindsLegal limit (report_text report) found s t
+sound_found_legal limit report (Ok finding) s t sound ends all left finds = found_legal limit report finding sound ends all (subst (Tells (IsFound limit finding)) left finds.0)
+sound_found_legal limit report (Err (BadLine number)) s t sound ends all left finds = never_bad report number all (subst (Tells (IsBadAt number)) left finds.0)
+sound_found_legal limit report (Err Source) s t sound ends all left finds = finds
+sound_found_legal limit report (Err TooLong) s t sound ends all left finds = (let long : IsLong limit (report_text report) = subst (Tells (IsLong limit)) left finds.0 in long.long)
+sound_found_legal limit report (Err OutOfMemory) s t sound ends all left finds = tt

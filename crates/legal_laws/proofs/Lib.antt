@@ -1,0 +1,17 @@
+pub mod Lists
+pub mod Unknown
+pub mod Kept
+pub mod Legal
+pub mod Order
+pub mod SameSteps
+pub mod SameKept
+pub mod SameRules
+pub mod Same
+pub mod Cut
+pub mod Found
+pub mod Inline
+pub mod Words
+pub mod Narrow
+pub mod Short
+pub mod Promised
+pub mod Protocol

@@ -1,0 +1,8 @@
+pub mod Unknown
+pub mod Kept
+pub mod Legal
+pub mod Order
+pub mod Promised
+pub mod Same
+pub mod Found
+pub mod Protocol
