@@ -4,15 +4,21 @@ use Rattle.blk_base.specs.declared.operation.Abi.{Abi}
 use Rattle.schedule_text.specs.declared.event.Event.{Event}
 use Rattle.schedule_text.specs.declared.line.Detail.{Detail}
 use Rattle.ring_inspect.specs.Stop.{bytes_of, IsCount}
-use Rattle.schedule_run.specs.Reading.{text_of, HasNoLineFeed, first_line, IsLineOf, IsBadLine, AreLinesOf, last_line, IsWholeSchedule, HasBadLine, IsTooLong, Tells}
+use Rattle.schedule_run.specs.Reading.{HasNoLineFeed, first_line, IsLineOf, IsBadLine, AreLinesOf, last_line, IsWholeSchedule, HasBadLine, IsTooLong, Tells}
+use Rattle.schedule_text.specs.declared.line.Line.{Line}
+use Rattle.schedule_text.specs.Line.{text_of}
+use Rattle.report_lines.specs.Giving as Told
+use Rattle.trace_check.specs.Found.{IsBadAt, IsLong}
+use Rattle.std.proofs.lemmas.List.Elements.{recursion_from_All}
 use Rattle.bench_load.specs.Text.{schedule_bytes}
 use Rattle.commands.specs.declared.status.Stop.{Stop}
-use Rattle.commands.specs.declared.status.Stop.TheVariants.{Length, Words, BadLine, Source, Sink, OutOfMemory, Image, TooLong}
-use Rattle.commands.specs.Words.{Wish, a_run, a_ring, a_bench, wish_of}
+use Rattle.commands.specs.declared.status.Stop.TheVariants.{Broken, Length, Words, BadLine, Source, Sink, OutOfMemory, Image, TooLong}
+use Rattle.commands.specs.Words.{Wish, a_run, a_ring, a_check, a_bench, wish_of}
 use Rattle.commands.specs.Scene.{Scene, bytes_limit}
 use Rattle.commands.specs.Ending.{CommandEnds, CarriesOut}
-use Rattle.commands.specs.Complete.{IsInputOf, MayBeDone}
+use Rattle.commands.specs.Complete.{IsInputOf, MayBeDone, IsDoneAt}
 use Rattle.commands.proofs.SameLines.{whole_or_bad}
+use Rattle.commands.proofs.SameReport.{no_bad_report}
 use Rattle.commands.proofs.Settling.{status_at, wish_settles, same_wish, no_wish}
 
 -- ---- no cause of another status is there
@@ -50,6 +56,7 @@ run_completes image detail (Err Sink) old new h may = absurd (may.written ((wish
 run_completes image detail (Err Image) old new h may = absurd (may.attached h)
 run_completes image detail (Err (Length count expected)) old new h may = absurd h
 run_completes image detail (Err Words) old new h may = absurd h
+run_completes image detail (Err Broken) old new h may = absurd h
 
 ring_completes : (abi : Abi) (order : ℕ) (result : Result (Unit {0}) Stop) (old new : Scene) → CommandEnds (a_ring abi order) result old new → MayBeDone (a_ring abi order) old new → (status_at result ≡ 0) ⊎ (status_at result ≡ 6)
 ring_completes abi order (Ok done) old new h may = inl refl
@@ -62,6 +69,7 @@ ring_completes abi order (Err (BadLine number)) old new h may = absurd h.0
 ring_completes abi order (Err TooLong) old new h may = absurd h.0
 ring_completes abi order (Err Image) old new h may = absurd h.0
 ring_completes abi order (Err Words) old new h may = absurd h.0
+ring_completes abi order (Err Broken) old new h may = absurd h.0
 
 bench_completes : (seed count : ℕ) (result : Result (Unit {0}) Stop) (old new : Scene) → CommandEnds (a_bench seed count) result old new → MayBeDone (a_bench seed count) old new → (status_at result ≡ 0) ⊎ (status_at result ≡ 6)
 bench_completes seed count (Ok done) old new h may = inl refl
@@ -76,15 +84,47 @@ bench_completes seed count (Err (BadLine number)) old new h may = absurd h.0
 bench_completes seed count (Err Image) old new h may = absurd h.0
 bench_completes seed count (Err (Length count' expected)) old new h may = absurd h.0
 bench_completes seed count (Err Words) old new h may = absurd h.0
+bench_completes seed count (Err Broken) old new h may = absurd h.0
 
-wish_completes : (wish : Wish) (result : Result (Unit {0}) Stop) (old new : Scene) → CommandEnds wish result old new → MayBeDone wish old new → (status_at result ≡ 0) ⊎ (status_at result ≡ 6)
+bad_report : (left : Option (List ℕ)) (number : ℕ) → IsInputOf a_check left → Told.Tells (IsBadAt number) left → ⊥
+bad_report None number input tells = input
+bad_report (Some bytes) number input tells =
+    no_bad_report input.report tells.before bytes tells.rest (recursion_from_All (λ (line : Line). length (text_of line) ≤ 1152) input.report input.short) input.read tells.read tells.bad
+
+long_report : (left : Option (List ℕ)) → IsInputOf a_check left → Told.Tells (IsLong bytes_limit) left → ⊥
+long_report None input tells = input
+long_report (Some bytes) input tells =
+    let below : length bytes < bytes_limit = input.below in
+    let reached : bytes_limit ≤ length bytes = tells.long in
+    omega arith
+
+check_completes : (result : Result (Unit {0}) Stop) (old new : Scene) → CommandEnds a_check result old new → MayBeDone a_check old new → (status_at result ≡ 0) ⊎ (status_at result ≡ 1) ⊎ (status_at result ≡ 6)
+check_completes (Ok done) old new h may = inl refl
+check_completes (Err Broken) old new h may = inr (inl refl)
+check_completes (Err OutOfMemory) old new h may = inr (inr refl)
+check_completes (Err (BadLine number)) old new h may = absurd (bad_report old.source.left number may.input h.0.found.0)
+check_completes (Err TooLong) old new h may = absurd (long_report old.source.left may.input h.0.found.0)
+check_completes (Err Source) old new h may = absurd (may.read ((wish_settles a_check (Err Source) old new h).input_failed refl))
+check_completes (Err Sink) old new h may = absurd (may.written ((wish_settles a_check (Err Sink) old new h).output_failed refl))
+check_completes (Err Image) old new h may = absurd h.0
+check_completes (Err (Length count expected)) old new h may = absurd h.0
+check_completes (Err Words) old new h may = absurd h.0
+
+wish_completes : (wish : Wish) (result : Result (Unit {0}) Stop) (old new : Scene) → CommandEnds wish result old new → MayBeDone wish old new → IsDoneAt wish (status_at result)
 wish_completes (a_run image detail) result old new h may = run_completes image detail result old new h may
 wish_completes (a_ring abi order) result old new h may = ring_completes abi order result old new h may
+wish_completes a_check result old new h may = check_completes result old new h may
 wish_completes (a_bench seed count) result old new h may = bench_completes seed count result old new h may
 
-pub completes : (words : List (List ℕ)) (result : Result (Unit {0}) Stop) (status : ℕ) (old new : Scene) (wish : Wish) → status ≡ status_at result → CarriesOut words result old new → wish_of words ≡ Some wish → MayBeDone wish old new → (status ≡ 0) ⊎ (status ≡ 6)
+starves : (wish : Wish) (status : ℕ) → status ≡ 6 → IsDoneAt wish status
+starves (a_run image detail) status six = inr six
+starves (a_ring abi order) status six = inr six
+starves a_check status six = inr (inr six)
+starves (a_bench seed count) status six = inr six
+
+pub completes : (words : List (List ℕ)) (result : Result (Unit {0}) Stop) (status : ℕ) (old new : Scene) (wish : Wish) → status ≡ status_at result → CarriesOut words result old new → wish_of words ≡ Some wish → MayBeDone wish old new → IsDoneAt wish status
 completes words result status old new wish same (inl refused) asks may = absurd (no_wish words wish refused.1 asks)
-completes words result status old new wish same (inr (inl starved)) asks may = inr (same ∙ ap status_at starved.0)
+completes words result status old new wish same (inr (inl starved)) asks may = starves wish status (same ∙ ap status_at starved.0)
 completes words result status old new wish same (inr (inr h)) asks may =
     let ends : CommandEnds wish result old new = subst (λ w. CommandEnds w result old new) (same_wish h.0 wish words h.1 asks) h.2 in
     rw same (wish_completes wish result old new ends may)

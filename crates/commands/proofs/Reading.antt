@@ -10,7 +10,7 @@ use Rattle.clap.specs.declared.error.Error.{Error}
 use Rattle.clap.specs.declared.error.kind.ErrorKind.TheVariants as kind
 use Rattle.commands.specs.declared.words.Command.{Command}
 use Rattle.commands.specs.declared.words.Command.TheVariants.{Inspect}
-use Rattle.commands.specs.Words.{Wish, a_run, a_ring, a_bench, number_in, order_of, run_in, ring_with, ring_in, bench_with, bench_in, wish_in, wish_where, wish_of, wish_by, command_set}
+use Rattle.commands.specs.Words.{Wish, a_run, a_ring, a_check, a_bench, number_in, order_of, run_in, ring_with, ring_in, bench_with, bench_in, wish_in, wish_where, wish_of, wish_by, command_set}
 
 -- where `clap` finds no fault, the words ask for what the subcommand asks for
 pub taken : (faults : Kinds) (entered entered' : Option (Text × List Row)) (wish : Option Wish) → faults ≡ [] → entered ≡ entered' → wish ≡ option_and_then (λ s. wish_in s.0 s.1) entered → wish ≡ wish_where faults entered'
@@ -57,15 +57,16 @@ no_bench None count abi order is = cc
 no_bench (Some seed) None abi order is = cc
 no_bench (Some seed) (Some count) abi order is = cc
 
-wish_few : (name : Text) (rows : List Row) (run inspect bench : Bool) (abi : Abi) (order : ℕ) → (if run then run_in rows else (if inspect then ring_in rows else (if bench then bench_in rows else None))) ≡ Some (a_ring abi order) → order ≤ 4
-wish_few name rows true inspect bench abi order is = absurd (no_ring _ _ abi order is)
-wish_few name rows false true bench abi order is = ring_few _ _ abi order (order_few (number_in (codes "order") rows) order) is
-wish_few name rows false false true abi order is = absurd (no_bench _ _ abi order is)
-wish_few name rows false false false abi order is = cc
+wish_few : (name : Text) (rows : List Row) (run inspect check bench : Bool) (abi : Abi) (order : ℕ) → (if run then run_in rows else (if inspect then ring_in rows else (if check then Some a_check else (if bench then bench_in rows else None)))) ≡ Some (a_ring abi order) → order ≤ 4
+wish_few name rows true inspect check bench abi order is = absurd (no_ring _ _ abi order is)
+wish_few name rows false true check bench abi order is = ring_few _ _ abi order (order_few (number_in (codes "order") rows) order) is
+wish_few name rows false false true bench abi order is = cc
+wish_few name rows false false false true abi order is = absurd (no_bench _ _ abi order is)
+wish_few name rows false false false false abi order is = cc
 
 where_few : (faults : Kinds) (entered : Option (Text × List Row)) (abi : Abi) (order : ℕ) → wish_where faults entered ≡ Some (a_ring abi order) → order ≤ 4
 where_few [] None abi order is = cc
-where_few [] (Some s) abi order is = wish_few s.0 s.1 (bytes_eq s.0 (codes "run")) (bytes_eq s.0 (codes "inspect")) (bytes_eq s.0 (codes "bench")) abi order is
+where_few [] (Some s) abi order is = wish_few s.0 s.1 (bytes_eq s.0 (codes "run")) (bytes_eq s.0 (codes "inspect")) (bytes_eq s.0 (codes "check")) (bytes_eq s.0 (codes "bench")) abi order is
 where_few (fault ∷ faults) entered abi order is = cc
 
 pub asked_few : (words : List Text) (command : Option Command) (abi : Abi) (order : ℕ) → command ≡ Some (Inspect abi order) → option_map wish_by command ≡ wish_of words → order ≤ 4

@@ -1,14 +1,15 @@
 -- At each status, which count of faults rose, and what the report of a run is worth.
 use Rattle.std.proofs.Common.{◌≡◌, ◌≢◌, ◌⊎◌, ℕ, List, Some, Result, Ok, Err, inl, inr, refl, ap, ◌∙◌, subst, arith}
-use Rattle.blk_io.specs.Outside.{Rose, SinkSeen}
+use Rattle.blk_io.specs.Outside.{Rose, SinkSeen, TakesBytes}
 use Rattle.blk_base.specs.declared.operation.Abi.{Abi}
 use Rattle.ring_words.specs.Shape.{Shape}
 use Rattle.schedule_text.specs.declared.line.Detail.{Detail}
 use Rattle.schedule_run.specs.declared.schedule.RunStop.{RunStop}
 use Rattle.schedule_run.specs.declared.schedule.RunStop.TheVariants as run
 use Rattle.commands.specs.declared.status.Stop.{Stop}
-use Rattle.commands.specs.declared.status.Stop.TheVariants.{Length, Words, BadLine, Source, Sink, OutOfMemory, Image, TooLong}
-use Rattle.commands.specs.Words.{Wish, a_run, a_ring, a_bench, wish_of, AsksRing, AsksBench, AsksNothing}
+use Rattle.commands.specs.declared.status.Stop.TheVariants.{Broken, Length, Words, BadLine, Source, Sink, OutOfMemory, Image, TooLong}
+use Rattle.commands.specs.Words.{Wish, a_run, a_ring, a_check, a_bench, wish_of, AsksRing, AsksCheck, AsksBench, AsksNothing}
+use Rattle.commands.specs.Check.{CheckEnds, CheckAt}
 use Rattle.commands.specs.Bench.{FailsToSay, BenchEnds, BenchAt}
 use Rattle.commands.specs.Status.{status_of}
 use Rattle.commands.specs.Scene.{Scene, options_of, bytes_limit, with_image, reporting}
@@ -94,6 +95,7 @@ ring_settles shape (Err Sink) old new (inl h) = settles_output old new h.read.fa
 ring_settles shape (Err Sink) old new (inr h) =
     settles_output old new h.shown.read.faults (subst (λ f. Rose f new.output.faults) h.shown.text.faults h.failed.rose)
 ring_settles shape (Err Words) old new h = absurd h
+ring_settles shape (Err Broken) old new h = absurd h
 ring_settles shape (Err (BadLine number)) old new h = absurd h
 ring_settles shape (Err Image) old new h = absurd h
 ring_settles shape (Err TooLong) old new h = absurd h
@@ -122,6 +124,7 @@ run_settles image detail (Err Image) old new h =
     settles_image old new (ap (λ s. s.faults) h.source) (same_output old.output new.output h.output) h.failed.rose
 run_settles image detail (Err (Length count expected)) old new h = absurd h
 run_settles image detail (Err Words) old new h = absurd h
+run_settles image detail (Err Broken) old new h = absurd h
 
 fails_to_say : (text : List ℕ) (before after : SinkSeen) → FailsToSay text before after → Rose before.faults after.faults
 fails_to_say text before after (inl h) = h.rose
@@ -137,10 +140,34 @@ bench_settles seed count (Err (BadLine number)) old new h same = absurd h
 bench_settles seed count (Err Image) old new h same = absurd h
 bench_settles seed count (Err (Length count' expected)) old new h same = absurd h
 bench_settles seed count (Err Words) old new h same = absurd h
+bench_settles seed count (Err Broken) old new h same = absurd h
+
+-- an output that took a line and handed on what it kept back
+all_sent : (text : List ℕ) (a b c : SinkSeen) → TakesBytes text a b → c ≡ record b { kept_back = 0 } → (c.kept_back ≡ 0) × (c.faults ≡ a.faults)
+all_sent text a b c written sent = (ap (λ s. s.kept_back) sent, ap (λ s. s.faults) sent ∙ written.faults)
+
+check_settles : (result : Result (Unit {0}) Stop) (old new : Scene) → CheckEnds result old.source new.source old.output new.output → Settles (status_at result) old new
+check_settles (Ok done) old new h =
+    let sent = all_sent _ old.output h.between new.output h.written h.handed_on in settles_done old new h.found.1 sent.0 sent.1
+check_settles (Err Broken) old new h =
+    let sent = all_sent _ old.output h.checked.between new.output h.checked.written h.checked.handed_on in
+    settles_other 1 old new (omega arith) (omega arith) (omega arith) (omega arith) h.checked.found.1 (handed old.output new.output (inl sent))
+check_settles (Err (BadLine number)) old new h =
+    settles_other 3 old new (omega arith) (omega arith) (omega arith) (omega arith) h.found.1 (same_output old.output new.output h.untouched)
+check_settles (Err Source) old new h = settles_input old new h.found (same_output old.output new.output h.untouched)
+check_settles (Err Sink) old new h = settles_output old new h.found.1 (fails_to_say _ old.output new.output h.failed)
+check_settles (Err OutOfMemory) old new h =
+    settles_other 6 old new (omega arith) (omega arith) (omega arith) (omega arith) h.found (same_output old.output new.output h.untouched)
+check_settles (Err TooLong) old new h =
+    settles_other 8 old new (omega arith) (omega arith) (omega arith) (omega arith) h.found.1 (same_output old.output new.output h.untouched)
+check_settles (Err Image) old new h = absurd h
+check_settles (Err (Length count expected)) old new h = absurd h
+check_settles (Err Words) old new h = absurd h
 
 pub wish_settles : (wish : Wish) (result : Result (Unit {0}) Stop) (old new : Scene) → CommandEnds wish result old new → Settles (status_at result) old new
 wish_settles (a_ring abi order) result old new h = ring_settles (record { abi = abi; order = order }) result old new h.0
 wish_settles (a_run image detail) result old new h = run_settles image detail result old new h
+wish_settles a_check result old new h = check_settles result old new h.0
 wish_settles (a_bench seed count) result old new h = bench_settles seed count result old new h.0 (ap (λ s. s.faults) h.1)
 
 -- where nothing was done, at a status that says of no failure
@@ -165,6 +192,7 @@ reports_at image detail (Err OutOfMemory) old new h = grind arith
 reports_at image detail (Err Image) old new h = grind arith
 reports_at image detail (Err (Length count expected)) old new h = absurd h
 reports_at image detail (Err Words) old new h = absurd h
+reports_at image detail (Err Broken) old new h = absurd h
 
 pub reports : (image : List ℕ) (detail : Detail) (result : Result (Unit {0}) Stop) (status : ℕ) (old new : Scene) → status ≡ status_at result → RunReports image detail result old new → ReportsAt status image detail old new
 reports image detail result status old new same h = rw same (reports_at image detail result old new h)
@@ -173,8 +201,10 @@ reports image detail result status old new same h = rw same (reports_at image de
 not_bad : (wish : Wish) (result : Result (Unit {0}) Stop) (old new : Scene) → CommandEnds wish result old new → status_at result ≡ 2 → ⊥
 not_bad wish (Ok done) old new h e = let no : 0 ≡ 2 = e in omega arith
 not_bad wish (Err (Length count expected)) old new h e = let no : 1 ≡ 2 = e in omega arith
+not_bad wish (Err Broken) old new h e = let no : 1 ≡ 2 = e in omega arith
 not_bad (a_run image detail) (Err Words) old new h e = h
 not_bad (a_ring abi order) (Err Words) old new h e = h.0
+not_bad a_check (Err Words) old new h e = h.0
 not_bad (a_bench seed count) (Err Words) old new h e = h.0
 not_bad wish (Err (BadLine number)) old new h e = let no : 3 ≡ 2 = e in omega arith
 not_bad wish (Err Source) old new h e = let no : 4 ≡ 2 = e in omega arith
@@ -206,6 +236,33 @@ untouched words result old new abi order (inr (inl starved)) asks = ap (λ s. s.
 untouched words result old new abi order (inr (inr h)) asks =
     let ends : CommandEnds (a_ring abi order) result old new = subst (λ wish. CommandEnds wish result old new) (same_wish h.0 (a_ring abi order) words h.1 asks) h.2 in
     ends.1
+
+-- ---- a check
+
+check_at : (result : Result (Unit {0}) Stop) (old new : Scene) → CommandEnds a_check result old new → CheckAt (status_at result) old new
+check_at (Ok done) old new h = grind arith
+check_at (Err Broken) old new h = grind arith
+check_at (Err (BadLine number)) old new h = grind arith
+check_at (Err Source) old new h = grind arith
+check_at (Err Sink) old new h = grind arith
+check_at (Err OutOfMemory) old new h = grind arith
+check_at (Err TooLong) old new h = grind arith
+check_at (Err Image) old new h = absurd h.0
+check_at (Err (Length count expected)) old new h = absurd h.0
+check_at (Err Words) old new h = absurd h.0
+
+unchecked_at : (old new : Scene) → new ≡ old → CheckAt 6 old new
+unchecked_at old new same =
+    let output : new.output ≡ old.output = ap (λ s. s.output) same in
+    let disk : new.disk ≡ old.disk = ap (λ s. s.disk) same in
+    grind arith
+
+pub checked : (words : List (List ℕ)) (result : Result (Unit {0}) Stop) (status : ℕ) (old new : Scene) → status ≡ status_at result → CarriesOut words result old new → AsksCheck words → CheckAt status old new
+checked words result status old new same (inl h) asks = absurd (no_wish words a_check h.1 asks)
+checked words result status old new same (inr (inl starved)) asks = rw (same, starved.0) (unchecked_at old new starved.1)
+checked words result status old new same (inr (inr h)) asks =
+    let ends : CommandEnds a_check result old new = subst (λ wish. CommandEnds wish result old new) (same_wish h.0 a_check words h.1 asks) h.2 in
+    rw same (check_at result old new ends)
 
 -- ---- a bench
 
@@ -247,6 +304,7 @@ bench_at seed count (Err (BadLine number)) old new h = absurd h.0
 bench_at seed count (Err Image) old new h = absurd h.0
 bench_at seed count (Err (Length count' expected)) old new h = absurd h.0
 bench_at seed count (Err Words) old new h = absurd h.0
+bench_at seed count (Err Broken) old new h = absurd h.0
 
 starved_at : (seed count : ℕ) (old new : Scene) → new ≡ old → BenchAt 6 seed count old new
 starved_at seed count old new same = record {

@@ -1,5 +1,5 @@
 -- What the program leaves, and what it says, at each of its statuses.
-use Rattle.std.specs.Prelude.{◌≡◌, ℕ, ◌⊎◌, List, Some, Result, Ok, Err}
+use Rattle.std.specs.Prelude.{◌≡◌, ℕ, ◌⊎◌, List, Option, Some, None, Result, Ok, Err}
 use Rattle.std.specs.Borrow.{GName}
 use Rattle.blk_io.specs.Outside.{SourceSeen, SinkSeen, WritesBytes, HandsOn, FailsHandingOn}
 use Rattle.blk_io.specs.Disk.{HasLength, Fails}
@@ -13,10 +13,11 @@ use Rattle.schedule_run.specs.Outcome.{Runs}
 use Rattle.schedule_run.specs.declared.schedule.RunStop.{RunStop}
 use Rattle.schedule_run.specs.declared.schedule.RunStop.TheVariants as run
 use Rattle.commands.specs.declared.status.Stop.{Stop}
-use Rattle.commands.specs.declared.status.Stop.TheVariants.{Length, Words, BadLine, Source, Sink, OutOfMemory, Image, TooLong}
+use Rattle.commands.specs.declared.status.Stop.TheVariants.{Broken, Length, Words, BadLine, Source, Sink, OutOfMemory, Image, TooLong}
 use Rattle.commands.specs.Scene.{Scene, options_of, bytes_limit, with_image, reporting}
+use Rattle.commands.specs.Check.{CheckEnds}
 use Rattle.commands.specs.Bench.{BenchEnds}
-use Rattle.commands.specs.Words.{Wish, a_run, a_ring, a_bench, wish_of, AsksNothing}
+use Rattle.commands.specs.Words.{Wish, a_run, a_ring, a_check, a_bench, wish_of, AsksNothing}
 use Rattle.commands.specs.Status.{status_of, line_of}
 
 -- the image of that name was attached for writing, and the schedule was run on it
@@ -42,6 +43,7 @@ RunStops image detail OutOfMemory old new = (new ≡ old) ⊎ RunsOn image detai
 RunStops image detail Image old new = FailsToAttach old new
 RunStops image detail (Length count expected) old new = ⊥
 RunStops image detail Words old new = ⊥
+RunStops image detail Broken old new = ⊥
 
 abbrev pub RunEnds : List ℕ → Detail → Result (Unit {0}) Stop → Scene → Scene → Type 0
 RunEnds image detail (Ok done) old new = RunsOn image detail (Ok tt) old new
@@ -71,6 +73,7 @@ RingStops shape Source a b before after = ShowsNothing shape inspect.Source a b 
 RingStops shape OutOfMemory a b before after = ShowsNothing shape inspect.OutOfMemory a b before after
 RingStops shape Sink a b before after = IsPartlyShown shape a b before after ⊎ ShowsUnsent shape a b before after
 RingStops shape Words a b before after = ⊥
+RingStops shape Broken a b before after = ⊥
 RingStops shape (BadLine number) a b before after = ⊥
 RingStops shape Image a b before after = ⊥
 RingStops shape TooLong a b before after = ⊥
@@ -79,10 +82,11 @@ abbrev pub RingEnds : Shape → Result (Unit {0}) Stop → (a b : SourceSeen) �
 RingEnds shape (Ok done) a b before after = ShowsRing shape a b before after
 RingEnds shape (Err stop) a b before after = RingStops shape stop a b before after
 
--- what the carrying out of this wish made of the outside; the showing of a ring leaves the disk as it was, and a bench the input too
+-- what the carrying out of this wish made of the outside; the showing of a ring and a check leave the disk as it was, and a bench the input too
 abbrev pub CommandEnds : Wish → Result (Unit {0}) Stop → Scene → Scene → Type 0
 CommandEnds (a_ring abi order) result old new = RingEnds (record { abi = abi; order = order }) result old.source new.source old.output new.output × (new.disk ≡ old.disk)
 CommandEnds (a_run image detail) result old new = RunEnds image detail result old new
+CommandEnds a_check result old new = CheckEnds result old.source new.source old.output new.output × (new.disk ≡ old.disk)
 CommandEnds (a_bench seed count) result old new = BenchEnds seed count result old.output new.output × (new.source ≡ old.source) × (new.disk ≡ old.disk)
 
 -- the words ask for nothing, and nothing was done
@@ -96,13 +100,18 @@ CarriesOut words result old new =
     ⊎ ((result ≡ Err OutOfMemory) × (new ≡ old))
     ⊎ ((wish : Wish) × (wish_of words ≡ Some wish) × CommandEnds wish result old new)
 
--- the error output was given this line, and then handed on what it keeps back, whatever came of it
-pub record IsSaid (line : List ℕ) (before after : SinkSeen) : Type 0 where
+-- the error output was given this line, and then handed on what it keeps back, whatever the outcome
+pub record WasGiven (line : List ℕ) (before after : SinkSeen) : Type 0 where
   pub wrote : Result (Unit {0}) Failed
   pub between : SinkSeen
   pub written : WritesBytes line wrote before between
   pub sent : Result (Unit {0}) Failed
   pub handed_on : HandsOn sent between after
+
+-- a line was said where there is one, and nothing else
+abbrev pub IsSaid : Option (List ℕ) → SinkSeen → SinkSeen → Type 0
+IsSaid None before after = after ≡ before
+IsSaid (Some line) before after = WasGiven line before after
 
 -- the command of the words was done, and nothing was said
 pub record EndsSilently (words : List (List ℕ)) (old new : Scene) (error error' : SinkSeen) : Type 0 where

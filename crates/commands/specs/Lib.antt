@@ -3,6 +3,7 @@ pub mod Reading
 pub mod Status
 pub mod Scene
 pub mod Bench
+pub mod Check
 pub mod Ending
 pub mod Reported
 pub mod Settled

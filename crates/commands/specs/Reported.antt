@@ -13,7 +13,7 @@ use Rattle.schedule_run.specs.Reading.{IsWholeSchedule, Tells}
 use Rattle.schedule_run.specs.declared.schedule.RunStop.{RunStop}
 use Rattle.schedule_run.specs.declared.schedule.RunStop.TheVariants as run
 use Rattle.commands.specs.declared.status.Stop.{Stop}
-use Rattle.commands.specs.declared.status.Stop.TheVariants.{Length, Words, BadLine, Source, Sink, OutOfMemory, Image, TooLong}
+use Rattle.commands.specs.declared.status.Stop.TheVariants.{Broken, Length, Words, BadLine, Source, Sink, OutOfMemory, Image, TooLong}
 use Rattle.commands.specs.Scene.{Scene, options_of, bytes_limit, image_named, with_image, reporting}
 use Rattle.commands.specs.Ending.{FailsToAttach}
 
@@ -46,6 +46,7 @@ RunReports image detail (Err OutOfMemory) old new = (new ≡ old) ⊎ IsReported
 RunReports image detail (Err Image) old new = FailsToAttach old new
 RunReports image detail (Err (Length count expected)) old new = ⊥
 RunReports image detail (Err Words) old new = ⊥
+RunReports image detail (Err Broken) old new = ⊥
 
 -- at each status of a run: done (0); a bad line (3), the input failed (4) or was too long (8), where all whole lines read by then are reported; the output failed (5), or there was no memory (6), maybe for the image's name; the image failed (7)
 pub record ReportsAt (status : ℕ) (image : List ℕ) (detail : Detail) (old new : Scene) : Type 0 where

@@ -1,9 +1,10 @@
--- The exit status and the line of the error output, for each reason why the program stops.
-use Rattle.std.specs.Prelude.{ℕ, List, [], ◌∷◌, ◌++◌, codes, decimal}
+-- The exit status and the line of the error output, for each reason why the status isn't 0.
+use Rattle.std.specs.Prelude.{ℕ, List, [], ◌∷◌, ◌++◌, codes, decimal, Option, Some, None}
 use Rattle.commands.specs.declared.status.Stop.{Stop}
-use Rattle.commands.specs.declared.status.Stop.TheVariants.{Length, Words, BadLine, Source, Sink, OutOfMemory, Image, TooLong}
+use Rattle.commands.specs.declared.status.Stop.TheVariants.{Broken, Length, Words, BadLine, Source, Sink, OutOfMemory, Image, TooLong}
 
 abbrev pub status_of : Stop → ℕ
+status_of Broken = 1
 status_of (Length count expected) = 1
 status_of Words = 2
 status_of (BadLine number) = 3
@@ -17,12 +18,14 @@ status_of TooLong = 8
 abbrev pub error_line : List ℕ → List ℕ
 error_line reason = codes "blkring: " ++ reason ++ 10 ∷ []
 
-abbrev pub line_of : Stop → List ℕ
-line_of (Length count expected) = error_line (decimal count ++ codes " bytes, expected " ++ decimal expected)
-line_of Words = error_line (codes "bad command line")
-line_of (BadLine number) = error_line (codes "line " ++ decimal number ++ codes ": not in the grammar")
-line_of Source = error_line (codes "the input failed")
-line_of Sink = error_line (codes "the output failed")
-line_of OutOfMemory = error_line (codes "out of memory")
-line_of Image = error_line (codes "the image failed")
-line_of TooLong = error_line (codes "the input is too long")
+-- where a report breaks a rule the output says which, and the error output nothing
+abbrev pub line_of : Stop → Option (List ℕ)
+line_of Broken = None
+line_of (Length count expected) = Some (error_line (decimal count ++ codes " bytes, expected " ++ decimal expected))
+line_of Words = Some (error_line (codes "bad command line"))
+line_of (BadLine number) = Some (error_line (codes "line " ++ decimal number ++ codes ": not in the grammar"))
+line_of Source = Some (error_line (codes "the input failed"))
+line_of Sink = Some (error_line (codes "the output failed"))
+line_of OutOfMemory = Some (error_line (codes "out of memory"))
+line_of Image = Some (error_line (codes "the image failed"))
+line_of TooLong = Some (error_line (codes "the input is too long"))

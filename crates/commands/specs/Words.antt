@@ -12,7 +12,7 @@ use Rattle.blk_base.specs.declared.operation.Abi.TheVariants.{X64, X32}
 use Rattle.schedule_text.specs.declared.line.Detail.{Detail}
 use Rattle.schedule_text.specs.declared.line.Detail.TheVariants.{Lines, Moves}
 use Rattle.commands.specs.declared.words.Command.{Command}
-use Rattle.commands.specs.declared.words.Command.TheVariants.{Inspect, Run, Bench}
+use Rattle.commands.specs.declared.words.Command.TheVariants.{Inspect, Run, Check, Bench}
 
 -- ---- the command set
 
@@ -44,6 +44,10 @@ run_set = with_rule (with_rule (new_app (codes "run")) image_rule) moves_rule
 abbrev pub inspect_set : App
 inspect_set = with_rule (with_rule (new_app (codes "inspect")) abi_rule) order_rule
 
+-- `check`
+abbrev pub check_set : App
+check_set = new_app (codes "check")
+
 -- `bench`, with a seed and a count
 abbrev pub bench_set : App
 bench_set = with_rule (with_rule (new_app (codes "bench")) (number_rule (codes "seed"))) (number_rule (codes "count"))
@@ -54,7 +58,7 @@ bare_set = on_top (λ s. record s { no_binary_name = true; subcommand_required =
 
 -- the commands that read an input
 abbrev pub read_set : App
-read_set = with_subcommand (with_subcommand bare_set run_set.top) inspect_set.top
+read_set = with_subcommand (with_subcommand (with_subcommand bare_set run_set.top) inspect_set.top) check_set.top
 
 -- what the program may be told
 abbrev pub command_set : App
@@ -84,10 +88,11 @@ is_yes (Some text) = bytes_eq text (codes "true")
 abbrev pub detail_in : List Row → Detail
 detail_in rows = if is_yes (first_of (codes "moves") rows) then Moves else Lines
 
--- a run on the image of that name, the showing of a ring of that layout and order, or a bench of that seed and that many lines
+-- a run on the image of that name, the showing of a ring of that layout and order, the check of a report, or a bench of that seed and that many lines
 pub data Wish : Type 0 where
   a_run : Text → Detail → Wish
   a_ring : Abi → ℕ → Wish
+  a_check : Wish
   a_bench : ℕ → ℕ → Wish
 
 abbrev pub run_in : List Row → Option Wish
@@ -112,8 +117,9 @@ abbrev pub wish_in : Text → List Row → Option Wish
 wish_in name rows =
     if bytes_eq name (codes "run") then run_in rows
     else (if bytes_eq name (codes "inspect") then ring_in rows
+    else (if bytes_eq name (codes "check") then Some a_check
     else (if bytes_eq name (codes "bench") then bench_in rows
-    else None))
+    else None)))
 
 abbrev pub wish_where : Kinds → Option (Text × List Row) → Option Wish
 wish_where [] entered = option_and_then (λ s. wish_in s.0 s.1) entered
@@ -123,12 +129,15 @@ wish_where (fault ∷ faults) entered = None
 abbrev pub wish_of : List Text → Option Wish
 wish_of words = wish_where (fault_of command_set words) (subcommand_of command_set words)
 
--- the words ask for a run, for a ring, for a bench, or for nothing
+-- the words ask for a run, for a ring, for a check, for a bench, or for nothing
 abbrev pub AsksRun : List Text → Text → Detail → Type 0
 AsksRun words image detail = wish_of words ≡ Some (a_run image detail)
 
 abbrev pub AsksRing : List Text → Abi → ℕ → Type 0
 AsksRing words abi order = wish_of words ≡ Some (a_ring abi order)
+
+abbrev pub AsksCheck : List Text → Type 0
+AsksCheck words = wish_of words ≡ Some a_check
 
 abbrev pub AsksBench : List Text → ℕ → ℕ → Type 0
 AsksBench words seed count = wish_of words ≡ Some (a_bench seed count)
@@ -140,4 +149,5 @@ AsksNothing words = wish_of words ≡ None
 abbrev pub wish_by : Command → Wish
 wish_by (Inspect abi order) = a_ring abi order
 wish_by (Run image detail) = a_run image.now detail
+wish_by Check = a_check
 wish_by (Bench seed count) = a_bench seed count

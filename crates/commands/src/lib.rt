@@ -4,6 +4,7 @@
 #![tactic(auto)]
 
 mod bench;
+mod checking;
 mod status;
 mod top;
 mod words;

@@ -1,5 +1,5 @@
 // Why the program stops, its exit status, and what it then says.
-ghost use Rattle.std.specs.Prelude.{◌≡◌, ◌+◌, ◌≤◌, ◌++◌, length, decimal};
+ghost use Rattle.std.specs.Prelude.{◌≡◌, ◌+◌, ◌≤◌, ◌++◌, length, decimal, Some, option_map};
 ghost use Rattle.arrayvec.specs.ArrayString.{array_string_len};
 ghost use Rattle.commands.specs.Status.{status_of, error_line, line_of};
 
@@ -11,9 +11,11 @@ use std::alloc::AllocError;
 /// A line of the error output.
 pub type ErrorLine = ArrayString<96>;
 
-/// Why the program stops before its command is done.
+/// Why the status of the program isn't 0.
 #[derive(Clone, Copy, Debug, PartialEq, Eq)]
 pub enum Stop {
+    /// A line of the report breaks a rule. The output says which, and the error output nothing.
+    Broken,
     /// The input has `count` bytes and not the `expected` ones, where one too many stand for more.
     Length { count: u64, expected: u64 },
     /// The words of the command line ask for nothing, or for help.
@@ -58,7 +60,7 @@ impl Stop {
         ensures { result ≡ status_of self }
     {
         match self {
-            Stop::Length { .. } => 1,
+            Stop::Broken | Stop::Length { .. } => 1,
             Stop::Words => 2,
             Stop::BadLine(_) => 3,
             Stop::Source => 4,
@@ -69,11 +71,12 @@ impl Stop {
         }
     }
 
-    /// The line of the error output, with its line feed.
-    pub fn line(self) -> ErrorLine
-        ensures { result.bytes ≡ line_of self }
+    /// The line of the error output, with its line feed; none where a report breaks a rule.
+    pub fn line(self) -> Option<ErrorLine>
+        ensures { option_map (λ line. line.bytes) result ≡ line_of self }
     {
-        match self {
+        let line = match self {
+            Stop::Broken => return None,
             Stop::Length { count, expected } => length_line(count, expected),
             Stop::Words => plain_line("bad command line"),
             Stop::BadLine(number) => bad_line(number),
@@ -82,7 +85,8 @@ impl Stop {
             Stop::OutOfMemory => plain_line("out of memory"),
             Stop::Image => plain_line("the image failed"),
             Stop::TooLong => plain_line("the input is too long"),
-        }
+        };
+        Some(line)
     }
 }
 
@@ -98,7 +102,7 @@ fn plain_line(reason: &str) -> ErrorLine
 }
 
 fn length_line(count: u64, expected: u64) -> ErrorLine
-    ensures { result.bytes ≡ line_of (Stop.Length count expected) }
+    ensures { Some result.bytes ≡ line_of (Stop.Length count expected) }
 {
     let mut line = ErrorLine::new();
     line.push_str("blkring: ");
@@ -110,7 +114,7 @@ fn length_line(count: u64, expected: u64) -> ErrorLine
 }
 
 fn bad_line(number: u64) -> ErrorLine
-    ensures { result.bytes ≡ line_of (Stop.BadLine number) }
+    ensures { Some result.bytes ≡ line_of (Stop.BadLine number) }
 {
     let mut line = ErrorLine::new();
     line.push_str("blkring: line ");

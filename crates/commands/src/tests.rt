@@ -1,5 +1,7 @@
 // The program over an outside in memory, as a client would hold it.
 
+mod checking;
+
 use crate::{Command, blkring, read_command};
 use blk_base::Abi;
 use blk_io::{FailsAt, MemorySink, MemorySource};

@@ -2,16 +2,18 @@
 ghost use Rattle.std.specs.Prelude.{◌≡◌, ◌≢◌, ◌≤◌, ◌⊎◌, ℕ, List, Some, map, IfErr};
 ghost use Rattle.std.specs.String.{string_bytes};
 ghost use Rattle.blk_io.specs.Outside.{HandsOn};
-ghost use Rattle.commands.specs.Words.{Wish, wish_of, AsksRun, AsksRing, AsksBench, AsksNothing};
+ghost use Rattle.commands.specs.Words.{Wish, wish_of, AsksRun, AsksRing, AsksCheck, AsksBench, AsksNothing};
+ghost use Rattle.commands.specs.Check.{CheckAt};
 ghost use Rattle.commands.specs.Bench.{BenchAt};
 ghost use Rattle.commands.specs.Status.{status_of, line_of};
 ghost use Rattle.commands.specs.Scene.{scene};
 ghost use Rattle.commands.specs.Ending.{RunEnds, RingEnds, CarriesOut, EndsSilently, StopsWithReason, IsSaid, run_stop};
 ghost use Rattle.commands.specs.Reported.{RunReports, ReportsAt};
 ghost use Rattle.commands.specs.Settled.{Settles};
-ghost use Rattle.commands.specs.Complete.{MayBeDone};
+ghost use Rattle.commands.specs.Complete.{MayBeDone, IsDoneAt};
 
 use crate::bench::bench;
+use crate::checking::check_report;
 use crate::status::Stop;
 use crate::words::{Command, read_command};
 use blk_base::{Abi, Config};
@@ -22,23 +24,28 @@ use schedule_text::{Detail, LineSink};
 use std::alloc::Global;
 
 /// Carries out the command that the words after the program's name ask for, and answers the exit
-/// status; whatever isn't 0 is also said in a line on `err`, whose failing changes no status.
+/// status; whatever isn't 0 is also said in a line on `err`, whose failing changes no status. A report
+/// that breaks a rule is said on the output alone.
 ///
 /// - 0: it is done, and nothing was said. For `run` the output gained the text of a report that
 ///   echoes the whole schedule and is a run of the plain disk, from what the image held to what it
 ///   holds; with `--moves` each move in it obeys the rules of the ring, of grants and of the work
 ///   (`io/ring.h`, `io/blkif.h`, `grant_table.h`).
+///   For `check` the output gained the line `legal`: no line of the report that the source gave breaks
+///   a rule, and the last is `end`. The image wasn't touched.
 ///   For `bench` the output gained the summary of a run of exactly the generated schedule on zeros in
 ///   memory; neither input nor image was touched.
-/// - 1: `inspect` found another number of bytes than the ring's. Nothing was written.
+/// - 1: `check` found a line that breaks a rule; the output gained `broken`, the line's number and the
+///   rule. Or `inspect` found another number of bytes than the ring's, and nothing was written.
 /// - 2: the words ask for nothing, or for help. Nothing was read or written.
-/// - 3: a line of the schedule isn't carried out. Those before it were, and are reported.
+/// - 3: a line of the schedule isn't carried out. Those before it were, and are reported. For `check` a
+///   line is none of a report, and those before it break no rule.
 /// - 4: the source failed. The whole lines that were read were carried out, and are reported.
 /// - 5: the output failed. A beginning of the text may have been written, lawful as far as its whole
 ///   lines go.
 /// - 6: there was no memory; likewise. Reading the words takes memory too.
 /// - 7: the image failed where it was attached. Nothing was read or written.
-/// - 8: 4294967296 bytes of the schedule were taken, and the source didn't end before. Their whole
+/// - 8: 4294967296 bytes of the input were taken, and the source didn't end before. Their whole
 ///   lines were carried out, and are reported. A generated schedule can be as long, and nothing is said.
 ///
 /// The first reason ends the run: an output that fails after it to hand on what it kept back changes
@@ -73,6 +80,11 @@ pub fn blkring<S: Source, D: SectorDisk, O: Sink, E: Sink>(
     // A ring's showing leaves the disk as it was.
     ensures untouched { (abi : Abi) → (order : ℕ) → AsksRing (map string_bytes words.now) abi order
         → D.seen disk.new ≡ D.seen disk.old }
+    // A check finds what the report is worth by the rules, and leaves the disk as it was.
+    ensures checked { AsksCheck (map string_bytes words.now)
+        → CheckAt result
+        (scene (S.seen src.old) (D.seen disk.old) (O.seen out.old))
+        (scene (S.seen src.new) (D.seen disk.new) (O.seen out.new)) }
     // A bench says the counts of exactly its schedule, and touches neither input nor image.
     ensures benched { (seed : ℕ) → (count : ℕ) → AsksBench (map string_bytes words.now) seed count
         → BenchAt result seed count
@@ -94,7 +106,7 @@ pub fn blkring<S: Source, D: SectorDisk, O: Sink, E: Sink>(
         → MayBeDone wish
         (scene (S.seen src.old) (D.seen disk.old) (O.seen out.old))
         (scene (S.seen src.new) (D.seen disk.new) (O.seen out.new))
-        → (result ≡ 0) ⊎ (result ≡ 6) }
+        → IsDoneAt wish result }
 {
     match do_command(alloc, words, src, disk, out) {
         Ok(()) => 0,
@@ -103,12 +115,15 @@ pub fn blkring<S: Source, D: SectorDisk, O: Sink, E: Sink>(
 }
 
 /// Says why the program stops, and answers its exit status. The line isn't left in a buffer; where
-/// saying it fails there is nobody left to tell.
+/// saying it fails there is nobody left to tell. Of a report that breaks a rule nothing is said here.
 pub fn stop_with<E: Sink>(err: &mut E, stop: Stop) -> u8
     ensures status { result ≡ status_of stop }
     ensures said { IsSaid (line_of stop) (E.seen err.old) (E.seen err.new) }
 {
-    let _ = err.write(stop.line().as_str().as_bytes());
+    let Some(line) = stop.line() else {
+        return stop.status();
+    };
+    let _ = err.write(line.as_str().as_bytes());
     let _ = err.flush();
     stop.status()
 }
@@ -134,6 +149,7 @@ fn do_command<S: Source, D: SectorDisk, O: Sink>(
     match read_command(alloc, words)? {
         Some(Command::Inspect { abi, order }) => show_ring(alloc, src, abi, order, out),
         Some(Command::Run { image, detail }) => run_schedule(alloc, image, detail, src, disk, out),
+        Some(Command::Check) => check_report(alloc, src, out),
         Some(Command::Bench { seed, count }) => bench(alloc, seed, count, out),
         None => Err(Stop::Words),
     }

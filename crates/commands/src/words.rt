@@ -3,7 +3,7 @@ ghost use Rattle.std.specs.Prelude.{◌≡◌, ℕ, IfOk, codes, map, option_map
 ghost use Rattle.std.specs.String.{string_bytes};
 ghost use Rattle.clap.specs.Words.{first_of, found_of, rows_of, subcommand_rows_of, rule_of};
 ghost use Rattle.commands.specs.Words.{wish_of, wish_by, wish_in, run_in, ring_in, bench_in, detail_in, number_in, layout_of, order_of};
-ghost use Rattle.commands.specs.Words.{command_set, read_set, run_set, inspect_set, bench_set, image_rule, moves_rule, abi_rule, order_rule, number_rule};
+ghost use Rattle.commands.specs.Words.{command_set, read_set, run_set, inspect_set, check_set, bench_set, image_rule, moves_rule, abi_rule, order_rule, number_rule};
 ghost use Rattle.commands.specs.Reading.{IsArgument, IsSet};
 
 use blk_base::{Abi, OutOfMemory};
@@ -20,13 +20,15 @@ pub enum Command<'a> {
     /// Run the schedule that the input holds on the image of that name, and report with or without
     /// each move.
     Run { image: &'a str, detail: Detail },
+    /// Hold the report that the input holds against the rules.
+    Check,
     /// Run the schedule of that seed and that many lines on zeros in memory, and count what comes.
     Bench { seed: u64, count: u64 },
 }
 
 /// The command that the words after the program's name ask for, as `clap` reads them: `run` with an
 /// image's name, and `--moves` before or after it; `inspect`, with `--abi` 64 or 32 and `--order`
-/// from 0 to 4; or `bench`, with a seed and a count, numbers of 64 bits. Each option comes at most
+/// from 0 to 4; `check`; or `bench`, with a seed and a count, numbers of 64 bits. Each option comes at most
 /// once, and a number may have a plus and zeros before it.
 /// Without them the layout is that of x86_64 and the order 0.
 ///
@@ -54,7 +56,7 @@ fn command_set<'a>(alloc: Global) -> Result<clap::Command<'a>, AllocError>
     read_commands(alloc)?.subcommand(bench_command(alloc)?)
 }
 
-// The commands that read an input, `run` and `inspect`.
+// The commands that read an input, `run`, `inspect` and `check`.
 fn read_commands<'a>(alloc: Global) -> Result<clap::Command<'a>, AllocError>
     ensures { IfOk result (IsSet read_set) }
 {
@@ -62,7 +64,8 @@ fn read_commands<'a>(alloc: Global) -> Result<clap::Command<'a>, AllocError>
         .no_binary_name(true)
         .subcommand_required(true)
         .subcommand(run_command(alloc)?)?
-        .subcommand(inspect_command(alloc)?)
+        .subcommand(inspect_command(alloc)?)?
+        .subcommand(check_command(alloc))
 }
 
 // `run IMAGE [--moves]`.
@@ -81,6 +84,13 @@ fn inspect_command<'a>(alloc: Global) -> Result<clap::Command<'a>, AllocError>
     clap::Command::new(alloc, "inspect")
         .arg(abi_option(alloc))?
         .arg(order_option(alloc))
+}
+
+// `check`.
+fn check_command<'a>(alloc: Global) -> clap::Command<'a>
+    ensures { IsSet check_set result }
+{
+    clap::Command::new(alloc, "check")
 }
 
 // `bench SEED COUNT`.
@@ -140,6 +150,7 @@ fn asked<'a>(matches: &ArgMatches<'a>) -> Option<Command<'a>>
     match name {
         "run" => run(found),
         "inspect" => inspect(found),
+        "check" => Some(Command::Check),
         "bench" => bench(found),
         _ => None,
     }

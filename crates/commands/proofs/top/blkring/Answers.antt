@@ -1,5 +1,5 @@
 use Rattle.std.proofs.Common.{Ok, Err, refl}
-use Rattle.commands.proofs.Settling.{settles, reports, bad_words, refused, untouched, benched}
+use Rattle.commands.proofs.Settling.{settles, reports, bad_words, refused, untouched, checked, benched}
 use Rattle.commands.proofs.Completing.{completes}
 use Rattle.commands.proofs.top.blkring.Goals as goal
 
@@ -32,3 +32,9 @@ returns-in-Ok-clause-untouched g c abi order asks = untouched _ (Ok tt) _ _ abi 
 
 pub returns-in-Ok-clause-refused : goal.returns-in-Ok-clause-refused
 returns-in-Ok-clause-refused g c none = refused _ (Ok tt) 0 _ _ refl c.in-Ok.ensures.carried_out none
+
+pub returns-in-Err-clause-checked : goal.returns-in-Err-clause-checked
+returns-in-Err-clause-checked g c asks = checked _ (Err c.in-Err.stop) _ _ _ c.stop_with.ensures.status c.in-Err.ensures.carried_out asks
+
+pub returns-in-Ok-clause-checked : goal.returns-in-Ok-clause-checked
+returns-in-Ok-clause-checked g c asks = checked _ (Ok tt) 0 _ _ refl c.in-Ok.ensures.carried_out asks
