@@ -5,3 +5,4 @@ pub mod Again
 pub mod SectorAgain
 pub mod TextLemmas
 pub mod Solid
+mod Digits

@@ -62,7 +62,7 @@ pub fn digit(d: u32) -> u8
 
 /// The eight digits of a word.
 #[tactic(auto, unfolding(crate::specs::Numbers::hex8))]
-fn eight(word: u32) -> [u8; 8]
+pub fn eight(word: u32) -> [u8; 8]
     ensures digits { result ≡ hex8 word }
     ensures ascii { IsAscii result }
 {

@@ -1,5 +1,5 @@
 -- The next line of a report, by all bytes that are still to be read: those that were taken of the source, and those that it has left.
-use Rattle.std.specs.Prelude.{◌≡◌, ◌≢◌, ℕ, ◌+◌, ◌<◌, List, [], ◌∷◌, ◌++◌, length, Option, Some, None, Result, Ok, Err}
+use Rattle.std.specs.Prelude.{◌≡◌, ◌≢◌, ℕ, ◌+◌, ◌<◌, Bool, true, false, List, [], ◌∷◌, ◌++◌, length, Option, Some, None, Result, Ok, Err}
 use Rattle.schedule_text.specs.declared.line.Line.{Line}
 use Rattle.schedule_text.specs.Range.{IsTextOf}
 use Rattle.blk_io.specs.Outside.{SourceSeen, Rose}
@@ -38,6 +38,12 @@ IsRoomSpent room less None after = Unit {0}
 pub record Spends (a b : Ahead) (s t : SourceSeen) : Type 0 where
   pub fewer : b.room + length b.bytes < a.room + length a.bytes
   pub room : IsRoomSpent a.room b.room s.left t.left
+
+-- what was put in place of a line, where one was read
+abbrev pub given : Result Bool ReadStop → Line → Result (Option Line) ReadStop
+given (Ok true) line = Ok (Some line)
+given (Ok false) line = Ok None
+given (Err stop) line = Err stop
 
 -- the next line, the end, or why there is none
 abbrev pub GivesLine : Result (Option Line) ReadStop → Ahead → Ahead → SourceSeen → SourceSeen → Type 0

@@ -1,11 +1,12 @@
 // The lines of a report.
 ghost use Rattle.std.specs.Prelude.{◌≡◌, ◌<◌, ◌^◌, []};
 ghost use Rattle.report_lines.specs.Filling.{Ahead};
-ghost use Rattle.report_lines.specs.Giving.{GivesLine};
+ghost use Rattle.report_lines.specs.Giving.{GivesLine, given};
 
 use crate::reader::{LineReader, ReadStop};
 use blk_io::Source;
-use schedule_text::{BadLine, Line, read_line};
+use line_text::LineText;
+use schedule_text::{BadLine, Line, read_line_into};
 use std::alloc::Global;
 use std::marker::Model;
 
@@ -14,6 +15,7 @@ use std::marker::Model;
 #[derive(Drop)]
 pub struct ReportLines {
     reader: LineReader,
+    text: LineText,
 }
 
 impl Model for ReportLines {
@@ -31,6 +33,7 @@ impl ReportLines {
     {
         ReportLines {
             reader: LineReader::new(alloc, bytes_limit),
+            text: LineText::new(),
         }
     }
 
@@ -42,13 +45,30 @@ impl ReportLines {
     pub fn next<S: Source>(&mut self, source: &mut S) -> Result<Option<Line>, ReadStop>
         ensures { GivesLine result self.old self.new (S.seen source.old) (S.seen source.new) }
     {
+        let mut line = Line::End;
+        match self.next_into(source, &mut line) {
+            Ok(true) => Ok(Some(line)),
+            Ok(false) => Ok(None),
+            Err(stop) => Err(stop),
+        }
+    }
+
+    /// Puts the next line in place of `line`, which a reader of many lines keeps; `false`, and an
+    /// error, come where `next` gives no line.
+    pub fn next_into<S: Source>(
+        &mut self,
+        source: &mut S,
+        line: &mut Line,
+    ) -> Result<bool, ReadStop>
+        ensures { GivesLine (given result line.new) self.old self.new (S.seen source.old) (S.seen source.new) }
+    {
         let Some(count) = self.reader.fill(source)? else {
-            return Ok(None);
+            return Ok(false);
         };
-        match read_line(&self.reader.ahead()[..count]) {
-            Ok(line) => {
+        match read_line_into(&self.reader.ahead()[..count], line, &mut self.text) {
+            Ok(()) => {
                 self.reader.skip(count + 1);
-                Ok(Some(line))
+                Ok(true)
             }
             Err(BadLine) => Err(ReadStop::BadLine),
         }

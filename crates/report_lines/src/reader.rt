@@ -95,7 +95,9 @@ impl LineReader {
         self.start += count;
     }
 
-    // Takes more bytes of the source; `false` says that it has come to its end.
+    // Takes more bytes of the source; `false` says that it has come to its end. Whoever calls it is
+    // not to make room for the piece at each line.
+    #[inline(never)]
     fn take_more<S: Source>(&mut self, source: &mut S) -> Result<bool, ReadStop>
         requires { 0 < self.old.room }
         ensures { TakesMore result self.old self.new (S.seen source.old) (S.seen source.new) }

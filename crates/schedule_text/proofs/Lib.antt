@@ -5,3 +5,4 @@ pub mod Spelling
 pub mod EventSpelling
 pub mod Gaining
 pub mod Adding
+mod AccessText

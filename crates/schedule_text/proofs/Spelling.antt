@@ -9,7 +9,7 @@ use Rattle.schedule_text.specs.declared.line.Line.{Line}
 use Rattle.schedule_text.specs.declared.line.Line.TheVariants as lines
 use Rattle.schedule_text.specs.Line.{text_of}
 use Rattle.schedule_text.specs.Plain.{plain, plain_move, plain_halt}
-use Rattle.schedule_text.specs.Range.{IsInRange, is_allowed, is_move_allowed, is_halt_allowed}
+use Rattle.schedule_text.specs.Range.{IsInRange, IsTextOf, is_allowed, is_move_allowed, is_halt_allowed}
 use Rattle.schedule_text.specs.Reading.{line_at}
 use Rattle.schedule_text.proofs.Again.{line_again}
 use Rattle.schedule_text.proofs.Solid.{words_again}
@@ -68,3 +68,7 @@ pub is_read : (read line : Line) (bytes : List ℕ) → plain read ≡ line_at (
 is_read read line bytes says h e =
     let same : plain read ≡ plain line = says ∙ ap (λ (b : List ℕ). line_at (words_in b)) (sym e) ∙ says_line line h in
     record { same = same; allowed = same_allowed read line same ∙ h.allowed; text = same_text read line same ∙ e }
+
+-- two lines of one text are equal but for what lies unused
+pub one_line : (a b : Line) (bytes : List ℕ) → IsTextOf a bytes → IsTextOf b bytes → plain a ≡ plain b
+one_line a b bytes is also = sym (says_line a is.in_range) ∙ ap (λ (text : List ℕ). line_at (words_in text)) (is.text ∙ sym also.text) ∙ says_line b also.in_range

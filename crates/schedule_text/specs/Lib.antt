@@ -7,3 +7,4 @@ pub mod Range
 pub mod Parts
 pub mod Event
 pub mod EventReading
+pub mod Access

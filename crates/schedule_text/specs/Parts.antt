@@ -2,11 +2,10 @@
 use Rattle.std.specs.Prelude.{◌≡◌, ℕ, ◌<◌, ◌≤◌, List, ◌++◌}
 use Rattle.arrayvec.specs.ArrayString.{ArrayString, array_string_len}
 use Rattle.line_text.specs.Words.{spaced}
-use Rattle.blk_base.specs.declared.moves.Move.{Move}
 use Rattle.schedule_text.specs.declared.line.Line.{Line}
 use Rattle.schedule_text.specs.Line.{text_of}
-use Rattle.schedule_text.specs.Plain.{plain, plain_move}
-use Rattle.schedule_text.specs.Range.{HasWidths, MoveHasWidths}
+use Rattle.schedule_text.specs.Plain.{plain}
+use Rattle.schedule_text.specs.Range.{HasWidths}
 
 -- these words were added to the text, each after a space, and it has that many bytes at most
 pub record AddsWords (words : List (List ℕ)) (most : ℕ) (before after : ArrayString) : Type 0 where
@@ -22,8 +21,3 @@ pub record IsWritten (line : Line) (text : ArrayString) : Type 0 where
 pub record IsReadAs (said : Line) (line : Line) : Type 0 where
   pub says : plain line ≡ said
   pub widths : HasWidths line
-
--- what was read is this move, but for what lies unused in its texts, and its numbers have their widths
-pub record IsMoveReadAs (said : Move) (move : Move) : Type 0 where
-  pub says : plain_move move ≡ said
-  pub widths : MoveHasWidths move

@@ -1,5 +1,5 @@
 // Whether a line is in the grammar.
-ghost use Rattle.std.specs.Prelude.{◌≡◌, ◌↔◌, IsTrue, IfOk, IsOkAnd, IfSome, IsSome, IsErr, ◌<◌, ◌≤◌, length};
+ghost use Rattle.std.specs.Prelude.{◌≡◌, ◌↔◌, IsTrue, IfOk, IsOkAnd, IfSome, IsSome, IsErr, OnOk, ◌<◌, ◌≤◌, length};
 ghost use Rattle.schedule_text.specs.Range.{IsTextOf};
 ghost use Rattle.schedule_text.specs.declared.line.Line.{Line};
 ghost use Rattle.schedule_text.specs.declared.event.Event.{Event};
@@ -9,10 +9,11 @@ ghost use Rattle.schedule_text.specs.Plain.{plain};
 use crate::event::{BadLine, Event};
 use crate::line::Line;
 use crate::ranges::is_allowed;
-use crate::reading::line_of;
+use crate::reading::read_words;
+use crate::reading_access::read_access;
 use crate::schedule::{event_of, is_event_allowed, write_event};
 use crate::writing::write_line;
-use line_text::LineText;
+use line_text::{LineText, are_equal};
 
 /// The line of a report that has this text, without its line feed. `BadLine` comes exactly where
 /// no line has it.
@@ -22,14 +23,33 @@ pub fn read_line(bytes: &[u8]) -> Result<Line, BadLine>
     // Each line that has this text is read, and no other one has it.
     ensures only { (line : Line) → IsTextOf line bytes.now → IsOkAnd result (λ read. plain read ≡ plain line) }
 {
-    let line = line_of(bytes);
-    if !is_allowed(&line) {
+    let mut line = Line::End;
+    let mut text = LineText::new();
+    match read_line_into(bytes, &mut line, &mut text) {
+        Ok(()) => Ok(line),
+        Err(BadLine) => Err(BadLine),
+    }
+}
+
+/// Puts the line of a report that has this text, without its line feed, in place of `line`, and its
+/// text in place of `text`: whoever reads many lines keeps the room for both. `BadLine` comes
+/// exactly where no line has it.
+pub fn read_line_into(bytes: &[u8], line: &mut Line, text: &mut LineText) -> Result<(), BadLine>
+    // What is read is a line of the grammar that has this text.
+    ensures found { OnOk result (IsTextOf line.new bytes.now) }
+    // Each line that has this text is read, and no other one has it.
+    ensures only { (said : Line) → IsTextOf said bytes.now → IsOkAnd result (λ _. plain line.new ≡ plain said) }
+{
+    if read_access(bytes, line) {
+        return Ok(());
+    }
+    read_words(bytes, line);
+    if !is_allowed(line) {
         return Err(BadLine);
     }
-    let mut text = LineText::new();
-    write_line(&line, &mut text);
-    if has_bytes(&text, bytes) {
-        Ok(line)
+    write_line(line, text);
+    if has_bytes(text, bytes) {
+        Ok(())
     } else {
         Err(BadLine)
     }
@@ -86,5 +106,5 @@ fn comment(bytes: &[u8]) -> Result<Option<Event>, BadLine>
 fn has_bytes(text: &LineText, bytes: &[u8]) -> bool
     ensures { IsTrue result ↔ (text.now.bytes ≡ bytes.now) }
 {
-    text.as_str().as_bytes() == bytes
+    are_equal(text.as_str().as_bytes(), bytes)
 }

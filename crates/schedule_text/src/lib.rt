@@ -10,6 +10,7 @@ mod line;
 mod moves;
 mod ranges;
 mod reading;
+mod reading_access;
 mod reading_moves;
 mod recorder;
 mod recorders;
@@ -17,7 +18,7 @@ mod schedule;
 mod writing;
 
 pub use event::{BadLine, Event};
-pub use exact::{read_event, read_line};
+pub use exact::{read_event, read_line, read_line_into};
 pub use line::{Detail, Halt, KeyName, Line, Refusal};
 pub use recorder::{RecordStop, Recorder, Shown, Tally, Verdict};
 pub use recorders::{LineList, LineSink, LineTally};

@@ -12,18 +12,26 @@ use crate::reading_moves::movement;
 use blk_base::{Abi, Config, Job, SectorCount, Status};
 use line_text::{Words, is, sector, short_text};
 
-/// The line that words say.
+/// Reads the line that words say. Lines are large: it is made where it is to lie.
 #[tactic(auto, unfolding(crate::specs::Reading::line_at))]
-pub fn line_of(bytes: &[u8]) -> Line
-    ensures { IsReadAs (line_at (words_in bytes.now)) result }
+pub fn read_words(bytes: &[u8], line: &mut Line)
+    ensures { IsReadAs (line_at (words_in bytes.now)) line.new }
 {
     let mut words = Words::new(bytes);
     let name = words.next();
     if is(name, "m") {
-        Line::Move(movement(&mut words))
+        movement(&mut words, line);
     } else {
-        word_line(name, &mut words)
+        read_word_line(name, &mut words, line);
     }
+}
+
+// Reads a line that is no move's.
+#[inline(never)]
+fn read_word_line(name: &[u8], words: &mut Words, line: &mut Line)
+    ensures { IsReadAs (word_line_at name.now words.old) line.new }
+{
+    *line = word_line(name, words);
 }
 
 /// A line of one word, or one of those below.

@@ -1,12 +1,15 @@
 // Three recorders: one keeps the lines, one writes their text to a sink, one counts.
-ghost use Rattle.std.specs.Prelude.{◌≡◌, [], None};
+ghost use Rattle.std.specs.Prelude.{◌≡◌, ◌<◌, [], None};
 ghost use Rattle.std.specs.Option.{option_to_list};
+ghost use Rattle.arrayvec.specs.ArrayString.{array_string_len};
+ghost use Rattle.schedule_text.specs.declared.line.Line.{Line};
+ghost use Rattle.schedule_text.specs.Line.{text_of};
 ghost use Rattle.schedule_text.specs.Recorder.{recorded, counted};
 ghost use Rattle.schedule_text.specs.Recorders.{KeepsLine, WritesLine};
 
 use crate::line::{Detail, Line};
 use crate::recorder::{RecordStop, Recorder, Shown, Tally, Verdict};
-use crate::writing::write_line;
+use crate::writing::{write_line, write_shown};
 use blk_base::Config;
 use blk_io::{Failed, Sink};
 use line_text::LineText;
@@ -135,6 +138,14 @@ fn write<S: Sink>(sink: &mut S, line: &Line) -> Result<(), RecordStop>
 {
     let mut text = LineText::new();
     write_line(line, &mut text);
+    send(sink, &mut text)
+}
+
+// Writes a line's text and its line feed.
+fn send<S: Sink>(sink: &mut S, text: &mut LineText) -> Result<(), RecordStop>
+    requires { array_string_len text.old < 1152 }
+    ensures { (line : Line) → text.old.bytes ≡ text_of line → WritesLine line result (S.seen sink.old) (S.seen sink.new) }
+{
     text.push_str("\n");
     match sink.write(text.as_str().as_bytes()) {
         Ok(()) => Ok(()),
@@ -148,7 +159,9 @@ fn write_move<S: Sink, M: Shown>(sink: &mut S, made: &M) -> Result<(), RecordSto
     requires { M.may made.now }
     ensures { WritesLine (Line.Move (M.shown made.now)) result (S.seen sink.old) (S.seen sink.new) }
 {
-    write(sink, &Line::Move(made.shown()))
+    let mut text = LineText::new();
+    write_shown(&mut text, &made.shown());
+    send(sink, &mut text)
 }
 
 // A begin line says the word of the recorder that writes it.

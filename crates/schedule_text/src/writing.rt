@@ -41,7 +41,7 @@ pub fn write_line(line: &Line, text: &mut LineText)
         Line::Unsettled => begin(text, "unsettled"),
         Line::Word { frame, word, value } => write_word(text, *frame, *word, *value),
         Line::End => begin(text, "end"),
-        Line::Move(one) => write_move(text, one),
+        Line::Move(one) => write_shown(text, one),
     }
 }
 
@@ -141,7 +141,8 @@ fn write_word(text: &mut LineText, frame: u32, word: u32, value: u32)
     put_hex(text, value);
 }
 
-fn write_move(text: &mut LineText, one: &Move)
+/// Writes the line of a move, without its line feed, in place of what the text held.
+pub fn write_shown(text: &mut LineText, one: &Move)
     ensures written { text.new.bytes ≡ text_of (Line.Move one.now) }
     ensures short { array_string_len text.new ≤ 1000 }
 {

@@ -6,7 +6,7 @@ use Rattle.report_lines.specs.Giving.{GivesLine}
 use Rattle.report_lines.specs.declared.reader.ReadStop.{ReadStop}
 use Rattle.report_lines.specs.declared.reader.ReadStop.TheVariants.{BadLine, Source, TooLong, OutOfMemory}
 use Rattle.report_lines.proofs.Giving.{gives_next, gives_end, gives_bad, gives_unspoken}
-use Rattle.report_lines.proofs.lines.ReportLines.next.Goals as goal
+use Rattle.report_lines.proofs.lines.ReportLines.next_into.Goals as goal
 
 stops_by : (stop : ReadStop) (a b : Ahead) (s t : SourceSeen) → FillsLine (Err stop) a b s t → GivesLine (Err stop) a b s t
 stops_by BadLine a b s t h = gives_bad a b s t h.0 h.1
