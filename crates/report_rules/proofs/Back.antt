@@ -70,6 +70,6 @@ picked : (b : Bool) (xs : List Line) (ys : List Standing) → left_of xs ≡ ys 
 picked true xs ys e = refl
 picked false xs ys e = e
 
--- the mappings that stand, with one line more: none behind an epoch
+-- the mappings that stand, with one line more: none after an epoch
 pub standing_more : (before : List Line) (line : Line) → standing_behind (before ++ line ∷ []) ≡ (if is_epoch line then [] else filter (λ (s : Standing). not (is_unmap_of s.number line)) (standing_behind before) ++ option_to_list (mapping_made line))
 standing_more before line = ap left_of (epoch_more before line) ∙ picked (is_epoch line) (this_epoch before ++ line ∷ []) (filter (λ (s : Standing). not (is_unmap_of s.number line)) (standing_behind before) ++ option_to_list (mapping_made line)) (left_more (this_epoch before) line)

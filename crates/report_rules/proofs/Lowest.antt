@@ -12,11 +12,6 @@ fresh p n b none e = ap (λ (o : Option ℕ). if is_some o then o else when (p (
 stays : (p : ℕ → Bool) (n k : ℕ) → lowest p n ≡ Some k → lowest p (suc n) ≡ Some k
 stays p n k e = ap (λ (o : Option ℕ). if is_some o then o else when (p (suc n)) (suc n)) e
 
-pub lowest_none : (p : ℕ → Bool) (n : ℕ) → lowest p n ≡ None → p (n + 1) ≡ false → lowest p (n + 1) ≡ None
-lowest_none p n none e =
-    let next : n + 1 ≡ suc n = omega arith in
-    ap (lowest p) next ∙ fresh p n false none (ap p (sym next) ∙ e)
-
 pub lowest_found : (p : ℕ → Bool) (i n : ℕ) → lowest p i ≡ None → p (i + 1) ≡ true → i + 1 ≤ n → lowest p n ≡ Some (i + 1)
 lowest_found p i zero none e within = absurd (omega arith)
 lowest_found p i (suc n) none e within = by_test (nat_le (i + 1) n) refl (λ le. lowest_found p i n none e le)

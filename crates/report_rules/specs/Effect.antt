@@ -1,4 +1,4 @@
--- Effects: each move of the disk is followed by the one line that says what came of it, and those lines stand nowhere else.
+-- Effects: each move of the disk is followed by the one line that tells its outcome, and those lines stand nowhere else.
 use Rattle.std.specs.Prelude.{◌≡◌, ◌≢◌, ℕ, ◌+◌, List, [], ◌∷◌, reverse, Option, Some, None, IfSome, IsSomeAnd}
 use Rattle.blk_base.specs.declared.moves.Move.TheVariants as moves
 use Rattle.schedule_text.specs.declared.line.Line.{Line}
@@ -41,13 +41,13 @@ outcome_of (lines.Trimmed id) = Some (outcome (Some Trim) id 0)
 outcome_of (lines.Fault id index) = Some (outcome None id index)
 outcome_of line = None
 
--- what came of a move of the disk: it was done or it failed; the number is that of the job's request, and the place is how often the job moved the disk before
+-- the outcome of a move of the disk: it was done or it failed; the number is that of the job's request, and the place is how often the job moved the disk before
 pub record IsOutcomeOf (before : List Line) (moved : DiskMove) (o : Outcome) : Type 0 where
   pub done : IfSome o.call (λ call. call ≡ moved.call)
   pub request : IsSomeAnd (fetched_of before moved.job) (λ f. id_of f.request ≡ o.id)
   pub place : o.index + 1 ≡ disk_moves_of before moved.job
 
--- behind a move of the disk stands what came of it, and nowhere else does such a line stand
+-- after a move of the disk stands its outcome, and nowhere else does such a line stand
 pub record IsEffectAt (before : List Line) (line : Line) : Type 0 where
   pub told : IfSome (disk_move_shown before) (λ moved. IsSomeAnd (outcome_of line) (IsOutcomeOf before moved))
   pub only : outcome_of line ≢ None → disk_move_shown before ≢ None

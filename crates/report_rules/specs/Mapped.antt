@@ -11,7 +11,7 @@ use Rattle.report_rules.specs.Obeys.{Obeys}
 use Rattle.report_rules.specs.Standing.{mapping_made, has_number}
 use Rattle.report_rules.specs.Value.{value_before}
 
--- the verdict on a map behind these lines: the entry of a reference is two words of frame `gref / 512`
+-- the verdict on a map after these lines: the entry of a reference is two words of frame `gref / 512`
 abbrev pub map_verdict : List Line → ℕ → Mode → Result ℕ MapRefusal
 map_verdict before gref mode = verdict_of gref (value_before before (gref / 512) (2 * (gref % 512))) (value_before before (gref / 512) (2 * (gref % 512) + 1)) mode
 

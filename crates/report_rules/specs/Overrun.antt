@@ -29,7 +29,7 @@ shown_back (line ∷ earlier) = overrun_by (reverse earlier) line
 abbrev pub overrun_shown : List Line → Option Overrun
 overrun_shown before = shown_back (reverse before)
 
--- a producer overran in this epoch, where one did before a line, and behind the line
+-- a producer overran in this epoch, where one did before a line, and after the line
 abbrev pub overran_after : Bool → List Line → Line → Bool
 overran_after overran before line = if is_epoch line then false else overran || is_some (overrun_by before line)
 
@@ -59,7 +59,7 @@ is_service (lines.Fault id index) = true
 is_service (lines.Reply id status) = true
 is_service line = false
 
--- the line behind a read that overran is its halt, that halt stands nowhere else, and nothing is served from there to the end of the epoch
+-- the line after a read that overran is its halt, that halt stands nowhere else, and nothing is served from there to the end of the epoch
 pub record IsOverrunAt (before : List Line) (line : Line) : Type 0 where
   pub halted : IfSome (overrun_shown before) (λ o. line ≡ lines.Halt (halts.Overrun o.produced o.replied))
   pub only : (produced replied : ℕ) → line ≡ lines.Halt (halts.Overrun produced replied) → overrun_shown before ≡ Some (record { produced = produced; replied = replied })

@@ -139,11 +139,11 @@ abbrev pub is_reply : Line → Bool
 is_reply (lines.Reply id status) = true
 is_reply line = false
 
--- the job that a reply behind these lines answers, where those jobs had theirs
+-- the job that a reply after these lines answers, where those jobs had theirs
 abbrev pub job_replied : List Line → List ℕ → Option ℕ
 job_replied before answered = job_for before (lines_before before 4) answered (reply_pushed before)
 
--- the jobs that had their reply in this epoch, behind a line
+-- the jobs that had their reply in this epoch, after a line
 abbrev pub answered_after : List ℕ → List Line → Line → List ℕ
 answered_after answered before line =
     if is_epoch line then []

@@ -11,7 +11,7 @@ abbrev pub is_epoch : Line → Bool
 is_epoch lines.Epoch = true
 is_epoch line = false
 
--- the lines of the present epoch: those behind the last `epoch`
+-- the lines of the present epoch: those after the last `epoch`
 abbrev pub this_epoch : List Line → List Line
 this_epoch before = after_last is_epoch before
 
@@ -40,7 +40,7 @@ abbrev pub left_of : List Line → List Standing
 left_of [] = []
 left_of (line ∷ later) = cons_option (unless_unmapped later (mapping_made line)) (left_of later)
 
--- the mappings that stand behind these lines, in the order in which they were made
+-- the mappings that stand after these lines, in the order in which they were made
 abbrev pub standing_behind : List Line → List Standing
 standing_behind before = left_of (this_epoch before)
 

@@ -71,7 +71,7 @@ IsStepAt before line = Unit {0}
 abbrev pub AreSteps : List Line → Type 0
 AreSteps report = Obeys IsStepAt report
 
--- how the program tells it, move by move: a move is the next step of a task, and none follows a refused map
+-- how a reader tells it, move by move: a move is the next step of a task, and none follows a refused map
 pub record IsNextStep (before : List Line) (persistent : Bool) (s : Spot) (move : Move) (task : Task) : Type 0 where
   pub unrefused : s.refused ≡ false
   pub step : (is_step_at (step_at task s.place) move || is_unmapped_step persistent task s.place move) ≡ true

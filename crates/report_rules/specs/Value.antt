@@ -43,11 +43,11 @@ value_after cell value before (lines.Poke frame word written) = after_write cell
 value_after cell value before lines.Epoch = if nat_lt cell.frame 2 then 0 else value
 value_after cell value before line = value
 
--- the word behind these lines, of which the last comes first
+-- the word after these lines, of which the last comes first
 abbrev pub value_back : Cell → List Line → ℕ
 value_back cell [] = 0
 value_back cell (line ∷ earlier) = value_after cell (value_back cell earlier) (reverse earlier) line
 
--- the value of a word of a frame behind these lines
+-- the value of a word of a frame after these lines
 abbrev pub value_before : List Line → ℕ → ℕ → ℕ
 value_before before frame word = value_back (record { frame = frame; word = word }) (reverse before)

@@ -1,4 +1,4 @@
--- How far a job came along the steps of its work, told move by move: this is how the program that tells the rule goes; `proofs/Walked.antt` says that it comes to the same.
+-- How far a job came along the steps of its work, told move by move: this is how a reader tells the rule; `proofs/Walked.antt` says that it comes to the same.
 use Rattle.std.specs.Prelude.{ℕ, ◌+◌, ◌-◌, ◌*◌, ◌/◌, ◌%◌, Bool, true, false, ◌&&◌, ◌==◌, nat_lt, nat_le, if◌then◌else◌, List, fold, slice_get, Option, Some, None, is_none, option_and_then}
 use Rattle.blk_base.specs.declared.parts.Mode.TheVariants.{ReadOnly, ReadWrite}
 use Rattle.blk_base.specs.declared.moves.Move.{Move}

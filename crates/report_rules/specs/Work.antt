@@ -33,7 +33,7 @@ store_of persistent disk s = tasks.Store s.gref (store_mode persistent) disk s.f
 abbrev pub load_of : ℕ → Segment → Task
 load_of disk s = tasks.Load s.gref disk s.first (length_of s)
 
--- the segments of a write from a disk sector on, each behind the sectors of those before it
+-- the segments of a write from a disk sector on, each after the sectors of those before it
 abbrev pub stores_of : Bool → ℕ → List Segment → List Task
 stores_of persistent disk [] = []
 stores_of persistent disk (s ∷ segments) = store_of persistent disk s ∷ stores_of persistent (disk + length_of s) segments

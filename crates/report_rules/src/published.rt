@@ -1,12 +1,11 @@
-// What both ends published in this epoch.
-ghost use Rattle.std.specs.Prelude.{◌≡◌, ℕ, ◌==◌, fold};
+// What both ends publish.
+ghost use Rattle.std.specs.Prelude.{◌≡◌, ℕ, ◌==◌};
 ghost use Rattle.std.specs.List.{list_all};
 ghost use Rattle.blk_base.specs.declared.moves.Mover.TheVariants as mover;
 ghost use Rattle.blk_base.specs.declared.moves.Move.TheVariants as moves;
 ghost use Rattle.schedule_text.specs.declared.line.Line.TheVariants as lines;
-ghost use Rattle.report_rules.specs.Published.{info_of, info_told, no_disk, is_offer, serving_after, served_by, disk_of, is_one, says_one, keeping_after, is_persistent};
+ghost use Rattle.report_rules.specs.Published.{info_of, info_told, is_offer, serving_after, is_one, says_one, keeping_after};
 
-use crate::standing::this_epoch;
 use blk_base::{Config, Move, Mover, Path, Text};
 use schedule_text::Line;
 use segment_list::DiskInfo;
@@ -27,8 +26,8 @@ pub struct Serving {
     pub indirect: bool,
 }
 
-/// The disk that the options of a run let the back publish.
-pub fn info_of(config: &Config) -> DiskInfo
+// The disk that the options of a run let the back publish.
+fn info_of(config: &Config) -> DiskInfo
     ensures { result ≡ info_of config.now }
 {
     DiskInfo {
@@ -41,7 +40,7 @@ pub fn info_of(config: &Config) -> DiskInfo
     }
 }
 
-/// The same, after a line more.
+/// The disk that the options of a run let the back publish, after a line more.
 pub fn info_told(info: DiskInfo, line: &Line) -> DiskInfo
     ensures { result ≡ info_told info line.now }
 {
@@ -49,24 +48,6 @@ pub fn info_told(info: DiskInfo, line: &Line) -> DiskInfo
         Line::Begin { config, .. } => info_of(config),
         _ => info,
     }
-}
-
-// The disk that the options let the back publish.
-fn disk_told(before: &[Line]) -> DiskInfo
-    ensures { result ≡ fold info_told no_disk before.now }
-{
-    let mut info = DiskInfo {
-        sectors: 0,
-        read_only: false,
-        barrier: false,
-        flush: false,
-        discard: false,
-        max_indirect: 0,
-    };
-    for line in before {
-        info = info_told(info, line);
-    }
-    info
 }
 
 // Whether the key of a feature offers it.
@@ -110,37 +91,6 @@ fn serving_by(s: Serving, path: &Path, text: &Text) -> Serving
         }
     } else {
         s
-    }
-}
-
-fn served_by(before: &[Line]) -> Serving
-    ensures { result ≡ served_by before.now }
-{
-    let mut s = Serving {
-        barrier: false,
-        flush: false,
-        discard: false,
-        indirect: false,
-    };
-    for line in this_epoch(before) {
-        s = serving_after(s, line);
-    }
-    s
-}
-
-/// The disk as the options give it, with what the back published of it.
-pub fn disk_of(before: &[Line]) -> DiskInfo
-    ensures { result ≡ disk_of before.now }
-{
-    let s = served_by(before);
-    let info = disk_told(before);
-    DiskInfo {
-        sectors: info.sectors,
-        read_only: info.read_only,
-        barrier: s.barrier,
-        flush: s.flush,
-        discard: s.discard,
-        max_indirect: if s.indirect { info.max_indirect } else { 0 },
     }
 }
 
@@ -192,18 +142,4 @@ pub fn keeping_after(s: Keeping, line: &Line) -> Keeping
         }
         _ => s,
     }
-}
-
-/// Whether grants are persistent in this epoch.
-pub fn is_persistent(before: &[Line]) -> bool
-    ensures { result ≡ is_persistent before.now }
-{
-    let mut s = Keeping {
-        offered: false,
-        asked: false,
-    };
-    for line in this_epoch(before) {
-        s = keeping_after(s, line);
-    }
-    s.offered && s.asked
 }

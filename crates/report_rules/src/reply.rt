@@ -1,135 +1,69 @@
-// How the back replies.
-ghost use Rattle.std.specs.Prelude.{◌≡◌, IfOk, IfSome, IsSomeAnd, Some, reverse};
-ghost use Rattle.std.specs.Bool.{Decides};
-ghost use Rattle.blk_layout.specs.Response.{response_of};
-ghost use Rattle.report_rules.specs.Ring.{ring_shape};
-ghost use Rattle.report_rules.specs.Reply.{value_written, values_written, within_reply, next_place, is_next_value, ends_with_write, reply_pushed, line_of, is_of_back, IsNextWrite, IsTold, IsReplyAt, AreReplies};
+// What the back writes for a reply, and the lines that tell of it.
+ghost use Rattle.std.specs.Prelude.{◌≡◌};
+ghost use Rattle.report_rules.specs.Reply.{end_of, is_event, value_at, are_alike, is_like, is_reply, is_of_back};
 
-mod answered;
-mod due;
-mod written;
-
-use crate::ring::{replied_before, ring_shape};
 use crate::stretch::is_back_move;
-pub use answered::is_like;
-use answered::{answered_in, is_answer, job_replied};
-use blk_base::OutOfMemory;
-use blk_layout::read_response;
-pub use due::end_of;
-use ring_words::RingShape;
+use crate::walk::Spot;
+use blk_base::Status;
 use schedule_text::Line;
-use std::alloc::Global;
-pub use written::{are_alike, is_event, is_reply};
-use written::{row_of, value_written, values_written, word_written};
 
-fn next_place(before: &[Line], within: u32, shape: &RingShape) -> u32
-    requires { within ≡ within_reply before.now }
-    ensures { result ≡ next_place before.now shape.now }
+/// How a job's work ended, if it did.
+pub fn end_of(failed: bool, tasks: usize, served: Status, s: Option<Spot>) -> Option<Status>
+    ensures { result ≡ end_of failed tasks served s }
 {
-    if within == 3 {
-        2
+    if failed {
+        return Some(Status::Error);
+    }
+    let s = s?;
+    if s.refused {
+        Some(Status::Error)
+    } else if s.place == 0 && tasks <= s.done {
+        Some(served)
     } else {
-        16 + replied_before(before) % shape.entries() * shape.entry_words() + within
+        None
     }
 }
 
-fn is_next_value(alloc: Global, before: &[Line], value: u32) -> Result<bool, OutOfMemory>
-    ensures { IfOk result (λ holds. holds ≡ is_next_value before.now value) }
+/// Whether a word of the ring is `req_event`.
+pub fn is_event(word: Option<u128>) -> bool
+    ensures { result ≡ is_event word }
 {
-    let mut values = values_written(alloc, before)?;
-    let written = values.len();
-    if written % 4 == 3 {
-        return Ok(value == replied_before(before).wrapping_add(1));
-    }
-    values.push(value)?;
-    let row = row_of(values.as_slice(), written / 4);
-    is_answer(alloc, before, written % 4, &row)
-}
-
-fn is_next_write(
-    alloc: Global,
-    before: &[Line],
-    line: &Line,
-    value: u32,
-    shape: &RingShape,
-) -> Result<bool, OutOfMemory>
-    ensures { IfOk result (λ holds. Decides holds (IsNextWrite before.now line.now value shape.now)) }
-{
-    let within = (values_written(alloc, before)?.len() % 4) as u32;
-    let place = next_place(before, within, shape);
-    let next = is_next_value(alloc, before, value)?;
-    Ok(word_written(before, line) == Some(u128::from(place)) && next)
-}
-
-fn is_next(alloc: Global, before: &[Line], line: &Line) -> Result<bool, OutOfMemory>
-    ensures { IfOk result (λ holds. Decides holds (IfSome (value_written before.now line.now)
-        (λ value. IsSomeAnd (ring_shape before.now) (IsNextWrite before.now line.now value)))) }
-{
-    match (value_written(before, line), ring_shape(before)) {
-        (None, _) => Ok(true),
-        (Some(value), Some(shape)) => is_next_write(alloc, before, line, value, &shape),
-        (Some(_), None) => Ok(false),
+    match word {
+        None => false,
+        Some(word) => word == 1,
     }
 }
 
-fn ends_with_write(before: &[Line]) -> bool
-    ensures { result ≡ ends_with_write before.now (reverse before.now) }
+fn value_at(values: &[u32], i: usize) -> u32
+    ensures { result ≡ value_at values.now i }
 {
-    let count = before.len();
-    if count == 0 {
-        return false;
-    }
-    value_written(before, &before[count - 1]).is_some()
+    if i < values.len() { values[i] } else { 0 }
 }
 
-// The words of the reply that the last line pushed.
-fn reply_pushed(alloc: Global, before: &[Line]) -> Result<Option<[u32; 3]>, OutOfMemory>
-    ensures { IfOk result (λ row. row ≡ reply_pushed before.now) }
+// Whether two rows have the same words, up to the last one that is looked at.
+fn are_alike(last: usize, xs: &[u32; 3], ys: &[u32; 3]) -> bool
+    ensures { result ≡ are_alike last xs.now ys.now }
 {
-    let values = values_written(alloc, before)?;
-    let written = values.len();
-    if ends_with_write(before) && written % 4 == 0 {
-        Ok(Some(row_of(values.as_slice(), (written / 4).saturating_sub(1))))
-    } else {
-        Ok(None)
-    }
+    value_at(xs, 0) == value_at(ys, 0)
+        && (last == 0 || value_at(xs, 1) == value_at(ys, 1))
+        && (last < 2 || value_at(xs, 2) == value_at(ys, 2))
 }
 
-/// Whether a line tells of the response of these words.
-pub fn tells_of(row: [u32; 3], line: &Line) -> bool
-    ensures { Decides result (line_of (response_of row) ≡ Some line.now) }
+/// Whether a row has the words of a response, up to the last one that is looked at.
+pub fn is_like(last: usize, row: &[u32; 3], words: &Option<[u32; 3]>) -> bool
+    ensures { result ≡ is_like last row.now words.now }
 {
-    match (read_response(row), line) {
-        (Ok(r), Line::Reply { id, status }) => r.id == *id && r.status == *status,
-        _ => false,
+    match words {
+        None => false,
+        Some(words) => are_alike(last, row, words),
     }
 }
 
-fn is_told_of(
-    alloc: Global,
-    before: &[Line],
-    line: &Line,
-    row: [u32; 3],
-) -> Result<bool, OutOfMemory>
-    ensures { IfOk result (λ holds. Decides holds (IsTold before.now line.now row)) }
+/// Whether a line tells of a reply.
+pub fn is_reply(line: &Line) -> bool
+    ensures { result ≡ is_reply line.now }
 {
-    let answered = answered_in(alloc, before)?;
-    let job = job_replied(alloc, before, answered.as_slice())?;
-    Ok(tells_of(row, line) && job.is_some())
-}
-
-fn is_told(
-    alloc: Global,
-    before: &[Line],
-    line: &Line,
-    row: Option<[u32; 3]>,
-) -> Result<bool, OutOfMemory>
-    ensures { IfOk result (λ holds. Decides holds (IfSome row (IsTold before.now line.now))) }
-{
-    match row {
-        None => Ok(true),
-        Some(row) => is_told_of(alloc, before, line, row),
-    }
+    matches!(*line, Line::Reply { .. })
 }
 
 /// Whether a line is one of the back's own: one of its moves, or its halt.
@@ -140,36 +74,4 @@ pub fn is_of_back(line: &Line) -> bool
         Line::Halt(_) => true,
         _ => is_back_move(line),
     }
-}
-
-// Whether no reply is under way.
-fn is_between(alloc: Global, before: &[Line]) -> Result<bool, OutOfMemory>
-    ensures { IfOk result (λ holds. Decides holds (within_reply before.now ≡ 0)) }
-{
-    Ok(values_written(alloc, before)?.len() % 4 == 0)
-}
-
-fn is_reply_at(alloc: Global, before: &[Line], line: &Line) -> Result<bool, OutOfMemory>
-    ensures { IfOk result (λ holds. Decides holds (IsReplyAt before.now line.now)) }
-{
-    let next = is_next(alloc, before, line)?;
-    let pushed = reply_pushed(alloc, before)?;
-    let between = is_between(alloc, before)?;
-    let whole = !is_of_back(line) || value_written(before, line).is_some() || between;
-    let only = !is_reply(line) || pushed.is_some();
-    let told = is_told(alloc, before, line, pushed)?;
-    Ok(next && told && only && whole)
-}
-
-/// Whether the back replies as it should: each reply has a job at its end of its own, whose response
-/// it is, in the slot of the next index; it is pushed and told at once, and nothing else is written.
-pub fn are_replies(alloc: Global, lines: &[Line]) -> Result<bool, OutOfMemory>
-    ensures { IfOk result (λ holds. Decides holds (AreReplies lines.now)) }
-{
-    for i in 0..lines.len() {
-        if !is_reply_at(alloc, &lines[..i], &lines[i])? {
-            return Ok(false);
-        }
-    }
-    Ok(true)
 }

@@ -7,7 +7,7 @@ ghost use Rattle.report_rules.specs.Walk.{store_step, load_step, step_at, is_ste
 use crate::work::Task;
 use blk_base::{Mode, Move};
 
-// One step of a job, which is one move.
+/// One step of a job, which is one move.
 #[derive(Clone, Copy)]
 pub enum Step {
     Map { gref: u32, mode: Mode },
@@ -47,7 +47,7 @@ fn load_step(sector: u64, first: u8, count: u32, k: u64, j: u64) -> Option<Step>
     }
 }
 
-// The step at a place of a task behind its map.
+// The step at a place of a task after its map.
 pub fn later_step(task: &Task, place: u64) -> Option<Step>
     ensures value { result ≡ step_at task.now (place + 1) }
     ensures bound { IfSome result (λ _. place < 2 ^ 40) }
@@ -96,8 +96,8 @@ fn first_step(task: &Task) -> Step
     }
 }
 
-/// The step at a place of a task, from 0; none after its end.
-pub fn step_at(task: &Task, place: u64) -> Option<Step>
+// The step at a place of a task, from 0; none after its end.
+fn step_at(task: &Task, place: u64) -> Option<Step>
     ensures { result ≡ step_at task.now place }
 {
     if place == 0 {
@@ -134,8 +134,8 @@ fn is_map(gref: u32, mode: Mode, step: &Move) -> bool
     }
 }
 
-/// Whether a move is that step.
-pub fn is_step(step: &Step, made: &Move) -> bool
+// Whether a move is that step.
+fn is_step(step: &Step, made: &Move) -> bool
     ensures { result ≡ is_step step.now made.now }
 {
     match (*step, *made) {
@@ -159,6 +159,7 @@ pub fn is_step(step: &Step, made: &Move) -> bool
     }
 }
 
+/// Whether a move is the step at a place of a task, from 0.
 pub fn is_step_at(task: &Task, place: u64, made: &Move) -> bool
     ensures { result ≡ is_step_at (step_at task.now place) made.now }
 {

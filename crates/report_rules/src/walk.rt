@@ -1,18 +1,15 @@
-// How far a job came.
-ghost use Rattle.std.specs.Prelude.{◌≡◌, ◌<◌, ◌^◌, IfOk};
+// The job that moves in a line, and how far it came by its moves.
+ghost use Rattle.std.specs.Prelude.{◌≡◌, ◌<◌, ◌^◌};
 ghost use Rattle.schedule_text.specs.declared.line.Line.TheVariants as lines;
-ghost use Rattle.report_rules.specs.Job.{is_job};
-ghost use Rattle.report_rules.specs.Step.{is_refusal, stepper, job_step, value_read, values_read};
-ghost use Rattle.report_rules.specs.Walk.{is_on_data, mapping_after, spot_behind, is_unmapped_step, advanced, walked, walk_of};
-ghost use Rattle.report_rules.specs.Steps.{gref_of};
+ghost use Rattle.report_rules.specs.Job.{back_mover_job, mover_job};
+ghost use Rattle.report_rules.specs.Step.{is_refusal, stepper};
+ghost use Rattle.report_rules.specs.Steps.{gref_of, touched_by};
+ghost use Rattle.report_rules.specs.Walk.{is_on_data, mapping_after, spot_behind, is_unmapped_step, advanced};
 
-use crate::job::{back_mover_job, mover_job};
-use crate::standing::this_epoch;
 use crate::step::{is_step_at, later_step};
 use crate::work::Task;
-use blk_base::{BackMover, Mode, Move, OutOfMemory};
+use blk_base::{BackMover, Mode, Move, Mover};
 use schedule_text::Line;
-use std::alloc::Global;
 
 /// How far a job came: so many tasks are done, and the next step is at that place of the next one.
 /// `refused` says that a map of it was, and `mapping` which mapping this task goes through, as soon
@@ -50,8 +47,19 @@ pub fn gref_of(task: &Task) -> u32
     }
 }
 
-/// Whether a move is a map that was refused.
-pub fn is_refusal(made: &Move) -> bool
+/// The mapping that a move touches, if it touches one.
+pub fn touched_by(made: &Move) -> Option<u64>
+    ensures { result ≡ touched_by made.now }
+{
+    match *made {
+        Move::Read { mapping, .. } => Some(mapping),
+        Move::Write { mapping, .. } => Some(mapping),
+        _ => None,
+    }
+}
+
+// Whether a move is a map that was refused.
+fn is_refusal(made: &Move) -> bool
     ensures { result ≡ is_refusal made.now }
 {
     matches!(*made, Move::MapRefused { .. })
@@ -77,8 +85,8 @@ fn mapping_after(mapping: Option<u64>, made: &Move) -> Option<u64>
     }
 }
 
-/// How far a job came after the step at a place of a task.
-pub fn spot_behind(done: usize, task: &Task, place: u64, mapping: Option<u64>, made: &Move) -> Spot
+// How far a job came after the step at a place of a task.
+fn spot_after(done: usize, task: &Task, place: u64, mapping: Option<u64>, made: &Move) -> Spot
     requires { done < 2 ^ 63 }
     ensures { result ≡ spot_behind done task.now place mapping made.now }
 {
@@ -106,7 +114,7 @@ pub fn is_unmapped_step(persistent: bool, task: &Task, place: u64, made: &Move) 
     persistent && is_on_data(task) && place == 0 && is_step_at(task, 1, made)
 }
 
-/// A move takes a job one step on.
+/// How far a job came by one move more: none where it isn't its next step.
 pub fn advanced(persistent: bool, work: &[Task], made: &Move, s: Spot) -> Option<Spot>
     ensures { result ≡ advanced persistent work.now made.now s }
 {
@@ -115,11 +123,31 @@ pub fn advanced(persistent: bool, work: &[Task], made: &Move, s: Spot) -> Option
     }
     let task = &work[s.done];
     if is_step_at(task, s.place, made) {
-        Some(spot_behind(s.done, task, s.place, s.mapping, made))
+        Some(spot_after(s.done, task, s.place, s.mapping, made))
     } else if is_unmapped_step(persistent, task, s.place, made) {
-        Some(spot_behind(s.done, task, 1, s.mapping, made))
+        Some(spot_after(s.done, task, 1, s.mapping, made))
     } else {
         None
+    }
+}
+
+// The job that makes a move of the back.
+fn back_mover_job(who: BackMover) -> Option<u64>
+    ensures { result ≡ back_mover_job who }
+{
+    match who {
+        BackMover::Back => None,
+        BackMover::Job(k) => Some(k),
+    }
+}
+
+// The job that makes a move, if one does.
+fn mover_job(who: Mover) -> Option<u64>
+    ensures { result ≡ mover_job who }
+{
+    match who {
+        Mover::Job(k) => Some(k),
+        _ => None,
     }
 }
 
@@ -148,6 +176,7 @@ fn stepper_of(made: &Move) -> Option<u64>
     }
 }
 
+/// The job whose move a line is, apart from its unmaps.
 pub fn stepper(line: &Line) -> Option<u64>
     ensures { result ≡ stepper line.now }
 {
@@ -155,71 +184,4 @@ pub fn stepper(line: &Line) -> Option<u64>
         Line::Move(made) => stepper_of(made),
         _ => None,
     }
-}
-
-fn is_stepper(k: u64, line: &Line) -> bool
-    ensures { result ≡ is_job k (stepper line.now) }
-{
-    match stepper(line) {
-        None => false,
-        Some(job) => job == k,
-    }
-}
-
-// How far a job came by a line more.
-fn walked(persistent: bool, work: &[Task], k: u64, line: &Line, s: Option<Spot>) -> Option<Spot>
-    ensures { result ≡ walked persistent work.now (job_step k line.now) s }
-{
-    if !is_stepper(k, line) {
-        return s;
-    }
-    match (line, s) {
-        (Line::Move(made), Some(spot)) => advanced(persistent, work, made, spot),
-        (_, s) => s,
-    }
-}
-
-/// How far a job came by these lines.
-pub fn walk_of(persistent: bool, work: &[Task], k: u64, epoch: &[Line]) -> Option<Spot>
-    ensures { result ≡ walk_of persistent work.now k epoch.now }
-{
-    let mut s = Some(Spot {
-        done: 0,
-        place: 0,
-        refused: false,
-        mapping: None,
-    });
-    for line in epoch {
-        s = walked(persistent, work, k, line, s);
-    }
-    s
-}
-
-/// The word that job `k` read in a line.
-pub fn value_read(k: u64, line: &Line) -> Option<u32>
-    ensures { result ≡ value_read k line.now }
-{
-    match *line {
-        Line::Move(
-            Move::Read {
-                who: BackMover::Job(job),
-                value,
-                ..
-            },
-        ) if job == k => Some(value),
-        _ => None,
-    }
-}
-
-/// The words that a job read in this epoch.
-pub fn values_read(alloc: Global, before: &[Line], k: u64) -> Result<Vec<u32>, OutOfMemory>
-    ensures { IfOk result (λ values. values.items ≡ values_read before.now k) }
-{
-    let mut values = Vec::new(alloc);
-    for line in this_epoch(before) {
-        if let Some(value) = value_read(k, line) {
-            values.push(value)?;
-        }
-    }
-    Ok(values)
 }

@@ -1,5 +1,5 @@
 // The work of entries, by hand from the header's structs.
-use super::worked::entry_word;
+use super::ENTRY;
 use crate::{Task, status_by, work_response, work_tasks, work_verdict};
 use blk_base::{Abi, Mode, Status};
 use blk_layout::{RawRequest, Response, Segment, read_request};
@@ -16,7 +16,7 @@ const DISK: DiskInfo = DiskInfo {
     max_indirect: 960,
 };
 
-// A request in the direct form, with a whole frame and two sectors behind it.
+// A request in the direct form, with a whole frame and two sectors after it.
 fn direct(op: u8, count: u8, sector: u64) -> RawRequest {
     let mut segments = [Segment {
         gref: 0,
@@ -64,18 +64,18 @@ fn status_of(alloc: Global, request: &RawRequest, words: &[u32]) -> Result<Statu
     Ok(status_by(&verdict))
 }
 
-// The request of the worked report.
-fn worked_request() -> RawRequest {
+// The request of the entry.
+fn written_request() -> RawRequest {
     let mut words = [0u32; 28];
-    for i in 0..8u32 {
-        words[i as usize] = entry_word(i);
+    for i in 0..8usize {
+        words[i] = ENTRY[i];
     }
     read_request(Abi::X64, &words)
 }
 
 #[test]
 fn an_entry_tells_its_work(rt: HostRuntime) -> Result<(), Fail> {
-    let request = worked_request();
+    let request = written_request();
     for (persistent, mode) in [(false, Mode::ReadOnly), (true, Mode::ReadWrite)] {
         let work = work_tasks(rt.alloc(), &request, &DISK, persistent, &[])?;
         let store = Task::Store {

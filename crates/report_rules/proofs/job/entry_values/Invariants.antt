@@ -1,9 +1,0 @@
-use Rattle.std.proofs.Common.{◌≡◌, ◌++◌, drop}
-use Rattle.std.specs.List.{filter_map}
-use Rattle.report_rules.specs.Standing.{this_epoch}
-use Rattle.report_rules.specs.Job.{entry_value}
-use Rattle.report_rules.proofs.job.entry_values.Given as goal
-
--- the words that the lines so far show are taken
-abbrev pub invariant-loop-line : goal.invariant-loop-line
-invariant-loop-line l = l.values.items ++ filter_map (entry_value l.before) (drop l.line-index (this_epoch l.before)) ≡ filter_map (entry_value l.before) (this_epoch l.before)

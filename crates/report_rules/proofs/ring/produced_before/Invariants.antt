@@ -1,8 +1,0 @@
-use Rattle.std.proofs.Common.{◌≡◌, fold, take}
-use Rattle.report_rules.specs.Standing.{this_epoch}
-use Rattle.report_rules.specs.Ring.{start_of, produced_after}
-use Rattle.report_rules.proofs.ring.produced_before.Given as goal
-
--- the producer after the lines so far
-abbrev pub invariant-loop-line : goal.invariant-loop-line
-invariant-loop-line l = l.produced ≡ fold (produced_after l.before) (start_of l.before) (take l.line-index (this_epoch l.before))
