@@ -45,7 +45,7 @@ pub enum FrontBusAsk {
     ClosePort,
 }
 
-/// What has come of an answer.
+/// What the front tells of itself after an answer.
 #[derive(Clone, Copy, Debug, PartialEq, Eq)]
 pub enum FrontNews {
     /// Connected was written.

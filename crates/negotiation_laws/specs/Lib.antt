@@ -1,0 +1,9 @@
+pub mod Negotiation
+pub mod Happening
+pub mod Within
+pub mod Said
+pub mod Run
+pub mod Granted
+pub mod Heard
+pub mod Left
+pub mod Laws
