@@ -7,7 +7,7 @@ use Rattle.blk_base.specs.declared.config.Job.{Job}
 use Rattle.schedule_text.specs.declared.event.Event.{Event}
 use Rattle.schedule_text.specs.declared.event.Event.TheVariants as events
 use Rattle.split_model.specs.World.{World, is_quiet}
-use Rattle.split_model.specs.Happening.{Happening, FrontMoves, BackMoves, JobMoves, Submits, Notifies, Looks, Settles, after}
+use Rattle.split_model.specs.Happening.{Happening, FrontMoves, BackMoves, JobMoves, Submits, Notifies, Pokes, Dumps, Looks, Settles, after}
 use Rattle.split_model.specs.Kind.{Makes, MakesSoFar, AreOf, AreOfSoFar, AreOfAll, front_moves, back_moves, round_start, IsBeginning, IsRoundSoFar, AreRoundsSoFar, IsSettlingSoFar, never, settle_bound}
 use Rattle.split_model.proofs.Echo.{is_move, front_are_moves, back_are_moves, job_are_moves, each_are_moves, start_are_moves, rounds_are_moves}
 use Rattle.blk_front.specs.Submit.{is_connected}
@@ -21,6 +21,8 @@ moves_submit (BackMoves ∷ hs) m = moves_submit hs m.1
 moves_submit (JobMoves number outcome ∷ hs) m = moves_submit hs m.1
 moves_submit (Notifies at ∷ hs) m = moves_submit hs m.1
 moves_submit (Submits job ∷ hs) m = absurd (cc)
+moves_submit (Pokes frame word value ∷ hs) m = absurd (cc)
+moves_submit (Dumps ∷ hs) m = absurd (cc)
 moves_submit (Looks ∷ hs) m = absurd (cc)
 moves_submit (Settles ∷ hs) m = absurd (cc)
 
@@ -50,9 +52,9 @@ made_submits events.Look w hs is = ap submitted_of is
 made_submits (events.Notify at) w hs is = ap submitted_of is
 made_submits events.Suspend w hs is = absurd is
 made_submits (events.Close at) w hs is = absurd is
-made_submits (events.Poke frame word value) w hs is = absurd is
+made_submits (events.Poke frame word value) w hs is = ap submitted_of is.0
 made_submits (events.Key name text) w hs is = absurd is
-made_submits events.Dump w hs is = absurd is
+made_submits events.Dump w hs is = ap submitted_of is
 
 round_so_far_submits : (w : World) (hs : List Happening) → IsRoundSoFar w hs → submitted_of hs ≡ []
 round_so_far_submits w hs (inl is) = begun_submits hs (round_start w) is (start_are_moves w)

@@ -1,7 +1,9 @@
 // Memory, mappings and event channels, and what is done at an ask.
-ghost use Rattle.std.specs.Prelude.{◌≡◌, IfOk};
+ghost use Rattle.std.specs.Prelude.{◌≡◌, ◌<◌, IfOk};
 ghost use Rattle.event_channel.specs.Channels.{is_pending, sent};
 ghost use Rattle.hypervisor.specs.Hypervisor.{fresh};
+ghost use Rattle.hypervisor.specs.Act.{with_pages};
+ghost use Rattle.xen_pages.specs.Pages.{with_word};
 
 use blk_base::{End, OutOfMemory};
 use event_channel::Channels;
@@ -43,6 +45,16 @@ impl Hypervisor {
             grants: Grants::new(alloc)?,
             channels: Channels::new(),
         })
+    }
+
+    /// A hostile hand overwrites a word of domain 1, whose memory is frames 0 to 1023 of 1024 words
+    /// each; frames 0 and 1 hold its grant table. Nobody is told.
+    pub fn overwrite(&mut self, frame: u32, word: u32, value: u32)
+        requires frame_in { frame < 1024 }
+        requires word_in { word < 1024 }
+        ensures { self.new ≡ with_pages self.old (with_word self.old.pages frame word value) }
+    {
+        self.pages.write(frame, word, value);
     }
 
     /// Whether an end has an event to take.

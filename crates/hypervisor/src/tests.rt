@@ -175,3 +175,26 @@ fn a_word_is_written_through_a_mapping(rt: HostRuntime) -> Result<(), Fail> {
     assert_eq!(rt; (under.read_front(18, 3), under.read_front(18, 4)), (7, 0));
     Ok(())
 }
+
+#[test]
+fn a_hostile_hand_overwrites_a_grant_and_no_other_word(rt: HostRuntime) -> Result<(), Fail> {
+    let alloc = rt.alloc();
+    let mut under = Hypervisor::new(alloc)?;
+    let mut disk = MemoryDisk::new(alloc, Vec::new(alloc))?;
+    let mut room = [0; 128];
+    // Reference 24 grants frame 18: words 48 and 49 of frame 0.
+    under.write_front(0, 49, 18);
+    under.write_front(0, 48, 1);
+    under.overwrite(0, 48, 5);
+    assert_eq!(rt; (under.read_front(0, 48), under.read_front(0, 49)), (5, 18));
+    // 5 grants for reading alone (GTF_permit_access, GTF_readonly).
+    let ask = BackAsk::Map {
+        gref: 24,
+        mode: Mode::ReadWrite,
+    };
+    let refused = under.back(BackMover::Job(1), &ask, &mut disk, &mut room);
+    assert_eq!(rt; refused, Some(BackAnswer::MapRefused(-1)));
+    under.overwrite(1023, 1023, 7);
+    assert_eq!(rt; under.read_front(1017, 1023), 0);
+    Ok(())
+}

@@ -1,4 +1,4 @@
--- The happenings that events make are served ones.
+-- The happenings that events make are possible ones, and served ones but where a word is overwritten.
 use Rattle.std.proofs.Common.{◌≡◌, ℕ, zero, suc, inl, inr, if◌then◌else◌, Bool, true, false, List, [], ◌∷◌, ◌++◌, refl, sym, subst, arith, true≢false}
 use Rattle.std.specs.Prelude.{replicate}
 use Rattle.blk_base.specs.declared.config.Job.{Job}
@@ -13,9 +13,9 @@ use Rattle.blk_front.specs.declared.stage.Stage.TheVariants as front
 use Rattle.blk_front.specs.Submit.{is_connected}
 use Rattle.blk_back.specs.declared.stage.Stage.{Stage as BackStage}
 use Rattle.split_model.specs.World.{World, is_quiet}
-use Rattle.split_model.specs.Happening.{Happening, FrontMoves, BackMoves, Submits, Notifies, Looks, Settles, happens, after}
+use Rattle.split_model.specs.Happening.{Happening, FrontMoves, BackMoves, Submits, Notifies, Pokes, Dumps, Looks, Settles, happens, after}
 use Rattle.split_model.specs.Kind.{is_carried, is_carried_job, Makes, MakesSoFar, front_move, front_moves, back_moves, AreJobMoves, AreEachJobs, round_start, IsBeginning, IsRoundSoFar, AreRounds, never, settle_bound, AreRoundsSoFar, IsSettling, IsSettlingSoFar, AreOf, AreOfSoFar, AreOfAll}
-use Rattle.machine_pipeline.specs.Allowed.{IsTransfer, IsServed, AreServed}
+use Rattle.machine_pipeline.specs.Allowed.{IsTransfer, IsServed, AreServed, IsPossible, ArePossible}
 use Rattle.machine_pipeline.proofs.Flow.{Flow}
 use Rattle.machine_pipeline.proofs.Holds.{Holds}
 use Rattle.machine_pipeline.proofs.KindsFront.{Connects, connected_happens, connected_after, connects_after, twenty_connect}
@@ -137,35 +137,55 @@ some_sectors job carried widths = absurd (true≢false (sym carried))
 only : (h : Happening) (w : World) (hs : List Happening) → IsServed w h → hs ≡ h ∷ [] → AreServed hs w
 only h w hs served all = subst (λ (l : List Happening). AreServed l w) (sym all) (served, tt)
 
-made_served : (e : Event) (w : World) (hs : List Happening) → Connects w.front.stage → is_carried e ≡ true → Makes e w hs → AreServed hs w
-made_served (events.Submit job) w hs c carried k = only (Submits job) w hs (some_sectors job carried k.1) k.0
-made_served (events.Front n) w hs c carried k = subst (λ (l : List Happening). AreServed l w) (sym k) (front_moves_served w n c)
-made_served (events.Back n) w hs c carried k = subst (λ (l : List Happening). AreServed l w) (sym k) (back_moves_served w n)
-made_served (events.Job number n) w hs c carried k = jobs_served number hs w k.0
-made_served (events.Turn n) w hs c carried k = rounds_served never n w hs c k
-made_served events.Settle w hs c carried k = settling_served w hs c k
-made_served events.Look w hs c carried k = only Looks w hs tt k
-made_served (events.Notify at) w hs c carried k = only (Notifies at) w hs tt k
-made_served e w hs c carried k = absurd k
+-- what is possible after what is, and the first part of it
+pub possible_append : (first rest : List Happening) (w : World) → ArePossible first w → ArePossible rest (after first w) → ArePossible (first ++ rest) w
+possible_append [] rest w p q = q
+possible_append (h ∷ first) rest w p q = (p.0, possible_append first rest (happens w h) p.1 q)
 
-made_so_far_served : (e : Event) (w : World) (hs : List Happening) → Connects w.front.stage → is_carried e ≡ true → MakesSoFar e w hs → AreServed hs w
-made_so_far_served (events.Front n) w hs c carried k = beginning_served hs (front_moves w n) w k (front_moves_served w n c)
-made_so_far_served (events.Back n) w hs c carried k = beginning_served hs (back_moves w n) w k (back_moves_served w n)
-made_so_far_served (events.Job number n) w hs c carried k = jobs_served number hs w k.0
-made_so_far_served (events.Turn n) w hs c carried k = rounds_so_far_served never n w hs c k
-made_so_far_served events.Settle w hs c carried k = settling_so_far_served w hs c k
-made_so_far_served e w hs c carried k = made_served e w hs c carried k
+pub possible_first : (first rest : List Happening) (w : World) → ArePossible (first ++ rest) w → ArePossible first w
+possible_first [] rest w p = tt
+possible_first (h ∷ first) rest w p = (p.0, possible_first first rest (happens w h) p.1)
 
-pub event_served : (e : Event) (w : World) (hs : List Happening) → Connects w.front.stage → AreOf e w hs → AreServed hs w
-event_served e w hs c k = made_served e w hs c k.0 k.1
+-- what is served is possible
+pub served_possible : (hs : List Happening) (w : World) → AreServed hs w → ArePossible hs w
+served_possible [] w p = tt
+served_possible (h ∷ hs) w p = (one_possible h p.0, served_possible hs (happens w h) p.1)
+  where
+    one_possible : (x : Happening) → IsServed w x → IsPossible w x
+    one_possible (Pokes frame word value) may = absurd may
+    one_possible x may = may
 
-pub event_so_far_served : (e : Event) (w : World) (hs : List Happening) → Connects w.front.stage → AreOfSoFar e w hs → AreServed hs w
-event_so_far_served e w hs c k = made_so_far_served e w hs c k.0 k.1
+made_possible : (e : Event) (w : World) (hs : List Happening) → Connects w.front.stage → is_carried e ≡ true → Makes e w hs → ArePossible hs w
+made_possible (events.Submit job) w hs c carried k = served_possible hs w (only (Submits job) w hs (some_sectors job carried k.1) k.0)
+made_possible (events.Front n) w hs c carried k = served_possible hs w (subst (λ (l : List Happening). AreServed l w) (sym k) (front_moves_served w n c))
+made_possible (events.Back n) w hs c carried k = served_possible hs w (subst (λ (l : List Happening). AreServed l w) (sym k) (back_moves_served w n))
+made_possible (events.Job number n) w hs c carried k = served_possible hs w (jobs_served number hs w k.0)
+made_possible (events.Turn n) w hs c carried k = served_possible hs w (rounds_served never n w hs c k)
+made_possible events.Settle w hs c carried k = served_possible hs w (settling_served w hs c k)
+made_possible events.Look w hs c carried k = served_possible hs w (only Looks w hs tt k)
+made_possible (events.Notify at) w hs c carried k = served_possible hs w (only (Notifies at) w hs tt k)
+made_possible events.Dump w hs c carried k = served_possible hs w (only Dumps w hs tt k)
+made_possible (events.Poke frame word value) w hs c carried k = subst (λ (l : List Happening). ArePossible l w) (sym k.0) ((carried, k.1), tt)
+made_possible e w hs c carried k = absurd k
 
-pub events_served : (es : List Event) (w : World) (hs : List Happening) → Connects w.front.stage → AreOfAll es w hs → AreServed hs w
-events_served [] w hs c k = subst (λ (l : List Happening). AreServed l w) (sym k) tt
-events_served (e ∷ es) w hs c k =
-    subst (λ (l : List Happening). AreServed l w) (sym k.2)
-    (served_append k.0 k.1 w
-    (event_served e w k.0 c k.3)
-    (events_served es (after k.0 w) k.1 (connects_after k.0 w c) k.4))
+made_so_far_possible : (e : Event) (w : World) (hs : List Happening) → Connects w.front.stage → is_carried e ≡ true → MakesSoFar e w hs → ArePossible hs w
+made_so_far_possible (events.Front n) w hs c carried k = served_possible hs w (beginning_served hs (front_moves w n) w k (front_moves_served w n c))
+made_so_far_possible (events.Back n) w hs c carried k = served_possible hs w (beginning_served hs (back_moves w n) w k (back_moves_served w n))
+made_so_far_possible (events.Job number n) w hs c carried k = served_possible hs w (jobs_served number hs w k.0)
+made_so_far_possible (events.Turn n) w hs c carried k = served_possible hs w (rounds_so_far_served never n w hs c k)
+made_so_far_possible events.Settle w hs c carried k = served_possible hs w (settling_so_far_served w hs c k)
+made_so_far_possible e w hs c carried k = made_possible e w hs c carried k
+
+pub event_possible : (e : Event) (w : World) (hs : List Happening) → Connects w.front.stage → AreOf e w hs → ArePossible hs w
+event_possible e w hs c k = made_possible e w hs c k.0 k.1
+
+pub event_so_far_possible : (e : Event) (w : World) (hs : List Happening) → Connects w.front.stage → AreOfSoFar e w hs → ArePossible hs w
+event_so_far_possible e w hs c k = made_so_far_possible e w hs c k.0 k.1
+
+pub events_possible : (es : List Event) (w : World) (hs : List Happening) → Connects w.front.stage → AreOfAll es w hs → ArePossible hs w
+events_possible [] w hs c k = subst (λ (l : List Happening). ArePossible l w) (sym k) tt
+events_possible (e ∷ es) w hs c k =
+    subst (λ (l : List Happening). ArePossible l w) (sym k.2)
+    (possible_append k.0 k.1 w
+    (event_possible e w k.0 c k.3)
+    (events_possible es (after k.0 w) k.1 (connects_after k.0 w c) k.4))

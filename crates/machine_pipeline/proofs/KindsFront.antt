@@ -22,7 +22,7 @@ use Rattle.blk_front.specs.View.{View, next_request}
 use Rattle.blk_front.specs.Step.{at, broken, looked, issue_stage, data_stage, granted, entry_of, loop_step, issued, response_at, is_mapped, finished, ended, revoked, sector_told, data_step, step_at}
 use Rattle.blk_front.specs.Submit.{is_connected}
 use Rattle.split_model.specs.World.{World, start_of}
-use Rattle.split_model.specs.Happening.{Happening, FrontMoves, BackMoves, JobMoves, Submits, Notifies, Looks, Settles, happens, after, back_turn, job_turn, back_after, job_after}
+use Rattle.split_model.specs.Happening.{Happening, FrontMoves, BackMoves, JobMoves, Submits, Notifies, Pokes, Dumps, Looks, Settles, happens, after, back_turn, job_turn, back_after, job_after}
 use Rattle.split_model.proofs.SafeFront.{submit_kept}
 use Rattle.machine_pipeline.proofs.Turns.{front_turn_at, front_next}
 
@@ -184,6 +184,8 @@ stage_after P w BackMoves p moved = subst P (sym (back_same w (back_turn w Took)
 stage_after P w (JobMoves number outcome) p moved = subst P (sym (job_same w number (job_turn w number outcome))) p
 stage_after P w (Submits job) p moved = let kept = submit_kept w.front job in subst P (sym kept.stage) p
 stage_after P w (Notifies at) p moved = p
+stage_after P w (Pokes frame word value) p moved = p
+stage_after P w Dumps p moved = p
 stage_after P w Looks p moved = p
 stage_after P w Settles p moved = p
 

@@ -70,5 +70,6 @@ pub mod Quiet
 pub mod Together
 pub mod KindsFront
 pub mod KindsEvents
+pub mod HonestPart
 pub mod Runs
 pub mod Begun

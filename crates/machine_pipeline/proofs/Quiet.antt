@@ -1,6 +1,8 @@
 -- Where all is quiet, each request of the pipeline is finished.
 use Rattle.std.proofs.Common.{◌≡◌, ℕ, ◌+◌, ◌-◌, ◌==◌, ◌&&◌, ◌⊎◌, inl, inr, not, if◌then◌else◌, Bool, true, false, List, [], ◌∷◌, length, refl, ap, sym, ◌∙◌, subst, arith, true≢false}
 use Rattle.std.specs.Prelude.{Option, Some, None, count_by, slice_get}
+use Rattle.std.specs.List.{AllByRecursion, list_all}
+use Rattle.std.proofs.lemmas.List.{append-nil}
 use Rattle.std.proofs.lemmas.Option.{none-some}
 use Rattle.std.proofs.lemmas.Bool.Decides.{nat_tests}
 use Rattle.blk_base.specs.Options.{Options}
@@ -29,7 +31,8 @@ use Rattle.blk_back.specs.declared.stage.Stage.TheVariants as back
 use Rattle.blk_back.specs.Ask as back_ask
 use Rattle.blk_back.specs.View as back_view
 use Rattle.split_model.specs.World.{World, is_quiet}
-use Rattle.split_model.specs.Happening.{Looks, Settles, lines_at}
+use Rattle.split_model.specs.Happening.{Dumps, Looks, Settles, lines_at}
+use Rattle.split_model.proofs.Overwriting.{dump_lines_are}
 use Rattle.machine_pipeline.proofs.Flow.{Flow, ending_at, count_of, reply_at, reply_count}
 use Rattle.machine_pipeline.proofs.Holds.{Holds, Stands, FrontAt, BackAt, FrontSends, BackSends}
 use Rattle.machine_pipeline.proofs.Turns.{Goes}
@@ -241,3 +244,23 @@ looks_goes config w g d stands = look_goes config w g d lines.Busy refl stands
 
 pub settles_goes : (config : Options) (w : World) (g : Flow) (d : Pipeline) → Stands config w g d → Goes config (lines_at w Settles) w d
 settles_goes config w g d stands = look_goes config w g d lines.Unsettled refl stands
+
+-- a dump shows words of the ring, which are nothing to the pipeline
+words_aside : (ls : List Line) → AllByRecursion (λ (line : Line). is_aside line ≡ true) ls → list_all is_aside ls ≡ true
+words_aside [] all = refl
+words_aside (line ∷ ls) all = rw all.0 (words_aside ls all.1)
+
+pub dumps_goes : (config : Options) (w : World) (g : Flow) (d : Pipeline) → Stands config w g d → Goes config (lines_at w Dumps) w d
+dumps_goes config w g d stands = record {
+  flow = g;
+  step = None;
+  does = record {
+    asides = lines_at w Dumps;
+    aside = words_aside (lines_at w Dumps) (dump_lines_are (λ (line : Line). is_aside line ≡ true) w.under.pages 0 1024 (λ frame word value. refl));
+    shows = sym (append-nil (lines_at w Dumps));
+    asks = refl;
+    allowed = tt;
+    disk = λ a b e. e;
+  };
+  holds = stands.holds;
+}

@@ -15,7 +15,7 @@ use Rattle.schedule_text.specs.declared.line.Line.{Line}
 use Rattle.hypervisor.specs.Act.{Outcome, Gave, Took, Failed}
 use Rattle.blk_back.specs.Step.{job_ask_of}
 use Rattle.split_model.specs.World.{World, start_of}
-use Rattle.split_model.specs.Happening.{Happening, FrontMoves, BackMoves, JobMoves, Submits, Notifies, Looks, Settles, happens, after, lines_at, lines_of as shown_by, DiskRuns as MachineRuns}
+use Rattle.split_model.specs.Happening.{Happening, FrontMoves, BackMoves, JobMoves, Submits, Notifies, Pokes, Dumps, Looks, Settles, happens, after, lines_at, lines_of as shown_by, DiskRuns as MachineRuns}
 use Rattle.pipeline_laws.specs.Pipeline.{Pipeline, Step, Shows, step_lines, after_steps, lines_of, pipeline_of}
 use Rattle.pipeline_laws.specs.Allowed.{is_aside, AreAllowed as StepsAllowed}
 use Rattle.pipeline_laws.specs.Disk.{DiskRuns, AreConsistent}
@@ -95,6 +95,8 @@ goes_none w FrontMoves a p = none-some a p
 goes_none w BackMoves a p = none-some a p
 goes_none w (Submits job) a p = none-some a p
 goes_none w (Notifies at) a p = none-some a p
+goes_none w (Pokes frame word value) a p = none-some a p
+goes_none w Dumps a p = none-some a p
 goes_none w Looks a p = none-some a p
 goes_none w Settles a p = none-some a p
 
@@ -114,6 +116,8 @@ none_goes w FrontMoves x p = p
 none_goes w BackMoves x p = p
 none_goes w (Submits job) x p = p
 none_goes w (Notifies at) x p = p
+none_goes w (Pokes frame word value) x p = p
+none_goes w Dumps x p = p
 none_goes w Looks x p = p
 none_goes w Settles x p = p
 
@@ -127,6 +131,8 @@ called w FrontMoves a b p = same_Some b a p
 called w BackMoves a b p = same_Some b a p
 called w (Submits job) a b p = same_Some b a p
 called w (Notifies at) a b p = same_Some b a p
+called w (Pokes frame word value) a b p = same_Some b a p
+called w Dumps a b p = same_Some b a p
 called w Looks a b p = same_Some b a p
 called w Settles a b p = same_Some b a p
 
@@ -137,6 +143,8 @@ submitted_first FrontMoves hs = refl
 submitted_first BackMoves hs = refl
 submitted_first (JobMoves number outcome) hs = refl
 submitted_first (Notifies at) hs = refl
+submitted_first (Pokes frame word value) hs = refl
+submitted_first Dumps hs = refl
 submitted_first Looks hs = refl
 submitted_first Settles hs = refl
 

@@ -9,7 +9,7 @@ use Rattle.blk_front.specs.declared.stage.Stage.TheVariants as front
 use Rattle.blk_front.specs.View.{next_request}
 use Rattle.split_model.specs.World.{World, start_of}
 use Rattle.split_model.specs.Safe.{IsSafe}
-use Rattle.split_model.specs.Happening.{Happening, FrontMoves, BackMoves, JobMoves, Submits, Notifies, Looks, Settles, happens, lines_at, after as world_after}
+use Rattle.split_model.specs.Happening.{Happening, FrontMoves, BackMoves, JobMoves, Submits, Notifies, Pokes, Dumps, Looks, Settles, happens, lines_at, after as world_after}
 use Rattle.split_model.proofs.Safe.{safe_happens}
 use Rattle.machine_pipeline.specs.Plain.{IsPlain}
 use Rattle.machine_pipeline.specs.Allowed.{IsServed, AreServed}
@@ -33,7 +33,7 @@ use Rattle.machine_pipeline.proofs.BackMoves.{back_moves}
 use Rattle.machine_pipeline.proofs.JobTurns.{job_kept}
 use Rattle.machine_pipeline.proofs.Submissions.{submit_kept}
 use Rattle.machine_pipeline.proofs.Notified.{notified_goes}
-use Rattle.machine_pipeline.proofs.Quiet.{looks_goes, settles_goes}
+use Rattle.machine_pipeline.proofs.Quiet.{dumps_goes, looks_goes, settles_goes}
 use Rattle.pipeline_laws.specs.Pipeline.{Pipeline, pipeline_of, Step}
 use Rattle.machine_pipeline.specs.Step.{CallAt, after_step, GoesStepwise, Does}
 use Rattle.machine_pipeline.specs.Submissions.{submitted_at}
@@ -80,6 +80,8 @@ goes_on config w g d BackMoves plain s may = back_moves config w g d plain may s
 goes_on config w g d (JobMoves number outcome) plain s may = (let safe = s.safe in job_kept config w g d number outcome s.holds safe.held may)
 goes_on config w g d (Submits job) plain s may = submit_kept config w g d job plain s.holds may
 goes_on config w g d (Notifies at) plain s may = notified_goes config w g d at s
+goes_on config w g d (Pokes frame word value) plain s may = absurd may
+goes_on config w g d Dumps plain s may = dumps_goes config w g d s
 goes_on config w g d Looks plain s may = looks_goes config w g d s
 goes_on config w g d Settles plain s may = settles_goes config w g d s
 

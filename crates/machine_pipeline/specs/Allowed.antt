@@ -4,7 +4,7 @@ use Rattle.blk_base.specs.declared.config.Job.{Job}
 use Rattle.blk_base.specs.declared.config.Job.TheVariants.{Read, Write}
 use Rattle.blk_front.specs.Submit.{is_connected}
 use Rattle.split_model.specs.World.{World}
-use Rattle.split_model.specs.Happening.{Happening, BackMoves, JobMoves, Submits, happens}
+use Rattle.split_model.specs.Happening.{Happening, BackMoves, JobMoves, Submits, Pokes, is_guest_word, happens}
 use Rattle.hypervisor.specs.Act.{IsGiven}
 
 -- a read of some sectors, or a write of some whose tag has 32 bits
@@ -13,13 +13,23 @@ IsTransfer (Read sector count) = 1 ≤ count
 IsTransfer (Write sector count tag) = (1 ≤ count) × (tag < 2 ^ 32)
 IsTransfer job = ⊥
 
--- the back moves only once the front made its ring and its port; a sector that the disk gives has 128 words of 32 bits; what is submitted is a read or a write
+-- the back moves only once the front made its ring and its port; a sector that the disk gives has 128 words of 32 bits; what is submitted is a read or a write; no hostile hand overwrites a word
 abbrev pub IsServed : World → Happening → Type 0
 IsServed w BackMoves = is_connected w.front.stage ≡ true
 IsServed w (JobMoves number outcome) = IsGiven outcome
 IsServed w (Submits job) = IsTransfer job
+IsServed w (Pokes frame word value) = ⊥
 IsServed w h = Unit {0}
 
 abbrev pub AreServed : List Happening → World → Type 0
 AreServed [] w = Unit {0}
 AreServed (h ∷ hs) w = IsServed w h × AreServed hs (happens w h)
+
+-- the same, or a word of the guest's memory is overwritten
+abbrev pub IsPossible : World → Happening → Type 0
+IsPossible w (Pokes frame word value) = (is_guest_word frame word ≡ true) × (value < 2 ^ 32)
+IsPossible w h = IsServed w h
+
+abbrev pub ArePossible : List Happening → World → Type 0
+ArePossible [] w = Unit {0}
+ArePossible (h ∷ hs) w = IsPossible w h × ArePossible hs (happens w h)

@@ -60,7 +60,7 @@ kept_still : (before : List Line) (shown : Move) (pages : List ℕ) (table : Gra
 kept_still before shown pages table s allowed tells = record { allowed = allowed; tells = tells_still before (lines.Move shown) pages table s tells }
 
 -- a line that writes a word
-tells_write : (before : List Line) (line : Line) (pages : List ℕ) (table : GrantTable) (frame word value : ℕ) → is_epoch line ≡ false → ((number : ℕ) → is_unmap_of number line ≡ false) → mapping_made line ≡ None
+pub tells_write : (before : List Line) (line : Line) (pages : List ℕ) (table : GrantTable) (frame word value : ℕ) → is_epoch line ≡ false → ((number : ℕ) → is_unmap_of number line ≡ false) → mapping_made line ≡ None
     → ((f w v : ℕ) → value_after (record { frame = f; word = w }) v before line ≡ after_write (record { frame = f; word = w }) v frame word value)
     → frame < 1088 → word < 1024 → Tells before pages table → Tells (before ++ line ∷ []) (with_word pages frame word value) table
 tells_write before line pages table frame word value same_epoch gone none_made writes framed worded tells =

@@ -4,7 +4,7 @@ use Rattle.std.specs.Prelude.{Option, Some, None}
 use Rattle.blk_base.specs.Options.{Options}
 use Rattle.hypervisor.specs.Act.{FrontAct, BackAct, Outcome, Took}
 use Rattle.split_model.specs.World.{World, start_of}
-use Rattle.split_model.specs.Happening.{Happening, FrontMoves, BackMoves, JobMoves, Submits, Notifies, Looks, Settles, happens, front_after, back_after, job_after, front_turn, back_turn, job_turn}
+use Rattle.split_model.specs.Happening.{Happening, FrontMoves, BackMoves, JobMoves, Submits, Notifies, Pokes, Dumps, Looks, Settles, happens, front_after, back_after, job_after, front_turn, back_turn, job_turn}
 use Rattle.split_model.proofs.SafeAnswers.{back_answered, job_answered}
 use Rattle.move_laws.specs.Permitted.{IsPermitted, ArePermitted}
 use Rattle.move_laws.proofs.Front.{IsFront, front_start, front_step, front_submit, front_within}
@@ -36,6 +36,8 @@ orderly_happens w BackMoves is = back_orderly w Took (back_turn w Took) is refl
 orderly_happens w (JobMoves number outcome) is = job_orderly w number outcome (job_turn w number outcome) is refl
 orderly_happens w (Submits job) is = record { front = front_submit w.front job is.front; back = is.back }
 orderly_happens w (Notifies at) is = record { front = is.front; back = is.back }
+orderly_happens w (Pokes frame word value) is = record { front = is.front; back = is.back }
+orderly_happens w Dumps is = is
 orderly_happens w Looks is = is
 orderly_happens w Settles is = is
 
@@ -45,6 +47,8 @@ within_here w BackMoves is = back_names w.back is.back
 within_here w (JobMoves number outcome) is = job_names_own w.back number is.back
 within_here w (Submits job) is = tt
 within_here w (Notifies at) is = tt
+within_here w (Pokes frame word value) is = tt
+within_here w Dumps is = tt
 within_here w Looks is = tt
 within_here w Settles is = tt
 

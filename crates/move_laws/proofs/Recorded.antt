@@ -1,6 +1,7 @@
 -- A recorder that shows moves keeps every line of what happened.
-use Rattle.std.proofs.Common.{◌≡◌, ℕ, List, [], ◌∷◌, ◌++◌, Bool, true, false, if◌then◌else◌, refl, ap, ◌∙◌}
-use Rattle.std.specs.Prelude.{Option, Some, None, Result, Ok, Err}
+use Rattle.xen_pages.specs.Pages.{word_of}
+use Rattle.std.proofs.Common.{◌≡◌, ℕ, zero, suc, ◌+◌, List, [], ◌∷◌, ◌++◌, Bool, true, false, if◌then◌else◌, refl, ap, ◌∙◌}
+use Rattle.std.specs.Prelude.{◌/◌, ◌%◌, Option, Some, None, Result, Ok, Err}
 use Rattle.blk_base.specs.Options.{Options}
 use Rattle.blk_base.specs.declared.config.Job.{Job}
 use Rattle.blk_base.specs.declared.ask.BackAnswer.{BackAnswer}
@@ -23,7 +24,7 @@ use Rattle.blk_back.specs.View as back
 use Rattle.blk_back.specs.Step as back_step
 use Rattle.split_model.specs.World.{World, start_of, is_quiet}
 use Rattle.split_model.specs.Shown.{front_lines, back_lines, halt_lines, effect_line}
-use Rattle.split_model.specs.Happening.{Happening, FrontMoves, BackMoves, JobMoves, Submits, Notifies, Looks, Settles, happens, lines_at, lines_of, front_shows, back_shows, job_shows, front_turn, back_turn, job_turn, submit_line}
+use Rattle.split_model.specs.Happening.{Happening, FrontMoves, BackMoves, JobMoves, Submits, Notifies, Pokes, Dumps, Looks, Settles, is_guest_word, word_lines, ring_lines, happens, lines_at, lines_of, front_shows, back_shows, job_shows, front_turn, back_turn, job_turn, submit_line}
 use Rattle.schedule_text.specs.Recorder.{kept_of}
 use Rattle.split_model.proofs.Running.{kept_of-append}
 use Rattle.split_model.specs.Report.{report_of, ended_report_of}
@@ -97,12 +98,28 @@ settle_kept : (quiet : Bool) → AreKept ((if quiet then lines.Quiet else lines.
 settle_kept true = refl
 settle_kept false = refl
 
+poke_kept : (there : Bool) (frame word value : ℕ) → AreKept (if there then lines.Poke frame word value ∷ [] else [])
+poke_kept true frame word value = refl
+poke_kept false frame word value = refl
+
+word_kept : (place value : ℕ) → AreKept (word_lines place value)
+word_kept place zero = refl
+word_kept place (suc value) = refl
+
+dump_kept : (pages : List ℕ) (place count : ℕ) → AreKept (ring_lines pages place count)
+dump_kept pages place zero = refl
+dump_kept pages place (suc count) =
+    both_kept (word_lines place (word_of pages (2 + place / 1024) (place % 1024))) (ring_lines pages (place + 1) count)
+    (word_kept place (word_of pages (2 + place / 1024) (place % 1024))) (dump_kept pages (place + 1) count)
+
 lines_at_kept : (w : World) (h : Happening) → AreKept (lines_at w h)
 lines_at_kept w FrontMoves = front_shows_kept w (front_turn w)
 lines_at_kept w BackMoves = back_shows_kept w (back_turn w Took)
 lines_at_kept w (JobMoves number outcome) = job_shows_kept w number (job_turn w number outcome)
 lines_at_kept w (Submits job) = submit_kept job (front_submit.submit_of w.front job).0
 lines_at_kept w (Notifies at) = refl
+lines_at_kept w (Pokes frame word value) = poke_kept (is_guest_word frame word) frame word value
+lines_at_kept w Dumps = dump_kept w.under.pages 0 1024
 lines_at_kept w Looks = look_kept (is_quiet w)
 lines_at_kept w Settles = settle_kept (is_quiet w)
 

@@ -1,12 +1,13 @@
 -- Whatever happens, the lines obey the rules on memory and mappings, and tell what is there.
-use Rattle.std.proofs.Common.{◌≡◌, ℕ, List, [], ◌∷◌, ◌++◌, Bool, true, false, if◌then◌else◌, refl, sym, subst, append_assoc}
+use Rattle.std.proofs.Common.{◌≡◌, ℕ, ◌<◌, arith, List, [], ◌∷◌, ◌++◌, Bool, true, false, if◌then◌else◌, refl, sym, subst, append_assoc}
 use Rattle.std.specs.Prelude.{Option, Some, None}
+use Rattle.std.specs.List.{AllByRecursion}
 use Rattle.std.proofs.lemmas.List.{append-nil}
 use Rattle.std.proofs.lemmas.List.Elements.{All-nil}
 use Rattle.blk_base.specs.Options.{Options}
 use Rattle.blk_base.specs.declared.moves.BackMover.TheVariants as back_mover
 use Rattle.blk_base.specs.declared.moves.Move.{Move}
-use Rattle.xen_pages.specs.Pages.{fresh_pages}
+use Rattle.xen_pages.specs.Pages.{fresh_pages, word_of, with_word}
 use Rattle.xen_pages.proofs.Words.{length-fresh_pages, word_of-fresh_pages}
 use Rattle.grant_table.specs.Table.{GrantTable, fresh_table}
 use Rattle.grant_table.specs.Sound.{IsGrantable}
@@ -27,18 +28,19 @@ use Rattle.blk_back.specs.Step as back_step
 use Rattle.blk_back.specs.Hands.{hands_of}
 use Rattle.blk_back.specs.View as back
 use Rattle.split_model.specs.World.{World, start_of, is_quiet}
-use Rattle.split_model.specs.Happening.{Happening, FrontMoves, BackMoves, JobMoves, Submits, Notifies, Looks, Settles, happens, lines_at, after, lines_of, front_after, front_shows, back_after, back_shows, job_after, job_shows, front_turn, back_turn, job_turn}
+use Rattle.split_model.specs.Happening.{Happening, FrontMoves, BackMoves, JobMoves, Submits, Notifies, Pokes, Dumps, Looks, Settles, happens, lines_at, after, lines_of, front_after, front_shows, back_after, back_shows, job_after, job_shows, front_turn, back_turn, job_turn}
 use Rattle.split_model.specs.Safe.{IsSafe}
 use Rattle.split_model.specs.Shown.{back_lines, halt_lines}
 use Rattle.split_model.proofs.Safe.{safe_start, safe_happens}
+use Rattle.split_model.proofs.Overwriting.{poke_cases, ring_lines_are}
 use Rattle.move_laws.specs.Permitted.{IsPermitted, ArePermitted}
 use Rattle.move_laws.specs.Grantable.{AreGrantable}
 use Rattle.move_laws.proofs.Always.{always_within}
 use Rattle.move_laws.specs.Tells.{Tells}
 use Rattle.move_laws.proofs.Follows.{IsAllowed, Follows}
 use Rattle.split_model.specs.Report.{report_of, ended_report_of}
-use Rattle.move_laws.proofs.Still.{ArePlain, IsPlain, still, plain_front, plain_back, plain_halt, plain_submit, plain_quiet, plain_busy, plain_unsettled, follow_one, follow_plain}
-use Rattle.move_laws.proofs.Acts.{IsKept, front_kept, back_kept}
+use Rattle.move_laws.proofs.Still.{IsStill, ArePlain, IsPlain, still, plain_front, plain_back, plain_halt, plain_submit, plain_quiet, plain_busy, plain_unsettled, tells_still, follow_one, follow_plain}
+use Rattle.move_laws.proofs.Acts.{IsKept, tells_write, front_kept, back_kept}
 
 -- the lines so far obey the rules, and tell what lies under the ends
 abbrev pub FollowsTo : List Line → World → Type 0
@@ -82,12 +84,49 @@ one_plain : (b : Bool) (x y : Line) → IsPlain x → IsPlain y → IsPlain (if 
 one_plain true x y p q = p
 one_plain false x y p q = q
 
+-- a word of the guest's memory that a hostile hand overwrites
+poke_follows : (w : World) (before : List Line) (frame word value : ℕ) → FollowsTo before w → FollowsTo (before ++ lines_at w (Pokes frame word value)) (happens w (Pokes frame word value))
+poke_follows w before frame word value follows =
+    poke_cases (λ under shown. Follows (before ++ shown) under.pages under.grants) w.under frame word value written (no_lines before w follows)
+  where
+    written : frame < 1024 → word < 1024 → Follows (before ++ lines.Poke frame word value ∷ []) (with_word w.under.pages frame word value) w.under.grants
+    written framed worded =
+        follow_one before (lines.Poke frame word value) w.under.pages (with_word w.under.pages frame word value) w.under.grants w.under.grants follows
+        (record { coherent = tt; answered = tt; numbered = tt; touched = tt; grantable = tt })
+        (tells_write before (lines.Poke frame word value) w.under.pages w.under.grants frame word value refl (λ n. refl) refl (λ f w' v. refl) (omega (arith, framed)) worded follows.tells)
+
+-- a line that changes nothing, and is allowed wherever the lines before tell what lies there
+record IsShown (pages : List ℕ) (table : GrantTable) (line : Line) : Type 0 where
+  is_still : IsStill line
+  allowed : (before : List Line) → Tells before pages table → IsAllowed before line
+
+follow_shown : (pages : List ℕ) (table : GrantTable) (more before : List Line) → AllByRecursion (IsShown pages table) more → Follows before pages table → Follows (before ++ more) pages table
+follow_shown pages table [] before all follows = subst (λ (ls : List Line). Follows ls pages table) (sym (append-nil before)) follows
+follow_shown pages table (line ∷ more) before all follows =
+    let here : IsShown pages table line = all.0 in
+    let one : Follows (before ++ line ∷ []) pages table = follow_one before line pages pages table table follows (here.allowed before follows.tells) (tells_still before line pages table here.is_still follows.tells) in
+    subst (λ (ls : List Line). Follows ls pages table) (append_assoc before (line ∷ []) more) (follow_shown pages table more (before ++ line ∷ []) all.1 one)
+
+-- each word that a dump shows has the value that the lines before tell
+word_shown : (pages : List ℕ) (table : GrantTable) (word : ℕ) → word < 1024 → IsShown pages table (lines.Word 2 word (word_of pages 2 word))
+word_shown pages table word within = record {
+  is_still = still (lines.Word 2 word (word_of pages 2 word)) refl (λ f w v b. refl) (λ n. refl) refl;
+  allowed = λ before tells. record { coherent = sym (tells.values 2 word (omega arith) within); answered = tt; numbered = tt; touched = tt; grantable = tt };
+}
+
+dump_follows : (w : World) (before : List Line) → FollowsTo before w → FollowsTo (before ++ lines_at w Dumps) w
+dump_follows w before follows =
+    follow_shown w.under.pages w.under.grants (lines_at w Dumps) before
+    (ring_lines_are (IsShown w.under.pages w.under.grants) w.under.pages 0 1024 (omega arith) (λ word within. word_shown w.under.pages w.under.grants word within)) follows
+
 pub follows_happens : (w : World) (h : Happening) (before : List Line) → IsSafe w → IsPermitted w h → FollowsTo before w → FollowsTo (before ++ lines_at w h) (happens w h)
 follows_happens w FrontMoves before safe within follows = front_follows w before (front_turn w) within follows refl
 follows_happens w BackMoves before safe within follows = back_follows w before Took (back_turn w Took) safe within follows refl
 follows_happens w (JobMoves number outcome) before safe within follows = job_follows w before number outcome (job_turn w number outcome) safe within follows refl
 follows_happens w (Submits job) before safe within follows = follow_plain (lines_at w (Submits job)) before w.under.pages w.under.grants (plain_submit job (front_submit.submit_of w.front job).0, tt) follows
 follows_happens w (Notifies at) before safe within follows = no_lines before w follows
+follows_happens w (Pokes frame word value) before safe within follows = poke_follows w before frame word value follows
+follows_happens w Dumps before safe within follows = dump_follows w before follows
 follows_happens w Looks before safe within follows = follow_plain (lines_at w Looks) before w.under.pages w.under.grants (one_plain (is_quiet w) lines.Quiet lines.Busy plain_quiet plain_busy, tt) follows
 follows_happens w Settles before safe within follows = follow_plain (lines_at w Settles) before w.under.pages w.under.grants (one_plain (is_quiet w) lines.Quiet lines.Unsettled plain_quiet plain_unsettled, tt) follows
 

@@ -25,7 +25,8 @@ use Rattle.blk_front.specs.Submit.{is_ready, unfinished, wish_of, submit_with, s
 use Rattle.split_model.specs.World.{World, start_of, is_quiet}
 use Rattle.split_model.specs.Safe.{IsSafe}
 use Rattle.split_model.specs.Shown.{front_lines}
-use Rattle.split_model.specs.Happening.{Happening, FrontMoves, BackMoves, JobMoves, Submits, Notifies, Looks, Settles, happens, lines_at, after, lines_of, front_after, front_shows, back_after, back_shows, job_after, job_shows, front_turn, back_turn, job_turn, submit_line}
+use Rattle.split_model.proofs.Overwriting.{poke_lines_are, dump_lines_are}
+use Rattle.split_model.specs.Happening.{Happening, FrontMoves, BackMoves, JobMoves, Submits, Notifies, Pokes, Dumps, Looks, Settles, poke_lines, ring_lines, happens, lines_at, after, lines_of, front_after, front_shows, back_after, back_shows, job_after, job_shows, front_turn, back_turn, job_turn, submit_line}
 use Rattle.split_model.specs.Report.{report_of}
 use Rattle.split_model.proofs.Safe.{safe_start, safe_happens}
 use Rattle.machine_pipeline.specs.Plain.{IsPlain}
@@ -124,6 +125,12 @@ look_unanswered : (quiet : Bool) (other : Line) → says_answer other ≡ false 
 look_unanswered true other e = (refl, tt)
 look_unanswered false other e = (e, tt)
 
+poke_unanswered : (frame word value : ℕ) → AreUnanswered (poke_lines frame word value)
+poke_unanswered frame word value = poke_lines_are (λ (line : Line). says_answer line ≡ false) frame word value refl
+
+dump_unanswered : (pages : List ℕ) → AreUnanswered (ring_lines pages 0 1024)
+dump_unanswered pages = dump_lines_are (λ (line : Line). says_answer line ≡ false) pages 0 1024 (λ frame word value. refl)
+
 one_counts : (start : ℕ) (w : World) (before : List Line) (h : Happening) → IsSafe w → CountsTo start before w → CountsTo start (before ++ lines_at w h) (happens w h)
 one_counts start w before FrontMoves safe h = front_counts_on start w before (front_turn w) safe h
 one_counts start w before BackMoves safe h = back_counts start w before (back_turn w Took) h
@@ -132,6 +139,8 @@ one_counts start w before (Submits job) safe h =
     let kept = submit_untaken w.front job in
     same_counts start w (happens w (Submits job)) before _ (submit_unanswered job (submit_of w.front job).0) kept.cons kept.stage h
 one_counts start w before (Notifies at) safe h = same_counts start w (happens w (Notifies at)) before [] tt refl refl h
+one_counts start w before (Pokes frame word value) safe h = same_counts start w (happens w (Pokes frame word value)) before _ (poke_unanswered frame word value) refl refl h
+one_counts start w before Dumps safe h = same_counts start w w before _ (dump_unanswered w.under.pages) refl refl h
 one_counts start w before Looks safe h = same_counts start w w before _ (look_unanswered (is_quiet w) lines.Busy refl) refl refl h
 one_counts start w before Settles safe h = same_counts start w w before _ (look_unanswered (is_quiet w) lines.Unsettled refl) refl refl h
 

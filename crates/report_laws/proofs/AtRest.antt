@@ -12,7 +12,7 @@ use Rattle.blk_front.specs.declared.stage.Stage.{Stage}
 use Rattle.blk_front.specs.Submit as front_submit
 use Rattle.blk_front.specs.Submit.{ending_of}
 use Rattle.split_model.specs.World.{World, start_of, is_quiet}
-use Rattle.split_model.specs.Happening.{Happening, FrontMoves, BackMoves, JobMoves, Submits, Notifies, Looks, Settles, lines_at, after, front_shows, back_shows, job_shows, front_turn, back_turn, job_turn, submit_line}
+use Rattle.split_model.specs.Happening.{Happening, FrontMoves, BackMoves, JobMoves, Submits, Notifies, Pokes, Dumps, Looks, Settles, lines_at, after, front_shows, back_shows, job_shows, front_turn, back_turn, job_turn, submit_line}
 use Rattle.machine_pipeline.specs.Plain.{IsPlain}
 use Rattle.machine_pipeline.specs.Allowed.{AreServed}
 use Rattle.machine_pipeline.proofs.Flow.{Flow, has_ring, wrapped}
@@ -20,7 +20,7 @@ use Rattle.machine_pipeline.proofs.Holds.{AreIndices, Stands}
 use Rattle.machine_pipeline.proofs.Quiet.{IsCaughtUp, caught_up_at}
 use Rattle.machine_pipeline.proofs.Together.{always_stands}
 use Rattle.report_laws.specs.AtRest.{IsAtRest}
-use Rattle.report_laws.proofs.Lines.{is_usual, AreUsual, front_usual, back_usual, job_usual, submit_usual}
+use Rattle.report_laws.proofs.Lines.{is_usual, AreUsual, front_usual, back_usual, job_usual, submit_usual, poke_usual, dump_usual}
 
 -- a list of no element
 pub none_left : {X : Type 0} (xs : List X) → length xs ≡ 0 → xs ≡ []
@@ -70,5 +70,7 @@ shown_quiet w BackMoves has = absurd (none_usual (back_shows w (back_turn w Took
 shown_quiet w (JobMoves number outcome) has = absurd (none_usual (job_shows w number (job_turn w number outcome)) (job_usual w number (job_turn w number outcome)) has)
 shown_quiet w (Submits job) has = absurd (none_usual (submit_line job (front_submit.submit_of w.front job).0 ∷ []) (submit_usual job (front_submit.submit_of w.front job).0) has)
 shown_quiet w (Notifies at) has = absurd (none_usual [] tt has)
+shown_quiet w (Pokes frame word value) has = absurd (none_usual _ (poke_usual frame word value) has)
+shown_quiet w Dumps has = absurd (none_usual _ (dump_usual w.under.pages) has)
 shown_quiet w Looks has = look_quiet (is_quiet w) lines.Busy refl has
 shown_quiet w Settles has = look_quiet (is_quiet w) lines.Unsettled refl has

@@ -37,7 +37,8 @@ use Rattle.blk_back.specs.Ask as back_ask
 use Rattle.blk_back.specs.Step as back_step
 use Rattle.split_model.specs.World.{World, is_quiet}
 use Rattle.split_model.specs.Shown.{front_lines, back_lines, halt_lines}
-use Rattle.split_model.specs.Happening.{Happening, FrontMoves, BackMoves, JobMoves, Submits, Notifies, Looks, Settles, lines_at, front_shows, back_shows, job_shows, front_turn, back_turn, job_turn, submit_line}
+use Rattle.split_model.proofs.Overwriting.{dump_lines_are}
+use Rattle.split_model.specs.Happening.{Happening, FrontMoves, BackMoves, JobMoves, Submits, Notifies, Pokes, Dumps, Looks, Settles, lines_at, front_shows, back_shows, job_shows, front_turn, back_turn, job_turn, submit_line}
 use Rattle.split_model.proofs.SafeActs.{of_back, back_test}
 use Rattle.machine_pipeline.specs.Allowed.{IsServed}
 use Rattle.report_laws.proofs.Lines.{both_all}
@@ -151,5 +152,7 @@ shows_sectors w BackMoves may = back_shows_sectors w (back_turn w Took) refl
 shows_sectors w (JobMoves number outcome) may = job_shows_sectors w number outcome (job_turn w number outcome) may refl
 shows_sectors w (Submits job) may = submit_shows_none job (front_submit.submit_of w.front job).0
 shows_sectors w (Notifies at) may = tt
+shows_sectors w (Pokes frame word value) may = absurd may
+shows_sectors w Dumps may = dump_lines_are ShowsSector w.under.pages 0 1024 (λ frame word value. tt)
 shows_sectors w Looks may = look_shows_none (is_quiet w) lines.Busy tt
 shows_sectors w Settles may = look_shows_none (is_quiet w) lines.Unsettled tt

@@ -38,7 +38,7 @@ use Rattle.blk_back.specs.Step as back_step
 use Rattle.blk_back.specs.Hands.{hands_of}
 use Rattle.split_model.specs.World.{World, start_of, is_quiet}
 use Rattle.split_model.specs.Shown.{back_lines, halt_lines, refusal_word}
-use Rattle.split_model.specs.Happening.{Happening, FrontMoves, BackMoves, JobMoves, Submits as Submission, Notifies, Looks, Settles, happens, lines_at, lines_of, front_after, front_shows, back_after, back_shows, job_after, job_shows, front_turn, back_turn, job_turn, submit_line}
+use Rattle.split_model.specs.Happening.{Happening, FrontMoves, BackMoves, JobMoves, Submits as Submission, Notifies, Pokes, Dumps, Looks, Settles, happens, lines_at, lines_of, front_after, front_shows, back_after, back_shows, job_after, job_shows, front_turn, back_turn, job_turn, submit_line}
 use Rattle.schedule_text.specs.Recorder.{kept_of}
 use Rattle.split_model.specs.Report.{report_of, ended_report_of}
 use Rattle.split_model.proofs.SafeActs.{made_front}
@@ -46,7 +46,7 @@ use Rattle.move_laws.specs.Permitted.{IsPermitted, ArePermitted}
 use Rattle.move_laws.proofs.Always.{always_within}
 use Rattle.move_laws.proofs.Runs.{FollowsTo, follows_happens, follows_begin}
 use Rattle.machine_pipeline.specs.Plain.{IsPlain}
-use Rattle.machine_pipeline.specs.Allowed.{AreServed}
+use Rattle.machine_pipeline.specs.Allowed.{IsServed, AreServed}
 use Rattle.machine_pipeline.proofs.Flow.{Flow, job_of, start_flow}
 use Rattle.machine_pipeline.proofs.Holds.{Holds, Stands, FrontAt, IsSubmitted}
 use Rattle.machine_pipeline.proofs.Lists.{get_within, get_last}
@@ -54,9 +54,11 @@ use Rattle.machine_pipeline.proofs.StartingHolds.{start_holds}
 use Rattle.machine_pipeline.proofs.SightFront.{front_tells, Tells}
 use Rattle.machine_pipeline.proofs.Together.{HasGone, step_kept}
 use Rattle.report_laws.specs.Grammar.{IsInGrammar}
-use Rattle.report_laws.proofs.Words.{AreWords, fresh_words}
+use Rattle.report_laws.proofs.Words.{AreWords, word_fits, fresh_words}
+use Rattle.xen_pages.specs.Pages.{word_of}
 use Rattle.report_laws.proofs.Acts.{ActFits, front_act_fits, back_act_fits}
 use Rattle.report_laws.proofs.Told.{IsGood, AreGood, AreFit, good, both_good, AreFew, shown_fit, front_lines_good, back_lines_good}
+use Rattle.split_model.proofs.Overwriting.{ring_lines_are}
 use Rattle.report_laws.proofs.Given.{ShowSectors, shows_sectors}
 use Rattle.report_laws.proofs.Noted.{AreNoted, AreShort, none_noted, step_shows, noted_after}
 use Rattle.report_laws.proofs.FrontAsks.{front_asks}
@@ -215,21 +217,27 @@ look_good : (quiet : Bool) (other : Line) → IsGood other → AreGood ((if quie
 look_good true other h = (good lines.Quiet tt refl refl, tt)
 look_good false other h = (h, tt)
 
-one_good : (config : Options) (before : List Line) (w : World) (h : Happening) → IsPlain config → (is : IsWell config before w) → IsPermitted w h → ShowSectors (lines_at w h) → HasGone (submitted_at h) (CallAt w h) config (lines_at w h) (happens w h) is.pipeline → ShowsGood (lines_at w h) (happens w h)
-one_good config before w FrontMoves plain is within shows gone = front_good config before w (front_turn w) plain is within refl shows gone
-one_good config before w BackMoves plain is within shows gone = back_good config before w (back_turn w Took) is within refl shows gone
-one_good config before w (JobMoves number outcome) plain is within shows gone = job_good config before w number outcome (job_turn w number outcome) is within refl shows gone
-one_good config before w (Submission job) plain is within shows gone = record { good_lines = submit_good job (front_submit.submit_of w.front job).0 (went_fit config w is.flow is.pipeline is.stands is.noted shows gone); words = is.words; few = is.few }
-one_good config before w (Notifies at) plain is within shows gone = record { good_lines = tt; words = is.words; few = is.few }
-one_good config before w Looks plain is within shows gone = record { good_lines = look_good (is_quiet w) lines.Busy (good lines.Busy tt refl refl); words = is.words; few = is.few }
-one_good config before w Settles plain is within shows gone = record { good_lines = look_good (is_quiet w) lines.Unsettled (good lines.Unsettled tt refl refl); words = is.words; few = is.few }
+one_good : (config : Options) (before : List Line) (w : World) (h : Happening) → IsPlain config → (is : IsWell config before w) → IsServed w h → IsPermitted w h → ShowSectors (lines_at w h) → HasGone (submitted_at h) (CallAt w h) config (lines_at w h) (happens w h) is.pipeline → ShowsGood (lines_at w h) (happens w h)
+one_good config before w FrontMoves plain is may within shows gone = front_good config before w (front_turn w) plain is within refl shows gone
+one_good config before w BackMoves plain is may within shows gone = back_good config before w (back_turn w Took) is within refl shows gone
+one_good config before w (JobMoves number outcome) plain is may within shows gone = job_good config before w number outcome (job_turn w number outcome) is within refl shows gone
+one_good config before w (Submission job) plain is may within shows gone = record { good_lines = submit_good job (front_submit.submit_of w.front job).0 (went_fit config w is.flow is.pipeline is.stands is.noted shows gone); words = is.words; few = is.few }
+one_good config before w (Notifies at) plain is may within shows gone = record { good_lines = tt; words = is.words; few = is.few }
+one_good config before w (Pokes frame word value) plain is may within shows gone = absurd may
+one_good config before w Dumps plain is may within shows gone = record {
+  good_lines = ring_lines_are IsGood w.under.pages 0 1024 (omega arith) (λ word below. good (lines.Word 2 word (word_of w.under.pages 2 word)) (omega arith, omega arith, word_fits w.under.pages 2 word is.words) refl refl);
+  words = is.words;
+  few = is.few;
+}
+one_good config before w Looks plain is may within shows gone = record { good_lines = look_good (is_quiet w) lines.Busy (good lines.Busy tt refl refl); words = is.words; few = is.few }
+one_good config before w Settles plain is may within shows gone = record { good_lines = look_good (is_quiet w) lines.Unsettled (good lines.Unsettled tt refl refl); words = is.words; few = is.few }
 
 all_good : (config : Options) (hs : List Happening) (before : List Line) (w : World) → IsPlain config → IsWell config before w → AreServed hs w → ArePermitted hs w → AreGood (lines_of hs w)
 all_good config [] before w plain is may within = tt
 all_good config (h ∷ hs) before w plain is may within =
     let gone = step_kept config w is.flow is.pipeline h plain is.stands may.0 in
     let sectors = shows_sectors w h may.0 in
-    let shows = one_good config before w h plain is within.0 sectors gone in
+    let shows = one_good config before w h plain is may.0 within.0 sectors gone in
     let next : IsWell config (before ++ lines_at w h) (happens w h) = record {
       flow = gone.flow;
       pipeline = after_step is.pipeline gone.step;

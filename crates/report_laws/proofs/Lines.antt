@@ -24,7 +24,8 @@ use Rattle.blk_back.specs.View as back
 use Rattle.blk_back.specs.Step as back_step
 use Rattle.split_model.specs.World.{World, is_quiet}
 use Rattle.split_model.specs.Shown.{front_lines, back_lines, halt_line, halt_lines, effect_line}
-use Rattle.split_model.specs.Happening.{Happening, FrontMoves, BackMoves, JobMoves, Submits, Notifies, Looks, Settles, happens, lines_at, lines_of, front_shows, back_shows, job_shows, front_turn, back_turn, job_turn, submit_line}
+use Rattle.split_model.proofs.Overwriting.{poke_lines_are, dump_lines_are}
+use Rattle.split_model.specs.Happening.{Happening, FrontMoves, BackMoves, JobMoves, Submits, Notifies, Pokes, Dumps, Looks, Settles, poke_lines, ring_lines, happens, lines_at, lines_of, front_shows, back_shows, job_shows, front_turn, back_turn, job_turn, submit_line}
 use Rattle.report_laws.specs.Begun.{is_begin}
 
 abbrev pub says_quiet : Line → Bool
@@ -110,6 +111,13 @@ pub submit_usual : (job : Job) (r : Result ℕ Refusal) → AreUsual (submit_lin
 submit_usual job (Ok number) = (refl, tt)
 submit_usual job (Err r) = (refl, tt)
 
+-- a word that a hostile hand overwrote, and those that a dump shows
+pub poke_usual : (frame word value : ℕ) → AreUsual (poke_lines frame word value)
+poke_usual frame word value = poke_lines_are (λ (line : Line). is_usual line ≡ true) frame word value refl
+
+pub dump_usual : (pages : List ℕ) → AreUsual (ring_lines pages 0 1024)
+dump_usual pages = dump_lines_are (λ (line : Line). is_usual line ≡ true) pages 0 1024 (λ frame word value. refl)
+
 -- no line begins a report
 abbrev pub AreBehind : List Line → Type 0
 AreBehind ls = AllByRecursion (λ (line : Line). is_begin line ≡ false) ls
@@ -131,6 +139,8 @@ one_behind w BackMoves = usual_behind (back_shows w (back_turn w Took)) (back_us
 one_behind w (JobMoves number outcome) = usual_behind (job_shows w number (job_turn w number outcome)) (job_usual w number (job_turn w number outcome))
 one_behind w (Submits job) = usual_behind (submit_line job (front_submit.submit_of w.front job).0 ∷ []) (submit_usual job (front_submit.submit_of w.front job).0)
 one_behind w (Notifies at) = tt
+one_behind w (Pokes frame word value) = usual_behind _ (poke_usual frame word value)
+one_behind w Dumps = usual_behind _ (dump_usual w.under.pages)
 one_behind w Looks = look_behind (is_quiet w) lines.Busy refl
 one_behind w Settles = look_behind (is_quiet w) lines.Unsettled refl
 

@@ -19,7 +19,7 @@ use Rattle.blk_front.specs.Step.{step_at, step_of}
 use Rattle.blk_front.specs.Submit.{is_connected, is_wait}
 use Rattle.split_model.specs.World.{World, start_of, is_quiet}
 use Rattle.split_model.specs.Shown.{front_lines}
-use Rattle.split_model.specs.Happening.{Happening, FrontMoves, BackMoves, JobMoves, Submits, Notifies, Looks, Settles, happens, lines_at, after, lines_of, front_after, front_shows, back_after, job_after, front_turn, back_turn, job_turn}
+use Rattle.split_model.specs.Happening.{Happening, FrontMoves, BackMoves, JobMoves, Submits, Notifies, Pokes, Dumps, Looks, Settles, happens, lines_at, after, lines_of, front_after, front_shows, back_after, job_after, front_turn, back_turn, job_turn}
 use Rattle.schedule_text.specs.Recorder.{kept_of}
 use Rattle.split_model.specs.Report.{report_of, ended_report_of}
 use Rattle.split_model.proofs.SafeFront.{submit_kept}
@@ -92,6 +92,8 @@ one_told_ready w before BackMoves told = same_ready w (back_after w (back_turn w
 one_told_ready w before (JobMoves number outcome) told = same_ready w (job_after w number (job_turn w number outcome)) before _ (job_same w number (job_turn w number outcome)) told
 one_told_ready w before (Submits job) told = same_ready w (happens w (Submits job)) before _ (submit_kept w.front job).stage told
 one_told_ready w before (Notifies at) told = same_ready w (happens w (Notifies at)) before _ refl told
+one_told_ready w before (Pokes frame word value) told = same_ready w (happens w (Pokes frame word value)) before _ refl told
+one_told_ready w before Dumps told = same_ready w w before _ refl told
 one_told_ready w before Looks told = same_ready w w before _ refl told
 one_told_ready w before Settles told = same_ready w w before _ refl told
 

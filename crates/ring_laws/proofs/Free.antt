@@ -68,7 +68,7 @@ follow_all start values [] before v free f = subst (λ (ls : List Line). Follows
 follow_all start values (line ∷ more) before v free f =
     subst (λ (ls : List Line). Follows start values ls v) (append_assoc before (line ∷ []) more) (follow_all start values more (before ++ line ∷ []) v free.1 (follow_free start values before line v free.0 f))
 
-free : (over : Bool) (line : Line) → is_other line ≡ true → is_of_back line ≡ false → is_service line ≡ false → is_overrun line ≡ false → IsFree over line
+pub free : (over : Bool) (line : Line) → is_other line ≡ true → is_of_back line ≡ false → is_service line ≡ false → is_overrun line ≡ false → IsFree over line
 free over line o f s p = record { other = o; foreign = f; idle = λ e. s; plain = p }
 
 -- one of a job, which the back has not given up

@@ -27,7 +27,7 @@ use Rattle.blk_back.specs.Ask.{ask_of}
 use Rattle.blk_back.specs.View as back
 use Rattle.blk_back.specs.Step as back_step
 use Rattle.split_model.specs.World.{World, start_of, is_quiet}
-use Rattle.split_model.specs.Happening.{Happening, FrontMoves, BackMoves, JobMoves, Submits, Notifies, Looks, Settles, happens, lines_at, after, front_after, front_shows, back_after, back_shows, job_after, job_shows, front_turn, back_turn, job_turn, submit_line}
+use Rattle.split_model.specs.Happening.{Happening, FrontMoves, BackMoves, JobMoves, Submits, Notifies, Pokes, Dumps, Looks, Settles, poke_lines, ring_lines, happens, lines_at, after, front_after, front_shows, back_after, back_shows, job_after, job_shows, front_turn, back_turn, job_turn, submit_line}
 use Rattle.split_model.specs.Safe.{IsSafe}
 use Rattle.split_model.proofs.Safe.{safe_start, safe_happens}
 use Rattle.split_model.specs.Shown.{back_lines, halt_lines}
@@ -39,6 +39,7 @@ use Rattle.move_laws.proofs.Runs as memory
 use Rattle.ring_laws.proofs.Shows.{Sight, Shows}
 use Rattle.ring_laws.proofs.Knows.{Follows}
 use Rattle.ring_laws.proofs.Stages.{back_goes}
+use Rattle.ring_laws.proofs.Outsiders.{AreOutsiders, poke_outsiders, dump_outsiders, outsiders_free, outsiders_by}
 use Rattle.ring_laws.proofs.Free.{IsFree, AreFree, front_free, job_free, job_running, free_front, free_told, free_submit, free_look, free_settle}
 use Rattle.ring_laws.proofs.Runs.{FollowsTo, follows_happens, follows_begin}
 use Rattle.ring_laws.proofs.Works.{no_jobs}
@@ -108,12 +109,18 @@ pub settle_by : (quiet : Bool) → IsBystander (if quiet then lines.Quiet else l
 settle_by true = record { plain = refl; unstepped = refl }
 settle_by false = record { plain = refl; unstepped = refl }
 
+-- lines of neither end
+outside : (config : Options) (w : World) (before ys : List Line) → AreOutsiders ys → Stand config before w → Tells config (before ++ ys) w.back
+outside config w before ys all s = aside config config.start before ys w.back s.ring.follows (outsiders_free (is_some w.back.halted) ys all) (outsiders_by ys all) s.tells
+
 tells_happens : (config : Options) (w : World) (h : Happening) (before : List Line) → Stand config before w → length (before ++ lines_at w h) < 2 ^ 64 → (let n : World = happens w h in Tells config (before ++ lines_at w h) n.back)
 tells_happens config w FrontMoves before s few = front_after_tells config w (before ++ front_shows w (front_turn w)) (front_turn w) (front_tells config w before (front_turn w) s.ring s.tells refl)
 tells_happens config w BackMoves before s few = back_goes_on config w before Took (back_turn w Took) s.ring s.tells refl few
 tells_happens config w (JobMoves number outcome) before s few = job_goes_on config w before number outcome (job_turn w number outcome) s refl
 tells_happens config w (Submits job) before s few = aside config config.start before (lines_at w (Submits job)) w.back s.ring.follows (free_submit (is_some w.back.halted) job (front_submit.submit_of w.front job).0, tt) (submit_by job (front_submit.submit_of w.front job).0, tt) s.tells
 tells_happens config w (Notifies at) before s few = no_lines config before w.back s.tells
+tells_happens config w (Pokes frame word value) before s few = outside config w before (poke_lines frame word value) (poke_outsiders frame word value) s
+tells_happens config w Dumps before s few = outside config w before (ring_lines w.under.pages 0 1024) (dump_outsiders w.under.pages) s
 tells_happens config w Looks before s few = aside config config.start before (lines_at w Looks) w.back s.ring.follows (free_look (is_some w.back.halted) (is_quiet w), tt) (look_by (is_quiet w), tt) s.tells
 tells_happens config w Settles before s few = aside config config.start before (lines_at w Settles) w.back s.ring.follows (free_settle (is_some w.back.halted) (is_quiet w), tt) (settle_by (is_quiet w), tt) s.tells
 
@@ -162,12 +169,17 @@ job_fetches config w before k o (Some a) e are =
     let running : is_some w.back.halted ≡ false = job_running (is_some w.back.halted) w.under k (ask_job w.back.jobs k) o a e in
     others_fetched config before (job_shows w k (Some a)) (others_of over (job_shows w k (Some a)) (job_free over w.under k (back_step.job_ask_of w.back k) o a running (jobs_of w.back k) e, free_told over _ a.answer running)) are
 
+outside_fetched : (config : Options) (before ys : List Line) → AreOutsiders ys → AreFetched config before → AreFetched config (before ++ ys)
+outside_fetched config before ys all are = others_fetched config before ys (others_of false ys (outsiders_free false ys all)) are
+
 fetched_happens : (config : Options) (w : World) (h : Happening) (before : List Line) → Stand config before w → AreFetched config (before ++ lines_at w h)
 fetched_happens config w FrontMoves before s = front_fetches config w before (front_turn w) refl s.fetched
 fetched_happens config w BackMoves before s = back_fetches config w before (back_turn w Took) refl s
 fetched_happens config w (JobMoves number outcome) before s = job_fetches config w before number outcome (job_turn w number outcome) refl s.fetched
 fetched_happens config w (Submits job) before s = let over : Bool = is_some w.back.halted in others_fetched config before (lines_at w (Submits job)) (others_of over (lines_at w (Submits job)) (free_submit over job (front_submit.submit_of w.front job).0, tt)) s.fetched
 fetched_happens config w (Notifies at) before s = no_fetch config before s.fetched
+fetched_happens config w (Pokes frame word value) before s = outside_fetched config before (poke_lines frame word value) (poke_outsiders frame word value) s.fetched
+fetched_happens config w Dumps before s = outside_fetched config before (ring_lines w.under.pages 0 1024) (dump_outsiders w.under.pages) s.fetched
 fetched_happens config w Looks before s = let over : Bool = is_some w.back.halted in others_fetched config before (lines_at w Looks) (others_of over (lines_at w Looks) (free_look over (is_quiet w), tt)) s.fetched
 fetched_happens config w Settles before s = let over : Bool = is_some w.back.halted in others_fetched config before (lines_at w Settles) (others_of over (lines_at w Settles) (free_settle over (is_quiet w), tt)) s.fetched
 

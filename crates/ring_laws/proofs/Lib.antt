@@ -49,6 +49,7 @@ pub mod Written
 pub mod Rows
 pub mod Choice
 pub mod WrittenElse
+pub mod Outsiders
 pub mod WrittenWord
 pub mod WrittenBack
 pub mod Replying

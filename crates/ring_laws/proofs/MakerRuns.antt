@@ -28,12 +28,13 @@ use Rattle.blk_back.specs.Ask.{ask_of}
 use Rattle.blk_back.specs.View as back
 use Rattle.blk_back.specs.Step as back_step
 use Rattle.split_model.specs.World.{World, start_of, is_quiet}
-use Rattle.split_model.specs.Happening.{Happening, FrontMoves, BackMoves, JobMoves, Submits, Notifies, Looks, Settles, happens, lines_at, after, front_after, front_shows, back_after, back_shows, job_after, job_shows, front_turn, back_turn, job_turn}
+use Rattle.split_model.specs.Happening.{Happening, FrontMoves, BackMoves, JobMoves, Submits, Notifies, Pokes, Dumps, Looks, Settles, poke_lines, ring_lines, happens, lines_at, after, front_after, front_shows, back_after, back_shows, job_after, job_shows, front_turn, back_turn, job_turn}
 use Rattle.split_model.specs.Report.{report_of, ended_report_of}
 use Rattle.split_model.specs.Shown.{back_lines, halt_lines}
 use Rattle.split_model.proofs.SafeAnswers.{backs_of}
 use Rattle.move_laws.specs.Permitted.{IsPermitted}
 use Rattle.move_laws.proofs.Always.{always_within}
+use Rattle.ring_laws.proofs.Outsiders.{poke_outsiders, dump_outsiders, outsiders_calm}
 use Rattle.ring_laws.proofs.Knows.{Follows}
 use Rattle.ring_laws.proofs.Free.{job_running}
 use Rattle.ring_laws.proofs.Began.{IsJobOf}
@@ -99,6 +100,8 @@ made_happens config w BackMoves before s t m = back_made config w before Took (b
 made_happens config w (JobMoves number outcome) before s t m = job_made config w before number outcome (job_turn w number outcome) refl s t m
 made_happens config w (Submits job) before s t m = made_aside before (lines_at w (Submits job)) w.back (submit_calm job (front_submit.submit_of w.front job).0, tt) m
 made_happens config w (Notifies at) before s t m = no_lines before w.back m
+made_happens config w (Pokes frame word value) before s t m = made_aside before (poke_lines frame word value) w.back (outsiders_calm _ (poke_outsiders frame word value)) m
+made_happens config w Dumps before s t m = made_aside before (ring_lines w.under.pages 0 1024) w.back (outsiders_calm _ (dump_outsiders w.under.pages)) m
 made_happens config w Looks before s t m = made_aside before (lines_at w Looks) w.back (look_calm (is_quiet w), tt) m
 made_happens config w Settles before s t m = made_aside before (lines_at w Settles) w.back (settle_calm (is_quiet w), tt) m
 

@@ -27,7 +27,7 @@ use Rattle.blk_back.specs.declared.stage.Stage.TheVariants as stage
 use Rattle.blk_back.specs.declared.stage.Stage.{Stage}
 use Rattle.hypervisor.specs.Hypervisor.{Hypervisor}
 use Rattle.split_model.specs.World.{World, start_of, is_quiet}
-use Rattle.split_model.specs.Happening.{Happening, FrontMoves, BackMoves, JobMoves, Submits, Notifies, Looks, Settles, happens, lines_at, after, front_after, front_shows, back_after, back_shows, job_after, job_shows, front_turn, back_turn, job_turn}
+use Rattle.split_model.specs.Happening.{Happening, FrontMoves, BackMoves, JobMoves, Submits, Notifies, Pokes, Dumps, Looks, Settles, poke_lines, ring_lines, happens, lines_at, after, front_after, front_shows, back_after, back_shows, job_after, job_shows, front_turn, back_turn, job_turn}
 use Rattle.split_model.specs.Report.{report_of, ended_report_of}
 use Rattle.move_laws.specs.Permitted.{IsPermitted}
 use Rattle.move_laws.proofs.Always.{always_within}
@@ -37,6 +37,7 @@ use Rattle.ring_laws.proofs.Shows.{Sight}
 use Rattle.ring_laws.proofs.Knows.{KnowsAt, Knows, Follows}
 use Rattle.ring_laws.proofs.Stages.{back_goes}
 use Rattle.ring_laws.proofs.Sight.{other_epoch}
+use Rattle.ring_laws.proofs.Outsiders.{AreOutsiders, poke_outsiders, dump_outsiders, outsiders_free, outsiders_by, outsiders_else}
 use Rattle.ring_laws.proofs.Free.{IsFree, AreFree, front_free, job_free, job_running, free_front, free_told, free_submit, free_look, free_settle}
 use Rattle.ring_laws.proofs.Works.{AreJobs, job_found, all_second}
 use Rattle.ring_laws.proofs.Bystanders.{Tale, IsBystander, AreBystanders, Aside, plain_epoch, bystanders_go, bystanders_aside}
@@ -219,12 +220,19 @@ job_replies config w before k o (Some a) e s r =
       chosen = chosen_aside before (job_shows w k (Some a)) v.stage r.answered elses (record { epoch = behind.epoch; same = free_epochs (is_some w.back.halted) (job_shows w k (Some a)) free }) (move_idle before a.shown _ a.answer behind_tale.obeys) r.chosen;
     }
 
+-- lines of neither end
+outside_replies : (config : Options) (w : World) (before ys : List Line) → AreOutsiders ys → Stand config before w → Replies config before w.back → Replies config (before ++ ys) w.back
+outside_replies config w before ys all s r =
+    others_free config w before ys (outsiders_else ys all) (outsiders_by ys all) (outsiders_free (is_some w.back.halted) ys all) s r
+
 replies_happen : (config : Options) (w : World) (h : Happening) (before : List Line) → Stand config before w → Stand config (before ++ lines_at w h) (happens w h) → Made before w.back → Replies config before w.back → (let n : World = happens w h in Replies config (before ++ lines_at w h) n.back)
 replies_happen config w FrontMoves before s t made r = front_after_replies config w (before ++ front_shows w (front_turn w)) (front_turn w) (front_replies config w before (front_turn w) s refl r)
 replies_happen config w BackMoves before s t made r = back_replies config w before Took (back_turn w Took) refl s t made r
 replies_happen config w (JobMoves number outcome) before s t made r = job_replies config w before number outcome (job_turn w number outcome) refl s r
 replies_happen config w (Submits job) before s t made r = others_free config w before (lines_at w (Submits job)) (submit_else job (front_submit.submit_of w.front job).0) (submit_by job (front_submit.submit_of w.front job).0, tt) (free_submit (is_some w.back.halted) job (front_submit.submit_of w.front job).0, tt) s r
 replies_happen config w (Notifies at) before s t made r = no_lines config before w.back r
+replies_happen config w (Pokes frame word value) before s t made r = outside_replies config w before (poke_lines frame word value) (poke_outsiders frame word value) s r
+replies_happen config w Dumps before s t made r = outside_replies config w before (ring_lines w.under.pages 0 1024) (dump_outsiders w.under.pages) s r
 replies_happen config w Looks before s t made r = others_free config w before (lines_at w Looks) (look_else (is_quiet w)) (look_by (is_quiet w), tt) (free_look (is_some w.back.halted) (is_quiet w), tt) s r
 replies_happen config w Settles before s t made r = others_free config w before (lines_at w Settles) (settle_else (is_quiet w)) (settle_by (is_quiet w), tt) (free_settle (is_some w.back.halted) (is_quiet w), tt) s r
 

@@ -15,12 +15,13 @@ use Rattle.blk_front.specs.Submit as front_submit
 use Rattle.blk_back.specs.View as back
 use Rattle.blk_back.specs.Step as back_step
 use Rattle.split_model.specs.World.{World, start_of, is_quiet}
-use Rattle.split_model.specs.Happening.{Happening, FrontMoves, BackMoves, JobMoves, Submits, Notifies, Looks, Settles, happens, lines_at, after, lines_of, front_after, front_shows, back_after, back_shows, job_after, job_shows, front_turn, back_turn, job_turn}
+use Rattle.split_model.specs.Happening.{Happening, FrontMoves, BackMoves, JobMoves, Submits, Notifies, Pokes, Dumps, Looks, Settles, poke_lines, ring_lines, happens, lines_at, after, lines_of, front_after, front_shows, back_after, back_shows, job_after, job_shows, front_turn, back_turn, job_turn}
 use Rattle.split_model.proofs.SafeAnswers.{jobs_of}
 use Rattle.split_model.specs.Report.{report_of, ended_report_of}
 use Rattle.ring_laws.proofs.ObeysRing.{ring_none, ring_more, foreign_stretch}
 use Rattle.ring_laws.proofs.Knows.{Follows}
 use Rattle.ring_laws.proofs.Stages.{back_goes}
+use Rattle.ring_laws.proofs.Outsiders.{poke_outsiders, dump_outsiders, outsiders_free}
 use Rattle.ring_laws.proofs.Free.{follow_free, follow_all, front_free, job_free, job_running, free_front, free_told, free_submit, free_look, free_settle, free_end}
 
 -- the lines so far keep the rules, and the back has nothing left to tell
@@ -64,6 +65,10 @@ follows_happens start w BackMoves before f = back_follows start w before Took (b
 follows_happens start w (JobMoves number outcome) before f = job_follows start w before number outcome (job_turn w number outcome) f refl
 follows_happens start w (Submits job) before f = record { follows = follow_free start [] before _ w.back (free_submit (is_some w.back.halted) job (front_submit.submit_of w.front job).0) f.follows; told = f.told }
 follows_happens start w (Notifies at) before f = subst (λ (ls : List Line). FollowsTo start ls (happens w (Notifies at))) (sym (append-nil before)) (record { follows = f.follows; told = f.told })
+follows_happens start w (Pokes frame word value) before f =
+    record { follows = follow_all start [] (poke_lines frame word value) before w.back (outsiders_free (is_some w.back.halted) _ (poke_outsiders frame word value)) f.follows; told = f.told }
+follows_happens start w Dumps before f =
+    record { follows = follow_all start [] (ring_lines w.under.pages 0 1024) before w.back (outsiders_free (is_some w.back.halted) _ (dump_outsiders w.under.pages)) f.follows; told = f.told }
 follows_happens start w Looks before f = record { follows = follow_free start [] before _ w.back (free_look (is_some w.back.halted) (is_quiet w)) f.follows; told = f.told }
 follows_happens start w Settles before f = record { follows = follow_free start [] before _ w.back (free_settle (is_some w.back.halted) (is_quiet w)) f.follows; told = f.told }
 

@@ -1,7 +1,9 @@
 -- What happens echoes the schedule: an event's lines of the kinds that echo are those that answer it.
-use Rattle.std.proofs.Common.{◌≡◌, ℕ, zero, suc, List, [], ◌∷◌, ◌++◌, Option, Some, None, Result, Ok, Err, Bool, true, false, refl, ap, sym, ◌∙◌, subst}
-use Rattle.std.specs.Prelude.{filter, replicate, if◌then◌else◌}
+use Rattle.std.proofs.Common.{◌≡◌, ℕ, zero, suc, List, [], ◌∷◌, ◌++◌, Option, Some, None, Result, Ok, Err, Bool, true, false, refl, ap, sym, ◌∙◌, subst, arith}
+use Rattle.std.specs.Prelude.{◌+◌, ◌*◌, ◌/◌, ◌%◌, ◌^◌, ◌<◌, ◌≤◌, filter, replicate, if◌then◌else◌}
 use Rattle.std.specs.List.{AllByRecursion}
+use Rattle.std.proofs.lemmas.List.{append-nil}
+use Rattle.std.proofs.lemmas.Nat.{pow_pos}
 use Rattle.std.proofs.lemmas.List.Elements.{filter-append}
 use Rattle.blk_front.specs.View as front
 use Rattle.blk_front.specs.Step as front_step
@@ -23,12 +25,13 @@ use Rattle.blk_back.specs.declared.told.BackTold.{BackTold}
 use Rattle.blk_back.specs.declared.told.BackTold.TheVariants as back_told
 use Rattle.blk_back.specs.declared.told.Halt.{Halt}
 use Rattle.hypervisor.specs.Act.{FrontAct, BackAct, Took}
-use Rattle.plain_disk.specs.Echo.{is_echo, Answers, AnswersAll, AnswersSubmit, AnswersSettle, AnswersLook}
+use Rattle.plain_disk.specs.Echo.{is_echo, Answers, AnswersAll, AnswersSubmit, AnswersSettle, AnswersLook, AreRingWords}
 use Rattle.blk_front.specs.Submit as front_submit
+use Rattle.xen_pages.specs.Pages.{word_of}
 use Rattle.split_model.specs.World.{World, is_quiet}
 use Rattle.split_model.specs.Shown.{front_lines, back_lines, halt_lines, effect_line}
-use Rattle.split_model.specs.Happening.{Happening, FrontMoves, BackMoves, JobMoves, Submits, Notifies, Looks, Settles, happens, lines_at, after, lines_of, front_shows, back_shows, job_shows, front_turn, back_turn, job_turn, submit_line}
-use Rattle.split_model.specs.Kind.{Makes, AreOf, AreOfAll, connecting, front_move, front_moves, back_moves, AreJobMoves, AreEachJobs, round_start, IsRound, AreRounds, never}
+use Rattle.split_model.specs.Happening.{Happening, FrontMoves, BackMoves, JobMoves, Submits, Notifies, Pokes, Dumps, Looks, Settles, is_guest_word, word_lines, ring_lines, happens, lines_at, after, lines_of, front_shows, back_shows, job_shows, front_turn, back_turn, job_turn, submit_line}
+use Rattle.split_model.specs.Kind.{is_carried, Makes, AreOf, AreOfAll, connecting, front_move, front_moves, back_moves, AreJobMoves, AreEachJobs, round_start, IsRound, AreRounds, never}
 use Rattle.schedule_text.specs.Recorder.{recorded}
 use Rattle.schedule_text.specs.Recorder.{kept_of}
 use Rattle.split_model.proofs.Running.{lines_of-append}
@@ -101,12 +104,14 @@ job_silent w number (Some a) =
     let b : back.View = back_step.job_step w.back number a.answer in
     back_told_silent b.told a.answer
 
-move_silent : (w : World) (h : Happening) → is_move h ≡ true → echo_of (lines_at w h) ≡ []
+pub move_silent : (w : World) (h : Happening) → is_move h ≡ true → echo_of (lines_at w h) ≡ []
 move_silent w FrontMoves m = front_silent w (front_turn w)
 move_silent w BackMoves m = back_silent w (back_turn w Took)
 move_silent w (JobMoves number outcome) m = job_silent w number (job_turn w number outcome)
 move_silent w (Notifies at) m = refl
 move_silent w (Submits job) m = absurd (cc)
+move_silent w (Pokes frame word value) m = absurd (cc)
+move_silent w Dumps m = absurd (cc)
 move_silent w Looks m = absurd (cc)
 move_silent w Settles m = absurd (cc)
 
@@ -180,30 +185,76 @@ settle_echo w rounds m =
     ∙ (echo-append (lines_of rounds w) (lines_of (Settles ∷ []) (after rounds w))
     ∙ (ap (λ l. l ++ echo_of (lines_of (Settles ∷ []) (after rounds w))) (moves_silent rounds w m)))
 
+poke_echo : (w : World) (frame word value : ℕ) → is_guest_word frame word ≡ true → echo_of (lines_of (Pokes frame word value ∷ []) w) ≡ lines.Poke frame word value ∷ []
+poke_echo w frame word value allowed = rw allowed refl
+
+-- places from further on, and below a bound that is further on, are as good
+later_words : (from to bound : ℕ) (shown : List Line) → from ≤ to → AreRingWords to bound shown → AreRingWords from bound shown
+later_words from to bound [] le are = tt
+later_words from to bound (lines.Word frame word value ∷ rest) le are = (are.0, are.1, are.2, omega (arith, le, are.3), are.4, are.5, are.6)
+later_words from to bound (line ∷ rest) le are = absurd are
+
+wider : (from low high : ℕ) (shown : List Line) → low ≤ high → AreRingWords from low shown → AreRingWords from high shown
+wider from low high [] le are = tt
+wider from low high (lines.Word frame word value ∷ rest) le are = (are.0, are.1, are.2, are.3, omega (arith, le, are.4), are.5, wider (are.0 + 1) low high rest le are.6)
+wider from low high (line ∷ rest) le are = absurd are
+
+-- the words of the ring that aren't 0, from this place on
+word_then : (place bound value : ℕ) (rest : List Line) → place < bound → AreRingWords (place + 1) bound rest → AreRingWords place bound (word_lines place value ++ rest)
+word_then place bound zero rest within are = later_words place (place + 1) bound rest (omega arith) are
+word_then place bound (suc value) rest within are = (place, refl, refl, omega arith, within, (λ e. absurd (cc)), are)
+
+pub are_ring_words : (pages : List ℕ) (place count : ℕ) → AreRingWords place (place + count) (ring_lines pages place count)
+are_ring_words pages place zero = tt
+are_ring_words pages place (suc count) =
+    word_then place (place + suc count) (word_of pages (2 + place / 1024) (place % 1024)) (ring_lines pages (place + 1) count) (omega arith)
+    (subst (λ bound. AreRingWords (place + 1) bound (ring_lines pages (place + 1) count)) (omega arith) (are_ring_words pages (place + 1) count))
+
+word_echo : (place value : ℕ) → echo_of (word_lines place value) ≡ word_lines place value
+word_echo place zero = refl
+word_echo place (suc value) = refl
+
+-- they all echo
+words_echo : (pages : List ℕ) (place count : ℕ) → echo_of (ring_lines pages place count) ≡ ring_lines pages place count
+words_echo pages place zero = refl
+words_echo pages place (suc count) =
+    echo-append (word_lines place (word_of pages (2 + place / 1024) (place % 1024))) (ring_lines pages (place + 1) count)
+    ∙ (ap (λ l. l ++ echo_of (ring_lines pages (place + 1) count)) (word_echo place (word_of pages (2 + place / 1024) (place % 1024)))
+    ∙ ap (λ l. word_lines place (word_of pages (2 + place / 1024) (place % 1024)) ++ l) (words_echo pages (place + 1) count))
+
+dump_echo : (w : World) → echo_of (lines_of (Dumps ∷ []) w) ≡ ring_lines w.under.pages 0 1024
+dump_echo w = ap echo_of (append-nil (ring_lines w.under.pages 0 1024)) ∙ words_echo w.under.pages 0 1024
+
+-- a ring of one page is a part of one of several
+one_page : (order : ℕ) → 1024 ≤ 1024 * 2 ^ order
+one_page order = let some : 0 < 2 ^ order = pow_pos order in omega arith
+
 -- the lines of an event that echo are those that answer it
-made_echo : (order : ℕ) (e : Event) (w : World) (hs : List Happening) → Makes e w hs → Answers order e (echo_of (lines_of hs w))
-made_echo order (events.Submit job) w hs k =
+made_echo : (order : ℕ) (e : Event) (w : World) (hs : List Happening) → is_carried e ≡ true → Makes e w hs → Answers order e (echo_of (lines_of hs w))
+made_echo order (events.Submit job) w hs c k =
     let a = submit_answers w job (front_submit.submit_of w.front job).0 in
     (a.0, ap (λ l. echo_of (lines_of l w)) k.0 ∙ a.1, a.2)
-made_echo order (events.Front n) w hs k = ap (λ l. echo_of (lines_of l w)) k ∙ silent_event w (front_moves w n) (front_are_moves w n)
-made_echo order (events.Back n) w hs k = ap (λ l. echo_of (lines_of l w)) k ∙ silent_event w (back_moves w n) (back_are_moves (front_submit.is_connected w.front.stage) n)
-made_echo order (events.Job number n) w hs k = silent_event w hs (job_are_moves number hs k.0)
-made_echo order (events.Turn n) w hs k = silent_event w hs (rounds_are_moves never n w hs k)
-made_echo order events.Settle w hs k =
+made_echo order (events.Front n) w hs c k = ap (λ l. echo_of (lines_of l w)) k ∙ silent_event w (front_moves w n) (front_are_moves w n)
+made_echo order (events.Back n) w hs c k = ap (λ l. echo_of (lines_of l w)) k ∙ silent_event w (back_moves w n) (back_are_moves (front_submit.is_connected w.front.stage) n)
+made_echo order (events.Job number n) w hs c k = silent_event w hs (job_are_moves number hs k.0)
+made_echo order (events.Turn n) w hs c k = silent_event w hs (rounds_are_moves never n w hs k)
+made_echo order events.Settle w hs c k =
     let a = settle_answers (is_quiet (after k.rounds w)) in
     (a.0, ap (λ l. echo_of (lines_of l w)) k.all ∙ (settle_echo w k.rounds (rounds_are_moves is_quiet k.are_rounds.count w k.rounds k.are_rounds.are_rounds) ∙ a.1), a.2)
-made_echo order events.Look w hs k =
+made_echo order events.Look w hs c k =
     let a = look_answers (is_quiet w) in
     (a.0, ap (λ l. echo_of (lines_of l w)) k ∙ a.1, a.2)
-made_echo order (events.Notify at) w hs k = ap (λ l. echo_of (lines_of l w)) k
-made_echo order events.Suspend w hs k = absurd k
-made_echo order (events.Close at) w hs k = absurd k
-made_echo order (events.Poke frame word value) w hs k = absurd k
-made_echo order (events.Key name text) w hs k = absurd k
-made_echo order events.Dump w hs k = absurd k
+made_echo order (events.Notify at) w hs c k = ap (λ l. echo_of (lines_of l w)) k
+made_echo order events.Suspend w hs c k = absurd k
+made_echo order (events.Close at) w hs c k = absurd k
+made_echo order (events.Poke frame word value) w hs c k = ap (λ l. echo_of (lines_of l w)) k.0 ∙ poke_echo w frame word value c
+made_echo order (events.Key name text) w hs c k = absurd k
+made_echo order events.Dump w hs c k =
+    wider 0 1024 (1024 * 2 ^ order) (echo_of (lines_of hs w)) (one_page order)
+    (subst (AreRingWords 0 1024) (sym (ap (λ l. echo_of (lines_of l w)) k ∙ dump_echo w)) (are_ring_words w.under.pages 0 1024))
 
 pub event_echo : (order : ℕ) (e : Event) (w : World) (hs : List Happening) → AreOf e w hs → Answers order e (echo_of (lines_of hs w))
-event_echo order e w hs k = made_echo order e w hs k.1
+event_echo order e w hs k = made_echo order e w hs k.0 k.1
 
 -- what the events make happen answers them, one after another
 pub schedule_echo : (order : ℕ) (es : List Event) (w : World) (hs : List Happening) → AreOfAll es w hs → AnswersAll order es (echo_of (lines_of hs w))

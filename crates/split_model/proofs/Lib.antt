@@ -8,4 +8,8 @@ pub mod SafeAnswers
 pub mod SafeGrowth
 pub mod SafeFront
 pub mod Safe
+pub mod Overwriting
+pub mod FewFront
+pub mod FewJobs
+pub mod Tight
 pub mod Echo

@@ -1,5 +1,5 @@
 -- What a move makes happen, by what its calls say.
-use Rattle.std.proofs.Common.{◌≡◌, ℕ, ◌+◌, ◌<◌, ◌≤◌, ◌^◌, length, List, [], ◌∷◌, ◌++◌, Option, Some, None, Result, Ok, refl, ap, sym, ◌∙◌, subst, arith}
+use Rattle.std.proofs.Common.{◌≡◌, true, ℕ, ◌+◌, ◌<◌, ◌≤◌, ◌^◌, length, List, [], ◌∷◌, ◌++◌, Option, Some, None, Result, Ok, refl, ap, sym, ◌∙◌, subst, arith}
 use Rattle.std.proofs.lemmas.List.{append-nil}
 use Rattle.std.proofs.lemmas.Option.{none-some, same_Some}
 use Rattle.blk_base.specs.declared.config.Job.{Job}
@@ -12,14 +12,15 @@ use Rattle.blk_base.specs.declared.moves.BackMover.{BackMover}
 use Rattle.blk_base.specs.declared.moves.BackMover.TheVariants.{Back, Job as JobOf}
 use Rattle.blk_base.specs.declared.moves.Move.{Move as Shown}
 use Rattle.schedule_text.specs.declared.line.Line.{Line}
-use Rattle.schedule_text.specs.declared.line.Line.TheVariants.{Move}
+use Rattle.schedule_text.specs.declared.line.Line.TheVariants.{Move, Poke}
+use Rattle.xen_pages.specs.Pages.{with_word}
 use Rattle.blk_io.specs.Disk.{DiskSeen}
 use Rattle.schedule_text.specs.declared.recorder.RecordStop.{RecordStop}
 use Rattle.schedule_text.specs.Recorder.{RecorderSeen, Gained, Adds}
 use Rattle.schedule_text.proofs.Adding.{gained_none}
 use Rattle.grant_table.specs.Table.{GrantTable}
 use Rattle.hypervisor.specs.Hypervisor.{Hypervisor}
-use Rattle.hypervisor.specs.Act.{FrontAct, BackAct, Outcome, Took, front_act, front_seen, front_under, back_act, back_seen, back_under, outcome_told}
+use Rattle.hypervisor.specs.Act.{FrontAct, BackAct, Outcome, Took, front_act, front_seen, front_under, back_act, back_seen, back_under, outcome_told, with_pages}
 use Rattle.hypervisor.specs.Disk.{DiskDoes}
 use Rattle.hypervisor.specs.May.{FrontMay, BackMay}
 use Rattle.blk_front.specs.declared.told.Told.{Told as FrontTold}
@@ -39,7 +40,7 @@ use Rattle.back_jobs.specs.Hands.{Names}
 use Rattle.back_jobs.specs.Sound.{StaysInPageAndDisk}
 use Rattle.split_model.specs.World.{World}
 use Rattle.split_model.specs.Shown.{front_lines, back_lines, halt_lines}
-use Rattle.split_model.specs.Happening.{Happening, FrontMoves, BackMoves, JobMoves, Submits, submit_line, happens, lines_at, DiskGoes, front_after, front_shows, back_after, back_shows, job_after, job_shows, front_turn, back_turn, job_turn}
+use Rattle.split_model.specs.Happening.{Happening, FrontMoves, BackMoves, JobMoves, Submits, Pokes, Dumps, is_guest_word, submit_line, happens, lines_at, DiskGoes, front_after, front_shows, back_after, back_shows, job_after, job_shows, front_turn, back_turn, job_turn}
 use Rattle.split_model.specs.Kind.{IsJobMove}
 use Rattle.hypervisor.specs.Act.{IsGiven}
 use Rattle.split_model.specs.Leads.{moment, Goes, Is}
@@ -358,3 +359,20 @@ submit_goes w job f answer line c r s result stepped answered said shown =
 pub said_goes : (h : Happening) (w : World) (c : DiskSeen) (r s : RecorderSeen) (result : Result (Unit {0}) RecordStop) (line : Line) → w ≡ happens w h → DiskGoes w h c c → line ∷ [] ≡ lines_at w h → Adds (line ∷ []) result r s → Goes (Is (h ∷ [])) (Is (h ∷ [])) 0 result (moment w c r) (moment w c s)
 said_goes h w c r s result line world disk said shown =
     goes_here (Is (h ∷ [])) (Is (h ∷ [])) 0 h w w c c r s result refl refl world (omega arith) refl disk (subst (λ (l : List Line). Adds l result r s) said shown)
+
+-- a word of the guest's memory was overwritten, and that was said
+poked : (w : World) (frame word value : ℕ) (u : Hypervisor) → is_guest_word frame word ≡ true → u ≡ with_pages w.under (with_word w.under.pages frame word value) → record { front = w.front; back = w.back; under = u } ≡ happens w (Pokes frame word value)
+poked w frame word value u there wrote = rw (wrote, there) refl
+
+pub poked_safe : (w : World) (frame word value : ℕ) (u : Hypervisor) → is_guest_word frame word ≡ true → u ≡ with_pages w.under (with_word w.under.pages frame word value) → IsSafe w → IsSafe (record { front = w.front; back = w.back; under = u })
+poked_safe w frame word value u there wrote safe = subst IsSafe (sym (poked w frame word value u there wrote)) (safe_happens w (Pokes frame word value) safe)
+
+pub poked_goes : (w : World) (frame word value : ℕ) (u : Hypervisor) (c : DiskSeen) (r s : RecorderSeen) (result : Result (Unit {0}) RecordStop) → is_guest_word frame word ≡ true → u ≡ with_pages w.under (with_word w.under.pages frame word value) → Adds (Poke frame word value ∷ []) result r s
+    → Goes (Is (Pokes frame word value ∷ [])) (Is (Pokes frame word value ∷ [])) 0 result (moment w c r) (moment (record { front = w.front; back = w.back; under = u }) c s)
+poked_goes w frame word value u c r s result there wrote shown =
+    goes_here (Is (Pokes frame word value ∷ [])) (Is (Pokes frame word value ∷ [])) 0 (Pokes frame word value) w (record { front = w.front; back = w.back; under = u }) c c r s result refl refl
+    (poked w frame word value u there wrote) (rw wrote (omega arith)) refl refl (rw there shown)
+
+-- the words of the ring were said of the machine as it stands
+pub dumped_goes : (w : World) (c : DiskSeen) (r s : RecorderSeen) (result : Result (Unit {0}) RecordStop) → Adds (lines_at w Dumps) result r s → Goes (Is (Dumps ∷ [])) (Is (Dumps ∷ [])) 0 result (moment w c r) (moment w c s)
+dumped_goes w c r s result shown = goes_here (Is (Dumps ∷ [])) (Is (Dumps ∷ [])) 0 Dumps w w c c r s result refl refl refl (omega arith) refl refl shown

@@ -36,7 +36,8 @@ use Rattle.blk_back.specs.Hands.{hands_of}
 use Rattle.blk_back.proofs.Hands.{hands_after, job_hands_after, step_info}
 use Rattle.segment_list.specs.declared.verdict.DiskInfo.{DiskInfo}
 use Rattle.split_model.specs.World.{World, start_of}
-use Rattle.split_model.specs.Happening.{Happening, FrontMoves, BackMoves, JobMoves, Submits, Notifies, Looks, Settles, happens, after, front_after, back_after, job_after, front_turn, back_turn, job_turn, other_end}
+use Rattle.split_model.proofs.Overwriting.{poke_cases}
+use Rattle.split_model.specs.Happening.{Happening, FrontMoves, BackMoves, JobMoves, Submits, Notifies, Pokes, Dumps, Looks, Settles, happens, after, front_after, back_after, job_after, front_turn, back_turn, job_turn, other_end}
 use Rattle.split_model.specs.Safe.{AreHeld, IsPorted, IsSafe}
 use Rattle.split_model.proofs.SafeActs.{of_back, back_test, of_read, of_disk, held_after, made_front}
 use Rattle.split_model.proofs.SafeAnswers.{IsFronts, IsBacks, IsJobs, fronts_at, backs_of, jobs_of, back_answered, job_answered}
@@ -168,6 +169,13 @@ safe_notify w at safe = record {
   back_told = safe.back_told;
 }
 
+-- a word of memory that a hostile hand overwrites is all that changes
+safe_poke : (w : World) (frame word value : ℕ) → IsSafe w → IsSafe (happens w (Pokes frame word value))
+safe_poke w frame word value safe =
+    poke_cases (λ under shown. IsSafe (record { front = w.front; back = w.back; under = under })) w.under frame word value
+    (λ framed worded. record { ported = safe.ported; held = safe.held; sized = safe.sized; front_told = safe.front_told; back_told = safe.back_told })
+    (record { ported = safe.ported; held = safe.held; sized = safe.sized; front_told = safe.front_told; back_told = safe.back_told })
+
 -- what the front asks may be carried out
 front_may_at : (h : Hypervisor) (ask : FrontAsk) → IsFronts h.channels ask → front_ends.StaysInMemory ask → FrontMay h ask
 front_may_at h front_ask.Wait own within = tt
@@ -251,6 +259,8 @@ safe_happens w BackMoves safe = safe_back_turn w Took (back_turn w Took) safe re
 safe_happens w (JobMoves number outcome) safe = safe_job_turn w number outcome (job_turn w number outcome) safe refl
 safe_happens w (Submits job) safe = safe_submit w job safe
 safe_happens w (Notifies at) safe = safe_notify w at safe
+safe_happens w (Pokes frame word value) safe = safe_poke w frame word value safe
+safe_happens w Dumps safe = safe
 safe_happens w Looks safe = safe
 safe_happens w Settles safe = safe
 

@@ -1,15 +1,16 @@
 -- What may happen to the machine, what it makes of it, and the lines that it shows.
-use Rattle.std.specs.Prelude.{◌≡◌, ℕ, List, [], ◌∷◌, ◌++◌, Option, Some, None, Result, Ok, Err, if◌then◌else◌}
+use Rattle.std.specs.Prelude.{◌≡◌, ℕ, zero, suc, ◌+◌, ◌/◌, ◌%◌, Bool, ◌&&◌, nat_lt, List, [], ◌∷◌, ◌++◌, Option, Some, None, Result, Ok, Err, if◌then◌else◌}
 use Rattle.blk_base.specs.declared.config.Job.{Job}
 use Rattle.blk_io.specs.Disk.{DiskSeen}
 use Rattle.blk_base.specs.declared.parts.End.{End}
 use Rattle.blk_base.specs.declared.parts.End.TheVariants as end
 use Rattle.blk_base.specs.declared.moves.BackMover.TheVariants as back_mover
 use Rattle.schedule_text.specs.declared.line.Line.{Line}
-use Rattle.schedule_text.specs.declared.line.Line.TheVariants.{Move, Submit, Refuse, Quiet, Busy, Unsettled}
+use Rattle.schedule_text.specs.declared.line.Line.TheVariants.{Move, Submit, Refuse, Quiet, Busy, Unsettled, Poke, Word}
 use Rattle.event_channel.specs.Channels.{sent}
+use Rattle.xen_pages.specs.Pages.{word_of, with_word}
 use Rattle.hypervisor.specs.Hypervisor.{Hypervisor}
-use Rattle.hypervisor.specs.Act.{FrontAct, BackAct, Outcome, Took, front_act, back_act}
+use Rattle.hypervisor.specs.Act.{FrontAct, BackAct, Outcome, Took, front_act, back_act, with_pages}
 use Rattle.hypervisor.specs.Disk.{DiskDoes}
 use Rattle.blk_front.specs.declared.told.Refusal.{Refusal}
 use Rattle.blk_front.specs.View as front
@@ -22,13 +23,15 @@ use Rattle.blk_back.specs.Step as back_step
 use Rattle.split_model.specs.World.{World, is_quiet}
 use Rattle.split_model.specs.Shown.{front_lines, back_lines, halt_lines, refusal_word}
 
--- a move of the front, of the back, or of the job of a number with what the disk answers it; a submission; a spurious event at an end's bound port; a look at whether all is quiet, and one when the rounds are over
+-- a move of the front, of the back, or of the job of a number with what the disk answers it; a submission; a spurious event at an end's bound port; a word of the guest's memory overwritten by a hostile hand; a look at the words of the ring, at whether all is quiet, and one when the rounds are over
 pub data Happening : Type 0 where
   FrontMoves : Happening
   BackMoves : Happening
   JobMoves : (number : ℕ) (outcome : Outcome) → Happening
   Submits : (job : Job) → Happening
   Notifies : (at : End) → Happening
+  Pokes : (frame word value : ℕ) → Happening
+  Dumps : Happening
   Looks : Happening
   Settles : Happening
 
@@ -79,12 +82,34 @@ abbrev pub other_end : End → End
 other_end end.Front = end.Back
 other_end end.Back = end.Front
 
+-- a word of the guest's memory, of 1024 frames of 1024 words
+abbrev pub is_guest_word : (frame word : ℕ) → Bool
+is_guest_word frame word = nat_lt frame 1024 && nat_lt word 1024
+
+-- it holds another value, whoever uses it; where there is no such word nothing changes
+abbrev pub overwritten : Hypervisor → (frame word value : ℕ) → Hypervisor
+overwritten h frame word value = if is_guest_word frame word then with_pages h (with_word h.pages frame word value) else h
+
+abbrev pub poke_lines : (frame word value : ℕ) → List Line
+poke_lines frame word value = if is_guest_word frame word then Poke frame word value ∷ [] else []
+
+-- so many words of the ring from this place on, whose first frame is 2: a line for each that isn't 0
+abbrev pub word_lines : (place value : ℕ) → List Line
+word_lines place zero = []
+word_lines place (suc value) = Word (2 + place / 1024) (place % 1024) (suc value) ∷ []
+
+abbrev pub ring_lines : List ℕ → (place count : ℕ) → List Line
+ring_lines pages place zero = []
+ring_lines pages place (suc count) = word_lines place (word_of pages (2 + place / 1024) (place % 1024)) ++ ring_lines pages (place + 1) count
+
 abbrev pub happens : World → Happening → World
 happens w FrontMoves = front_after w (front_turn w)
 happens w BackMoves = back_after w (back_turn w Took)
 happens w (JobMoves number outcome) = job_after w number (job_turn w number outcome)
 happens w (Submits job) = record { front = (front_submit.submit_of w.front job).1; back = w.back; under = w.under }
 happens w (Notifies at) = record { front = w.front; back = w.back; under = let h : Hypervisor = w.under in record h { channels = sent h.channels (other_end at) } }
+happens w (Pokes frame word value) = record { front = w.front; back = w.back; under = overwritten w.under frame word value }
+happens w Dumps = w
 happens w Looks = w
 happens w Settles = w
 
@@ -94,6 +119,8 @@ lines_at w BackMoves = back_shows w (back_turn w Took)
 lines_at w (JobMoves number outcome) = job_shows w number (job_turn w number outcome)
 lines_at w (Submits job) = submit_line job (front_submit.submit_of w.front job).0 ∷ []
 lines_at w (Notifies at) = []
+lines_at w (Pokes frame word value) = poke_lines frame word value
+lines_at w Dumps = ring_lines w.under.pages 0 1024
 lines_at w Looks = (if is_quiet w then Quiet else Busy) ∷ []
 lines_at w Settles = (if is_quiet w then Quiet else Unsettled) ∷ []
 

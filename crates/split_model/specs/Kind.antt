@@ -1,5 +1,5 @@
 -- The happenings that an event of a schedule makes.
-use Rattle.std.specs.Prelude.{◌≡◌, ℕ, zero, suc, ◌+◌, ◌*◌, ◌≤◌, ◌<◌, ◌⊎◌, Bool, true, false, not, ◌&&◌, List, [], ◌∷◌, ◌++◌, replicate, length, Some, None, if◌then◌else◌, ◌==◌}
+use Rattle.std.specs.Prelude.{◌≡◌, ℕ, zero, suc, ◌+◌, ◌*◌, ◌^◌, ◌≤◌, ◌<◌, ◌⊎◌, Bool, true, false, not, ◌&&◌, List, [], ◌∷◌, ◌++◌, replicate, length, Some, None, if◌then◌else◌, ◌==◌}
 use Rattle.blk_base.specs.Options.{Options}
 use Rattle.blk_base.specs.declared.operation.Abi.{Abi}
 use Rattle.blk_base.specs.declared.operation.Abi.TheVariants.{X64, X32}
@@ -13,7 +13,7 @@ use Rattle.schedule_text.specs.declared.event.Event.TheVariants as events
 use Rattle.blk_front.specs.Submit.{unfinished, sectors_owed, is_connected}
 use Rattle.blk_back.specs.Step.{next_job_of}
 use Rattle.split_model.specs.World.{World, is_quiet}
-use Rattle.split_model.specs.Happening.{Happening, FrontMoves, BackMoves, JobMoves, Submits, Notifies, Looks, Settles, happens, after}
+use Rattle.split_model.specs.Happening.{Happening, FrontMoves, BackMoves, JobMoves, Submits, Notifies, Pokes, Dumps, Looks, Settles, is_guest_word, happens, after}
 
 abbrev pub is_x64 : Abi → Bool
 is_x64 X64 = true
@@ -39,6 +39,8 @@ is_carried (events.Turn n) = is_number n
 is_carried events.Settle = true
 is_carried events.Look = true
 is_carried (events.Notify at) = true
+is_carried (events.Poke frame word value) = is_guest_word frame word
+is_carried events.Dump = true
 is_carried event = false
 
 -- the first move of the front connects both ends: it makes its ring and its port, and the back maps the one and binds the other
@@ -164,6 +166,8 @@ Makes (events.Turn n) w hs = AreRounds never n w hs
 Makes events.Settle w hs = IsSettling w hs
 Makes events.Look w hs = hs ≡ Looks ∷ []
 Makes (events.Notify at) w hs = hs ≡ Notifies at ∷ []
+Makes (events.Poke frame word value) w hs = (hs ≡ Pokes frame word value ∷ []) × (value < 2 ^ 32)
+Makes events.Dump w hs = hs ≡ Dumps ∷ []
 Makes event w hs = ⊥
 
 -- and so far it made these

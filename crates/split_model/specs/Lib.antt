@@ -5,3 +5,4 @@ pub mod Kind
 pub mod Leads
 pub mod Safe
 pub mod Report
+pub mod Honest

@@ -1,0 +1,310 @@
+-- The report before a hostile hand first overwrote a word is that of what happened before.
+use Rattle.std.proofs.Common.{◌≡◌, ℕ, Bool, true, false, List, [], ◌∷◌, ◌++◌, ◌⊎◌, inl, inr, refl, ap, sym, ◌∙◌, subst, append_assoc, true≢false}
+use Rattle.std.specs.Prelude.{◌&&◌, if◌then◌else◌, Result, Ok, Err}
+use Rattle.std.specs.List.{AllByRecursion, list_all}
+use Rattle.std.proofs.lemmas.List.{append-nil}
+use Rattle.std.proofs.lemmas.List.Elements.{filter_map-append}
+use Rattle.blk_base.specs.Options.{Options}
+use Rattle.blk_base.specs.declared.config.Job.{Job}
+use Rattle.blk_io.specs.Disk.{DiskSeen}
+use Rattle.schedule_text.specs.declared.line.Detail.{Detail}
+use Rattle.schedule_text.specs.declared.line.Detail.TheVariants.{Lines, Moves}
+use Rattle.schedule_text.specs.declared.line.Line.{Line}
+use Rattle.schedule_text.specs.declared.line.Line.TheVariants as lines
+use Rattle.schedule_text.specs.Recorder.{recorded, kept_of}
+use Rattle.plain_disk.specs.Echo.{is_echo}
+use Rattle.plain_disk.specs.Honest.{is_honest, honest_part}
+use Rattle.plain_disk.proofs.Honest.{honest_more, honest_ends}
+use Rattle.blk_front.specs.declared.told.Refusal.{Refusal}
+use Rattle.blk_front.specs.Submit as front_submit
+use Rattle.split_model.specs.World.{World, start_of, is_quiet}
+use Rattle.split_model.specs.Happening.{Happening, FrontMoves, BackMoves, JobMoves, Submits, Notifies, Pokes, Dumps, Looks, Settles, is_guest_word, poke_lines, happens, after, lines_at, lines_of, submit_line, DiskRuns}
+use Rattle.split_model.specs.Honest.{honest_history}
+use Rattle.split_model.specs.Report.{report_of, ended_report_of}
+use Rattle.split_model.proofs.Running.{kept_of-append}
+use Rattle.split_model.proofs.Echo.{echo_of, move_silent}
+use Rattle.split_model.proofs.Overwriting.{dump_lines_are}
+use Rattle.machine_pipeline.proofs.KindsEvents.{served_append, possible_first}
+use Rattle.machine_pipeline.specs.Submissions.{submitted_at, submitted_of}
+use Rattle.machine_pipeline.specs.Allowed.{IsServed, AreServed, IsPossible, ArePossible}
+
+both_true : (a b : Bool) → (a && b) ≡ true → (a ≡ true) × (b ≡ true)
+both_true true b e = (refl, e)
+both_true false b e = absurd (true≢false (sym e))
+
+-- lines of which none is hostile
+abbrev AreHonest : List Line → Type 0
+AreHonest ls = AllByRecursion (λ (line : Line). is_honest line ≡ true) ls
+
+-- a line that doesn't echo is none
+unechoed : (line : Line) → is_echo line ≡ false → is_honest line ≡ true
+unechoed (lines.Poke frame word value) e = absurd (true≢false e)
+unechoed (lines.Key name text) e = absurd (true≢false e)
+unechoed line e = refl
+
+echo_more : (line : Line) (ls : List Line) → is_echo line ≡ true → echo_of (line ∷ ls) ≡ line ∷ echo_of ls
+echo_more line ls e = simp e
+
+echo_past : (line : Line) (ls : List Line) → is_echo line ≡ false → echo_of (line ∷ ls) ≡ echo_of ls
+echo_past line ls e = simp e
+
+silent_honest : (ls : List Line) → echo_of ls ≡ [] → AreHonest ls
+silent_honest [] e = tt
+silent_honest (line ∷ ls) e = by_echo (is_echo line) refl (λ rest. silent_honest ls rest)
+  where
+    by_echo : (b : Bool) → is_echo line ≡ b → (echo_of ls ≡ [] → AreHonest ls) → AreHonest (line ∷ ls)
+    by_echo true is later = let said : line ∷ echo_of ls ≡ [] = sym (echo_more line ls is) ∙ e in absurd (cc)
+    by_echo false is later = (unechoed line is, later (sym (echo_past line ls is) ∙ e))
+
+submit_honest : (job : Job) (r : Result ℕ Refusal) → AreHonest (submit_line job r ∷ [])
+submit_honest job (Ok number) = (refl, tt)
+submit_honest job (Err refusal) = (refl, tt)
+
+look_honest : (quiet : Bool) (other : Line) → is_honest other ≡ true → AreHonest ((if quiet then lines.Quiet else other) ∷ [])
+look_honest true other e = (refl, tt)
+look_honest false other e = (e, tt)
+
+honest_at : (w : World) (h : Happening) → IsServed w h → AreHonest (lines_at w h)
+honest_at w (Submits job) may = submit_honest job (front_submit.submit_of w.front job).0
+honest_at w Looks may = look_honest (is_quiet w) lines.Busy refl
+honest_at w Settles may = look_honest (is_quiet w) lines.Unsettled refl
+honest_at w Dumps may = dump_lines_are (λ (line : Line). is_honest line ≡ true) w.under.pages 0 1024 (λ frame word value. refl)
+honest_at w (Pokes frame word value) may = absurd may
+honest_at w FrontMoves may = silent_honest (lines_at w FrontMoves) (move_silent w FrontMoves refl)
+honest_at w BackMoves may = silent_honest (lines_at w BackMoves) (move_silent w BackMoves refl)
+honest_at w (JobMoves number outcome) may = silent_honest (lines_at w (JobMoves number outcome)) (move_silent w (JobMoves number outcome) refl)
+honest_at w (Notifies at) may = tt
+
+-- honest lines come before those of the rest
+honest_then : (ls rest : List Line) → AreHonest ls → honest_part (ls ++ rest) ≡ ls ++ honest_part rest
+honest_then [] rest all = refl
+honest_then (line ∷ ls) rest all = honest_more line (ls ++ rest) all.0 ∙ ap (λ (l : List Line). line ∷ l) (honest_then ls rest all.1)
+
+both_honest : (a b : List Line) → AreHonest a → AreHonest b → AreHonest (a ++ b)
+both_honest [] b p q = q
+both_honest (line ∷ a) b p q = (p.0, both_honest a b p.1 q)
+
+-- all of it
+honest_all : (ls : List Line) → AreHonest ls → honest_part ls ≡ ls
+honest_all [] all = refl
+honest_all (line ∷ ls) all = honest_more line ls all.0 ∙ ap (λ (l : List Line). line ∷ l) (honest_all ls all.1)
+
+listed_honest : (ls : List Line) → list_all is_honest ls ≡ true → AreHonest ls
+listed_honest [] all = tt
+listed_honest (line ∷ ls) all = let e = both_true (is_honest line) (list_all is_honest ls) all in (e.0, listed_honest ls e.1)
+
+-- what happened before shows honest lines alone
+served_honest : (hs : List Happening) (w : World) → AreServed hs w → AreHonest (lines_of hs w)
+served_honest [] w may = tt
+served_honest (h ∷ hs) w may = both_honest (lines_at w h) (lines_of hs (happens w h)) (honest_at w h may.0) (served_honest hs (happens w h) may.1)
+
+-- no word was overwritten, or the first line that says so comes after those of what happened before
+abbrev pub HostileAfter : (whole first : List Line) → Type 0
+HostileAfter whole first = (frame : ℕ) × (word : ℕ) × (value : ℕ) × (rest : List Line) × (whole ≡ first ++ lines.Poke frame word value ∷ rest)
+
+abbrev pub HonestWith : List Happening → World → List Line → Type 0
+HonestWith hs w tail = (honest_history hs ≡ hs) ⊎ HostileAfter (lines_of hs w ++ tail) (lines_of (honest_history hs) w)
+
+more_honest : (h : Happening) (hs : List Happening) (w : World) (tail : List Line) → honest_history (h ∷ hs) ≡ h ∷ honest_history hs → HonestWith hs (happens w h) tail → HonestWith (h ∷ hs) w tail
+more_honest h hs w tail first (inl all) = inl (first ∙ ap (λ (l : List Happening). h ∷ l) all)
+more_honest h hs w tail first (inr later) = inr (
+  later.0,
+  later.1,
+  later.2,
+  later.3,
+  append_assoc (lines_at w h) (lines_of hs (happens w h)) tail
+      ∙ (ap (λ (l : List Line). lines_at w h ++ l) later.4
+      ∙ (sym (append_assoc (lines_at w h) (lines_of (honest_history hs) (happens w h)) (lines.Poke later.0 later.1 later.2 ∷ later.3))
+      ∙ ap (λ (l : List Happening). lines_of l w ++ lines.Poke later.0 later.1 later.2 ∷ later.3) (sym first))),
+)
+
+pub honest_with : (hs : List Happening) (w : World) (tail : List Line) → ArePossible hs w → HonestWith hs w tail
+honest_with [] w tail may = inl refl
+honest_with (Pokes frame word value ∷ hs) w tail may = inr (frame, word, value, lines_of hs (happens w (Pokes frame word value)) ++ tail, rw may.0.0 refl)
+honest_with (FrontMoves ∷ hs) w tail may = more_honest FrontMoves hs w tail refl (honest_with hs (happens w FrontMoves) tail may.1)
+honest_with (BackMoves ∷ hs) w tail may = more_honest BackMoves hs w tail refl (honest_with hs (happens w BackMoves) tail may.1)
+honest_with (JobMoves number outcome ∷ hs) w tail may = more_honest (JobMoves number outcome) hs w tail refl (honest_with hs (happens w (JobMoves number outcome)) tail may.1)
+honest_with (Submits job ∷ hs) w tail may = more_honest (Submits job) hs w tail refl (honest_with hs (happens w (Submits job)) tail may.1)
+honest_with (Notifies at ∷ hs) w tail may = more_honest (Notifies at) hs w tail refl (honest_with hs (happens w (Notifies at)) tail may.1)
+honest_with (Dumps ∷ hs) w tail may = more_honest Dumps hs w tail refl (honest_with hs (happens w Dumps) tail may.1)
+honest_with (Looks ∷ hs) w tail may = more_honest Looks hs w tail refl (honest_with hs (happens w Looks) tail may.1)
+honest_with (Settles ∷ hs) w tail may = more_honest Settles hs w tail refl (honest_with hs (happens w Settles) tail may.1)
+
+-- what happened before comes first, and is served
+pub honest_first : (hs : List Happening) → (rest : List Happening) × (hs ≡ honest_history hs ++ rest)
+honest_first [] = ([], refl)
+honest_first (Pokes frame word value ∷ hs) = (Pokes frame word value ∷ hs, refl)
+honest_first (h ∷ hs) = let others = honest_first hs in (others.0, ap (λ (l : List Happening). h ∷ l) others.1)
+
+pub served_part : (hs : List Happening) (w : World) → ArePossible hs w → AreServed (honest_history hs) w
+served_part [] w may = tt
+served_part (Pokes frame word value ∷ hs) w may = tt
+served_part (FrontMoves ∷ hs) w may = (may.0, served_part hs (happens w FrontMoves) may.1)
+served_part (BackMoves ∷ hs) w may = (may.0, served_part hs (happens w BackMoves) may.1)
+served_part (JobMoves number outcome ∷ hs) w may = (may.0, served_part hs (happens w (JobMoves number outcome)) may.1)
+served_part (Submits job ∷ hs) w may = (may.0, served_part hs (happens w (Submits job)) may.1)
+served_part (Notifies at ∷ hs) w may = (may.0, served_part hs (happens w (Notifies at)) may.1)
+served_part (Dumps ∷ hs) w may = (may.0, served_part hs (happens w Dumps) may.1)
+served_part (Looks ∷ hs) w may = (may.0, served_part hs (happens w Looks) may.1)
+served_part (Settles ∷ hs) w may = (may.0, served_part hs (happens w Settles) may.1)
+
+-- its disk and its submissions are the first of all
+pub disk_runs_first : (first rest : List Happening) (w : World) (before now : DiskSeen) → DiskRuns (first ++ rest) w before now → (between : DiskSeen) × DiskRuns first w before between
+disk_runs_first [] rest w before now runs = (before, refl)
+disk_runs_first (h ∷ first) rest w before now runs =
+    let later = disk_runs_first first rest (happens w h) runs.0 now runs.2 in
+    (later.0, (runs.0, runs.1, later.1))
+
+pub disk_part : (hs : List Happening) (w : World) (before now : DiskSeen) → DiskRuns hs w before now → (between : DiskSeen) × DiskRuns (honest_history hs) w before between
+disk_part hs w before now runs =
+    let first = honest_first hs in
+    disk_runs_first (honest_history hs) first.0 w before now (subst (λ (l : List Happening). DiskRuns l w before now) first.1 runs)
+
+pub submitted_part : (hs : List Happening) → (more : List Job) × (submitted_of (honest_history hs) ++ more ≡ submitted_of hs)
+submitted_part hs =
+    let first = honest_first hs in
+    (submitted_of first.0, sym (ap submitted_of first.1 ∙ filter_map-append submitted_at (honest_history hs) first.0))
+
+-- what a recorder keeps of lines
+kept_honest : (d : Detail) (line : Line) → is_honest line ≡ true → AreHonest (recorded d line)
+kept_honest Lines (lines.Begin config other) e = (refl, tt)
+kept_honest Lines (lines.Move move) e = tt
+kept_honest Lines line e = (e, tt)
+kept_honest Moves (lines.Begin config other) e = (refl, tt)
+kept_honest Moves (lines.Move move) e = (refl, tt)
+kept_honest Moves line e = (e, tt)
+
+kept_hostile : (d : Detail) (line : Line) (rest : List Line) → is_honest line ≡ false → honest_part (recorded d line ++ rest) ≡ []
+kept_hostile Lines (lines.Poke frame word value) rest e = honest_ends (lines.Poke frame word value) rest e
+kept_hostile Lines (lines.Key name text) rest e = honest_ends (lines.Key name text) rest e
+kept_hostile Moves (lines.Poke frame word value) rest e = honest_ends (lines.Poke frame word value) rest e
+kept_hostile Moves (lines.Key name text) rest e = honest_ends (lines.Key name text) rest e
+kept_hostile d line rest e = absurd (true≢false e)
+
+pub honest_kept : (d : Detail) (ls : List Line) → honest_part (kept_of d ls) ≡ kept_of d (honest_part ls)
+honest_kept d [] = refl
+honest_kept d (line ∷ ls) = by_test (is_honest line) refl (honest_kept d ls)
+  where
+    by_test : (b : Bool) → is_honest line ≡ b → honest_part (kept_of d ls) ≡ kept_of d (honest_part ls) → honest_part (recorded d line ++ kept_of d ls) ≡ kept_of d (honest_part (line ∷ ls))
+    by_test true e later =
+        honest_then (recorded d line) (kept_of d ls) (kept_honest d line e)
+        ∙ (ap (λ (l : List Line). recorded d line ++ l) later ∙ ap (kept_of d) (sym (honest_more line ls e)))
+    by_test false e later = kept_hostile d line (kept_of d ls) e ∙ ap (kept_of d) (sym (honest_ends line ls e))
+
+-- the lines of a report, and more after them: its honest part is the report of what happened before, or all of it
+honest_cut : (config : Options) (detail : Detail) (hs : List Happening) (whole : List Line) → ArePossible hs (start_of config)
+    → HostileAfter whole (lines_of (honest_history hs) (start_of config)) → honest_part (lines.Begin config detail ∷ whole) ≡ report_of config detail (honest_history hs)
+honest_cut config detail hs whole may h =
+    let first = lines_of (honest_history hs) (start_of config) in
+    let poke = lines.Poke h.0 h.1 h.2 in
+    honest_more (lines.Begin config detail) whole refl
+    ∙ ap (λ (l : List Line). lines.Begin config detail ∷ l)
+    (ap honest_part h.4
+    ∙ (honest_then first (poke ∷ h.3) (served_honest (honest_history hs) (start_of config) (served_part hs (start_of config) may))
+    ∙ (ap (λ (l : List Line). first ++ l) (honest_ends poke h.3 refl) ∙ append-nil first)))
+
+pub honest_report : (config : Options) (detail : Detail) (hs : List Happening) → ArePossible hs (start_of config)
+    → honest_part (report_of config detail hs) ≡ report_of config detail (honest_history hs)
+honest_report config detail hs may = by_part (honest_with hs (start_of config) [] may)
+  where
+    by_part : HonestWith hs (start_of config) [] → honest_part (report_of config detail hs) ≡ report_of config detail (honest_history hs)
+    by_part (inl all) =
+        let mine = subst (λ (l : List Happening). AreServed l (start_of config)) all (served_part hs (start_of config) may) in
+        honest_all (report_of config detail hs) (refl, served_honest hs (start_of config) mine) ∙ ap (report_of config detail) (sym all)
+    by_part (inr h) = ap (λ (l : List Line). honest_part (lines.Begin config detail ∷ l)) (sym (append-nil (lines_of hs (start_of config)))) ∙ honest_cut config detail hs (lines_of hs (start_of config) ++ []) may h
+
+-- with its last line
+abbrev pub HonestEnded : Options → Detail → List Happening → Type 0
+HonestEnded config detail hs =
+    ((honest_history hs ≡ hs) × (honest_part (ended_report_of config detail hs) ≡ ended_report_of config detail hs))
+    ⊎ (HostileAfter (ended_report_of config detail hs) (report_of config detail (honest_history hs))
+    × (honest_part (ended_report_of config detail hs) ≡ report_of config detail (honest_history hs)))
+
+pub honest_ended : (config : Options) (detail : Detail) (hs : List Happening) → ArePossible hs (start_of config) → HonestEnded config detail hs
+honest_ended config detail hs may = by_part (honest_with hs (start_of config) (lines.End ∷ []) may)
+  where
+    by_part : HonestWith hs (start_of config) (lines.End ∷ []) → HonestEnded config detail hs
+    by_part (inl all) =
+        let mine = subst (λ (l : List Happening). AreServed l (start_of config)) all (served_part hs (start_of config) may) in
+        inl (all, honest_all (ended_report_of config detail hs) (refl, both_honest (lines_of hs (start_of config)) (lines.End ∷ []) (served_honest hs (start_of config) mine) (refl, tt)))
+    by_part (inr h) = inr (
+      (h.0, h.1, h.2, h.3, ap (λ (l : List Line). lines.Begin config detail ∷ l) h.4),
+      honest_cut config detail hs (lines_of hs (start_of config) ++ lines.End ∷ []) may h,
+    )
+
+-- a report that a recorder keeps and in which no line is hostile is one of a history in which no word was overwritten
+none_hostile : (first rest : List Line) (frame word value : ℕ) → AreHonest (first ++ lines.Poke frame word value ∷ rest) → ⊥
+none_hostile [] rest frame word value all = true≢false (sym all.0)
+none_hostile (line ∷ first) rest frame word value all = none_hostile first rest frame word value all.1
+
+kept_poke : (d : Detail) (frame word value : ℕ) → recorded d (lines.Poke frame word value) ≡ lines.Poke frame word value ∷ []
+kept_poke Lines frame word value = refl
+kept_poke Moves frame word value = refl
+
+pub kept_after : (d : Detail) (whole first : List Line) → HostileAfter whole first → HostileAfter (kept_of d whole) (kept_of d first)
+kept_after d whole first h = (
+  h.0,
+  h.1,
+  h.2,
+  kept_of d h.3,
+  ap (kept_of d) h.4 ∙ (kept_of-append d first (lines.Poke h.0 h.1 h.2 ∷ h.3) ∙ ap (λ (l : List Line). kept_of d first ++ (l ++ kept_of d h.3)) (kept_poke d h.0 h.1 h.2)),
+)
+
+pub not_honest : (whole first : List Line) → HostileAfter whole first → list_all is_honest whole ≡ true → ⊥
+not_honest whole first h all = none_hostile first h.3 h.0 h.1 h.2 (subst AreHonest h.4 (listed_honest whole all))
+
+-- a report that was cut among the lines of what happened last: no word was overwritten, or its honest part is the report of what happened before
+abbrev pub CutOrWhole : Options → Detail → List Happening → Happening → List Line → Type 0
+CutOrWhole config detail history last part =
+    (AreServed (history ++ last ∷ []) (start_of config) × (honest_part (report_of config detail history ++ part) ≡ report_of config detail history ++ part))
+    ⊎ (honest_part (report_of config detail history ++ part) ≡ report_of config detail (honest_history history))
+
+first_honest : (a b : List Line) → AreHonest (a ++ b) → AreHonest a
+first_honest [] b all = tt
+first_honest (line ∷ a) b all = (all.0, first_honest a b all.1)
+
+-- what was overwritten last is shown, or not yet
+poke_cut : (frame word value : ℕ) (part rest : List Line) → part ++ rest ≡ poke_lines frame word value → honest_part part ≡ []
+poke_cut frame word value [] rest all = refl
+poke_cut frame word value (line ∷ part) rest all = by_test (is_guest_word frame word) all
+  where
+    by_test : (b : Bool) → (line ∷ part) ++ rest ≡ (if b then lines.Poke frame word value ∷ [] else []) → honest_part (line ∷ part) ≡ []
+    by_test true e = let same : line ≡ lines.Poke frame word value = cc in honest_ends line part (ap is_honest same)
+    by_test false e = absurd (cc)
+
+served_last : (config : Options) (history : List Happening) (last : Happening) → AreServed history (start_of config) → IsServed (after history (start_of config)) last → AreServed (history ++ last ∷ []) (start_of config)
+served_last config history last may one = served_append history (last ∷ []) (start_of config) may (one, tt)
+
+last_possible : (history : List Happening) (last : Happening) (w : World) → ArePossible (history ++ last ∷ []) w → IsPossible (after history w) last
+last_possible [] last w may = may.0
+last_possible (h ∷ history) last w may = last_possible history last (happens w h) may.1
+
+pub cut_or_whole : (config : Options) (detail : Detail) (history : List Happening) (last : Happening) (part rest : List Line) → ArePossible (history ++ last ∷ []) (start_of config)
+    → part ++ rest ≡ lines_at (after history (start_of config)) last → CutOrWhole config detail history last part
+cut_or_whole config detail history last part rest may all = by_part (honest_with history (start_of config) part (possible_first history (last ∷ []) (start_of config) may))
+  where
+    start : World
+    start = start_of config
+
+    served : AreServed (honest_history history) start
+    served = served_part history start (possible_first history (last ∷ []) start may)
+
+    by_last : (h : Happening) → honest_history history ≡ history → IsPossible (after history start) h → part ++ rest ≡ lines_at (after history start) h → CutOrWhole config detail history h part
+    by_last (Pokes frame word value) whole possible shown =
+        let mine : AreServed history start = subst (λ (l : List Happening). AreServed l start) whole served in
+        inr (
+        honest_then (report_of config detail history) part (refl, served_honest history start mine)
+        ∙ (ap (λ (l : List Line). report_of config detail history ++ l) (poke_cut frame word value part rest shown)
+        ∙ (append-nil (report_of config detail history) ∙ ap (report_of config detail) (sym whole)))
+        )
+    by_last h whole possible shown =
+        let mine : AreServed history start = subst (λ (l : List Happening). AreServed l start) whole served in
+        inl (
+          served_last config history h mine possible,
+          honest_all (report_of config detail history ++ part)
+              (both_honest (report_of config detail history) part (refl, served_honest history start mine) (first_honest part rest (subst AreHonest (sym shown) (honest_at (after history start) h possible)))),
+        )
+
+    by_part : HonestWith history start part → CutOrWhole config detail history last part
+    by_part (inl whole) = by_last last whole (last_possible history last start may) all
+    by_part (inr k) = inr (honest_cut config detail history (lines_of history start ++ part) (possible_first history (last ∷ []) start may) k)

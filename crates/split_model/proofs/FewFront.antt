@@ -1,0 +1,226 @@
+-- The front owes no more requests than its ring has entries, each of at most 88 sectors, whatever it is told.
+use Rattle.std.proofs.Common.{◌≡◌, ℕ, suc, ◌+◌, ◌*◌, ◌/◌, ◌%◌, ◌^◌, ◌<◌, ◌≤◌, Bool, true, false, not, if◌then◌else◌, List, [], ◌∷◌, ◌++◌, length, refl, sym, subst, arith, length-append}
+use Rattle.std.specs.Prelude.{All, Option, Some, None, Result, Ok, Err, nat_lt, nat_le, ◌==◌, slice_get, drop, take}
+use Rattle.std.proofs.lemmas.Bool.Decides.{nat_tests}
+use Rattle.std.specs.Option.{option_map}
+use Rattle.std.proofs.lemmas.List.Edits.{length-remove}
+use Rattle.std.proofs.lemmas.List.Elements.{All-append, All-take, All-drop, All-get_or, All-push}
+use Rattle.std.proofs.lemmas.Option.{none-some, same_Some, slice_get_within, get_or_from_slice_get}
+use Rattle.blk_base.specs.Distance.{distance_of}
+use Rattle.blk_base.specs.declared.config.Job.{Job}
+use Rattle.blk_base.specs.declared.operation.Status.{Status}
+use Rattle.blk_base.specs.declared.ask.FrontAnswer.{FrontAnswer}
+use Rattle.blk_base.specs.declared.ask.FrontAnswer.TheVariants as answer
+use Rattle.ring_words.specs.Ring.{responses_of, notifies}
+use Rattle.ring_words.specs.Shape.{entries_of}
+use Rattle.blk_layout.specs.declared.response.Response.{Response}
+use Rattle.blk_layout.specs.Response.{response_of}
+use Rattle.blk_front.specs.declared.stage.Stage.{Stage}
+use Rattle.blk_front.specs.declared.stage.Stage.TheVariants as stage
+use Rattle.blk_front.specs.declared.stage.Ending.{Ending}
+use Rattle.blk_front.specs.declared.request.Request.{Request}
+use Rattle.blk_front.specs.declared.request.Transfer.{Transfer}
+use Rattle.blk_front.specs.declared.request.Transfer.TheVariants as transfer
+use Rattle.blk_front.specs.declared.request.Wish.{Wish}
+use Rattle.blk_front.specs.declared.told.Refusal.{Refusal}
+use Rattle.blk_front.specs.declared.told.Refusal.TheVariants as refusal
+use Rattle.blk_front.specs.declared.told.Told.TheVariants as told
+use Rattle.blk_front.specs.Pool.{taking}
+use Rattle.blk_front.specs.Request.{has_data, words_in, frames_for}
+use Rattle.blk_front.specs.View.{View, next_request, shape}
+use Rattle.blk_front.specs.Step.{at, broken, looked, issue_stage, data_stage, granted, loop_step, found_at, issued, taken, response_at, is_mapped, ended, revoked, sector_told, data_step, step_at, step_of}
+use Rattle.blk_front.specs.Submit.{is_ready, ending_of, unfinished, wish_of, request_with, submit_with, submit_one, submit_of}
+
+-- a request has at most 88 sectors
+abbrev pub IsShort : Request → Type 0
+IsShort r = r.count ≤ 88
+
+abbrev pub IsShortEnding : Option Ending → Type 0
+IsShortEnding None = Unit {0}
+IsShortEnding (Some e) = IsShort e.request
+
+-- with the one that is ending there are at most 32
+pub record IsModest (v : View) : Type 0 where
+  pub room : length v.requests + ending_of v.stage ≤ 32
+  pub short : All IsShort v.requests
+  pub ending : IsShortEnding v.ending
+
+-- a step leaves the requests, and no more than n are ending
+abbrev Owed : ℕ → View → View → Type 0
+Owed n v x = (x.requests ≡ v.requests) × (IsShortEnding v.ending → IsShortEnding x.ending) × (ending_of x.stage ≤ n)
+
+either : (b : Bool) (n : ℕ) (v x y : View) → Owed n v x → Owed n v y → Owed n v (if b then x else y)
+either true n v x y p q = p
+either false n v x y p q = q
+
+either_stage : (b : Bool) (x y : Stage) (n : ℕ) → ending_of x ≤ n → ending_of y ≤ n → ending_of (if b then x else y) ≤ n
+either_stage true x y n p q = p
+either_stage false x y n p q = q
+
+-- only its stage is another one
+goes_to : (n : ℕ) (v : View) (s : Stage) → ending_of s ≤ n → Owed n v (at s v)
+goes_to n v s le = (refl, λ short. short, le)
+
+stays : (s : Stage) (v : View) → v.stage ≡ s → Owed (ending_of s) v v
+stays s v here = (refl, λ short. short, rw here (omega arith))
+
+looked_owed : (n : ℕ) (v : View) (word : ℕ) (otherwise : View) → Owed n v otherwise → Owed n v (looked v word otherwise)
+looked_owed n v word otherwise h =
+    either (nat_lt (distance_of v.ring.cons v.ring.prod) (distance_of v.ring.cons word)) n v (broken word v) (if word == v.ring.cons then otherwise else record v { seen = word; stage = stage.Loop })
+    (refl, λ short. short, omega arith)
+    (either (word == v.ring.cons) n v otherwise (record v { seen = word; stage = stage.Loop }) h (refl, λ short. short, omega arith))
+
+issue_owed : (way : Transfer) → ending_of (issue_stage way) ≤ 0
+issue_owed transfer.Read = omega arith
+issue_owed (transfer.Write tag) = omega arith
+
+data_stage_owed : (r : Option Request) (n : ℕ) → ending_of (data_stage r n) ≤ 0
+data_stage_owed None n = omega arith
+data_stage_owed (Some r) n = either_stage (nat_lt (n + 1) (words_in r)) (stage.Data (n + 1)) (stage.GrantFrame 0) 0 (omega arith) (omega arith)
+
+granted_owed : (v : View) (r : Option Request) (place : ℕ) → v.stage ≡ stage.GrantFlags place → Owed 0 v (granted r place v)
+granted_owed v None place here = stays (stage.GrantFlags place) v here
+granted_owed v (Some r) place here = either (nat_lt (place + 1) (length r.frames.items)) 0 v _ _ (refl, λ short. short, omega arith) (refl, λ short. short, omega arith)
+
+loop_owed : (v : View) (r : Option Request) (x : FrontAnswer) → v.stage ≡ stage.Loop → Owed 0 v (loop_step v r x)
+loop_owed v (Some r) x here = goes_to 0 v (issue_stage r.transfer) (issue_owed r.transfer)
+loop_owed v None (answer.Word word) here =
+    either (responses_of v.ring v.seen == 0) 0 v (looked v word (record v { seen = word; stage = stage.StoreEvent })) (at (stage.ResponseHigh word) v)
+    (looked_owed 0 v word (record v { seen = word; stage = stage.StoreEvent }) (refl, λ short. short, omega arith)) (goes_to 0 v (stage.ResponseHigh word) (omega arith))
+loop_owed v None answer.Event here = (refl, λ short. short, rw here (omega arith))
+loop_owed v None x here = stays stage.Loop v here
+
+ended_owed : (v : View) (e : Ending) → Owed 1 v (ended e v)
+ended_owed v e = either (has_data e.request.transfer e.status) 1 v _ _ (refl, λ short. short, omega arith) (refl, λ short. tt, omega arith)
+
+revoked_owed : (v : View) (e : Option Ending) (place before : ℕ) → v.stage ≡ stage.GrantEnd place before → Owed 1 v (revoked e place v)
+revoked_owed v None place before here = stays (stage.GrantEnd place before) v here
+revoked_owed v (Some e) place before here =
+    either (nat_lt (place + 1) (length e.request.frames.items)) 1 v _ _ (goes_to 1 v (stage.GrantRead (place + 1)) (omega arith)) (ended_owed v e)
+
+-- what is told of a sector leaves the rest
+told_requests : (v : View) (e : Ending) (n : ℕ) (words : List ℕ) → (sector_told e n words v).requests ≡ v.requests
+told_requests v e n words = by_last (n % 128 == 127)
+  where
+    by_last : (b : Bool) → (if b then record v { words = words; told = Some (told.Sector e.request.number (n / 128) words) } else record v { words = words }).requests ≡ v.requests
+    by_last true = refl
+    by_last false = refl
+
+told_ending : (v : View) (e : Ending) (n : ℕ) (words : List ℕ) → (sector_told e n words v).ending ≡ v.ending
+told_ending v e n words = by_last (n % 128 == 127)
+  where
+    by_last : (b : Bool) → (if b then record v { words = words; told = Some (told.Sector e.request.number (n / 128) words) } else record v { words = words }).ending ≡ v.ending
+    by_last true = refl
+    by_last false = refl
+
+data_owed : (v : View) (e : Option Ending) (n word : ℕ) → v.stage ≡ stage.ReadData n → Owed 1 v (data_step e n word v)
+data_owed v None n word here = stays (stage.ReadData n) v here
+data_owed v (Some e) n word here =
+    either (nat_lt (n + 1) (words_in e.request)) 1 v _ _
+    (told_requests v e n _, λ short. subst IsShortEnding (sym (told_ending v e n _)) short, omega arith)
+    (told_requests v e n _, λ short. tt, omega arith)
+
+-- a step that takes no response
+step_owed : (s : Stage) (v : View) (x : FrontAnswer) → v.stage ≡ s → ((low high last : ℕ) → s ≡ stage.ResponseLast low high → x ≡ answer.Word last → ⊥) → Owed (ending_of s) v (step_at s v x)
+step_owed (stage.RingWord k) v x here takes = (refl, λ short. short, either_stage (k == 15) stage.RingFrame (stage.RingWord (k + 1)) 0 (omega arith) (omega arith))
+step_owed stage.RingFrame v x here takes = goes_to 0 v stage.RingFence (omega arith)
+step_owed stage.RingFence v x here takes = goes_to 0 v stage.RingFlags (omega arith)
+step_owed stage.RingFlags v x here takes = goes_to 0 v stage.NewPort (omega arith)
+step_owed stage.NewPort v x here takes = (refl, λ short. short, omega arith)
+step_owed stage.Loop v x here takes = loop_owed v (next_request v) x here
+step_owed (stage.Data n) v x here takes = goes_to 0 v (data_stage (next_request v) n) (data_stage_owed (next_request v) n)
+step_owed (stage.GrantFrame place) v x here takes = goes_to 0 v (stage.GrantFence place) (omega arith)
+step_owed (stage.GrantFence place) v x here takes = goes_to 0 v (stage.GrantFlags place) (omega arith)
+step_owed (stage.GrantFlags place) v x here takes = granted_owed v (next_request v) place here
+step_owed (stage.Slot k) v x here takes = (refl, λ short. short, either_stage (k == 27) stage.Producer (stage.Slot (k + 1)) 0 (omega arith) (omega arith))
+step_owed stage.Producer v x here takes = (refl, λ short. short, omega arith)
+step_owed (stage.ProducerFence old) v x here takes = goes_to 0 v (stage.RequestEvent old) (omega arith)
+step_owed (stage.RequestEvent old) v (answer.Word event) here takes = (refl, λ short. short, either_stage (notifies old v.ring.prod event) stage.Send stage.Loop 0 (omega arith) (omega arith))
+step_owed stage.Send v x here takes = goes_to 0 v stage.Loop (omega arith)
+step_owed (stage.ResponseHigh low) v (answer.Word high) here takes = goes_to 0 v (stage.ResponseLast low high) (omega arith)
+step_owed (stage.ResponseLast low high) v (answer.Word last) here takes = absurd (takes low high last refl refl)
+step_owed (stage.GrantRead place) v (answer.Word word) here takes =
+    either (is_mapped word) 1 v (broken word v) (at (stage.GrantEnd place word) v) (refl, λ short. short, omega arith) (goes_to 1 v (stage.GrantEnd place word) (omega arith))
+step_owed (stage.GrantEnd place before) v (answer.Word word) here takes =
+    either (word == before) 1 v (revoked v.ending place v) (broken word v) (revoked_owed v v.ending place before here) (refl, λ short. short, omega arith)
+step_owed (stage.ReadData n) v (answer.Word word) here takes = data_owed v v.ending n word here
+step_owed stage.StoreEvent v x here takes = goes_to 0 v stage.EventFence (omega arith)
+step_owed stage.EventFence v x here takes = goes_to 0 v stage.LookAgain (omega arith)
+step_owed stage.LookAgain v (answer.Word word) here takes = looked_owed 0 v word (record v { seen = word; stage = stage.Loop; asleep = true }) (refl, λ short. short, omega arith)
+step_owed s v x here takes = stays s v here
+
+owed_modest : (n : ℕ) (v x : View) → n ≤ ending_of v.stage → Owed n v x → IsModest v → IsModest x
+owed_modest n v x le o m = record {
+  room = let room = m.room in let stage = o.2 in subst (λ (rs : List Request). length rs + ending_of x.stage ≤ 32) (sym o.0) (omega arith);
+  short = subst (All IsShort) (sym o.0) m.short;
+  ending = o.1 m.ending;
+}
+
+-- a response takes a request out of the queue, and makes it the one that is ending
+found_in : (requests : List Request) (place : Option ℕ) (found : ℕ × Request) → found_at requests place ≡ Some found → slice_get requests found.0 ≡ Some found.1
+found_in requests None found e = absurd (none-some found e)
+found_in requests (Some place) found e = by_place (slice_get requests place) refl e
+  where
+    by_place : (x : Option Request) → slice_get requests place ≡ x → option_map (λ r. (place, r)) x ≡ Some found → slice_get requests found.0 ≡ Some found.1
+    by_place None s same = absurd (none-some found same)
+    by_place (Some r) s same = let whole : (place, r) ≡ found = same_Some (place, r) found same in subst (λ (f : ℕ × Request). slice_get requests f.0 ≡ Some f.1) whole s
+
+taken_modest : (v : View) (place : ℕ) (r : Request) (status : Status) → slice_get v.requests place ≡ Some r → IsModest v → IsModest (taken v place r status)
+taken_modest v place r status here m =
+    let within : place < length v.requests = slice_get_within v.requests place r here in
+    let shorter = length-remove v.requests place within in
+    let room = m.room in
+    record {
+      room = omega arith;
+      short = All-append IsShort (take place v.requests) (drop (suc place) v.requests) (All-take IsShort place v.requests m.short) (All-drop IsShort (suc place) v.requests m.short);
+      ending = let same = get_or_from_slice_get v.requests place r r here in subst IsShort same (All-get_or IsShort v.requests place r within m.short);
+    }
+
+response_modest : (v : View) (response : Result Response ℕ) (low : ℕ) (found : Option (ℕ × Request)) → ((f : ℕ × Request) → found ≡ Some f → slice_get v.requests f.0 ≡ Some f.1) → IsModest v → IsModest (response_at v response low found)
+response_modest v response low None is m = owed_modest 0 v (broken low v) (omega arith) (refl, λ short. short, omega arith) m
+response_modest v (Err word) low (Some found) is m = owed_modest 0 v (broken word v) (omega arith) (refl, λ short. short, omega arith) m
+response_modest v (Ok response) low (Some found) is m = taken_modest v found.0 found.1 response.status (is found refl) m
+
+-- whatever the front is told
+pub step_modest : (v : View) (x : FrontAnswer) → IsModest v → IsModest (step_of v x)
+step_modest v x m = by_stage v.stage x refl
+  where
+    by_stage : (s : Stage) (a : FrontAnswer) → v.stage ≡ s → IsModest (step_at s v a)
+    by_stage (stage.ResponseLast low high) (answer.Word last) here =
+        response_modest v (response_of (low ∷ high ∷ last ∷ [])) low (issued v (low + high * 2 ^ 32)) (λ f e. found_in v.requests _ f e) m
+    by_stage s a here = owed_modest (ending_of s) v (step_at s v a) (rw here (omega arith)) (step_owed s v a here (λ low high last e f. absurd (cc))) m
+
+-- and whatever is submitted
+either_submit : (b : Bool) (x y : Result ℕ Refusal × View) → IsModest x.1 → IsModest y.1 → IsModest (if b then x else y).1
+either_submit true x y p q = p
+either_submit false x y p q = q
+
+accepted_modest : (v : View) (wish : Wish) (frames : Option (List ℕ × List Bool)) → wish.count ≤ 88 → unfinished v < 32 → IsModest v → IsModest (submit_with v wish frames).1
+accepted_modest v wish None few room m = m
+accepted_modest v wish (Some frames) few room m = record {
+  room = let longer : length (v.requests ++ request_with v wish frames.0 ∷ []) ≡ length v.requests + 1 = length-append v.requests (request_with v wish frames.0 ∷ []) in omega (arith, longer, room);
+  short = All-push IsShort v.requests (request_with v wish frames.0) m.short few;
+  ending = m.ending;
+}
+
+wish_modest : (v : View) (wish : Option Wish) → IsModest v → IsModest (submit_one v wish).1
+wish_modest v None m = m
+wish_modest v (Some wish) m = by_tests (nat_lt v.sectors (wish.sector + wish.count)) (nat_lt 11 (frames_for wish.count)) (nat_le (entries_of shape.order) (unfinished v)) refl refl
+  where
+    frames : Option (List ℕ × List Bool)
+    frames = taking (frames_for wish.count) v.pool []
+
+    by_tests : (range long full : Bool) → nat_lt 11 (frames_for wish.count) ≡ long → nat_le (entries_of shape.order) (unfinished v) ≡ full
+        → IsModest (if range then (Err refusal.Range, v) else (if long then (Err refusal.Long, v) else (if full then (Err refusal.Full, v) else submit_with v wish frames))).1
+    by_tests true long full l f = m
+    by_tests false true full l f = m
+    by_tests false false true l f = m
+    by_tests false false false l f =
+        let few : frames_for wish.count ≤ 11 = grind (arith, nat_tests) in
+        let room : unfinished v < 32 = grind (arith, nat_tests) in
+        accepted_modest v wish frames (omega arith) room m
+
+pub submit_modest : (v : View) (job : Job) → IsModest v → IsModest (submit_of v job).1
+submit_modest v job m =
+    either_submit (v.last == 4294967295) (Err refusal.Spent, v) (if not (is_ready v.stage) then (Err refusal.NotReady, v) else submit_one v (wish_of job)) m
+    (either_submit (not (is_ready v.stage)) (Err refusal.NotReady, v) (submit_one v (wish_of job)) m (wish_modest v (wish_of job) m))

@@ -1,0 +1,58 @@
+-- Both ends keep to the entries of their ring, whatever happens to them.
+use Rattle.std.proofs.Common.{ℕ, ◌^◌, ◌<◌, List, [], ◌∷◌, refl, arith}
+use Rattle.std.specs.Prelude.{Option, Some, None}
+use Rattle.std.proofs.lemmas.List.Elements.{All-nil}
+use Rattle.blk_base.specs.Options.{Options}
+use Rattle.hypervisor.specs.Act.{FrontAct, BackAct, Took}
+use Rattle.blk_front.specs.Step as front_step
+use Rattle.blk_front.specs.View as front
+use Rattle.blk_back.specs.Step as back_step
+use Rattle.blk_back.specs.View as back
+use Rattle.split_model.specs.World.{World, start_of}
+use Rattle.split_model.specs.Happening.{Happening, FrontMoves, BackMoves, JobMoves, Submits, Notifies, Pokes, Dumps, Looks, Settles, happens, after, front_after, back_after, job_after, front_turn, back_turn, job_turn}
+use Rattle.split_model.proofs.FewFront.{IsShort, IsModest, step_modest, submit_modest}
+use Rattle.split_model.proofs.FewJobs.{HasRoom, back_room, job_room}
+
+pub record IsTight (w : World) : Type 0 where
+  pub front : IsModest w.front
+  pub back : HasRoom w.back
+
+pub tight_start : (config : Options) → config.start < 2 ^ 32 → IsTight (start_of config)
+tight_start config small = record {
+  front = record { room = omega arith; short = All-nil IsShort; ending = tt };
+  back = record { entries = refl; prod = small; cons = small; room = (omega arith, omega (arith, small)) };
+}
+
+-- what an end tells is no part of it
+untold_front : (v : front.View) → IsModest v → IsModest (record v { told = None })
+untold_front v m = record { room = m.room; short = m.short; ending = m.ending }
+
+untold_back : (v : back.View) → HasRoom v → HasRoom (record v { told = None })
+untold_back v h = record { entries = h.entries; prod = h.prod; cons = h.cons; room = h.room }
+
+front_tight : (w : World) (act : Option FrontAct) → IsTight w → IsTight (front_after w act)
+front_tight w None t = t
+front_tight w (Some a) t = record { front = untold_front (front_step.step_of w.front a.answer) (step_modest w.front a.answer t.front); back = t.back }
+
+back_tight : (w : World) (act : Option BackAct) → IsTight w → IsTight (back_after w act)
+back_tight w None t = t
+back_tight w (Some a) t = record { front = t.front; back = untold_back (back_step.step_of w.back a.answer) (back_room w.back a.answer t.back) }
+
+job_tight : (w : World) (number : ℕ) (act : Option BackAct) → IsTight w → IsTight (job_after w number act)
+job_tight w number None t = t
+job_tight w number (Some a) t = record { front = t.front; back = untold_back (back_step.job_step w.back number a.answer) (job_room w.back number a.answer t.back) }
+
+pub tight_happens : (w : World) (h : Happening) → IsTight w → IsTight (happens w h)
+tight_happens w FrontMoves t = front_tight w (front_turn w) t
+tight_happens w BackMoves t = back_tight w (back_turn w Took) t
+tight_happens w (JobMoves number outcome) t = job_tight w number (job_turn w number outcome) t
+tight_happens w (Submits job) t = record { front = submit_modest w.front job t.front; back = t.back }
+tight_happens w (Notifies at) t = record { front = t.front; back = t.back }
+tight_happens w (Pokes frame word value) t = record { front = t.front; back = t.back }
+tight_happens w Dumps t = t
+tight_happens w Looks t = t
+tight_happens w Settles t = t
+
+pub tight_after : (hs : List Happening) (w : World) → IsTight w → IsTight (after hs w)
+tight_after [] w t = t
+tight_after (h ∷ hs) w t = tight_after hs (happens w h) (tight_happens w h t)
