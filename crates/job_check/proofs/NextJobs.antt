@@ -1,4 +1,4 @@
--- What becomes of a job in one line, as far as its reply goes: whether it came to its end, and what response is due.
+-- What one line makes of a job, as far as its reply goes: whether it came to its end, and what response is due.
 use Rattle.std.proofs.Common.{◌≡◌, ℕ, Bool, true, false, List, [], ◌∷◌, ◌++◌, length, refl, ap, sym, ◌∙◌}
 use Rattle.std.specs.Prelude.{Option, Some, None, is_some}
 use Rattle.blk_base.specs.declared.operation.Status.{Status}

@@ -1,4 +1,4 @@
--- What becomes of all jobs in one line of an epoch.
+-- What one line of an epoch makes of all jobs.
 use Rattle.std.proofs.Common.{◌≡◌, ℕ, ◌+◌, Bool, true, false, if◌then◌else◌, List, [], ◌∷◌, ◌++◌, refl, ap, sym, ◌∙◌, subst}
 use Rattle.std.specs.Prelude.{Option, Some, None, is_some}
 use Rattle.blk_base.specs.declared.moves.BackMover.TheVariants as back

@@ -57,21 +57,21 @@ written_last before line e =
     ∙ (ap (λ (ps : List Standing). written_on ps line) (pages_more before line e) ∙ alone written_on written_stays (ring_pages before) line)
 
 -- ---- rows
-pub at_past : (old row : List ℕ) (n i : ℕ) → length old ≡ n → value_at (old ++ row) (n + i) ≡ value_at row i
-at_past [] row n i long = let same : n + i ≡ i = omega arith in ap (λ (m : ℕ). value_at row m) same
-at_past (x ∷ old) row zero i long = absurd (omega arith)
-at_past (x ∷ old) row (suc n) i long = let same : suc n + i ≡ suc (n + i) = omega arith in ap (λ (m : ℕ). value_at (x ∷ old ++ row) m) same ∙ at_past old row n i (omega arith)
+pub at_past : (old words : List ℕ) (n i : ℕ) → length old ≡ n → value_at (old ++ words) (n + i) ≡ value_at words i
+at_past [] words n i long = let same : n + i ≡ i = omega arith in ap (λ (m : ℕ). value_at words m) same
+at_past (x ∷ old) words zero i long = absurd (omega arith)
+at_past (x ∷ old) words (suc n) i long = let same : suc n + i ≡ suc (n + i) = omega arith in ap (λ (m : ℕ). value_at (x ∷ old ++ words) m) same ∙ at_past old words n i (omega arith)
 
 abbrev row_at : ℕ → ℕ → ℕ → List ℕ
 row_at a b c = a ∷ b ∷ c ∷ []
 
 -- the row past some whole ones
-pub row_past : (old row : List ℕ) (n : ℕ) → length old ≡ 4 * n → row_of (old ++ row) n ≡ row_of row 0
-row_past old row n long =
-    let first : value_at (old ++ row) (4 * n) ≡ value_at row 0 = ap (λ (m : ℕ). value_at (old ++ row) m) (plus_zero (4 * n)) ∙ at_past old row (4 * n) 0 long in
-    ap (λ (a : ℕ). row_at a (value_at (old ++ row) (4 * n + 1)) (value_at (old ++ row) (4 * n + 2))) first
-    ∙ (ap (λ (b : ℕ). row_at (value_at row 0) b (value_at (old ++ row) (4 * n + 2))) (at_past old row (4 * n) 1 long)
-    ∙ ap (λ (c : ℕ). row_at (value_at row 0) (value_at row 1) c) (at_past old row (4 * n) 2 long))
+pub row_past : (old words : List ℕ) (n : ℕ) → length old ≡ 4 * n → row_of (old ++ words) n ≡ row_of words 0
+row_past old words n long =
+    let first : value_at (old ++ words) (4 * n) ≡ value_at words 0 = ap (λ (m : ℕ). value_at (old ++ words) m) (plus_zero (4 * n)) ∙ at_past old words (4 * n) 0 long in
+    ap (λ (a : ℕ). row_at a (value_at (old ++ words) (4 * n + 1)) (value_at (old ++ words) (4 * n + 2))) first
+    ∙ (ap (λ (b : ℕ). row_at (value_at words 0) b (value_at (old ++ words) (4 * n + 2))) (at_past old words (4 * n) 1 long)
+    ∙ ap (λ (c : ℕ). row_at (value_at words 0) (value_at words 1) c) (at_past old words (4 * n) 2 long))
   where
     plus_zero : (m : ℕ) → m ≡ m + 0
     plus_zero m = omega arith

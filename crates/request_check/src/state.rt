@@ -140,20 +140,20 @@ impl RequestCheck {
         ensures done { OnOk result (self.new ≡ stepped self.old line.now) }
         ensures kept { OnErr result (self.new ≡ self.old) }
     {
-        match *line {
-            Line::Submit { id, job } => self.submit(id, &job),
-            Line::Effect { id, index } => self.fill(id, index),
-            Line::EffectRead { id, index, words } => self.show(id, index, &words),
-            Line::Flushed { id } => self.flush(id),
-            Line::Trimmed { id } => self.trim(id),
-            Line::Fault { id, index } => self.fail(id, index),
-            Line::Reply { id, status } => self.reply(id, status),
+        match line {
+            Line::Submit { id, job } => self.submit(*id, job),
+            Line::Effect { id, index } => self.fill(*id, *index),
+            Line::EffectRead { id, index, words } => self.show(*id, *index, words),
+            Line::Flushed { id } => self.flush(*id),
+            Line::Trimmed { id } => self.trim(*id),
+            Line::Fault { id, index } => self.fail(*id, *index),
+            Line::Reply { id, status } => self.reply(*id, *status),
             Line::Answer { id, status } => {
-                self.answer(id, status);
+                self.answer(*id, *status);
                 Ok(())
             }
             Line::Data { id, index, .. } => {
-                self.tell_sector(id, index);
+                self.tell_sector(*id, *index);
                 Ok(())
             }
             Line::Epoch => {

@@ -178,7 +178,7 @@ impl RequestCheck {
         }
     }
 
-    /// Whether a reply is the first of its request in this epoch, and says what became of it.
+    /// Whether a reply is the first of its request in this epoch, and says its outcome.
     pub fn allows_reply(&self, line: &Line) -> bool
         ensures { result ≡ allows_reply self.now line.now }
     {
