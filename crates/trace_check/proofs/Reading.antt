@@ -7,12 +7,12 @@ use Rattle.schedule_text.specs.declared.line.Line.TheVariants as lines
 use Rattle.schedule_text.specs.Range.{IsTextOf}
 use Rattle.blk_io.specs.Outside.{SourceSeen, Rose}
 use Rattle.report_rules.proofs.Obeys.{obeys_none, obeys_more}
-use Rattle.report_lines.specs.Text.{BeginsWith}
+use Rattle.report_lines.specs.Text.{BeginsWith, HasNoLineFeed}
 use Rattle.report_lines.specs.Filling.{Ahead}
 use Rattle.report_lines.specs.Giving.{unread, IsNext, Tells, IsNoLine, IsRoomSpent, GivesLine}
 use Rattle.report_lines.specs.declared.reader.ReadStop.{ReadStop}
 use Rattle.report_lines.specs.declared.reader.ReadStop.TheVariants as read
-use Rattle.report_lines.proofs.Giving.{room_spent}
+use Rattle.report_lines.proofs.Giving.{room_spent, unread_filled}
 use Rattle.trace_check.specs.declared.rule.Rule.{Rule}
 use Rattle.trace_check.specs.declared.finding.Finding.TheVariants.{Broken}
 use Rattle.trace_check.specs.Outline.{is_end}
@@ -93,20 +93,32 @@ further limit number a b trace next line s t u h given sound stepped =
       faults = given.1 ∙ h.faults;
     }
 
-broken_in : (limit number : ℕ) (broken : Rule) (before : List Line) (line : Line) (s a b : Option (List ℕ)) → AreSound before → number ≡ length before + 1 → rule_broken before line ≡ Some broken
-    → ReadsTo before s a → IsNext line a b → Tells (IsFound limit (Broken number broken)) s
-broken_in limit number broken before line None a b sound counted rule reads next = tt
-broken_in limit number broken before line (Some bytes) a b sound counted rule reads next =
-    let more = reads_more before line (Some bytes) a b reads next in
-    inl (record { before = before; line = line; rest = more.0; read = more.2; sound = sound; counted = counted; rule = rule })
+some_is : (a b : List ℕ) → Some a ≡ Some b → a ≡ b
+some_is a b e = cc
+
+-- before what is left to be read there are no more bytes than may be taken
+within : (limit room : ℕ) (bytes ahead rest : List ℕ) (t : Option (List ℕ)) → IsRoomSpent limit room (Some bytes) t → unread ahead t ≡ Some rest → length bytes ≤ limit + length rest
+within limit room bytes ahead rest None spent left = absurd spent
+within limit room bytes ahead rest (Some more) spent left =
+    let same : length (ahead ++ more) ≡ length rest = ap length (some_is (ahead ++ more) rest left) in
+    let sizes = length-append ahead more in
+    omega (arith, spent, same, sizes)
+
+broken_in : (limit number room : ℕ) (broken : Rule) (before : List Line) (line : Line) (ahead : List ℕ) (s a t : Option (List ℕ)) → AreSound before → number ≡ length before + 1 → rule_broken before line ≡ Some broken
+    → ReadsTo before s a → IsNext line a (unread ahead t) → IsRoomSpent limit room s t → Tells (IsFound limit (Broken number broken)) s
+broken_in limit number room broken before line ahead None a t sound counted rule reads next spent = tt
+broken_in limit number room broken before line ahead (Some bytes) a t sound counted rule reads next spent =
+    let more = reads_more before line (Some bytes) a (unread ahead t) reads next in
+    inl (record { before = before; line = line; rest = more.0; read = more.2; sound = sound; counted = counted; rule = rule; within = within limit room bytes ahead more.0 t spent more.1 })
 
 -- a line breaks a rule
 pub finds_broken : (limit number : ℕ) (a b : Ahead) (trace : Trace) (line : Line) (broken : Rule) (s t u : SourceSeen) → HasRead limit number a trace s t
     → GivesLine (Ok (Some line)) a b t u → broken_by trace line ≡ Some broken → Finds limit (Ok (Broken number broken)) s u
-finds_broken limit number a b trace line broken s t u h given rule = (
-  broken_in limit number broken h.before line s.left (unread a.bytes t.left) (unread b.bytes u.left) h.sound h.counted (ap (λ (x : Trace). broken_by x line) (sym h.kept) ∙ rule) h.lines given.0,
-  given.1 ∙ h.faults,
-)
+finds_broken limit number a b trace line broken s t u h given rule =
+    let spent = room_more limit a.room b.room s.left t.left u.left h.room given.2.room in (
+      broken_in limit number b.room broken h.before line b.bytes s.left (unread a.bytes t.left) u.left h.sound h.counted (ap (λ (x : Trace). broken_by x line) (sym h.kept) ∙ rule) h.lines given.0 spent,
+      given.1 ∙ h.faults,
+    )
 
 -- a list is empty or has a last line
 pub data Split (report : List Line) : Type 0 where
@@ -180,23 +192,34 @@ finds_end limit number a b trace ended s t u h given is = (
   given.1 ∙ h.faults,
 )
 
-bad_in : (number : ℕ) (before : List Line) (s a : Option (List ℕ)) → AreSound before → number ≡ length before + 1 → ReadsTo before s a → Tells IsNoLine a → Tells (IsBadAt number) s
-bad_in number before None a sound counted reads bad = tt
-bad_in number before (Some bytes) a sound counted reads bad =
-    record { before = before; rest = reads.0; read = reads.2; sound = sound; counted = counted; bad = subst (Tells IsNoLine) reads.1 bad }
+bad_in : (limit number room : ℕ) (before : List Line) (ahead : List ℕ) (s t : Option (List ℕ)) → AreSound before → number ≡ length before + 1
+    → ReadsTo before s (unread ahead t) → Tells IsNoLine (unread ahead t) → IsRoomSpent limit room s t → Tells (IsBadAt limit number) s
+bad_in limit number room before ahead None t sound counted reads bad spent = tt
+bad_in limit number room before ahead (Some bytes) t sound counted reads bad spent =
+    record { before = before; rest = reads.0; read = reads.2; sound = sound; counted = counted; bad = subst (Tells IsNoLine) reads.1 bad; within = within limit room bytes ahead reads.0 t spent reads.1 }
 
-long_in : (limit room : ℕ) (before : List Line) (s t a : Option (List ℕ)) → AreSound before → ReadsTo before s a → IsRoomSpent limit room s t → room ≡ 0 → Tells (IsLong limit) s
-long_in limit room before None t a sound reads spent none = tt
-long_in limit room before (Some bytes) None a sound reads spent none = absurd spent
-long_in limit room before (Some bytes) (Some left) a sound reads spent none =
-    record { before = before; rest = reads.0; read = reads.2; sound = sound; long = omega (arith, spent, none) }
+long_in : (limit room : ℕ) (before : List Line) (part : List ℕ) (s t : Option (List ℕ)) → AreSound before → ReadsTo before s (unread part t)
+    → HasNoLineFeed part → IsRoomSpent limit room s t → room ≡ 0 → Tells (IsLong limit) s
+long_in limit room before part None t sound reads unbroken spent none = tt
+long_in limit room before part (Some bytes) None sound reads unbroken spent none = absurd spent
+long_in limit room before part (Some bytes) (Some left) sound reads unbroken spent none =
+    record {
+      before = before;
+      part = part;
+      rest = left;
+      read = subst (BeginsWith before bytes) (sym (some_is (part ++ left) reads.0 reads.1)) reads.2;
+      sound = sound;
+      unbroken = unbroken;
+      taken = omega (arith, spent, none);
+    }
 
 -- no line could be read
 pub finds_stop : (limit number : ℕ) (a b : Ahead) (trace : Trace) (stop : ReadStop) (s t u : SourceSeen) → HasRead limit number a trace s t
     → GivesLine (Err stop) a b t u → Finds limit (Err (stop_at number stop)) s u
-finds_stop limit number a b trace read.BadLine s t u h given = (bad_in number h.before s.left (unread a.bytes t.left) h.sound h.counted h.lines given.0, given.1 ∙ h.faults)
+finds_stop limit number a b trace read.BadLine s t u h given = (bad_in limit number a.room h.before a.bytes s.left t.left h.sound h.counted h.lines given.0 h.room, given.1 ∙ h.faults)
 finds_stop limit number a b trace read.Source s t u h given = subst (λ n. Rose n u.faults) h.faults given
 finds_stop limit number a b trace read.TooLong s t u h given =
     let spent = room_more limit a.room b.room s.left t.left u.left h.room (room_spent a.room b.room given.0.got t.left u.left given.0.room given.0.taken) in
-    (long_in limit b.room h.before s.left u.left (unread a.bytes t.left) h.sound h.lines spent given.1.room, given.0.faults ∙ h.faults)
+    let same = unread_filled a.bytes b.bytes given.0.got t.left u.left given.0.ahead given.0.taken in
+    (long_in limit b.room h.before b.bytes s.left u.left h.sound (subst (ReadsTo h.before s.left) (sym same) h.lines) given.1.unbroken spent given.1.room, given.0.faults ∙ h.faults)
 finds_stop limit number a b trace read.OutOfMemory s t u h given = given ∙ h.faults

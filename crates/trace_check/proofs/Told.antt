@@ -39,6 +39,7 @@ use Rattle.trace_check.specs.Outline.{shows_moves, outlined}
 use Rattle.trace_check.specs.Rules.{IsTouchRuleAt, IsFetchAt, Keeps, KeepsEach, KeepsAll, request_rules, move_rules, all_rules, IsFirstBroken}
 use Rattle.trace_check.specs.Trace.{Trace, trace_after, allows_touch, allows_fetch, broken_request, broken_move, broken_by}
 use Rattle.trace_check.specs.Found.{rule_broken}
+use Rattle.trace_check.specs.Laws.{KeepsLayout}
 use Rattle.trace_check.proofs.Outlines.{order_decided}
 use Rattle.trace_check.proofs.Follows.{Follows, Moves, follows_all}
 use Rattle.trace_check.proofs.Firsts.{none_first, decided_first, both_first}
@@ -181,10 +182,10 @@ all_unshown before line unshown =
     (All-cons P rule.Overrun [] (λ yes. absurd (none yes))
     (All-nil P))))
 
-shown_told : (before : List Line) (line : Line) (t : Trace) (shown : Bool) → t.outline.shown ≡ shown → Follows before t → Obeys KeepsAll before → Obeys IsLayoutAt before
+shown_told : (before : List Line) (line : Line) (t : Trace) (shown : Bool) → t.outline.shown ≡ shown → Follows before t → Obeys KeepsAll before → KeepsLayout before
     → IsFirstBroken move_rules before line (if shown then broken_move t line else None)
 shown_told before line t false is f keeps layout = all_unshown before line (sym f.outline.shown ∙ is)
-shown_told before line t true is f keeps layout = moves_told before line t (f.moves is) (shown_of before (sym f.outline.shown ∙ is) keeps layout)
+shown_told before line t true is f keeps layout = moves_told before line t (f.moves is) (shown_of before (sym f.outline.shown ∙ is) keeps (layout (sym f.outline.shown ∙ is)))
 
 -- ---- all
 
@@ -193,7 +194,7 @@ order_first : (before : List Line) (line : Line) (allowed : Bool) (found : Optio
 order_first before line true found d first = decided_first rule.Order (request_rules ++ move_rules) before line true found d first
 order_first before line false found d first = decided_first rule.Order (request_rules ++ move_rules) before line false found d first
 
-first_told : (before : List Line) (line : Line) (t : Trace) → Follows before t → Obeys KeepsAll before → Obeys IsLayoutAt before → IsFirstBroken all_rules before line (broken_by t line)
+first_told : (before : List Line) (line : Line) (t : Trace) → Follows before t → Obeys KeepsAll before → KeepsLayout before → IsFirstBroken all_rules before line (broken_by t line)
 first_told before line t f keeps layout =
     let hostile = ap (λ b. b || not (is_honest line)) f.outline.hostile ∙ hostile_is (list_all is_honest before) (is_honest line) in
     order_first before line _ _ (order_decided before line t.outline f.outline)
@@ -201,5 +202,5 @@ first_told before line t f keeps layout =
     (honest_told before line t (outlined t.outline line).hostile refl hostile f keeps)
     (shown_told before line t t.outline.shown refl f keeps layout))
 
-pub told_first : (before : List Line) (line : Line) → Obeys KeepsAll before → Obeys IsLayoutAt before → IsFirstBroken all_rules before line (rule_broken before line)
+pub told_first : (before : List Line) (line : Line) → Obeys KeepsAll before → KeepsLayout before → IsFirstBroken all_rules before line (rule_broken before line)
 told_first before line keeps layout = first_told before line (trace_after before) (follows_all before (in_order before keeps)) keeps layout

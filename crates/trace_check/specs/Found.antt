@@ -4,7 +4,7 @@ use Rattle.schedule_text.specs.declared.line.Line.{Line}
 use Rattle.schedule_text.specs.declared.line.Line.TheVariants as line
 use Rattle.blk_io.specs.Outside.{SourceSeen, Rose}
 use Rattle.report_rules.specs.Obeys.{Obeys}
-use Rattle.report_lines.specs.Text.{BeginsWith, IsReportText}
+use Rattle.report_lines.specs.Text.{BeginsWith, IsReportText, HasNoLineFeed}
 use Rattle.report_lines.specs.Giving.{Tells, IsNoLine}
 use Rattle.report_lines.specs.declared.reader.ReadStop.{ReadStop}
 use Rattle.report_lines.specs.declared.reader.ReadStop.TheVariants as read
@@ -31,8 +31,8 @@ AreSound report = Obeys IsSoundAt report
 abbrev pub EndsWell : List Line → Type 0
 EndsWell report = (before : List Line) × (report ≡ before ++ line.End ∷ [])
 
--- the line of this number is the first that breaks a rule
-pub record IsBrokenAt (number : ℕ) (broken : Rule) (bytes : List ℕ) : Type 0 where
+-- the line of this number is the first that breaks a rule; up to its end there are no more bytes than may be taken
+pub record IsBrokenAt (limit number : ℕ) (broken : Rule) (bytes : List ℕ) : Type 0 where
   pub before : List Line
   pub line : Line
   pub rest : List ℕ
@@ -40,6 +40,7 @@ pub record IsBrokenAt (number : ℕ) (broken : Rule) (bytes : List ℕ) : Type 0
   pub sound : AreSound before
   pub counted : number ≡ length before + 1
   pub rule : rule_broken before line ≡ Some broken
+  pub within : length bytes ≤ limit + length rest
 
 -- the bytes are the text of lines that break no rule, and so many would be with one more
 pub record IsSoundText (number : ℕ) (report : List Line) (bytes : List ℕ) : Type 0 where
@@ -64,24 +65,27 @@ pub record IsLegal (bytes : List ℕ) : Type 0 where
 -- a finding; the end of the source was seen only where it has fewer bytes than may be taken
 abbrev pub IsFound : ℕ → Finding → List ℕ → Type 0
 IsFound limit Legal bytes = IsLegal bytes × (length bytes < limit)
-IsFound limit (Broken number broken) bytes = IsBrokenAt number broken bytes ⊎ (LacksEnd number broken bytes × (length bytes < limit))
+IsFound limit (Broken number broken) bytes = IsBrokenAt limit number broken bytes ⊎ (LacksEnd number broken bytes × (length bytes < limit))
 
--- the line of this number is none of a report, and those before it break no rule
-pub record IsBadAt (number : ℕ) (bytes : List ℕ) : Type 0 where
+-- the line of this number is none of a report, and those before it break no rule; before it there are no more bytes than may be taken
+pub record IsBadAt (limit number : ℕ) (bytes : List ℕ) : Type 0 where
   pub before : List Line
   pub rest : List ℕ
   pub read : BeginsWith before bytes rest
   pub sound : AreSound before
   pub counted : number ≡ length before + 1
   pub bad : IsNoLine rest
+  pub within : length bytes ≤ limit + length rest
 
--- the source has as many bytes as may be taken, or more, and the lines at their head break no rule
+-- as many bytes were taken as may be: lines that break no rule, and a part of one more, without its line feed
 pub record IsLong (limit : ℕ) (bytes : List ℕ) : Type 0 where
   pub before : List Line
+  pub part : List ℕ
   pub rest : List ℕ
-  pub read : BeginsWith before bytes rest
+  pub read : BeginsWith before bytes (part ++ rest)
   pub sound : AreSound before
-  pub long : limit ≤ length bytes
+  pub unbroken : HasNoLineFeed part
+  pub taken : length bytes ≡ limit + length rest
 
 -- why a check stops where no line could be read
 abbrev pub stop_at : ℕ → ReadStop → CheckStop
@@ -97,7 +101,7 @@ finding_at number ended = if ended then Legal else Broken number rule.Order
 -- what a check gives, where the source exposes its bytes
 abbrev pub Finds : ℕ → Result Finding CheckStop → SourceSeen → SourceSeen → Type 0
 Finds limit (Ok finding) s t = Tells (IsFound limit finding) s.left × (t.faults ≡ s.faults)
-Finds limit (Err (BadLine number)) s t = Tells (IsBadAt number) s.left × (t.faults ≡ s.faults)
+Finds limit (Err (BadLine number)) s t = Tells (IsBadAt limit number) s.left × (t.faults ≡ s.faults)
 Finds limit (Err Source) s t = Rose s.faults t.faults
 Finds limit (Err TooLong) s t = Tells (IsLong limit) s.left × (t.faults ≡ s.faults)
 Finds limit (Err OutOfMemory) s t = t.faults ≡ s.faults

@@ -7,6 +7,7 @@ use crate::trace::Trace;
 use blk_base::OutOfMemory;
 use blk_io::Source;
 use report_lines::{ReadStop, ReportLines};
+use schedule_text::Line;
 use std::alloc::Global;
 
 /// What a check finds.
@@ -83,13 +84,14 @@ pub fn check<S: Source>(
 {
     let mut report = ReportLines::new(alloc, bytes_limit);
     let mut trace = Trace::new(alloc);
+    let mut line = Line::End;
     let mut number = 1;
     loop {
-        let line = match report.next(source) {
-            Ok(Some(line)) => line,
-            Ok(None) => return Ok(finding_at(number, trace.has_ended())),
+        match report.next_into(source, &mut line) {
+            Ok(true) => {}
+            Ok(false) => return Ok(finding_at(number, trace.has_ended())),
             Err(stop) => return Err(stop_at(number, stop)),
-        };
+        }
         if let Some(rule) = trace.broken_by(&line) {
             return Ok(Finding::Broken { line: number, rule });
         }

@@ -2,8 +2,9 @@
 ghost use Rattle.trace_check.specs.Laws.{TheFirstIsTold, SoundIsKept, KeptIsSound};
 
 /// After lines that keep all rules, the rule that a check tells of the next line is the first that it
-/// breaks; none exactly where it breaks none. The premise of these laws is that the layout of entries
-/// stays while an epoch's entries are read: the rules count all entries of an epoch by one layout.
+/// breaks; none exactly where it breaks none. The premise of these laws is that, where moves are
+/// shown, the layout of entries stays while an epoch's entries are read: the rules count all entries
+/// of an epoch by one layout.
 pub fn the_first_rule_that_a_line_breaks_is_told()
     ensures { TheFirstIsTold }
 {}
