@@ -2,7 +2,7 @@
 use Rattle.std.proofs.Common.{◌≡◌, ℕ, List, [], ◌∷◌, Option, Some, None, refl, ◌∙◌}
 use Rattle.hypervisor.specs.Act.{FrontAct, BackAct, Took}
 use Rattle.split_model.specs.World.{World}
-use Rattle.split_model.specs.Happening.{Happening, FrontMoves, BackMoves, JobMoves, Submits, Notifies, Looks, Settles, happens, after, front_after, back_after, job_after, front_turn, back_turn, job_turn}
+use Rattle.split_model.specs.Happening.{Happening, FrontMoves, BackMoves, JobMoves, Submits, Notifies, Pokes, Dumps, Looks, Settles, happens, after, front_after, back_after, job_after, front_turn, back_turn, job_turn}
 use Rattle.split_model.proofs.SafeFront.{sectors_front, submit_kept}
 
 front_sectors_at : (w : World) (act : Option FrontAct) → (let v : World = front_after w act in v.front.sectors) ≡ w.front.sectors
@@ -24,6 +24,8 @@ sectors_kept w BackMoves = back_sectors_at w (back_turn w Took)
 sectors_kept w (JobMoves number outcome) = job_sectors_at w number (job_turn w number outcome)
 sectors_kept w (Submits job) = let kept = submit_kept w.front job in kept.sectors
 sectors_kept w (Notifies at) = refl
+sectors_kept w (Pokes frame word value) = refl
+sectors_kept w Dumps = refl
 sectors_kept w Looks = refl
 sectors_kept w Settles = refl
 

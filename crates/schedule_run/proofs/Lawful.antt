@@ -1,12 +1,15 @@
 -- The laws of the machine, of what a recorder keeps of a history's report.
-use Rattle.std.proofs.Common.{◌≡◌, ℕ, ◌^◌, ◌<◌, false, length, List, [], ◌∷◌, ◌++◌, Option, Some, None, refl, ap, sym, ◌∙◌, subst, arith, length-append}
+use Rattle.std.proofs.Common.{◌≡◌, ℕ, ◌^◌, ◌<◌, inl, inr, Bool, true, false, length, List, [], ◌∷◌, ◌++◌, Option, Some, None, refl, ap, sym, ◌∙◌, subst, arith, append_assoc, append-nil, length-append}
 use Rattle.std.specs.Prelude.{map}
-use Rattle.std.proofs.lemmas.List.Elements.{All-nil}
+use Rattle.std.proofs.lemmas.List.Elements.{All-nil, filter_map-append}
 use Rattle.blk_base.specs.Options.{Options}
 use Rattle.blk_io.specs.Disk.{DiskSeen, HasLength}
 use Rattle.schedule_text.specs.declared.line.Detail.{Detail}
 use Rattle.schedule_text.specs.declared.line.Detail.TheVariants.{Moves}
 use Rattle.schedule_text.specs.declared.line.Line.{Line}
+use Rattle.schedule_text.specs.declared.line.Line.TheVariants.{Begin, End}
+use Rattle.plain_disk.specs.Honest.{is_honest, honest_part, IsHonest}
+use Rattle.plain_disk.proofs.Honest.{honest_more, honest_ends}
 use Rattle.report_rules.specs.Obeys.{Obeys}
 use Rattle.report_rules.proofs.Obeys.{obeys_none, obeys_before}
 use Rattle.move_laws.proofs.Recorded.{report_kept, ended_kept}
@@ -20,18 +23,22 @@ use Rattle.disk_laws.specs.Run.{IsRunSoFar}
 use Rattle.pipeline_laws.specs.Answered.{AreAnsweredOnce, IsQuietAnswered}
 use Rattle.pipeline_laws.proofs.AnsweredRuns.{run_answers_once, run_answers_at_quiet}
 use Rattle.split_model.specs.World.{start_of}
-use Rattle.split_model.specs.Happening.{Happening, DiskRuns}
+use Rattle.split_model.specs.Happening.{Happening, DiskRuns, after, lines_at, lines_of}
+use Rattle.split_model.specs.Honest.{honest_history}
 use Rattle.schedule_text.specs.Recorder.{kept_of, line_bytes, report_text}
 use Rattle.split_model.specs.Report.{report_of, ended_report_of}
 use Rattle.split_model.proofs.Running.{kept_of-append}
 use Rattle.machine_pipeline.specs.Plain.{IsPlain}
-use Rattle.machine_pipeline.specs.Allowed.{AreServed}
-use Rattle.machine_pipeline.specs.Submissions.{submitted_of}
+use Rattle.machine_pipeline.specs.Allowed.{AreServed, ArePossible}
+use Rattle.machine_pipeline.specs.Submissions.{submitted_at, submitted_of}
+use Rattle.machine_pipeline.proofs.KindsEvents.{possible_first}
+use Rattle.machine_pipeline.proofs.HonestPart.{HostileAfter, HonestWith, HonestEnded, honest_with, honest_kept, honest_report, honest_ended, served_part, disk_runs_first, disk_part, submitted_part, kept_after, not_honest, CutOrWhole, cut_or_whole}
 use Rattle.pipeline_laws.specs.Submissions.{IsAnswerAt}
-use Rattle.pipeline_laws.specs.Unbroken.{is_breach, IsUnbroken}
-use Rattle.pipeline_laws.specs.States.{IsStateAt, AreStates}
+use Rattle.pipeline_laws.specs.Unbroken.{is_breach}
+use Rattle.pipeline_laws.specs.States.{IsStateAt}
 use Rattle.disk_laws.proofs.Reports.{reports_run, ended_reports_run}
-use Rattle.disk_laws.proofs.Before.{HasRunSoFar, begun_run, begun_answered, begun_once, begun_at_quiet, begun_unbroken, begun_states}
+use Rattle.pipeline_laws.specs.Submissions.{submitted_of as steps_submit}
+use Rattle.disk_laws.proofs.Before.{HasRunSoFar, whole_report, ended_report, begun_report, begun_run, begun_answered, begun_once, begun_at_quiet, begun_unbroken, begun_states}
 use Rattle.pipeline_laws.specs.Effects.{IsOfADisk}
 use Rattle.disk_laws.proofs.Reports.{reports_answered, ended_answered, reports_unbroken, ended_unbroken, reports_states, ended_states}
 use Rattle.schedule_text.specs.Range.{AreOptions, IsInRange}
@@ -42,13 +49,13 @@ use Rattle.blk_base.specs.declared.config.Job.{Job}
 use Rattle.report_laws.specs.Begun.{IsBegun}
 use Rattle.report_laws.specs.Grammar.{IsInGrammar}
 use Rattle.report_laws.specs.Ready.{IsReadyAt}
-use Rattle.report_laws.specs.QuietRing.{IsQuietRingAt}
+use Rattle.report_laws.specs.QuietRing.{IsQuietRing, IsQuietRingAt}
 use Rattle.report_laws.proofs.Begun.{report_begun, ended_begun, begun_before}
 use Rattle.report_laws.proofs.Grammar.{report_grammar, ended_grammar}
 use Rattle.report_laws.proofs.Texts.{grammar_before}
 use Rattle.report_laws.proofs.Ready.{report_ready, ended_ready}
 use Rattle.report_laws.proofs.QuietRing.{report_quiet, ended_quiet}
-use Rattle.schedule_run.specs.Lawful.{ObeysMoves, ShowsWork, ServesRequestsSoFar, IsLawful, IsLawfulSoFar}
+use Rattle.schedule_run.specs.Lawful.{ObeysMoves, ShowsWork, ServesRequests, ServesRequestsSoFar, IsLawful, IsLawfulSoFar}
 
 -- the moves, where they are shown
 whole_moves : (config : Options) (history : List Happening) → IsPlain config → ObeysMoves (report_of config Moves history)
@@ -140,53 +147,12 @@ quiet_of sectors before now report h = run_answers_at_quiet report h.first h.dis
 pub record IsTold (config : Options) (detail : Detail) (history : List Happening) : Type 0 where
   pub plain : IsPlain config
   pub options : AreOptions config
-  pub allowed : AreServed history (start_of config)
+  pub possible : ArePossible history (start_of config)
   pub short : length (report_of config detail history) < 2 ^ 64
 
-pub report_lawful : (config : Options) (detail : Detail) (history : List Happening) (before now : DiskSeen) → IsTold config detail history → HasLength before.content config.sectors → DiskRuns history (start_of config) before now → IsLawful config detail (submitted_of history) before.content now.content (kept_of detail (report_of config detail history))
-report_lawful config detail history before now h long runs =
-    let report = kept_of detail (report_of config detail history) in
-    record {
-      begun = report_begun config detail history;
-      grammar = report_grammar config detail history h.plain h.allowed h.options;
-      requests = λ of.
-          let run = reports_run config detail history before now h.plain h.allowed long runs of in
-          record {
-            disk = run;
-            submissions = reports_answered config detail history before now h.plain h.allowed long runs of;
-            once = once_of config.sectors before.content now.content report run;
-            quiet = quiet_of config.sectors before.content now.content report run;
-            unbroken = reports_unbroken config detail history before now h.plain h.allowed long runs of;
-            states = reports_states config detail history before now h.plain h.allowed long runs of;
-          };
-      ready = report_ready config detail history;
-      ring = λ same. report_quiet config detail history h.plain h.allowed same;
-      moves = shown detail config history h.plain;
-      work = λ same. worked detail config history same h.short;
-    }
-
--- with its last line
-pub ended_lawful : (config : Options) (detail : Detail) (history : List Happening) (before now : DiskSeen) → IsTold config detail history → HasLength before.content config.sectors → DiskRuns history (start_of config) before now → IsLawful config detail (submitted_of history) before.content now.content (kept_of detail (ended_report_of config detail history))
-ended_lawful config detail history before now h long runs =
-    let report = kept_of detail (ended_report_of config detail history) in
-    record {
-      begun = ended_begun config detail history;
-      grammar = ended_grammar config detail history h.plain h.allowed h.options;
-      requests = λ of.
-          let run = ended_reports_run config detail history before now h.plain h.allowed long runs of in
-          record {
-            disk = run;
-            submissions = ended_answered config detail history before now h.plain h.allowed long runs of;
-            once = once_of config.sectors before.content now.content report run;
-            quiet = quiet_of config.sectors before.content now.content report run;
-            unbroken = ended_unbroken config detail history before now h.plain h.allowed long runs of;
-            states = ended_states config detail history before now h.plain h.allowed long runs of;
-          };
-      ready = ended_ready config detail history;
-      ring = λ same. ended_quiet config detail history h.plain h.allowed same;
-      moves = ended_shown detail config history h.plain;
-      work = λ same. ended_worked detail config history same h.short;
-    }
+-- what happened before a hostile hand first overwrote a word
+allowed : {config : Options} {detail : Detail} {history : List Happening} → IsTold config detail history → AreServed (honest_history history) (start_of config)
+allowed {config = config} {history = history} h = served_part history (start_of config) h.possible
 
 -- what the beginning of a report tells of its requests, where a run has that report
 so_far_served : (jobs : List Job) (before : Option (List (List ℕ))) (report : List Line) → HasRunSoFar jobs before report → ServesRequestsSoFar jobs before report
@@ -199,23 +165,233 @@ so_far_served jobs before report h = record {
   states = begun_states jobs before report h;
 }
 
+-- more may be submitted later
+later_run : (jobs more all : List Job) (before : Option (List (List ℕ))) (report : List Line) → jobs ++ more ≡ all → HasRunSoFar jobs before report → HasRunSoFar all before report
+later_run jobs more all before report e h = record {
+  run = h.run;
+  report_same = h.report_same;
+  more = h.more ++ more;
+  submits = sym (append_assoc (let r = h.run in steps_submit r.steps) h.more more) ∙ (ap (λ (js : List Job). js ++ more) h.submits ∙ e);
+  from = h.from;
+}
+
+-- the honest part of a report
+honest_run : (config : Options) (detail : Detail) (history : List Happening) (before now : DiskSeen) → IsTold config detail history → HasLength before.content config.sectors → DiskRuns history (start_of config) before now
+    → IsOfADisk config.sectors before.content (kept_of detail (report_of config detail (honest_history history)))
+    → HasRunSoFar (submitted_of history) before.content (kept_of detail (report_of config detail (honest_history history)))
+honest_run config detail history before now h long runs of =
+    let part = disk_part history (start_of config) before now runs in
+    let submitted = submitted_part history in
+    later_run (submitted_of (honest_history history)) submitted.0 (submitted_of history) before.content _ submitted.1
+    (whole_report config detail (honest_history history) before part.0 h.plain (allowed h) long part.1 of)
+
+report_honest : (config : Options) (detail : Detail) (history : List Happening) → IsTold config detail history → honest_part (kept_of detail (report_of config detail history)) ≡ kept_of detail (report_of config detail (honest_history history))
+report_honest config detail history h = honest_kept detail (report_of config detail history) ∙ ap (kept_of detail) (honest_report config detail history h.possible)
+
+-- where no line of a kept report is hostile, no word was overwritten
+all_honest : (config : Options) (detail : Detail) (history : List Happening) → IsTold config detail history → IsHonest (kept_of detail (report_of config detail history)) → honest_history history ≡ history
+all_honest config detail history h honest = by_part (honest_with history (start_of config) [] h.possible)
+  where
+    first : List Line
+    first = report_of config detail (honest_history history)
+
+    by_part : HonestWith history (start_of config) [] → honest_history history ≡ history
+    by_part (inl all) = all
+    by_part (inr k) =
+        let cut : HostileAfter (report_of config detail history) first = (k.0, k.1, k.2, k.3, ap (λ (l : List Line). Begin config detail ∷ l) (sym (append-nil (lines_of history (start_of config))) ∙ k.4)) in
+        absurd (not_honest (kept_of detail (report_of config detail history)) (kept_of detail first) (kept_after detail (report_of config detail history) first cut) honest)
+
+all_ended : (config : Options) (detail : Detail) (history : List Happening) → IsTold config detail history → IsHonest (kept_of detail (ended_report_of config detail history)) → honest_history history ≡ history
+all_ended config detail history h honest = by_part (honest_ended config detail history h.possible)
+  where
+    by_part : HonestEnded config detail history → honest_history history ≡ history
+    by_part (inl all) = all.0
+    by_part (inr k) =
+        absurd (not_honest (kept_of detail (ended_report_of config detail history)) (kept_of detail (report_of config detail (honest_history history)))
+        (kept_after detail (ended_report_of config detail history) (report_of config detail (honest_history history)) k.0) honest)
+
+served_whole : {config : Options} {detail : Detail} {history : List Happening} → IsTold config detail history → honest_history history ≡ history → AreServed history (start_of config)
+served_whole {config = config} h all = subst (λ (hs : List Happening). AreServed hs (start_of config)) all (allowed h)
+
+report_serves : (config : Options) (detail : Detail) (history : List Happening) (before now : DiskSeen) → IsTold config detail history → HasLength before.content config.sectors → DiskRuns history (start_of config) before now → honest_history history ≡ history
+    → IsOfADisk config.sectors before.content (kept_of detail (report_of config detail history))
+    → ServesRequests config (submitted_of history) before.content now.content (kept_of detail (report_of config detail history))
+report_serves config detail history before now h long runs all of =
+    let may = served_whole h all in
+    let run = reports_run config detail history before now h.plain may long runs of in
+    record {
+      disk = run;
+      submissions = reports_answered config detail history before now h.plain may long runs of;
+      once = once_of config.sectors before.content now.content _ run;
+      quiet = quiet_of config.sectors before.content now.content _ run;
+      unbroken = reports_unbroken config detail history before now h.plain may long runs of;
+      states = reports_states config detail history before now h.plain may long runs of;
+    }
+
+ended_serves : (config : Options) (detail : Detail) (history : List Happening) (before now : DiskSeen) → IsTold config detail history → HasLength before.content config.sectors → DiskRuns history (start_of config) before now → honest_history history ≡ history
+    → IsOfADisk config.sectors before.content (kept_of detail (ended_report_of config detail history))
+    → ServesRequests config (submitted_of history) before.content now.content (kept_of detail (ended_report_of config detail history))
+ended_serves config detail history before now h long runs all of =
+    let may = served_whole h all in
+    let run = ended_reports_run config detail history before now h.plain may long runs of in
+    record {
+      disk = run;
+      submissions = ended_answered config detail history before now h.plain may long runs of;
+      once = once_of config.sectors before.content now.content _ run;
+      quiet = quiet_of config.sectors before.content now.content _ run;
+      unbroken = ended_unbroken config detail history before now h.plain may long runs of;
+      states = ended_states config detail history before now h.plain may long runs of;
+    }
+
+-- the honest part of a report with its last line: all of it, or the report of what happened before
+abbrev OfPart : (config : Options) (detail : Detail) (history : List Happening) → (List Line → Type 0) → Type 0
+OfPart config detail history P =
+    (honest_history history ≡ history → P (kept_of detail (ended_report_of config detail history)))
+    → P (kept_of detail (report_of config detail (honest_history history)))
+    → P (honest_part (kept_of detail (ended_report_of config detail history)))
+
+of_part : (config : Options) (detail : Detail) (history : List Happening) → IsTold config detail history → (P : List Line → Type 0) → OfPart config detail history P
+of_part config detail history h P whole first = by_part (honest_ended config detail history h.possible)
+  where
+    kept : honest_part (kept_of detail (ended_report_of config detail history)) ≡ kept_of detail (honest_part (ended_report_of config detail history))
+    kept = honest_kept detail (ended_report_of config detail history)
+
+    by_part : HonestEnded config detail history → P (honest_part (kept_of detail (ended_report_of config detail history)))
+    by_part (inl all) = subst P (sym (kept ∙ ap (kept_of detail) all.1)) (whole all.0)
+    by_part (inr k) = subst P (sym (kept ∙ ap (kept_of detail) k.1)) first
+
+pub report_honest_run : (config : Options) (detail : Detail) (history : List Happening) (before now : DiskSeen) → IsTold config detail history → HasLength before.content config.sectors → DiskRuns history (start_of config) before now
+    → IsOfADisk config.sectors before.content (honest_part (kept_of detail (report_of config detail history)))
+    → HasRunSoFar (submitted_of history) before.content (honest_part (kept_of detail (report_of config detail history)))
+report_honest_run config detail history before now h long runs =
+    subst (λ (ls : List Line). IsOfADisk config.sectors before.content ls → HasRunSoFar (submitted_of history) before.content ls) (sym (report_honest config detail history h))
+    (honest_run config detail history before now h long runs)
+
+pub ended_honest_run : (config : Options) (detail : Detail) (history : List Happening) (before now : DiskSeen) → IsTold config detail history → HasLength before.content config.sectors → DiskRuns history (start_of config) before now
+    → IsOfADisk config.sectors before.content (honest_part (kept_of detail (ended_report_of config detail history)))
+    → HasRunSoFar (submitted_of history) before.content (honest_part (kept_of detail (ended_report_of config detail history)))
+ended_honest_run config detail history before now h long runs =
+    of_part config detail history h (λ (ls : List Line). IsOfADisk config.sectors before.content ls → HasRunSoFar (submitted_of history) before.content ls)
+    (λ all. ended_report config detail history before now h.plain (served_whole h all) long runs)
+    (honest_run config detail history before now h long runs)
+
+-- the honest part of the beginning of a report begins that of what happened before
+prefix_honest : (a b : List Line) → (r : List Line) × (honest_part a ++ r ≡ honest_part (a ++ b))
+prefix_honest [] b = (honest_part b, refl)
+prefix_honest (line ∷ a) b = by_test (is_honest line) refl (prefix_honest a b)
+  where
+    by_test : (x : Bool) → is_honest line ≡ x → ((r : List Line) × (honest_part a ++ r ≡ honest_part (a ++ b))) → (r : List Line) × (honest_part (line ∷ a) ++ r ≡ honest_part (line ∷ (a ++ b)))
+    by_test true e rest = (
+      rest.0,
+      ap (λ (l : List Line). l ++ rest.0) (honest_more line a e) ∙ (ap (λ (l : List Line). line ∷ l) rest.1 ∙ sym (honest_more line (a ++ b) e)),
+    )
+    by_test false e rest = ([], append-nil (honest_part (line ∷ a)) ∙ (honest_ends line a e ∙ sym (honest_ends line (a ++ b) e)))
+
+said_part : (config : Options) (detail : Detail) (history : List Happening) (said rest : List Line) → IsTold config detail history → said ++ rest ≡ ended_report_of config detail history
+    → (more : List Line) × (honest_part (kept_of detail said) ++ more ≡ kept_of detail (ended_report_of config detail (honest_history history)))
+said_part config detail history said rest h all = by_part (honest_ended config detail history h.possible)
+  where
+    ended : List Line
+    ended = ended_report_of config detail history
+
+    begins : (r : List Line) × (honest_part (kept_of detail said) ++ r ≡ honest_part (kept_of detail said ++ kept_of detail rest))
+    begins = prefix_honest (kept_of detail said) (kept_of detail rest)
+
+    same : honest_part (kept_of detail said ++ kept_of detail rest) ≡ kept_of detail (honest_part ended)
+    same = ap honest_part (sym (kept_of-append detail said rest) ∙ ap (kept_of detail) all) ∙ honest_kept detail ended
+
+    by_part : HonestEnded config detail history → (more : List Line) × (honest_part (kept_of detail said) ++ more ≡ kept_of detail (ended_report_of config detail (honest_history history)))
+    by_part (inl whole) = (begins.0, begins.1 ∙ (same ∙ (ap (kept_of detail) whole.1 ∙ ap (λ (hs : List Happening). kept_of detail (ended_report_of config detail hs)) (sym whole.0))))
+    by_part (inr k) =
+        let first = report_of config detail (honest_history history) in (
+          begins.0 ++ kept_of detail (End ∷ []),
+          sym (append_assoc (honest_part (kept_of detail said)) begins.0 (kept_of detail (End ∷ [])))
+              ∙ (ap (λ (l : List Line). l ++ kept_of detail (End ∷ [])) (begins.1 ∙ (same ∙ ap (kept_of detail) k.1))
+              ∙ sym (kept_of-append detail first (End ∷ []))),
+        )
+
+-- the honest part of a report that was cut among the lines of what happened last
+pub begun_honest : (config : Options) (detail : Detail) (history : List Happening) (last : Happening) (part rest : List Line) (before now : DiskSeen) → IsTold config detail (history ++ last ∷ [])
+    → HasLength before.content config.sectors → DiskRuns (history ++ last ∷ []) (start_of config) before now
+    → part ++ rest ≡ lines_at (after history (start_of config)) last
+    → IsOfADisk config.sectors before.content (honest_part (kept_of detail (report_of config detail history ++ part)))
+    → HasRunSoFar (submitted_of (history ++ last ∷ [])) before.content (honest_part (kept_of detail (report_of config detail history ++ part)))
+begun_honest config detail history last part rest before now h long runs all of = by_part (cut_or_whole config detail history last part rest h.possible all)
+  where
+    said : List Line
+    said = report_of config detail history ++ part
+
+    by_part : CutOrWhole config detail history last part → HasRunSoFar (submitted_of (history ++ last ∷ [])) before.content (honest_part (kept_of detail said))
+    by_part (inl whole) =
+        let same : honest_part (kept_of detail said) ≡ kept_of detail said = honest_kept detail said ∙ ap (kept_of detail) whole.1 in
+        subst (HasRunSoFar (submitted_of (history ++ last ∷ [])) before.content) (sym same)
+        (begun_report config detail history last part rest before now h.plain whole.0 long runs all (subst (IsOfADisk config.sectors before.content) same of))
+    by_part (inr cut) =
+        let same : honest_part (kept_of detail said) ≡ kept_of detail (report_of config detail (honest_history history)) = honest_kept detail said ∙ ap (kept_of detail) cut in
+        let first = disk_runs_first history (last ∷ []) (start_of config) before now runs in
+        let part_disk = disk_part history (start_of config) before first.0 first.1 in
+        let submitted = submitted_part history in
+        let both : submitted_of (history ++ last ∷ []) ≡ submitted_of history ++ submitted_of (last ∷ []) = filter_map-append submitted_at history (last ∷ []) in
+        subst (HasRunSoFar (submitted_of (history ++ last ∷ [])) before.content) (sym same)
+        (later_run (submitted_of (honest_history history)) (submitted.0 ++ submitted_of (last ∷ [])) (submitted_of (history ++ last ∷ [])) before.content _
+        (sym (append_assoc (submitted_of (honest_history history)) submitted.0 (submitted_of (last ∷ []))) ∙ (ap (λ (js : List Job). js ++ submitted_of (last ∷ [])) submitted.1 ∙ sym both))
+        (whole_report config detail (honest_history history) before part_disk.0 h.plain (served_part history (start_of config) (possible_first history (last ∷ []) (start_of config) h.possible)) long part_disk.1
+        (subst (IsOfADisk config.sectors before.content) same of)))
+
+pub report_lawful : (config : Options) (detail : Detail) (history : List Happening) (before now : DiskSeen) → IsTold config detail history → HasLength before.content config.sectors → DiskRuns history (start_of config) before now → IsLawful config detail (submitted_of history) before.content now.content (kept_of detail (report_of config detail history))
+report_lawful config detail history before now h long runs =
+    let report = kept_of detail (report_of config detail history) in
+    let first = kept_of detail (report_of config detail (honest_history history)) in
+    let same : honest_part report ≡ first = report_honest config detail history h in
+    record {
+      begun = report_begun config detail history;
+      grammar = subst IsInGrammar (sym same) (report_grammar config detail (honest_history history) h.plain (allowed h) h.options);
+      requests = λ honest of. report_serves config detail history before now h long runs (all_honest config detail history h honest) of;
+      honest = λ of.
+          subst (ServesRequestsSoFar (submitted_of history) before.content) (sym same)
+          (so_far_served (submitted_of history) before.content first (honest_run config detail history before now h long runs (subst (IsOfADisk config.sectors before.content) same of)));
+      ready = report_ready config detail history;
+      ring = λ moves. subst IsQuietRing (sym same) (report_quiet config detail (honest_history history) h.plain (allowed h) moves);
+      moves = shown detail config history h.plain;
+      work = λ moves. worked detail config history moves h.short;
+    }
+
+-- with its last line
+pub ended_lawful : (config : Options) (detail : Detail) (history : List Happening) (before now : DiskSeen) → IsTold config detail history → HasLength before.content config.sectors → DiskRuns history (start_of config) before now → IsLawful config detail (submitted_of history) before.content now.content (kept_of detail (ended_report_of config detail history))
+ended_lawful config detail history before now h long runs =
+    record {
+      begun = ended_begun config detail history;
+      grammar =
+          of_part config detail history h IsInGrammar (λ all. ended_grammar config detail history h.plain (served_whole h all) h.options)
+          (report_grammar config detail (honest_history history) h.plain (allowed h) h.options);
+      requests = λ honest of. ended_serves config detail history before now h long runs (all_ended config detail history h honest) of;
+      honest = λ of. so_far_served (submitted_of history) before.content _ (ended_honest_run config detail history before now h long runs of);
+      ready = ended_ready config detail history;
+      ring = λ moves.
+          of_part config detail history h IsQuietRing (λ all. ended_quiet config detail history h.plain (served_whole h all) moves)
+          (report_quiet config detail (honest_history history) h.plain (allowed h) moves);
+      moves = ended_shown detail config history h.plain;
+      work = λ moves. ended_worked detail config history moves h.short;
+    }
+
 -- and the beginning of one
 pub begun_lawful : (config : Options) (detail : Detail) (history : List Happening) (before : Option (List (List ℕ))) (said rest : List Line) → IsTold config detail history
     → said ++ rest ≡ ended_report_of config detail history
-    → (IsOfADisk config.sectors before (kept_of detail said) → HasRunSoFar (submitted_of history) before (kept_of detail said))
+    → (IsOfADisk config.sectors before (honest_part (kept_of detail said)) → HasRunSoFar (submitted_of history) before (honest_part (kept_of detail said)))
     → IsLawfulSoFar config detail (submitted_of history) before (kept_of detail said)
 begun_lawful config detail history before said rest h all run =
     let one = kept_of detail said in
     let other = kept_of detail rest in
     let split : one ++ other ≡ kept_of detail (ended_report_of config detail history) = sym (kept_of-append detail said rest) ∙ ap (kept_of detail) all in
+    let part = said_part config detail history said rest h all in
     record {
       begun = begun_before config detail one other (subst (IsBegun config detail) (sym split) (ended_begun config detail history));
-      grammar = grammar_before one other (subst IsInGrammar (sym split) (ended_grammar config detail history h.plain h.allowed h.options));
-      requests = λ of. so_far_served (submitted_of history) before one (run of);
+      grammar = grammar_before (honest_part one) part.0 (subst IsInGrammar (sym part.1) (ended_grammar config detail (honest_history history) h.plain (allowed h) h.options));
+      honest = λ of. so_far_served (submitted_of history) before (honest_part one) (run of);
       ready = obeys_before IsReadyAt one other (subst (Obeys IsReadyAt) (sym split) (ended_ready config detail history));
-      ring = λ same. obeys_before IsQuietRingAt one other (subst (Obeys IsQuietRingAt) (sym split) (ended_quiet config detail history h.plain h.allowed same));
-      moves = λ same. moves_before one other (subst ObeysMoves (sym split) (ended_shown detail config history h.plain same));
-      work = λ same. work_before one other (subst ShowsWork (sym split) (ended_worked detail config history same h.short));
+      ring = λ moves. obeys_before IsQuietRingAt (honest_part one) part.0 (subst (Obeys IsQuietRingAt) (sym part.1) (ended_quiet config detail (honest_history history) h.plain (allowed h) moves));
+      moves = λ moves. moves_before one other (subst ObeysMoves (sym split) (ended_shown detail config history h.plain moves));
+      work = λ moves. work_before one other (subst ShowsWork (sym split) (ended_worked detail config history moves h.short));
     }
 
 -- no lines
@@ -233,7 +409,7 @@ nothing_lawful config detail jobs before =
     record {
       begun = tt;
       grammar = record { lines = All-nil IsInRange; exact = λ other all same. none_read_otherwise other same };
-      requests = λ of. record {
+      honest = λ of. record {
         disk = run;
         submissions = obeys_none (IsAnswerAt jobs);
         once = run_answers_once [] run.first run.disk run.run;

@@ -19,13 +19,12 @@ use Rattle.split_model.specs.Report.{report_of, ended_report_of}
 use Rattle.split_model.proofs.Running.{kept_of-append}
 use Rattle.split_model.proofs.Echo.{echo_of, schedule_echo, kept_echo}
 use Rattle.disk_laws.proofs.SubmissionsOf.{events_submit}
-use Rattle.disk_laws.proofs.Before.{ended_report}
 use Rattle.schedule_run.specs.Outcome.{Outside, outside, HasCarriedOut, EndsWhole, IsCut, IsUnsent, HasRead, StandsAtStop, StopsWith, EndsUnsent, Runs}
 use Rattle.schedule_run.specs.Reading.{IsWholeSchedule, HasBegun, HasComeTo, IsReadSoFar, Tells}
 use Rattle.schedule_run.specs.Lawful.{IsLawful, IsLawfulSoFar, HasLawfulReport, IsToldSoFar, HasLawfulBeginning, IsLawfulRun, ToldOf, IsLawfulStop, RunsLawfully}
 use Rattle.schedule_run.specs.declared.schedule.RunStop.{RunStop}
 use Rattle.schedule_run.specs.declared.schedule.RunStop.TheVariants as stop
-use Rattle.schedule_run.proofs.Lawful.{ended_lawful, begun_lawful, nothing_lawful}
+use Rattle.schedule_run.proofs.Lawful.{ended_lawful, begun_lawful, nothing_lawful, ended_honest_run}
 use Rattle.schedule_run.proofs.Told.{told_of, is_told, carried_lawful, carried_so_far, stopped_at_first, stopped_in_event, stopped_at_end}
 
 -- what was read, as it is told where the recorder stopped the run
@@ -120,7 +119,7 @@ unsent_lawful config limit a b old new long h =
         told = inl (h.told ∙ done_told config done.events old (outside new.disk h.before) done.before done.carried ended.told);
         lawful = subst (λ (jobs : List Job). IsLawfulSoFar config detail jobs old.disk.content (kept_of detail report)) (events_submit done.events (start_of config) leads.history leads.is_kind)
             (begun_lawful config detail leads.history old.disk.content report [] told (append-nil report)
-            (ended_report config detail leads.history old.disk new.disk told.plain told.allowed long leads.disk));
+            (ended_honest_run config detail leads.history old.disk new.disk told long leads.disk));
       },
     )
 

@@ -1,8 +1,14 @@
 -- How many lines a happening shows, and how long a report is at most.
-use Rattle.std.proofs.Common.{ℕ, ◌+◌, ◌*◌, ◌^◌, ◌<◌, ◌≤◌, List, [], ◌∷◌, ◌++◌, length, Option, Some, None, arith, length-append}
+use Rattle.std.proofs.Common.{◌≡◌, ℕ, zero, suc, Bool, true, false, if◌then◌else◌, refl, ap, ◌∙◌, ◌+◌, ◌*◌, ◌^◌, ◌<◌, ◌≤◌, List, [], ◌∷◌, ◌++◌, length, Option, Some, None, arith, length-append}
+use Rattle.std.specs.Prelude.{◌/◌, ◌%◌, sum_by}
+use Rattle.std.specs.List.{AllByRecursion}
+use Rattle.std.proofs.lemmas.List.Sums.{sum_by-cons, sum_by-append}
+use Rattle.xen_pages.specs.Pages.{word_of}
 use Rattle.blk_base.specs.Options.{Options}
 use Rattle.blk_base.specs.declared.ask.BackAnswer.{BackAnswer}
 use Rattle.schedule_text.specs.declared.event.Event.{Event}
+use Rattle.schedule_text.specs.declared.event.Event.TheVariants as events
+use Rattle.schedule_text.specs.declared.line.Line.TheVariants.{Poke}
 use Rattle.schedule_text.specs.declared.line.Detail.{Detail}
 use Rattle.hypervisor.specs.Act.{FrontAct, BackAct, Took}
 use Rattle.blk_front.specs.declared.told.Told.{Told}
@@ -14,14 +20,14 @@ use Rattle.blk_back.specs.declared.told.BackTold.TheVariants as back_told
 use Rattle.blk_back.specs.declared.told.Halt.{Halt}
 use Rattle.blk_back.specs.View as back
 use Rattle.blk_back.specs.Step as back_step
-use Rattle.split_model.specs.World.{World, start_of}
+use Rattle.blk_front.specs.Submit.{is_connected}
+use Rattle.split_model.specs.World.{World, start_of, is_quiet}
 use Rattle.split_model.specs.Shown.{front_lines, back_lines, halt_lines}
-use Rattle.split_model.specs.Happening.{Happening, FrontMoves, BackMoves, JobMoves, Submits, Notifies, Looks, Settles, happens, lines_at, after, lines_of, front_shows, back_shows, job_shows, front_turn, back_turn, job_turn}
-use Rattle.split_model.specs.Kind.{AreOfAll, AreOfSoFar}
+use Rattle.split_model.specs.Happening.{Happening, FrontMoves, BackMoves, JobMoves, Submits, Notifies, Pokes, Dumps, Looks, Settles, is_guest_word, word_lines, ring_lines, happens, lines_at, after, lines_of, front_shows, back_shows, job_shows, front_turn, back_turn, job_turn}
+use Rattle.split_model.specs.Kind.{Makes, AreOfAll, AreOfSoFar, front_moves, back_moves, never}
+use Rattle.split_model.proofs.Echo.{is_move, front_are_moves, back_are_moves, job_are_moves, rounds_are_moves}
 use Rattle.split_model.specs.Report.{report_of}
 use Rattle.machine_pipeline.specs.Plain.{IsPlain}
-use Rattle.machine_pipeline.proofs.KindsFront.{start_connects}
-use Rattle.machine_pipeline.proofs.KindsEvents.{events_served}
 use Rattle.schedule_run.proofs.Counts.{event_so_far_few, events_few}
 
 front_few : (told : Option Told) → length (front_lines told) ≤ 1
@@ -65,40 +71,119 @@ job_shows_few w number (Some a) =
     let few = back_few b.told a.answer in
     omega arith
 
--- a happening shows three lines at most
-pub lines_few : (w : World) (h : Happening) → length (lines_at w h) ≤ 3
+-- a word of the ring is a line at most
+words_few : (pages : List ℕ) (place count : ℕ) → length (ring_lines pages place count) ≤ count
+words_few pages place zero = omega arith
+words_few pages place (suc count) = more (word_of pages (2 + place / 1024) (place % 1024)) (words_few pages (place + 1) count)
+  where
+    more : (value : ℕ) → length (ring_lines pages (place + 1) count) ≤ count → length (word_lines place value ++ ring_lines pages (place + 1) count) ≤ suc count
+    more zero rest = omega arith
+    more (suc value) rest = omega arith
+
+poke_few : (there : Bool) (frame word value : ℕ) → length (if there then Poke frame word value ∷ [] else []) ≤ 3
+poke_few true frame word value = omega arith
+poke_few false frame word value = omega arith
+
+-- a dump shows 1024 lines at most, and any other happening three
+abbrev pub dumps_at : Happening → ℕ
+dumps_at Dumps = 1
+dumps_at h = 0
+
+abbrev pub dumps_of : List Happening → ℕ
+dumps_of hs = sum_by dumps_at hs
+
+lines_few : (w : World) (h : Happening) → length (lines_at w h) ≤ 3 + 1024 * dumps_at h
 lines_few w FrontMoves = front_shows_few w (front_turn w)
 lines_few w BackMoves = back_shows_few w (back_turn w Took)
 lines_few w (JobMoves number outcome) = job_shows_few w number (job_turn w number outcome)
 lines_few w (Submits job) = omega arith
 lines_few w (Notifies at) = omega arith
+lines_few w (Pokes frame word value) = poke_few (is_guest_word frame word) frame word value
+lines_few w Dumps = let few = words_few w.under.pages 0 1024 in omega arith
 lines_few w Looks = omega arith
 lines_few w Settles = omega arith
 
--- three lines for each happening at most
-lines_by : (hs : List Happening) (w : World) → length (lines_of hs w) ≤ 3 * length hs
+lines_by : (hs : List Happening) (w : World) → length (lines_of hs w) ≤ 3 * length hs + 1024 * dumps_of hs
 lines_by [] w = omega arith
 lines_by (h ∷ hs) w =
     let one = lines_few w h in
     let rest = lines_by hs (happens w h) in
     let both = length-append (lines_at w h) (lines_of hs (happens w h)) in
+    let dumps = sum_by-cons dumps_at h hs in
     omega arith
 
-begun_by : (config : Options) (detail : Detail) (history : List Happening) (n : ℕ) → length history ≤ n → length (report_of config detail history) ≤ 3 * n + 1
-begun_by config detail history n few = let lines = lines_by history (start_of config) in omega arith
+-- an event makes one dump at most
+none_more : (h : Happening) (hs : List Happening) → dumps_at h ≡ 0 → dumps_of hs ≡ 0 → dumps_of (h ∷ hs) ≡ 0
+none_more h hs none rest = let both = sum_by-cons dumps_at h hs in omega (arith, both, none, rest)
+
+moves_dump : (hs : List Happening) → AllByRecursion (λ h. is_move h ≡ true) hs → dumps_of hs ≡ 0
+moves_dump [] m = refl
+moves_dump (FrontMoves ∷ hs) m = none_more FrontMoves hs refl (moves_dump hs m.1)
+moves_dump (BackMoves ∷ hs) m = none_more BackMoves hs refl (moves_dump hs m.1)
+moves_dump (JobMoves number outcome ∷ hs) m = none_more (JobMoves number outcome) hs refl (moves_dump hs m.1)
+moves_dump (Notifies at ∷ hs) m = none_more (Notifies at) hs refl (moves_dump hs m.1)
+moves_dump (h ∷ hs) m = absurd (cc)
+
+one_dump : (h : Happening) → dumps_at h ≤ 1
+one_dump Dumps = omega arith
+one_dump h = omega arith
+
+only_dumps : (hs : List Happening) (h : Happening) → hs ≡ h ∷ [] → dumps_of hs ≤ 1
+only_dumps hs h e = let one = one_dump h in let all : dumps_of hs ≡ dumps_at h + 0 = ap dumps_of e ∙ sum_by-cons dumps_at h [] in omega arith
+
+no_dumps : (hs all : List Happening) → hs ≡ all → AllByRecursion (λ h. is_move h ≡ true) all → dumps_of hs ≤ 1
+no_dumps hs all e m = let none : dumps_of hs ≡ 0 = ap dumps_of e ∙ moves_dump all m in omega arith
+
+made_dumps : (e : Event) (w : World) (hs : List Happening) → Makes e w hs → dumps_of hs ≤ 1
+made_dumps (events.Submit job) w hs k = only_dumps hs (Submits job) k.0
+made_dumps (events.Front n) w hs k = no_dumps hs (front_moves w n) k (front_are_moves w n)
+made_dumps (events.Back n) w hs k = no_dumps hs (back_moves w n) k (back_are_moves (is_connected w.front.stage) n)
+made_dumps (events.Job number n) w hs k = no_dumps hs hs refl (job_are_moves number hs k.0)
+made_dumps (events.Turn n) w hs k = no_dumps hs hs refl (rounds_are_moves never n w hs k)
+made_dumps events.Settle w hs k =
+    let rounds = k.are_rounds in
+    let none = moves_dump k.rounds (rounds_are_moves is_quiet rounds.count w k.rounds rounds.are_rounds) in
+    let both : dumps_of hs ≡ dumps_of k.rounds + dumps_of (Settles ∷ []) = ap dumps_of k.all ∙ sum_by-append dumps_at k.rounds (Settles ∷ []) in
+    let last : dumps_of (Settles ∷ []) ≡ 0 = sum_by-cons dumps_at Settles [] in
+    omega arith
+made_dumps events.Look w hs k = only_dumps hs Looks k
+made_dumps (events.Notify at) w hs k = only_dumps hs (Notifies at) k
+made_dumps (events.Poke frame word value) w hs k = only_dumps hs (Pokes frame word value) k.0
+made_dumps events.Dump w hs k = only_dumps hs Dumps k
+made_dumps e w hs k = absurd k
+
+events_dumps : (es : List Event) (w : World) (hs : List Happening) → AreOfAll es w hs → dumps_of hs ≤ length es
+events_dumps [] w hs k = let none : dumps_of hs ≡ 0 = ap dumps_of k in omega arith
+events_dumps (e ∷ es) w hs k =
+    let first = made_dumps e w k.0 k.3.1 in
+    let rest = events_dumps es (after k.0 w) k.1 k.4 in
+    let both : dumps_of hs ≡ dumps_of k.0 + dumps_of k.1 = ap dumps_of k.2 ∙ sum_by-append dumps_at k.0 k.1 in
+    omega arith
+
+-- so many dumps are there at most
+dumps_few : (hs : List Happening) → dumps_of hs ≤ length hs
+dumps_few [] = omega arith
+dumps_few (h ∷ hs) = let one = one_dump h in let rest = dumps_few hs in let both = sum_by-cons dumps_at h hs in omega arith
+
+begun_by : (config : Options) (detail : Detail) (history : List Happening) (n dumps : ℕ) → length history ≤ n → dumps_of history ≤ dumps → length (report_of config detail history) ≤ 3 * n + 1024 * dumps + 1
+begun_by config detail history n dumps few shown = let lines = lines_by history (start_of config) in omega arith
 
 -- the report of 10^9 events is short
 pub report_short : (config : Options) (detail : Detail) (es : List Event) (history : List Happening) → IsPlain config → AreOfAll es (start_of config) history → length es ≤ 10 ^ 9 → length (report_of config detail history) < 2 ^ 64
 report_short config detail es history plain are few =
-    let all = events_few config [] es history plain tt are in
-    let lines = begun_by config detail history (10 ^ 9 * length es) all in
+    let all = events_few config [] es history plain are in
+    let dumps = events_dumps es (start_of config) history are in
+    let lines = begun_by config detail history (10 ^ 9 * length es) (length es) all dumps in
     omega arith
 
 -- and of one more, as far as it came
 pub report_so_far_short : (config : Options) (detail : Detail) (es : List Event) (e : Event) (first more : List Happening) → IsPlain config → AreOfAll es (start_of config) first → AreOfSoFar e (after first (start_of config)) more → length es ≤ 10 ^ 9 → length (report_of config detail (first ++ more)) < 2 ^ 64
 report_so_far_short config detail es e first more plain are far few =
-    let all = events_few config [] es first plain tt are in
-    let last = event_so_far_few config first e more plain (events_served es (start_of config) first (start_connects config) are) far in
+    let all = events_few config [] es first plain are in
+    let dumps = events_dumps es (start_of config) first are in
+    let last = event_so_far_few config first e more plain far in
+    let last_dumps = dumps_few more in
     let both = length-append first more in
-    let lines = begun_by config detail (first ++ more) (10 ^ 9 * length es + 10 ^ 9) (omega arith) in
+    let both_dumps = sum_by-append dumps_at first more in
+    let lines = begun_by config detail (first ++ more) (10 ^ 9 * length es + 10 ^ 9) (length es + 10 ^ 9) (omega arith) (omega arith) in
     omega arith

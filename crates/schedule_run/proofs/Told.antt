@@ -1,5 +1,5 @@
 -- What was told of events that were carried out is lawful; so is what was told until the recorder stopped.
-use Rattle.std.proofs.Common.{◌≡◌, ℕ, ◌+◌, ◌^◌, ◌<◌, ◌≤◌, List, [], ◌∷◌, ◌++◌, length, Result, Ok, Err, inl, inr, refl, ap, sym, ◌∙◌, subst, append_assoc, append-nil, length-append, arith}
+use Rattle.std.proofs.Common.{◌≡◌, ℕ, ◌^◌, ◌<◌, ◌≤◌, List, [], ◌∷◌, ◌++◌, length, Result, Ok, Err, inl, inr, refl, ap, sym, ◌∙◌, subst, append_assoc, append-nil, length-append, arith}
 use Rattle.blk_base.specs.Options.{Options}
 use Rattle.blk_base.specs.declared.config.Job.{Job}
 use Rattle.blk_io.specs.Disk.{HasLength}
@@ -20,14 +20,15 @@ use Rattle.split_model.proofs.Running.{lines_of-append, leads_as, stops_on}
 use Rattle.split_model.proofs.Echo.{schedule_echo, kept_echo}
 use Rattle.machine_pipeline.specs.Submissions.{submitted_of}
 use Rattle.machine_pipeline.proofs.KindsFront.{start_connects, connects_after}
-use Rattle.machine_pipeline.proofs.KindsEvents.{served_append, event_so_far_served, events_served}
+use Rattle.machine_pipeline.proofs.KindsEvents.{possible_append, event_so_far_possible, events_possible}
 use Rattle.disk_laws.proofs.SubmissionsOf.{events_submit, events_so_far_submit}
-use Rattle.disk_laws.proofs.Before.{HasRunSoFar, begun_report, whole_report}
+use Rattle.disk_laws.proofs.Before.{HasRunSoFar}
+use Rattle.plain_disk.specs.Honest.{honest_part}
 use Rattle.pipeline_laws.specs.Effects.{IsOfADisk}
 use Rattle.schedule_run.specs.Outcome.{Outside, outside, IsServed, HasCarried}
 use Rattle.schedule_run.specs.Lawful.{IsLawful, IsLawfulSoFar, HasLawfulReport, HasLawfulBeginning, EventLeaves}
 use Rattle.schedule_run.proofs.Lengths.{report_short, report_so_far_short}
-use Rattle.schedule_run.proofs.Lawful.{IsTold, report_lawful, begun_lawful, nothing_lawful}
+use Rattle.schedule_run.proofs.Lawful.{IsTold, report_lawful, report_honest_run, begun_honest, begun_lawful, nothing_lawful}
 use Rattle.schedule_run.proofs.Begins.{plain_of}
 use Rattle.schedule_run.proofs.Carrying.{events_lead_on}
 
@@ -44,7 +45,7 @@ is_told config events old now h =
     record {
       plain = plain_of config served;
       options = served.options;
-      allowed = events_served events (start_of config) leads.history (start_connects config) leads.is_kind;
+      possible = events_possible events (start_of config) leads.history (start_connects config) leads.is_kind;
       short = report_short config old.recorder.detail events leads.history (plain_of config served) leads.is_kind h.few;
     }
 
@@ -75,7 +76,7 @@ carried_so_far config events old now long h =
       told = inl told.told;
       lawful = subst (λ (jobs : List Job). IsLawfulSoFar config detail jobs old.disk.content (kept_of detail report)) (events_submit events (start_of config) leads.history leads.is_kind)
           (begun_lawful config detail leads.history old.disk.content report (End ∷ []) (is_told config events old now h) refl
-          (whole_report config detail leads.history old.disk now.disk (plain_of config h.served) (events_served events (start_of config) leads.history (start_connects config) leads.is_kind) long leads.disk));
+          (report_honest_run config detail leads.history old.disk now.disk (is_told config events old now h) long leads.disk));
     }
 
 -- nothing was told whole: the recorder stopped at the first line
@@ -113,12 +114,12 @@ both_told : (config : Options) (detail : Detail) (events : List Event) (event : 
 both_told config detail events event hs served few k =
     let start = start_of config in
     let plain = plain_of config served in
-    let first = events_served events start k.0 (start_connects config) k.3 in
-    let next = event_so_far_served event (after k.0 start) k.1 (connects_after k.0 start (start_connects config)) k.4 in
+    let first = events_possible events start k.0 (start_connects config) k.3 in
+    let next = event_so_far_possible event (after k.0 start) k.1 (connects_after k.0 start (start_connects config)) k.4 in
     subst (IsTold config detail) (sym k.2) (record {
       plain = plain;
       options = served.options;
-      allowed = served_append k.0 k.1 start first next;
+      possible = possible_append k.0 k.1 start first next;
       short = report_so_far_short config detail events event k.0 k.1 plain k.3 k.4 few;
     })
 
@@ -139,7 +140,7 @@ stopped_in_event config events event why old middle new long h stopped =
       lawful = subst (λ (jobs : List Job). IsLawfulSoFar config detail jobs old.disk.content (kept_of detail said)) (ap submitted_of k.2 ∙ events_so_far_submit events event start k.0 k.1 k.3 k.4)
           (begun_lawful config detail all old.disk.content said ((told.cut ∷ told.rest) ++ End ∷ []) both
           (cut_report config detail whole.history whole.last told.said told.rest told.cut told.all)
-          (begun_report config detail whole.history whole.last told.said (told.cut ∷ told.rest) old.disk new.disk both.plain both.allowed long whole.disk (sym told.all)));
+          (begun_honest config detail whole.history whole.last told.said (told.cut ∷ told.rest) old.disk new.disk both long whole.disk (sym told.all)));
     }
 
 -- or at the last line
@@ -161,8 +162,8 @@ stopped_at_end config events why old before new long h s =
       told = inr (told.cut, told.stops);
       lawful = subst (λ (jobs : List Job). IsLawfulSoFar config detail jobs old.disk.content (kept_of detail said)) (events_submit events (start_of config) leads.history leads.is_kind)
           (begun_lawful config detail leads.history old.disk.content said (told.cut ∷ told.rest) whole all
-          (subst (λ (ls : List Line). IsOfADisk config.sectors old.disk.content (kept_of detail ls) → HasRunSoFar (submitted_of leads.history) old.disk.content (kept_of detail ls)) (sym same)
-          (whole_report config detail leads.history old.disk before.disk whole.plain whole.allowed long leads.disk)));
+          (subst (λ (ls : List Line). IsOfADisk config.sectors old.disk.content (honest_part (kept_of detail ls)) → HasRunSoFar (submitted_of leads.history) old.disk.content (honest_part (kept_of detail ls))) (sym same)
+          (report_honest_run config detail leads.history old.disk before.disk whole long leads.disk)));
     }
 
 -- one event more

@@ -22,6 +22,7 @@ use Rattle.ring_laws.specs.Unmaps.{AreUnmaps}
 use Rattle.ring_laws.specs.Own.{AreOwn}
 use Rattle.report_rules.specs.Reply.{AreReplies}
 use Rattle.move_laws.specs.Grantable.{AreGrantable}
+use Rattle.plain_disk.specs.Honest.{honest_part, IsHonest}
 use Rattle.plain_disk.specs.Echo.{is_echo, AnswersAll, Echoes}
 use Rattle.pipeline_laws.specs.Run.{IsRun}
 use Rattle.pipeline_laws.specs.Effects.{IsOfADisk}
@@ -77,23 +78,24 @@ pub record ServesRequestsSoFar (jobs : List Job) (before : Option (List (List �
   pub unbroken : IsUnbroken report
   pub states : AreStates report
 
--- a report begins with the options, and is lines of the grammar that its text gives back; it serves its requests as the plain disk does, where the disk tells what it holds, or what the report shows of it are the calls of a disk; the front was connected before the first `quiet` line; and where it shows the moves, they obey the rules, and at each `quiet` line the ring is served and read
+-- a report begins with the options; the front was connected before the first `quiet` line; and where it shows the moves, they obey the rules, whatever a hostile hand overwrites. A report that no hostile hand touched serves its requests as the plain disk does, from what the disk held to what it holds, where the disk tells that, or what the report shows of it are the calls of a disk. Of any other, the lines before the first hostile one do so; they are lines of the grammar that their text gives back, and where moves are shown the ring is served and read at each `quiet` line
 pub record IsLawful (config : Options) (detail : Detail) (jobs : List Job) (before now : Option (List (List ℕ))) (report : List Line) : Type 0 where
   pub begun : IsBegun config detail report
-  pub grammar : IsInGrammar report
-  pub requests : IsOfADisk config.sectors before report → ServesRequests config jobs before now report
+  pub grammar : IsInGrammar (honest_part report)
+  pub requests : IsHonest report → IsOfADisk config.sectors before report → ServesRequests config jobs before now report
+  pub honest : IsOfADisk config.sectors before (honest_part report) → ServesRequestsSoFar jobs before (honest_part report)
   pub ready : IsReadyFirst report
-  pub ring : detail ≡ Moves → IsQuietRing report
+  pub ring : detail ≡ Moves → IsQuietRing (honest_part report)
   pub moves : detail ≡ Moves → ObeysMoves report
   pub work : detail ≡ Moves → ShowsWork report
 
 -- so is the beginning of one, as far as it was written
 pub record IsLawfulSoFar (config : Options) (detail : Detail) (jobs : List Job) (before : Option (List (List ℕ))) (report : List Line) : Type 0 where
   pub begun : IsBegunSoFar config detail report
-  pub grammar : IsInGrammar report
-  pub requests : IsOfADisk config.sectors before report → ServesRequestsSoFar jobs before report
+  pub grammar : IsInGrammar (honest_part report)
+  pub honest : IsOfADisk config.sectors before (honest_part report) → ServesRequestsSoFar jobs before (honest_part report)
   pub ready : IsReadyFirst report
-  pub ring : detail ≡ Moves → IsQuietRing report
+  pub ring : detail ≡ Moves → IsQuietRing (honest_part report)
   pub moves : detail ≡ Moves → ObeysMoves report
   pub work : detail ≡ Moves → ShowsWork report
 

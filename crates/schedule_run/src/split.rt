@@ -26,6 +26,7 @@ use schedule_text::{Line, RecordStop, Recorder};
 use std::alloc::Global;
 use std::marker::Model;
 
+mod memory;
 mod rounds;
 
 /// The front in its domain, the back with its jobs in another, and what lies under both.

@@ -97,12 +97,20 @@ fn config(sectors: u64) -> Config
     ensures carried { are_carried result ≡ true }
     ensures sectors { result.sectors ≡ sectors }
 {
+    config_from(sectors, 0)
+}
+
+// The same, with a ring whose indices start there.
+fn config_from(sectors: u64, start: u32) -> Config
+    ensures carried { are_carried result ≡ true }
+    ensures sectors { result.sectors ≡ sectors }
+{
     Config {
         abi: Abi::X64,
         order: 0,
         persistent: 0,
         indirect: 0,
-        start: 0,
+        start,
         read_only: false,
         sectors,
     }
@@ -116,6 +124,17 @@ fn zeros(alloc: Global) -> Result<MemoryDisk, Fail> {
 // Runs a schedule, and gives the report.
 fn report<D: SectorDisk + Drop>(
     alloc: Global,
+    schedule: &str,
+    disk: D,
+    detail: Detail,
+) -> Result<MemorySink, Fail> {
+    report_from(alloc, 0, schedule, disk, detail)
+}
+
+// The same, of a ring whose indices start there.
+fn report_from<D: SectorDisk + Drop>(
+    alloc: Global,
+    start: u32,
     schedule: &str,
     mut disk: D,
     detail: Detail,
@@ -132,7 +151,7 @@ fn report<D: SectorDisk + Drop>(
     };
     run(
         alloc,
-        config(sectors),
+        config_from(sectors, start),
         4294967296,
         &mut source,
         &mut disk,
@@ -416,5 +435,68 @@ fn a_machine_carries_out_events_and_counts_them(rt: HostRuntime) -> Result<(), F
     assert_eq!(rt; can_carry_out(&Event::Submit(discard)), false);
     assert_eq!(rt; can_carry_out(&Event::Submit(Job::Flush)), false);
     assert_eq!(rt; can_carry_out(&Event::Turn(1000001)), false);
+    Ok(())
+}
+
+#[test]
+fn a_producer_that_overruns_halts_the_back(rt: HostRuntime) -> Result<(), Fail> {
+    let alloc = rt.alloc();
+    let schedule = "settle\npoke 2 0 33\nnotify back\nsettle\n";
+    let sink = report(alloc, schedule, zeros(alloc)?, Detail::Lines)?;
+    assert_eq!(rt;
+        sink.bytes(),
+        b"begin 64 0 0 0 0 rw 8 lines\nready\nquiet\npoke 2 0 33\nhalt overrun 33 0\nquiet\nend\n".as_slice()
+    );
+    Ok(())
+}
+
+#[test]
+fn an_operation_changed_while_its_entry_is_fetched_is_served_as_first_read(
+    rt: HostRuntime,
+) -> Result<(), Fail> {
+    let alloc = rt.alloc();
+    let schedule =
+        "settle\nsubmit write 0 1 00000007\nfront 163\nback 3\npoke 2 16 3388997888\nsettle\n";
+    let sink = report(alloc, schedule, zeros(alloc)?, Detail::Lines)?;
+    assert_eq!(rt;
+        sink.bytes(),
+        b"begin 64 0 0 0 0 rw 8 lines\nready\nquiet\nsubmit 1 write 0 1 00000007\npoke 2 16 3388997888\neffect 1 0\nreply 1 ok\nanswer 1 ok\nquiet\nend\n".as_slice()
+    );
+    Ok(())
+}
+
+#[test]
+fn an_id_that_nobody_has_breaks_the_front(rt: HostRuntime) -> Result<(), Fail> {
+    let alloc = rt.alloc();
+    let schedule = "settle\nsubmit write 0 1 00000007\nfront 1000\npoke 2 18 9\nsettle\n";
+    let sink = report(alloc, schedule, zeros(alloc)?, Detail::Lines)?;
+    assert_eq!(rt;
+        sink.bytes(),
+        b"begin 64 0 0 0 0 rw 8 lines\nready\nquiet\nsubmit 1 write 0 1 00000007\npoke 2 18 9\neffect 9 0\nreply 9 ok\nbroken 00000009\nquiet\nend\n".as_slice()
+    );
+    Ok(())
+}
+
+#[test]
+fn a_grant_taken_away_before_the_map_is_an_error(rt: HostRuntime) -> Result<(), Fail> {
+    let alloc = rt.alloc();
+    let schedule = "settle\nsubmit write 0 1 00000007\nfront 1000\npoke 0 48 0\nsettle\n";
+    let sink = report(alloc, schedule, zeros(alloc)?, Detail::Lines)?;
+    assert_eq!(rt;
+        sink.bytes(),
+        b"begin 64 0 0 0 0 rw 8 lines\nready\nquiet\nsubmit 1 write 0 1 00000007\npoke 0 48 0\nreply 1 error\nanswer 1 error\nquiet\nend\n".as_slice()
+    );
+    Ok(())
+}
+
+#[test]
+fn a_dump_shows_the_words_of_the_ring_in_order(rt: HostRuntime) -> Result<(), Fail> {
+    let alloc = rt.alloc();
+    let one = "submit write 0 1 00000007\nsettle\n";
+    let schedule = format!(in alloc; "settle\n{one}{one}{one}dump\n")?;
+    let sink = report_from(alloc, 4294967295, &schedule, zeros(alloc)?, Detail::Lines)?;
+    let wanted =
+        b"begin 64 0 0 0 4294967295 rw 8 lines\nready\nquiet\nsubmit 1 write 0 1 00000007\neffect 1 0\nreply 1 ok\nanswer 1 ok\nquiet\nsubmit 2 write 0 1 00000007\neffect 2 0\nreply 2 ok\nanswer 2 ok\nquiet\nsubmit 3 write 0 1 00000007\neffect 3 0\nreply 3 ok\nanswer 3 ok\nquiet\nword 2 0 00000002\nword 2 1 00000003\nword 2 2 00000002\nword 2 3 00000003\n";
+    assert!(rt; sink.bytes().starts_with(wanted));
     Ok(())
 }

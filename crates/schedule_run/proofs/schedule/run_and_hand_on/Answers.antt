@@ -1,4 +1,4 @@
-use Rattle.std.proofs.Common.{Ok, subst}
+use Rattle.std.proofs.Common.{subst}
 use Rattle.schedule_run.specs.Outcome.{outside, RunsTo}
 use Rattle.schedule_run.proofs.Ending.{done_unsent, handed_done}
 use Rattle.schedule_run.proofs.schedule.run_and_hand_on.Goals as goal

@@ -29,6 +29,19 @@ returns-in-Settle-clause-goes g c = rw (c.in-Settle.is, ← c.self.view_is) (goe
 pub returns-in-Look-clause-goes : goal.returns-in-Look-clause-goes
 returns-in-Look-clause-goes g c = rw (c.in-Look.is, ← c.self.view_is) (goes_as _ _ _ _ 0 (10 ^ 10) _ _ _ (omega arith) (λ hs k. k) (λ hs k. k) (c.look.ensures (g.D.SectorDisk.seen c.args.disk.now)))
 
+pub returns-in-Poke-clause-goes : goal.returns-in-Poke-clause-goes
+returns-in-Poke-clause-goes g c =
+    rw (c.in-Poke.is, ← c.self.view_is) (goes_as _ _ _ _ 0 (10 ^ 10) _ _ _ (omega arith) (λ hs k. (k, c.poke.ensures.small)) (λ hs k. (k, c.poke.ensures.small)) (c.poke.ensures.goes (g.D.SectorDisk.seen c.args.disk.now)))
+
+pub returns-in-Dump-clause-goes : goal.returns-in-Dump-clause-goes
+returns-in-Dump-clause-goes g c = rw (c.in-Dump.is, ← c.self.view_is) (goes_as _ _ _ _ 0 (10 ^ 10) _ _ _ (omega arith) (λ hs k. k) (λ hs k. k) (c.dump.ensures (g.D.SectorDisk.seen c.args.disk.now)))
+
+pub invariant_of-self-in-Poke : goal.invariant_of-self-in-Poke
+invariant_of-self-in-Poke g c =
+    let few : c.self.inside.events < 10 ^ 9 = subst (λ (m : Run). m.events < 10 ^ 9) (sym c.self.view_is) c.requires.few in
+    let went = c.poke.ensures.goes (g.D.SectorDisk.seen c.args.disk.now) in
+    within_on c.self.inside.split c.poke.new.self c.self.inside.events 0 (omega arith) few went.keeps.made c.self.invariant
+
 pub returns-in-Notify-clause-goes : goal.returns-in-Notify-clause-goes
 returns-in-Notify-clause-goes g c =
     rw (c.in-Notify.is, ← c.self.view_is) (goes_one _ _ (10 ^ 10) (Notifies c.in-Notify.at) _ _ _ refl refl c.notify.ensures (rw c.notify.ensures (omega arith)) (rw c.notify.ensures refl) refl (gained_none _))

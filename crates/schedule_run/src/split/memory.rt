@@ -1,0 +1,61 @@
+// The guest's memory, as a hostile hand overwrites it and as a dump shows it.
+ghost use Rattle.std.specs.Prelude.{◌≡◌, ◌<◌, ◌^◌, ◌∷◌, [], true};
+ghost use Rattle.blk_io.specs.Disk.{DiskSeen};
+ghost use Rattle.schedule_text.specs.Recorder.{Adds};
+ghost use Rattle.xen_pages.specs.Pages.{word_of};
+ghost use Rattle.split_model.specs.Happening.{Pokes, Dumps, is_guest_word, word_lines};
+ghost use Rattle.split_model.specs.Leads.{Goes, Is, moment};
+
+use super::Split;
+use schedule_text::{Line, RecordStop, Recorder};
+
+// The frame of the ring's page.
+const RING_FRAME: u32 = 2;
+
+impl Split {
+    /// A hostile hand overwrites a word of the guest's memory, and that is shown: frames 0 to 1023,
+    /// words 0 to 1023.
+    pub fn poke<R: Recorder>(
+        &mut self,
+        frame: u32,
+        word: u32,
+        value: u32,
+        recorder: &mut R,
+    ) -> Result<(), RecordStop>
+        requires there { is_guest_word frame word ≡ true }
+        ensures small { value < 2 ^ 32 }
+        ensures goes { (disk : DiskSeen) → Goes (Is (Pokes frame word value ∷ [])) (Is (Pokes frame word value ∷ [])) 0 result
+            (moment self.old disk (R.seen recorder.old))
+            (moment self.new disk (R.seen recorder.new)) }
+    {
+        self.under.overwrite(frame, word, value);
+        recorder.add(&Line::Poke { frame, word, value })
+    }
+
+    /// Shows each word of the ring that isn't 0, in order.
+    pub fn dump<R: Recorder>(&self, recorder: &mut R) -> Result<(), RecordStop>
+        ensures { (disk : DiskSeen) → Goes (Is (Dumps ∷ [])) (Is (Dumps ∷ [])) 0 result
+            (moment self.now disk (R.seen recorder.old))
+            (moment self.now disk (R.seen recorder.new)) }
+    {
+        let mut word = 0;
+        while word < 1024 {
+            self.show_word(word, recorder)?;
+            word += 1;
+        }
+        Ok(())
+    }
+
+    // Shows a word of the ring, unless it is 0.
+    fn show_word<R: Recorder>(&self, word: u32, recorder: &mut R) -> Result<(), RecordStop>
+        requires { word < 1024 }
+        ensures { Adds (word_lines word (word_of self.now.under.pages 2 word)) result (R.seen recorder.old) (R.seen recorder.new) }
+    {
+        let value = self.under.read_front(RING_FRAME, word);
+        if value == 0 {
+            return Ok(());
+        }
+        let frame = RING_FRAME;
+        recorder.add(&Line::Word { frame, word, value })
+    }
+}
