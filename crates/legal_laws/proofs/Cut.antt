@@ -1,7 +1,7 @@
 -- The lines that bytes begin with, among those whose text they are.
 use Rattle.std.proofs.Common.{◌≡◌, ◌≢◌, ℕ, List, [], ◌∷◌, ◌++◌, map, refl, ap, sym, ◌∙◌, append_assoc}
 use Rattle.std.specs.Prelude.{All}
-use Rattle.std.proofs.lemmas.List.Elements.{All-head, All-tail}
+use Rattle.std.proofs.lemmas.List.Elements.{All-nil, All-cons, All-head, All-tail}
 use Rattle.line_text.specs.Words.{words_in}
 use Rattle.schedule_text.specs.declared.line.Line.{Line}
 use Rattle.schedule_text.specs.Line.{text_of}
@@ -10,7 +10,7 @@ use Rattle.schedule_text.specs.Range.{IsInRange}
 use Rattle.schedule_text.specs.Reading.{line_at}
 use Rattle.schedule_text.specs.Recorder.{report_text}
 use Rattle.schedule_text.proofs.Spelling.{says_line}
-use Rattle.report_lines.specs.Text.{HasNoLineFeed, BeginsWith}
+use Rattle.report_lines.specs.Text.{HasNoLineFeed, BeginsWith, IsReportText}
 use Rattle.legal_laws.proofs.Short.{unbroken_text}
 
 -- two texts, each ended by a line feed, with more after them
@@ -39,6 +39,18 @@ cut_first line report = append_assoc (text_of line) (10 ∷ []) (report_text rep
 
 one_line : (a b : Line) → IsInRange a → IsInRange b → text_of a ≡ text_of b → plain a ≡ plain b
 one_line a b h k e = sym (says_line a h) ∙ (ap (λ (text : List ℕ). line_at (words_in text)) e ∙ says_line b k)
+
+-- bytes that are the text of lines are the lines' texts, one after another
+pub whole_text : (report : List Line) (bytes : List ℕ) → IsReportText report bytes → bytes ≡ report_text report
+whole_text [] bytes read = read
+whole_text (line ∷ report) bytes read =
+    read.2 ∙ (ap (λ (text : List ℕ). text ++ 10 ∷ read.1) (sym read.3.text)
+    ∙ (ap (λ (more : List ℕ). text_of line ++ 10 ∷ more) (whole_text report read.1 read.4) ∙ sym (cut_first line report)))
+
+-- each of these lines is one of the grammar
+pub whole_range : (report : List Line) (bytes : List ℕ) → IsReportText report bytes → All IsInRange report
+whole_range [] bytes read = All-nil IsInRange
+whole_range (line ∷ report) bytes read = All-cons IsInRange line report read.3.in_range (whole_range report read.1 read.4)
 
 -- these lines say the same as the first ones of a report, and the text of the others is left
 pub record IsCut (lines report : List Line) (rest : List ℕ) : Type 0 where

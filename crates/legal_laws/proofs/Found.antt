@@ -11,7 +11,7 @@ use Rattle.schedule_text.specs.Plain.{plain}
 use Rattle.schedule_text.specs.Range.{IsInRange}
 use Rattle.schedule_text.specs.Recorder.{report_text}
 use Rattle.report_rules.proofs.Obeys.{obeys_before}
-use Rattle.report_lines.specs.Text.{HasBadText, first_line}
+use Rattle.report_lines.specs.Text.{HasBadText, first_line, IsReportText}
 use Rattle.report_lines.specs.Giving.{Tells}
 use Rattle.report_lines.proofs.Feeds.{first_line_whole}
 use Rattle.trace_check.specs.declared.rule.Rule.{Rule}
@@ -24,14 +24,14 @@ use Rattle.legal_laws.specs.Found.{FindsLegal}
 use Rattle.legal_laws.proofs.Lists.{all_there}
 use Rattle.legal_laws.proofs.Same.{IsAmong, among, same_sound}
 use Rattle.legal_laws.proofs.Short.{short_text, unbroken_text}
-use Rattle.legal_laws.proofs.Cut.{IsCut, cut, cut_first, some_bytes}
+use Rattle.legal_laws.proofs.Cut.{IsCut, cut, cut_first, some_bytes, whole_text, whole_range}
 
 -- lines that a sound report begins with are sound
 begins_sound : (lines report : List Line) (rest : List ℕ) → AreSound report → IsCut lines report rest → AreSound lines
 begins_sound lines report rest sound c = same_sound c.first lines c.same (obeys_before IsSoundAt c.first c.later (subst AreSound c.whole sound))
 
-unbroken : (report : List Line) (number : ℕ) (broken : Rule) → AreSound report → All IsInRange report → IsBrokenAt number broken (report_text report) → ⊥
-unbroken report number broken sound all b =
+unbroken : (report : List Line) (limit number : ℕ) (broken : Rule) → AreSound report → All IsInRange report → IsBrokenAt limit number broken (report_text report) → ⊥
+unbroken report limit number broken sound all b =
     let here = begins_sound (b.before ++ b.line ∷ []) report b.rest sound (cut (b.before ++ b.line ∷ []) report (report_text report) b.rest all refl b.read) in
     none-some broken (sym (here b.before [] b.line refl) ∙ b.rule)
 
@@ -63,7 +63,7 @@ ended report number broken ends all l =
 
 found_legal : (limit : ℕ) (report : List Line) (finding : Finding) → AreSound report → EndsWell report → All IsInRange report → IsFound limit finding (report_text report) → finding ≡ Legal
 found_legal limit report Legal sound ends all found = refl
-found_legal limit report (Broken number broken) sound ends all (inl b) = absurd (unbroken report number broken sound all b)
+found_legal limit report (Broken number broken) sound ends all (inl b) = absurd (unbroken report limit number broken sound all b)
 found_legal limit report (Broken number broken) sound ends all (inr l) = absurd (ended report number broken ends all l.0)
 
 -- ---- no line is bad
@@ -87,15 +87,20 @@ all_after : (xs ys : List Line) → All IsInRange (xs ++ ys) → All IsInRange y
 all_after [] ys all = all
 all_after (x ∷ xs) ys all = all_after xs ys (All-tail IsInRange x (xs ++ ys) all)
 
-never_bad : (report : List Line) (number : ℕ) → All IsInRange report → IsBadAt number (report_text report) → ⊥
-never_bad report number all b =
+never_bad : (report : List Line) (limit number : ℕ) → All IsInRange report → IsBadAt limit number (report_text report) → ⊥
+never_bad report limit number all b =
     let c = cut b.before report (report_text report) b.rest all refl b.read in
     bad_left c.later b.rest (all_after c.first c.later (subst (All IsInRange) c.whole all)) c.left b.bad.0 b.bad.1
+
+-- bytes that are the text of a report have no line that is none of one
+pub whole_never_bad : (limit number : ℕ) (report : List Line) (bytes : List ℕ) → IsReportText report bytes → IsBadAt limit number bytes → ⊥
+whole_never_bad limit number report bytes read b =
+    never_bad report limit number (whole_range report bytes read) (subst (IsBadAt limit number) (whole_text report bytes read) b)
 
 pub sound_found_legal : (limit : ℕ) (report : List Line) (found : Result Finding CheckStop) (s t : SourceSeen)
     → AreSound report → EndsWell report → All IsInRange report → s.left ≡ Some (report_text report) → Finds limit found s t → FindsLegal limit (report_text report) found s t
 sound_found_legal limit report (Ok finding) s t sound ends all left finds = found_legal limit report finding sound ends all (subst (Tells (IsFound limit finding)) left finds.0)
-sound_found_legal limit report (Err (BadLine number)) s t sound ends all left finds = never_bad report number all (subst (Tells (IsBadAt number)) left finds.0)
+sound_found_legal limit report (Err (BadLine number)) s t sound ends all left finds = never_bad report limit number all (subst (Tells (IsBadAt limit number)) left finds.0)
 sound_found_legal limit report (Err Source) s t sound ends all left finds = finds
-sound_found_legal limit report (Err TooLong) s t sound ends all left finds = (let long : IsLong limit (report_text report) = subst (Tells (IsLong limit)) left finds.0 in long.long)
+sound_found_legal limit report (Err TooLong) s t sound ends all left finds = (let long : IsLong limit (report_text report) = subst (Tells (IsLong limit)) left finds.0 in let taken = long.taken in omega arith)
 sound_found_legal limit report (Err OutOfMemory) s t sound ends all left finds = tt

@@ -1,12 +1,12 @@
 -- Lines that keep the rules one by one keep all rules.
-use Rattle.std.proofs.Common.{◌≡◌, ◌&&◌, ◌||◌, Bool, true, false, List, [], ◌∷◌, ◌++◌, cond, drop, get_or, refl, ap, sym, subst, ◌∙◌, true≢false}
+use Rattle.std.proofs.Common.{◌≡◌, ◌&&◌, ◌||◌, Bool, true, false, List, [], ◌∷◌, ◌++◌, drop, get_or, refl, ap, sym, subst, ◌∙◌, true≢false}
 use Rattle.std.specs.Prelude.{IsTrue}
 use Rattle.std.specs.List.{list_all, list_any, prefix_len}
 use Rattle.std.proofs.lemmas.List.{take-append-drop}
-use Rattle.std.proofs.lemmas.List.Sums.{take_while-cons}
 use Rattle.std.proofs.lemmas.List.Folds.{list_any-append}
 use Rattle.schedule_text.specs.declared.line.Line.{Line}
 use Rattle.plain_disk.specs.Honest.{is_honest, honest_part}
+use Rattle.plain_disk.proofs.Honest.{honest_more}
 use Rattle.report_rules.specs.Obeys.{Obeys}
 use Rattle.report_rules.specs.Coherent.{IsCoherentAt}
 use Rattle.report_rules.specs.Overrun.{IsOverrunAt}
@@ -20,12 +20,20 @@ use Rattle.legal_laws.specs.Legal.{KeepsMoves}
 
 -- ---- the honest part
 
-honest_more : (line : Line) (rest : List Line) → is_honest line ≡ true → honest_part (line ∷ rest) ≡ line ∷ honest_part rest
-honest_more line rest honest = take_while-cons is_honest line rest ∙ ap (λ (b : Bool). cond b (line ∷ honest_part rest) []) honest
-
 first_honest : (a b c : Bool) → (a && b) && c ≡ true → (a ≡ true) × (b && c ≡ true)
 first_honest true b c all = (refl, all)
 first_honest false b c all = absurd (true≢false (sym all))
+
+both_honest : (a b : Bool) → a && b ≡ true → (a ≡ true) × (b ≡ true)
+both_honest true b all = (refl, all)
+both_honest false b all = absurd (true≢false (sym all))
+
+-- a report that no hostile hand touched is its own honest part
+pub honest_whole : (report : List Line) → list_all is_honest report ≡ true → honest_part report ≡ report
+honest_whole [] honest = refl
+honest_whole (line ∷ rest) honest =
+    let both = both_honest (is_honest line) (list_all is_honest rest) honest in
+    honest_more line rest both.0 ∙ ap (λ (ls : List Line). line ∷ ls) (honest_whole rest both.1)
 
 -- lines that are all honest are in the honest part
 honest_split : (before after : List Line) (line : Line) → list_all is_honest before && is_honest line ≡ true → honest_part (before ++ line ∷ after) ≡ before ++ line ∷ honest_part after

@@ -9,7 +9,6 @@ pub mod SameRules
 pub mod Same
 pub mod Cut
 pub mod Found
-pub mod Inline
 pub mod Words
 pub mod Narrow
 pub mod Short

@@ -1,4 +1,4 @@
--- The words of a line have at most 80 bytes, but for those of a sector, and no line feed.
+-- The words of a line have at most 80 bytes, but for those of a sector.
 use Rattle.std.proofs.Common.{◌≡◌, ℕ, Bool, true, false, List, ◌++◌, Some, None, refl, ◌&&◌, arith, true≢false}
 use Rattle.blk_base.specs.declared.operation.Abi.{Abi}
 use Rattle.blk_base.specs.declared.operation.Abi.TheVariants.{X64, X32}

@@ -1,12 +1,11 @@
 -- What a run promises of its report makes it legal.
 use Rattle.std.proofs.Common.{◌≡◌, ◌||◌, ℕ, Bool, true, false, List, [], ◌∷◌, refl, ap, sym, subst, ◌∙◌, true≢false}
-use Rattle.std.specs.Prelude.{Option, Some, Result, All, filter}
+use Rattle.std.specs.Prelude.{Some, Result, All, filter}
 use Rattle.std.specs.List.{list_any}
-use Rattle.std.proofs.lemmas.List.Elements.{All-weaker, All-head, All-tail, All-cons}
+use Rattle.std.proofs.lemmas.List.Elements.{All-weaker, All-head, All-tail}
 use Rattle.blk_base.specs.Options.{Options}
 use Rattle.blk_base.specs.declared.config.Job.{Job}
 use Rattle.blk_base.specs.declared.config.Job.TheVariants as jobs
-use Rattle.blk_base.specs.declared.operation.Abi.{Abi}
 use Rattle.blk_io.specs.Outside.{SourceSeen}
 use Rattle.schedule_text.specs.declared.event.Event.{Event}
 use Rattle.schedule_text.specs.declared.line.Detail.{Detail}
@@ -17,22 +16,21 @@ use Rattle.schedule_text.specs.Range.{JobHasWidths, IsInRange}
 use Rattle.schedule_text.specs.Recorder.{report_text}
 use Rattle.plain_disk.specs.Echo.{is_echo, AnswersAll, Echoes}
 use Rattle.report_rules.specs.Obeys.{Obeys}
-use Rattle.report_rules.specs.Ring.{abi_after, ring_abi}
 use Rattle.request_check.specs.Rules.{CanBeAsked}
-use Rattle.job_check.specs.Laws.{IsLayoutAt}
-use Rattle.trace_check.specs.Outline.{is_begin, shows_moves, is_move}
+use Rattle.trace_check.specs.Outline.{is_begin, shows_moves}
 use Rattle.trace_check.specs.Rules.{IsOrderAt, KeepsAll}
 use Rattle.trace_check.specs.declared.finding.Finding.{Finding}
 use Rattle.trace_check.specs.declared.finding.CheckStop.{CheckStop}
 use Rattle.trace_check.specs.Found.{AreSound, EndsWell, Finds}
+use Rattle.trace_check.specs.Laws.{KeepsLayout}
 use Rattle.trace_check.proofs.Outlines.{only_begin_shows}
 use Rattle.trace_check.proofs.Sound.{kept_sound}
 use Rattle.legal_laws.specs.Order.{IsBody}
 use Rattle.legal_laws.specs.Found.{FindsLegal}
 use Rattle.legal_laws.specs.Promised.{IsPromised}
-use Rattle.legal_laws.proofs.Lists.{all_there}
-use Rattle.legal_laws.proofs.Kept.{run_kept}
-use Rattle.legal_laws.proofs.Legal.{kept_legal}
+use Rattle.plain_disk.specs.Honest.{honest_part}
+use Rattle.legal_laws.proofs.Kept.{so_far_kept}
+use Rattle.legal_laws.proofs.Legal.{honest_part_legal}
 use Rattle.legal_laws.proofs.Found.{sound_found_legal}
 use Rattle.legal_laws.proofs.Order.{answers_in_order, echo_in_order}
 
@@ -48,23 +46,6 @@ job_asked (jobs.Discard sector count) w = (w.0, w.1.0, w.1.1)
 pub jobs_asked : (jobs : List Job) → All JobHasWidths jobs → All CanBeAsked jobs
 jobs_asked jobs widths = All-weaker JobHasWidths CanBeAsked job_asked jobs widths
 
--- ---- the layout of entries
-
--- it changes by a move alone
-layout_by : (abi : Option Abi) (line : Line) → is_move line ≡ false → abi_after abi line ≡ abi
-layout_by abi (lines.Move move) other = absurd (true≢false other)
-layout_by abi line other = refl
-
--- where no move is shown it stays
-unmoved_layout : (config : Options) (rest : List Line) → All (λ (line : Line). is_move line ≡ false) rest → Obeys IsLayoutAt (lines.Begin config Lines ∷ rest)
-unmoved_layout config rest unmoved before after line is = λ epoch some.
-    layout_by (ring_abi before) line (all_there (λ (x : Line). is_move x ≡ false) before after line
-    (subst (λ (ls : List Line). All (λ (x : Line). is_move x ≡ false) ls) is (All-cons (λ (x : Line). is_move x ≡ false) (lines.Begin config Lines) rest refl unmoved)))
-
-layout_stays : (config : Options) (detail : Detail) (rest : List Line) → IsBody detail rest → (detail ≡ Moves → Obeys IsLayoutAt (lines.Begin config detail ∷ rest)) → Obeys IsLayoutAt (lines.Begin config detail ∷ rest)
-layout_stays config Lines rest body layout = unmoved_layout config rest (body.unmoved refl)
-layout_stays config Moves rest body layout = layout refl
-
 -- ---- where moves are shown
 
 unshown : (rest : List Line) → All (λ (line : Line). is_begin line ≡ false) rest → list_any shows_moves rest ≡ false
@@ -79,34 +60,32 @@ shown_says config Lines rest body shown = absurd (true≢false (sym shown ∙ un
 
 -- ---- all of it
 
-by_order : (config : Options) (detail : Detail) (jobs : List Job) (before now : Option (List (List ℕ))) (report : List Line)
-    → IsPromised config detail jobs before now report → Obeys IsOrderAt report → Obeys KeepsAll report
-by_order config detail jobs before now report p order =
-    kept_legal report order (run_kept jobs config.sectors before now report p.run p.submissions p.states p.asked p.settled)
+by_order : (config : Options) (detail : Detail) (jobs : List Job) (report : List Line)
+    → IsPromised config detail jobs report → Obeys IsOrderAt report → Obeys KeepsAll report
+by_order config detail jobs report p order =
+    honest_part_legal report order (so_far_kept jobs p.run.0 p.run.1 (honest_part report) p.run.2 p.submissions p.states p.asked p.settled)
     (λ shown. p.moves (shown_says config detail p.rest p.body (ap (list_any shows_moves) (sym p.first) ∙ shown)))
 
-pub promised_so_far_legal : (config : Options) (detail : Detail) (events : List Event) (jobs : List Job) (before now : Option (List (List ℕ))) (report : List Line)
-    → IsPromised config detail jobs before now report → AnswersAll config.order events (filter is_echo report) → Obeys KeepsAll report
-promised_so_far_legal config detail events jobs before now report p answers =
-    by_order config detail jobs before now report p (subst (λ (ls : List Line). Obeys IsOrderAt ls) (sym p.first)
+pub promised_so_far_legal : (config : Options) (detail : Detail) (events : List Event) (jobs : List Job) (report : List Line)
+    → IsPromised config detail jobs report → AnswersAll config.order events (filter is_echo report) → Obeys KeepsAll report
+promised_so_far_legal config detail events jobs report p answers =
+    by_order config detail jobs report p (subst (λ (ls : List Line). Obeys IsOrderAt ls) (sym p.first)
     (answers_in_order config detail events p.rest p.body (subst (λ (ls : List Line). AnswersAll config.order events (filter is_echo ls)) p.first answers)))
 
-pub promised_legal : (config : Options) (detail : Detail) (events : List Event) (jobs : List Job) (before now : Option (List (List ℕ))) (report : List Line)
-    → IsPromised config detail jobs before now report → Echoes config detail events report → Obeys KeepsAll report
-promised_legal config detail events jobs before now report p echo =
-    by_order config detail jobs before now report p (subst (λ (ls : List Line). Obeys IsOrderAt ls) (sym p.first)
+pub promised_legal : (config : Options) (detail : Detail) (events : List Event) (jobs : List Job) (report : List Line)
+    → IsPromised config detail jobs report → Echoes config detail events report → Obeys KeepsAll report
+promised_legal config detail events jobs report p echo =
+    by_order config detail jobs report p (subst (λ (ls : List Line). Obeys IsOrderAt ls) (sym p.first)
     (echo_in_order config detail events p.rest p.body (subst (λ (ls : List Line). Echoes config detail events ls) p.first echo)))
 
-pub promised_sound : (config : Options) (detail : Detail) (events : List Event) (jobs : List Job) (before now : Option (List (List ℕ))) (report : List Line)
-    → IsPromised config detail jobs before now report → Echoes config detail events report → (detail ≡ Moves → Obeys IsLayoutAt report) → AreSound report × EndsWell report
-promised_sound config detail events jobs before now report p echo layout =
-    let stays : Obeys IsLayoutAt report = subst (λ (ls : List Line). Obeys IsLayoutAt ls) (sym p.first)
-    (layout_stays config detail p.rest p.body (λ shown. subst (λ (ls : List Line). Obeys IsLayoutAt ls) p.first (layout shown))) in
-    (kept_sound report stays (promised_legal config detail events jobs before now report p echo), (echo.0, echo.1))
+pub promised_sound : (config : Options) (detail : Detail) (events : List Event) (jobs : List Job) (report : List Line)
+    → IsPromised config detail jobs report → Echoes config detail events report → KeepsLayout report → AreSound report × EndsWell report
+promised_sound config detail events jobs report p echo layout =
+    (kept_sound report layout (promised_legal config detail events jobs report p echo), (echo.0, echo.1))
 
-pub promised_found_legal : (config : Options) (detail : Detail) (events : List Event) (jobs : List Job) (before now : Option (List (List ℕ))) (report : List Line)
-    → IsPromised config detail jobs before now report → Echoes config detail events report → (detail ≡ Moves → Obeys IsLayoutAt report) → All IsInRange report
+pub promised_found_legal : (config : Options) (detail : Detail) (events : List Event) (jobs : List Job) (report : List Line)
+    → IsPromised config detail jobs report → Echoes config detail events report → KeepsLayout report → All IsInRange report
     → (limit : ℕ) (found : Result Finding CheckStop) (s t : SourceSeen) → s.left ≡ Some (report_text report) → Finds limit found s t → FindsLegal limit (report_text report) found s t
-promised_found_legal config detail events jobs before now report p echo layout range limit found s t left finds =
-    let sound = promised_sound config detail events jobs before now report p echo layout in
+promised_found_legal config detail events jobs report p echo layout range limit found s t left finds =
+    let sound = promised_sound config detail events jobs report p echo layout in
     sound_found_legal limit report found s t sound.0 sound.1 range left finds

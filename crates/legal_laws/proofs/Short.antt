@@ -1,8 +1,11 @@
 -- The text of a line is one line: it has at most 1152 bytes, and no line feed.
-use Rattle.std.proofs.Common.{◌≡◌, ℕ, ◌<◌, ◌^◌, Bool, true, false, List, [], ◌∷◌, ◌++◌, Some, None, refl, decimal, arith, true≢false, ◌≤◌, ◌+◌, ◌*◌, length, length-append}
+use Rattle.std.proofs.Common.{◌≡◌, ℕ, ◌<◌, ◌^◌, Bool, true, false, List, [], ◌∷◌, ◌++◌, Some, None, refl, decimal, arith, true≢false, ◌≢◌, ◌≤◌, ◌+◌, ◌*◌, length, length-append}
 use Rattle.std.specs.List.{list_all}
 use Rattle.std.specs.Fmt.{signed_decimal}
-use Rattle.std.specs.Prelude.{flat_map, if◌then◌else◌, slice_index, codes}
+use Rattle.std.specs.Prelude.{flat_map, if◌then◌else◌, slice_index, codes, nat_lt}
+use Rattle.std.proofs.lemmas.Bool.Decides.{nat_tests}
+use Rattle.std.proofs.lemmas.List.Elements.{All-weaker}
+use Rattle.std.proofs.lemmas.List.Sums.{AllPass-from_list_all}
 use Rattle.std.proofs.lemmas.Fmt.{length-decimal-le}
 use Rattle.blk_base.specs.declared.config.Job.{Job}
 use Rattle.blk_base.specs.declared.config.Job.TheVariants as jobs
@@ -23,8 +26,9 @@ use Rattle.schedule_text.specs.declared.line.Line.TheVariants as lines
 use Rattle.schedule_text.specs.Line.{words_of, text_of, job_words, halt_words, mover_words, back_words, mode_word, move_words}
 use Rattle.schedule_text.specs.Range.{IsInRange}
 use Rattle.report_lines.specs.Text.{HasNoLineFeed}
-use Rattle.legal_laws.proofs.Inline.{is_inline, inline_decimal, inline_sector, inline_joined, no_feed}
-use Rattle.legal_laws.proofs.Words.{is_narrow, AreNarrow, narrow_hex, within_80, inline_narrow}
+use Rattle.report_laws.proofs.Inline.{is_inline}
+use Rattle.report_laws.proofs.InlineLines.{inline_of}
+use Rattle.legal_laws.proofs.Words.{is_narrow, AreNarrow, narrow_hex, within_80}
 use Rattle.legal_laws.proofs.Narrow.{shows_sector, narrow_line}
 
 -- ---- how many
@@ -123,14 +127,14 @@ short_text (lines.EffectRead id index words) h = sector_text (codes "effect") id
 short_text (lines.Data id index words) h = sector_text (codes "data") id index words (omega arith) h.widths.0 h.widths.1 h.widths.2
 short_text line h = narrow_text_of (words_of line) (narrow_line line h refl) (few_words line refl)
 
-sector_inline : (name : List ℕ) (id index : ℕ) (words : List ℕ) → is_inline name ≡ true → id < 2 ^ 64 → index < 2 ^ 32 → is_inline (joined (name ∷ decimal id ∷ decimal index ∷ sector_words words)) ≡ true
-sector_inline name id index words inline wide small_index =
-    inline_joined (name ∷ decimal id ∷ decimal index ∷ sector_words words) (rw (inline, inline_decimal id wide, inline_decimal index (omega arith), inline_sector words) refl)
+-- ---- no line feed
 
-inline_line : (line : Line) → IsInRange line → is_inline (text_of line) ≡ true
-inline_line (lines.EffectRead id index words) h = sector_inline (codes "effect") id index words refl h.widths.0 h.widths.1
-inline_line (lines.Data id index words) h = sector_inline (codes "data") id index words refl h.widths.0 h.widths.1
-inline_line line h = inline_joined (words_of line) (inline_narrow (words_of line) (narrow_line line h refl))
+-- bytes of which each is a space or above have none
+no_feed : (bytes : List ℕ) → is_inline bytes ≡ true → HasNoLineFeed bytes
+no_feed bytes inline = All-weaker (λ (b : ℕ). nat_lt 31 b ≡ true) (λ (b : ℕ). b ≢ 10) (λ b above. other b above) bytes (AllPass-from_list_all (λ (b : ℕ). nat_lt 31 b) bytes inline)
+  where
+    other : (b : ℕ) → nat_lt 31 b ≡ true → b ≢ 10
+    other b above is = absurd (grind (arith, nat_tests))
 
 pub unbroken_text : (line : Line) → IsInRange line → HasNoLineFeed (text_of line)
-unbroken_text line h = no_feed (text_of line) (inline_line line h)
+unbroken_text line h = no_feed (text_of line) (inline_of line h)

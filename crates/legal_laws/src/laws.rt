@@ -63,8 +63,9 @@ pub fn a_layout_that_is_named_before_the_entries_stays()
 {}
 
 /// A report as a run promises it is legal: all its lines keep all rules (`whole`), also before `end`
-/// (`so_far`). Where the layout of entries stays while they are read, no line of it breaks a rule for a
-/// check (`sound`), which finds its text legal unless it stops before its end (`found`).
+/// (`so_far`). Where moves are shown, a check needs the layout of entries to stay while they are read
+/// (`KeepsLayout`): then no line of it breaks a rule for the check (`sound`), which finds its text
+/// legal unless it stops before its end (`found`).
 pub fn a_report_as_a_run_promises_it_is_legal()
     ensures so_far { PromisedSoFarIsLegal }
     ensures whole { PromisedIsLegal }

@@ -1,6 +1,6 @@
 -- A lawful report is what a run promises.
-use Rattle.std.proofs.Common.{◌≡◌, ℕ, List}
-use Rattle.std.specs.Prelude.{Option}
+use Rattle.std.proofs.Common.{ℕ, List, subst}
+use Rattle.std.specs.Prelude.{All, Option}
 use Rattle.blk_base.specs.Options.{Options}
 use Rattle.schedule_text.specs.declared.event.Event.{Event}
 use Rattle.schedule_text.specs.declared.line.Detail.{Detail}
@@ -10,19 +10,23 @@ use Rattle.machine_pipeline.specs.Submissions.{jobs_of}
 use Rattle.schedule_text.specs.Recorder.{report_text}
 use Rattle.trace_check.specs.Rules.{KeepsAll}
 use Rattle.trace_check.specs.Found.{AreSound, EndsWell}
-use Rattle.legal_laws.specs.Promised.{IsPromised, KeepsLayout, IsFoundLegal}
+use Rattle.trace_check.specs.Laws.{KeepsLayout}
+use Rattle.legal_laws.specs.Promised.{IsPromised, IsFoundLegal}
+use Rattle.schedule_text.specs.Range.{IsInRange}
+use Rattle.plain_disk.specs.Honest.{IsHonest}
+use Rattle.legal_laws.proofs.Legal.{honest_whole}
 use Rattle.legal_laws.proofs.Promised.{jobs_asked, promised_legal, promised_sound, promised_found_legal}
 use Rattle.legal_runs.specs.Legal.{IsRunReport}
 
 promised : (config : Options) (detail : Detail) (events : List Event) (before now : Option (List (List ℕ))) (report : List Line)
-    → IsRunReport config detail events before now report → IsPromised config detail (jobs_of events) before now report
+    → IsRunReport config detail events before now report → IsPromised config detail (jobs_of events) report
 promised config detail events before now report r =
-    let served = r.lawful.requests r.disk in
+    let served = r.lawful.honest r.disk in
     record {
       rest = r.lawful.begun.rest;
       first = r.lawful.begun.first;
       body = record { once = r.lawful.begun.once; unmoved = r.lawful.begun.unmoved };
-      run = served.disk;
+      run = (served.disk.first, served.disk.disk, served.disk.run);
       submissions = served.submissions;
       asked = jobs_asked (jobs_of events) r.widths;
       states = served.states;
@@ -43,14 +47,15 @@ promised config detail events before now report r =
 pub run_kept : (config : Options) (detail : Detail) (events : List Event) (before now : Option (List (List ℕ))) (report : List Line)
     → IsRunReport config detail events before now report → Obeys KeepsAll report
 run_kept config detail events before now report r =
-    promised_legal config detail events (jobs_of events) before now report (promised config detail events before now report r) r.echo
+    promised_legal config detail events (jobs_of events) report (promised config detail events before now report r) r.echo
 
 pub run_sound : (config : Options) (detail : Detail) (events : List Event) (before now : Option (List (List ℕ))) (report : List Line)
-    → IsRunReport config detail events before now report → KeepsLayout detail report → AreSound report × EndsWell report
+    → IsRunReport config detail events before now report → KeepsLayout report → AreSound report × EndsWell report
 run_sound config detail events before now report r layout =
-    promised_sound config detail events (jobs_of events) before now report (promised config detail events before now report r) r.echo layout
+    promised_sound config detail events (jobs_of events) report (promised config detail events before now report r) r.echo layout
 
 pub run_found : (config : Options) (detail : Detail) (events : List Event) (before now : Option (List (List ℕ))) (report : List Line)
-    → IsRunReport config detail events before now report → KeepsLayout detail report → IsFoundLegal (report_text report)
-run_found config detail events before now report r layout =
-    promised_found_legal config detail events (jobs_of events) before now report (promised config detail events before now report r) r.echo layout r.lawful.grammar.lines
+    → IsRunReport config detail events before now report → IsHonest report → KeepsLayout report → IsFoundLegal (report_text report)
+run_found config detail events before now report r honest layout =
+    promised_found_legal config detail events (jobs_of events) report (promised config detail events before now report r) r.echo layout
+    (subst (All IsInRange) (honest_whole report honest) r.lawful.grammar.lines)

@@ -1,11 +1,12 @@
 -- What `run` promises of its report makes it legal (`io/ring.h`, `io/blkif.h`, `io/xenbus.h`, `grant_table.h`).
-use Rattle.std.specs.Prelude.{◌≡◌, ℕ, List, Option, All}
+use Rattle.std.specs.Prelude.{ℕ, List, Option, All}
 use Rattle.blk_base.specs.Options.{Options}
 use Rattle.schedule_text.specs.declared.event.Event.{Event}
 use Rattle.schedule_text.specs.declared.line.Detail.{Detail}
 use Rattle.schedule_text.specs.declared.line.Line.{Line}
 use Rattle.schedule_text.specs.Range.{JobHasWidths}
 use Rattle.schedule_text.specs.Recorder.{report_text}
+use Rattle.plain_disk.specs.Honest.{honest_part, IsHonest}
 use Rattle.plain_disk.specs.Echo.{Echoes}
 use Rattle.report_rules.specs.Obeys.{Obeys}
 use Rattle.pipeline_laws.specs.Effects.{IsOfADisk}
@@ -13,28 +14,29 @@ use Rattle.machine_pipeline.specs.Submissions.{jobs_of}
 use Rattle.schedule_run.specs.Lawful.{IsLawful}
 use Rattle.trace_check.specs.Rules.{KeepsAll}
 use Rattle.trace_check.specs.Found.{AreSound, EndsWell}
+use Rattle.trace_check.specs.Laws.{KeepsLayout}
 use Rattle.legal_laws.specs.Kept.{IsSettled}
-use Rattle.legal_laws.specs.Promised.{KeepsLayout, IsFoundLegal}
+use Rattle.legal_laws.specs.Promised.{IsFoundLegal}
 
--- a lawful report of these events, of a disk, that never ran out of rounds
+-- a lawful report of these events, of a disk, that never ran out of rounds before a hostile hand first touched it
 pub record IsRunReport (config : Options) (detail : Detail) (events : List Event) (before now : Option (List (List ℕ))) (report : List Line) : Type 0 where
   pub lawful : IsLawful config detail (jobs_of events) before now report
-  pub disk : IsOfADisk config.sectors before report
+  pub disk : IsOfADisk config.sectors before (honest_part report)
   pub echo : Echoes config detail events report
   pub widths : All JobHasWidths (jobs_of events)
-  pub settled : IsSettled report
+  pub settled : IsSettled (honest_part report)
 
 -- of each such report
-abbrev pub OfRuns : (Detail → List Line → Type 0) → Type 0
+abbrev pub OfRuns : (List Line → Type 0) → Type 0
 OfRuns Claim =
     (config : Options) (detail : Detail) (events : List Event) (before now : Option (List (List ℕ))) (report : List Line)
-    → IsRunReport config detail events before now report → Claim detail report
+    → IsRunReport config detail events before now report → Claim report
 
 abbrev pub RunIsKept : Type 0
-RunIsKept = OfRuns (λ detail report. Obeys KeepsAll report)
+RunIsKept = OfRuns (λ report. Obeys KeepsAll report)
 
 abbrev pub RunIsSound : Type 0
-RunIsSound = OfRuns (λ detail report. KeepsLayout detail report → AreSound report × EndsWell report)
+RunIsSound = OfRuns (λ report. KeepsLayout report → AreSound report × EndsWell report)
 
 abbrev pub RunIsFoundLegal : Type 0
-RunIsFoundLegal = OfRuns (λ detail report. KeepsLayout detail report → IsFoundLegal (report_text report))
+RunIsFoundLegal = OfRuns (λ report. IsHonest report → KeepsLayout report → IsFoundLegal (report_text report))
