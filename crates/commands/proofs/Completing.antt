@@ -1,15 +1,13 @@
 -- What can be done is done, but for want of memory: each other status has a cause, and none of the causes is there.
-use Rattle.std.proofs.Common.{◌≡◌, ◌≢◌, ◌⊎◌, ℕ, ◌+◌, ◌<◌, ◌≤◌, min, List, [], ◌∷◌, ◌++◌, length, length-append, Option, Some, None, Result, Ok, Err, inl, inr, refl, sym, ap, ◌∙◌, subst, arith}
+use Rattle.std.proofs.Common.{◌≡◌, ◌≢◌, ◌⊎◌, ℕ, ◌+◌, ◌<◌, ◌≤◌, min, List, length, Option, Some, None, Result, Ok, Err, inl, inr, refl, ap, ◌∙◌, subst, arith}
 use Rattle.blk_base.specs.declared.operation.Abi.{Abi}
 use Rattle.schedule_text.specs.declared.event.Event.{Event}
 use Rattle.schedule_text.specs.declared.line.Detail.{Detail}
 use Rattle.ring_inspect.specs.Stop.{bytes_of, IsCount}
-use Rattle.schedule_run.specs.Reading.{HasNoLineFeed, first_line, IsLineOf, IsBadLine, AreLinesOf, last_line, IsWholeSchedule, HasBadLine, IsTooLong, Tells}
-use Rattle.schedule_text.specs.declared.line.Line.{Line}
-use Rattle.schedule_text.specs.Line.{text_of}
+use Rattle.schedule_run.specs.Reading.{HasBadLine, IsTooLong, Tells}
 use Rattle.report_lines.specs.Giving as Told
 use Rattle.trace_check.specs.Found.{IsBadAt, IsLong}
-use Rattle.std.proofs.lemmas.List.Elements.{recursion_from_All}
+use Rattle.legal_laws.proofs.Found.{whole_never_bad}
 use Rattle.bench_load.specs.Text.{schedule_bytes}
 use Rattle.commands.specs.declared.status.Stop.{Stop}
 use Rattle.commands.specs.declared.status.Stop.TheVariants.{Broken, Length, Words, BadLine, Source, Sink, OutOfMemory, Image, TooLong}
@@ -18,7 +16,6 @@ use Rattle.commands.specs.Scene.{Scene, bytes_limit}
 use Rattle.commands.specs.Ending.{CommandEnds, CarriesOut}
 use Rattle.commands.specs.Complete.{IsInputOf, MayBeDone, IsDoneAt}
 use Rattle.commands.proofs.SameLines.{whole_or_bad}
-use Rattle.commands.proofs.SameReport.{no_bad_report}
 use Rattle.commands.proofs.Settling.{status_at, wish_settles, same_wish, no_wish}
 
 -- ---- no cause of another status is there
@@ -86,16 +83,15 @@ bench_completes seed count (Err (Length count' expected)) old new h may = absurd
 bench_completes seed count (Err Words) old new h may = absurd h.0
 bench_completes seed count (Err Broken) old new h may = absurd h.0
 
-bad_report : (left : Option (List ℕ)) (number : ℕ) → IsInputOf a_check left → Told.Tells (IsBadAt number) left → ⊥
+bad_report : (left : Option (List ℕ)) (number : ℕ) → IsInputOf a_check left → Told.Tells (IsBadAt bytes_limit number) left → ⊥
 bad_report None number input tells = input
-bad_report (Some bytes) number input tells =
-    no_bad_report input.report tells.before bytes tells.rest (recursion_from_All (λ (line : Line). length (text_of line) ≤ 1152) input.report input.short) input.read tells.read tells.bad
+bad_report (Some bytes) number input tells = whole_never_bad bytes_limit number input.report bytes input.read tells
 
 long_report : (left : Option (List ℕ)) → IsInputOf a_check left → Told.Tells (IsLong bytes_limit) left → ⊥
 long_report None input tells = input
 long_report (Some bytes) input tells =
     let below : length bytes < bytes_limit = input.below in
-    let reached : bytes_limit ≤ length bytes = tells.long in
+    let taken : length bytes ≡ bytes_limit + length tells.rest = tells.taken in
     omega arith
 
 check_completes : (result : Result (Unit {0}) Stop) (old new : Scene) → CommandEnds a_check result old new → MayBeDone a_check old new → (status_at result ≡ 0) ⊎ (status_at result ≡ 1) ⊎ (status_at result ≡ 6)

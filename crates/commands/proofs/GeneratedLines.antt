@@ -1,5 +1,5 @@
 -- The text of a generated schedule asks for exactly this schedule, each line of which is carried out.
-use Rattle.std.proofs.Common.{◌≡◌, ◌≢◌, ℕ, zero, suc, ◌+◌, ◌%◌, ◌<◌, ◌≤◌, ◌==◌, nat_le, Bool, true, false, cond, List, [], ◌∷◌, ◌++◌, map, Option, Some, None, All, option_to_list, refl, sym, ap, ◌∙◌, subst, append_assoc, append-nil, arith}
+use Rattle.std.proofs.Common.{◌≡◌, ℕ, zero, suc, ◌+◌, ◌%◌, ◌<◌, ◌≤◌, ◌==◌, nat_le, Bool, true, false, cond, List, [], ◌∷◌, ◌++◌, map, Option, Some, None, All, option_to_list, refl, sym, ap, ◌∙◌, subst, append-nil, arith}
 use Rattle.std.proofs.lemmas.Bool.Decides.{nat_tests}
 use Rattle.std.proofs.lemmas.List.Elements.{All-nil, All-cons, All-append, All-head, All-tail}
 use Rattle.rand_pcg.specs.Lcg.{Lcg}
@@ -7,7 +7,7 @@ use Rattle.schedule_text.specs.declared.event.Event.{Event}
 use Rattle.schedule_text.specs.declared.event.Event.TheVariants as events
 use Rattle.schedule_text.specs.Event.{event_text, plain_event}
 use Rattle.split_model.specs.Kind.{is_carried}
-use Rattle.schedule_run.specs.Reading.{text_of, IsLineOf, IsBadLine, AreLinesOf, first_line, last_line, IsWholeSchedule, HasBadLine}
+use Rattle.schedule_run.specs.Reading.{text_of, IsLineOf, AreLinesOf, last_line, IsWholeSchedule, HasBadLine}
 use Rattle.bench_load.specs.Generated.{Words, words_of, after_words, event_by, lines_from, generator_of, schedule_of}
 use Rattle.bench_load.specs.Text.{bytes_of, schedule_bytes}
 use Rattle.bench_load.specs.Grammar.{IsSpoken}

@@ -4,7 +4,6 @@ pub mod Runs
 pub mod Reporting
 pub mod Settling
 pub mod SameLines
-pub mod SameReport
 pub mod Completing
 pub mod Zeros
 pub mod GeneratedLines

@@ -10,7 +10,7 @@ use Rattle.clap.specs.declared.error.Error.{Error}
 use Rattle.clap.specs.declared.error.kind.ErrorKind.TheVariants as kind
 use Rattle.commands.specs.declared.words.Command.{Command}
 use Rattle.commands.specs.declared.words.Command.TheVariants.{Inspect}
-use Rattle.commands.specs.Words.{Wish, a_run, a_ring, a_check, a_bench, number_in, order_of, run_in, ring_with, ring_in, bench_with, bench_in, wish_in, wish_where, wish_of, wish_by, command_set}
+use Rattle.commands.specs.Words.{Wish, a_run, a_ring, a_check, number_in, order_of, run_in, ring_with, ring_in, bench_with, bench_in, wish_in, wish_where, wish_of, wish_by, command_set}
 
 -- where `clap` finds no fault, the words ask for what the subcommand asks for
 pub taken : (faults : Kinds) (entered entered' : Option (Text × List Row)) (wish : Option Wish) → faults ≡ [] → entered ≡ entered' → wish ≡ option_and_then (λ s. wish_in s.0 s.1) entered → wish ≡ wish_where faults entered'

@@ -11,15 +11,15 @@ text_first (b ∷ line) text last = ap (λ l. b ∷ l) (text_first line text las
 tails : (a b : ℕ) (x y : List ℕ) → a ∷ x ≡ b ∷ y → x ≡ y
 tails a b x y e = cc
 
-behind : (line x y : List ℕ) → line ++ 10 ∷ x ≡ line ++ 10 ∷ y → x ≡ y
-behind [] x y e = tails 10 10 x y e
-behind (b ∷ line) x y e = behind line x y (tails b b (line ++ 10 ∷ x) (line ++ 10 ∷ y) e)
+after_feed : (line x y : List ℕ) → line ++ 10 ∷ x ≡ line ++ 10 ∷ y → x ≡ y
+after_feed [] x y e = tails 10 10 x y e
+after_feed (b ∷ line) x y e = after_feed line x y (tails b b (line ++ 10 ∷ x) (line ++ 10 ∷ y) e)
 
 -- two texts that begin with a line begin with the same one
 pub same_line : (line other x y : List ℕ) → HasNoLineFeed line → HasNoLineFeed other → line ++ 10 ∷ x ≡ other ++ 10 ∷ y → (line ≡ other) × (x ≡ y)
 same_line line other x y one two e =
     let same : line ≡ other = sym (first_line_whole line x one) ∙ (ap first_line e ∙ first_line_whole other y two) in
-    (same, behind line x y (e ∙ ap (λ l. l ++ 10 ∷ y) (sym same)))
+    (same, after_feed line x y (e ∙ ap (λ l. l ++ 10 ∷ y) (sym same)))
 
 -- a text without a line feed begins with no line that has one
 pub no_line : (last other y : List ℕ) → HasNoLineFeed last → HasNoLineFeed other → last ≡ other ++ 10 ∷ y → ⊥

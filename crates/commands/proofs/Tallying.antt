@@ -1,11 +1,10 @@
 -- The counts of a run of the generated schedule, over plain variables.
-use Rattle.std.proofs.Common.{◌≡◌, ℕ, ◌<◌, ◌≤◌, ◌^◌, ◌-◌, ◌⊎◌, List, Option, Some, None, Result, Ok, Err, inl, inr, length, refl, sym, ap, ◌∙◌, subst, arith}
+use Rattle.std.proofs.Common.{◌≡◌, ℕ, ◌<◌, ◌^◌, ◌-◌, ◌⊎◌, List, Some, Ok, Err, inl, inr, length, sym, ap, ◌∙◌, subst, arith}
 use Rattle.std.specs.Prelude.{fold, true}
 use Rattle.std.proofs.lemmas.List.{length-replicate}
 use Rattle.blk_io.specs.Outside.{Rose, SourceSeen}
 use Rattle.blk_io.specs.Disk.{DiskSeen, HasLength, IsAttached, attached_of, zero_sector}
 use Rattle.image_disk.specs.Image.{Image, image_seen}
-use Rattle.schedule_text.specs.declared.event.Event.{Event}
 use Rattle.schedule_text.specs.declared.line.Detail.TheVariants.{Lines}
 use Rattle.schedule_text.specs.declared.recorder.Tally.{Tally}
 use Rattle.schedule_text.specs.Recorder.{Told, counted}

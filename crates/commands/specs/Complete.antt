@@ -1,22 +1,20 @@
 -- Where what the words ask for can be done.
-use Rattle.std.specs.Prelude.{◌≡◌, ℕ, ◌<◌, ◌≤◌, ◌⊎◌, List, Option, Some, None, length, All}
+use Rattle.std.specs.Prelude.{◌≡◌, ℕ, ◌<◌, ◌⊎◌, List, Option, Some, None, length}
 use Rattle.blk_io.specs.Outside.{Rose}
 use Rattle.ring_inspect.specs.Stop.{bytes_of}
 use Rattle.schedule_text.specs.declared.event.Event.{Event}
 use Rattle.schedule_run.specs.Reading.{IsWholeSchedule}
 use Rattle.schedule_text.specs.declared.line.Line.{Line}
-use Rattle.schedule_text.specs.Line.{text_of}
 use Rattle.report_lines.specs.Text.{IsReportText}
 use Rattle.bench_load.specs.Text.{schedule_bytes}
 use Rattle.commands.specs.Words.{Wish, a_run, a_ring, a_check, a_bench}
 use Rattle.commands.specs.Scene.{Scene, bytes_limit}
 use Rattle.commands.specs.Ending.{FailsToAttach}
 
--- the bytes are the text of a report, fewer than may be taken, and each line has as many as a line may have
+-- the bytes are the text of a report, fewer than may be taken
 pub record IsWholeReport (bytes : List ℕ) : Type 0 where
   pub report : List Line
   pub read : IsReportText report bytes
-  pub short : All (λ (line : Line). length (text_of line) ≤ 1152) report
   pub below : length bytes < bytes_limit
 
 -- the input, which exposes its bytes: fewer than 4294967296, whose lines all are silent or ask for events that are carried out; or just as many as the ring has; or the text of a report; a bench reads none, and its schedule has fewer

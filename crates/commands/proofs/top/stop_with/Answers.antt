@@ -1,6 +1,6 @@
-use Rattle.std.proofs.Common.{◌≡◌, ◌∙◌, refl, subst, rules}
-use Rattle.std.specs.Prelude.{Option, Some, None, List, ℕ, option_map}
-use Rattle.blk_io.specs.Outside.{SinkSeen, WritesBytes}
+use Rattle.std.proofs.Common.{◌≡◌, refl, subst, rules}
+use Rattle.std.specs.Prelude.{Option, Some, None, List, ℕ}
+use Rattle.blk_io.specs.Outside.{SinkSeen}
 use Rattle.commands.specs.Ending.{IsSaid, WasGiven}
 use Rattle.commands.proofs.top.stop_with.Goals as goal
 
