@@ -13,9 +13,9 @@ use Rattle.back_jobs.specs.declared.stage.Stage.TheVariants as stage
 use Rattle.back_jobs.specs.Task.{Work}
 use Rattle.back_jobs.specs.Jobs.{place_of, next_in}
 use Rattle.back_jobs.specs.Sound.{AreAscending}
-use Rattle.back_jobs.specs.Order.{IsFirstFrom, IsNumberAt, number_at}
+use Rattle.back_jobs.specs.Order.{IsFirstFrom, IsNumberAt, number_at, is_above}
 use Rattle.back_jobs.proofs.Done.{passes, none_passes}
-use Rattle.back_jobs.proofs.Numbers.{ascends, rises}
+use Rattle.back_jobs.proofs.Numbers.{ascends, rises, below_last}
 
 -- some job
 blank : Work
@@ -109,6 +109,23 @@ pub numbered : (works : List Work) (place m : ℕ) → number_at works place ≡
 numbered [] place m h = absurd (none-some m h)
 numbered (t ∷ works) zero m h = (omega arith, λ d. same_Some t.number m h)
 numbered (t ∷ works) (suc place) m h = let later = numbered works place m h in (omega (arith, later.0), later.1)
+
+-- no number is from this one on
+pub ends : (works : List Work) (n : ℕ) → AreAscending works → is_above works n ≡ true → IsFirstFrom n works (length works)
+ends works n all test = (
+  omega arith,
+  λ k d low high. below_last works n k d all test high,
+  λ k d low high. absurd (omega (arith, low, high)),
+)
+
+-- the first job has the number
+pub placed_first : (works : List Work) (n : ℕ) → number_at works 0 ≡ Some n → place_of works n ≡ Some 0
+placed_first [] n h = absurd (none-some n h)
+placed_first (t ∷ works) n h =
+    let eq : Work → Bool = λ u. u.number == n in
+    passes eq (t ∷ works) 0 (sym (position_or_len_is eq (t ∷ works) 0 blank (omega arith)
+    (λ k below. absurd (omega (arith, below)))
+    (λ within. same_test t.number n (same_Some t.number n h)))) (omega arith)
 
 past_end : (works : List Work) (place : ℕ) → number_at works place ≡ None → length works ≤ place
 past_end [] place h = omega arith

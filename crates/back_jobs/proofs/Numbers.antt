@@ -38,12 +38,22 @@ last_below : (u : Work) (works : List Work) (n : ℕ) → AreAscending (u ∷ wo
 last_below u [] n all test = grind (arith, nat_tests)
 last_below u (w ∷ works) n all test = let later = last_below w works n all.1 test in omega (arith, later, all.0.0)
 
+below_at : (u : Work) (works : List Work) (n k : ℕ) (d : Work) → AreAscending (u ∷ works) → is_above_last (slice_get (u ∷ works) (length works)) n ≡ true → k < length (u ∷ works) → (slice_index_or (u ∷ works) k d).number < n
+below_at u works n zero d all test within = last_below u works n all test
+below_at u [] n (suc k) d all test within = absurd (omega (arith, within))
+below_at u (w ∷ works) n (suc k) d all test within = below_at w works n k d all.1 test (omega (arith, within))
+
 push_ascending_at : (u : Work) (works : List Work) (t : Work) → AreAscending (u ∷ works) → is_above_last (slice_get (u ∷ works) (length works)) t.number ≡ true → AreAscending (u ∷ (works ++ t ∷ []))
 push_ascending_at u [] t all test = ((last_below u [] t.number all test, tt), (tt, tt))
 push_ascending_at u (w ∷ works) t all test = (above_push u.number (w ∷ works) t all.0 (last_below u (w ∷ works) t.number all test), push_ascending_at w works t all.1 test)
 
 last_place : (u : Work) (works : List Work) → length (u ∷ works) - 1 ≡ length works
 last_place u works = omega arith
+
+-- all numbers are below one that is above the last
+pub below_last : (works : List Work) (n k : ℕ) (d : Work) → AreAscending works → is_above works n ≡ true → k < length works → (slice_index_or works k d).number < n
+below_last [] n k d all test within = absurd (omega (arith, within))
+below_last (u ∷ works) n k d all test within = below_at u works n k d all (rw (last_place u works) at test) within
 
 push_ascending : (works : List Work) (t : Work) → AreAscending works → is_above works t.number ≡ true → AreAscending (works ++ t ∷ [])
 push_ascending [] t all test = (tt, tt)

@@ -89,6 +89,12 @@ next_segment t (s ∷ rest) = record t { rest = s ∷ rest; within = s.first; st
 abbrev pub counted : Work → Work
 counted t = record t { disk = t.disk + 1; moved = (t.moved + 1) % 2 ^ 32 }
 
+-- the word of this number is read or written next, through the same mapping
+abbrev pub at_word : ℕ → Stage → Stage
+at_word k (stage.ReadWord m before) = stage.ReadWord m k
+at_word k (stage.WriteWord m before) = stage.WriteWord m k
+at_word k s = s
+
 abbrev pub step_at : Stage → Work → BackAnswer → Work
 step_at stage.Map t (Mapped m) = record t { stage = sector_stage t.writes m }
 step_at stage.Map t (MapRefused status) = record t { stage = stage.Done Error }

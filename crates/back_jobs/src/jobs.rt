@@ -14,7 +14,9 @@ use crate::effect::Effect;
 use crate::task::Task;
 use blk_base::{BackAnswer, BackAsk, Mapping, OutOfMemory, Status};
 use blk_layout::RawRequest;
-use finding::{by_halves, first_above, goes_on_ascending, guess, next_in, number_at, place_in};
+use finding::{
+    by_halves, first_above, goes_on_ascending, guess, is_first, next_in, number_at, place_in,
+};
 use finished::{done_with, drop_first, first_done, lowest_done, note};
 use ring_words::RingShape;
 use segment_list::DiskInfo;
@@ -75,6 +77,10 @@ impl Jobs {
         ensures within { IfSome result (λ place. place < length self.now.works) }
     {
         let tasks = self.tasks.as_slice();
+        // Mostly few jobs are held, and the first one needs no search.
+        if is_first(tasks, number) {
+            return Some(0);
+        }
         if !self.ascending {
             return place_in(tasks, number);
         }

@@ -11,10 +11,10 @@ use Rattle.blk_base.specs.declared.config.Job.TheVariants as jobs
 use Rattle.rand_pcg.specs.Lcg.{Lcg}
 use Rattle.schedule_text.specs.declared.event.Event.{Event}
 use Rattle.schedule_text.specs.declared.event.Event.TheVariants as events
-use Rattle.schedule_text.specs.Event.{event_text, EventHasWidths, is_event_allowed, plain_event, IsSilent}
+use Rattle.schedule_text.specs.Event.{event_text, EventHasWidths, is_event_allowed, IsSilent}
 use Rattle.schedule_text.specs.EventReading.{event_at}
 use Rattle.schedule_text.proofs.Again.{count_again}
-use Rattle.schedule_text.proofs.EventSpelling.{is_event_read}
+use Rattle.schedule_text.proofs.EventSpelling.{says_event}
 use Rattle.bench_load.specs.Generated.{Words, words_of, after_words, event_by, lines_from, generator_of}
 use Rattle.bench_load.specs.Grammar.{IsSpoken, EachIsSpoken}
 use Rattle.bench_load.proofs.Widths.{kind_fits}
@@ -24,7 +24,6 @@ use Rattle.bench_load.proofs.Unbroken.{IsUnbroken, literal, decimal_unbroken, he
 record IsClear (event : Event) : Type 0 where
   widths : EventHasWidths event
   allowed : is_event_allowed event ≡ true
-  plain : plain_event event ≡ event
   again : event_at (words_in (event_text event)) ≡ event
   speaks : IsSilent (event_text event) → ⊥
   unbroken : IsUnbroken (event_text event)
@@ -32,7 +31,7 @@ record IsClear (event : Event) : Type 0 where
 spoken : (event : Event) → IsClear event → IsSpoken event
 spoken event c = record {
   is = record { widths = c.widths; allowed = c.allowed; text = refl };
-  only = λ other is. sym (is_event_read event other (event_text event) (c.plain ∙ sym c.again) is).same ∙ c.plain;
+  only = λ other is. sym (says_event other (event_text event) is) ∙ c.again;
   speaks = c.speaks;
   unbroken = c.unbroken;
 }
@@ -51,7 +50,6 @@ unfolding event_at words_in
 clear_settle = record {
   widths = tt;
   allowed = refl;
-  plain = refl;
   again = ap event_at (solid_again (codes "settle") [] refl);
   speaks = λ h. absurd (cc h.0);
   unbroken = literal (codes "settle") refl;
@@ -62,7 +60,6 @@ unfolding event_at
 clear_turn n h allowed = record {
   widths = h;
   allowed = allowed;
-  plain = refl;
   again = ap event_at (solid_again (codes "turn") (decimal n ∷ []) (rw (solid_small n h) refl)) ∙ ap events.Turn (small_again n h);
   speaks = λ s. absurd (cc s.0);
   unbroken = joined_unbroken (codes "turn" ∷ decimal n ∷ []) (literal (codes "turn") refl, (unbroken_small n h, tt));
@@ -73,7 +70,6 @@ unfolding event_at
 clear_job k n h i allowed = record {
   widths = (h, i);
   allowed = allowed;
-  plain = refl;
   again =
       ap event_at (solid_again (codes "job") (decimal k ∷ decimal n ∷ []) (rw (solid_small k h, solid_small n i) refl))
       ∙ ap (λ (x : ℕ). events.Job x (number_of (decimal n) % 2 ^ 32)) (small_again k h)
@@ -87,7 +83,6 @@ unfolding event_at
 clear_read s c h some i = record {
   widths = (small s h, (some, i));
   allowed = refl;
-  plain = refl;
   again =
       ap event_at (solid_again (codes "submit") (codes "read" ∷ decimal s ∷ decimal c ∷ []) (rw (solid_small s h, solid_small c i) refl))
       ∙ ap (λ (x : ℕ). events.Submit (jobs.Read x (max (number_of (decimal c) % 2 ^ 32) 1))) (number_again s (small s h))
@@ -103,7 +98,6 @@ unfolding event_at
 clear_write s c t h some i j = record {
   widths = (small s h, (some, i), j);
   allowed = refl;
-  plain = refl;
   again =
       ap event_at (solid_again (codes "submit") (codes "write" ∷ decimal s ∷ decimal c ∷ hex8 t ∷ []) (rw (solid_small s h, solid_small c i, solid_hex t) refl))
       ∙ ap (λ (x : ℕ). events.Submit (jobs.Write x (max (number_of (decimal c) % 2 ^ 32) 1) (hex_of (hex8 t)))) (number_again s (small s h))

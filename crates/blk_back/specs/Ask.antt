@@ -64,6 +64,7 @@ ask_of v = ask_at v.stage v
 -- an answer that an ask allows
 abbrev pub IsAnswer : BackAsk → BackAnswer → Type 0
 IsAnswer Wait answer.Event = Unit {0}
+IsAnswer Wait (answer.Watched path) = Unit {0}
 IsAnswer Fence answer.Done = Unit {0}
 IsAnswer (Read m word) (answer.Word value) = Unit {0}
 IsAnswer (Write m word value) answer.Done = Unit {0}

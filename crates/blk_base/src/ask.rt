@@ -2,13 +2,13 @@
 // a few words is lent: an ask and an answer are made and handed over at each move.
 use crate::lent::Lent;
 use crate::parts::{Mapping, Mode, SectorWords};
-use arrayvec::ArrayString;
+use crate::short_text::ShortText;
 
 /// A path in the directory of keys, at most 80 bytes.
-pub type Path = ArrayString<80>;
+pub type Path = ShortText<80>;
 
 /// A key's text, at most 64 bytes.
-pub type Text = ArrayString<64>;
+pub type Text = ShortText<64>;
 
 /// What the front asks: one word of its own memory, one hypercall, one key or one event.
 /// Frames and words are numbers below 1088 and 1024.

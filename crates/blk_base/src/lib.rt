@@ -12,6 +12,7 @@ mod lent;
 mod moves;
 mod operation;
 mod parts;
+mod short_text;
 
 pub use ask::{BackAnswer, BackAsk, FrontAnswer, FrontAsk, Path, Text};
 pub use config::{Config, Job, SectorCount};
@@ -21,6 +22,7 @@ pub use lent::Lent;
 pub use moves::{BackMover, Move, Mover};
 pub use operation::{Abi, Op, Status};
 pub use parts::{End, Mapping, Mode, SectorWords};
+pub use short_text::ShortText;
 
 #[cfg(test)]
 mod tests;

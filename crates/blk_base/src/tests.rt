@@ -1,4 +1,4 @@
-use crate::{Idx, Lent, Op, SectorCount, Status};
+use crate::{Idx, Lent, Op, SectorCount, ShortText, Status};
 use std::test::Fail;
 
 #[test]
@@ -35,4 +35,13 @@ fn what_is_lent_is_the_value_that_lies_there(rt: HostRuntime) {
     assert_eq!(rt; *lent.get(), [7, 51712]);
     assert!(rt; lent == Lent::at(&others));
     assert!(rt; lent != Lent::at(&[7, 51713]));
+}
+
+#[test]
+fn a_short_text_is_its_bytes(rt: HostRuntime) {
+    let state: ShortText<5> = ShortText::of("state");
+    assert_eq!(rt; state.as_str(), "state");
+    assert!(rt; ShortText::<5>::new() < state);
+    assert!(rt; state == ShortText::of("state"));
+    assert!(rt; state > ShortText::of("stat"));
 }

@@ -2,7 +2,7 @@
 use Rattle.std.proofs.Common.{◌≡◌, ◌≢◌, ◌⊎◌, ℕ, ◌+◌, ◌<◌, ◌≤◌, min, List, length, Option, Some, None, Result, Ok, Err, inl, inr, refl, ap, ◌∙◌, subst, arith}
 use Rattle.blk_base.specs.declared.operation.Abi.{Abi}
 use Rattle.schedule_text.specs.declared.event.Event.{Event}
-use Rattle.schedule_text.specs.declared.line.Detail.{Detail}
+use Rattle.commands.specs.declared.words.RunOptions.{RunOptions}
 use Rattle.ring_inspect.specs.Stop.{bytes_of, IsCount}
 use Rattle.schedule_run.specs.Reading.{HasBadLine, IsTooLong, Tells}
 use Rattle.report_lines.specs.Giving as Told
@@ -20,13 +20,13 @@ use Rattle.commands.proofs.Settling.{status_at, wish_settles, same_wish, no_wish
 
 -- ---- no cause of another status is there
 
-bad_input : (image : List ℕ) (detail : Detail) (left : Option (List ℕ)) (asked : List Event) (number : ℕ) → IsInputOf (a_run image detail) left → Tells (λ bytes. HasBadLine bytes_limit bytes asked number) left → ⊥
-bad_input image detail None asked number input tells = input
-bad_input image detail (Some bytes) asked number input tells = whole_or_bad bytes_limit bytes input.0 asked number input.1 tells
+bad_input : (image : List ℕ) (options : RunOptions) (left : Option (List ℕ)) (asked : List Event) (number : ℕ) → IsInputOf (a_run image options) left → Tells (λ bytes. HasBadLine bytes_limit bytes asked number) left → ⊥
+bad_input image options None asked number input tells = input
+bad_input image options (Some bytes) asked number input tells = whole_or_bad bytes_limit bytes input.0 asked number input.1 tells
 
-long_input : (image : List ℕ) (detail : Detail) (left : Option (List ℕ)) (asked : List Event) → IsInputOf (a_run image detail) left → Tells (λ bytes. IsTooLong bytes_limit bytes asked) left → ⊥
-long_input image detail None asked input tells = input
-long_input image detail (Some bytes) asked input tells =
+long_input : (image : List ℕ) (options : RunOptions) (left : Option (List ℕ)) (asked : List Event) → IsInputOf (a_run image options) left → Tells (λ bytes. IsTooLong bytes_limit bytes asked) left → ⊥
+long_input image options None asked input tells = input
+long_input image options (Some bytes) asked input tells =
     let below : length bytes < bytes_limit = input.1.below in
     let reached : bytes_limit ≤ length bytes = tells.reached in
     omega arith
@@ -41,19 +41,19 @@ other_length abi order count (Some bytes) input is other =
     same_count : (n size count : ℕ) → n ≡ size → count ≡ min n (size + 1) → count ≡ size
     same_count n size count long counted = omega arith
 
-run_completes : (image : List ℕ) (detail : Detail) (result : Result (Unit {0}) Stop) (old new : Scene) → CommandEnds (a_run image detail) result old new → MayBeDone (a_run image detail) old new → (status_at result ≡ 0) ⊎ (status_at result ≡ 6)
-run_completes image detail (Ok done) old new h may = inl refl
-run_completes image detail (Err OutOfMemory) old new h may = inr refl
-run_completes image detail (Err (BadLine number)) old new h may =
-    absurd (bad_input image detail old.source.left h.runs.stands.1.0 number may.input h.runs.stands.1.1)
-run_completes image detail (Err TooLong) old new h may =
-    absurd (long_input image detail old.source.left h.runs.stands.1.0 may.input h.runs.stands.1.1)
-run_completes image detail (Err Source) old new h may = absurd (may.read ((wish_settles (a_run image detail) (Err Source) old new h).input_failed refl))
-run_completes image detail (Err Sink) old new h may = absurd (may.written ((wish_settles (a_run image detail) (Err Sink) old new h).output_failed refl))
-run_completes image detail (Err Image) old new h may = absurd (may.attached h)
-run_completes image detail (Err (Length count expected)) old new h may = absurd h
-run_completes image detail (Err Words) old new h may = absurd h
-run_completes image detail (Err Broken) old new h may = absurd h
+run_completes : (image : List ℕ) (options : RunOptions) (result : Result (Unit {0}) Stop) (old new : Scene) → CommandEnds (a_run image options) result old new → MayBeDone (a_run image options) old new → (status_at result ≡ 0) ⊎ (status_at result ≡ 6)
+run_completes image options (Ok done) old new h may = inl refl
+run_completes image options (Err OutOfMemory) old new h may = inr refl
+run_completes image options (Err (BadLine number)) old new h may =
+    absurd (bad_input image options old.source.left h.runs.stands.1.0 number may.input h.runs.stands.1.1)
+run_completes image options (Err TooLong) old new h may =
+    absurd (long_input image options old.source.left h.runs.stands.1.0 may.input h.runs.stands.1.1)
+run_completes image options (Err Source) old new h may = absurd (may.read ((wish_settles (a_run image options) (Err Source) old new h).input_failed refl))
+run_completes image options (Err Sink) old new h may = absurd (may.written ((wish_settles (a_run image options) (Err Sink) old new h).output_failed refl))
+run_completes image options (Err Image) old new h may = absurd (may.attached h)
+run_completes image options (Err (Length count expected)) old new h may = absurd h
+run_completes image options (Err Words) old new h may = absurd h
+run_completes image options (Err Broken) old new h may = absurd h
 
 ring_completes : (abi : Abi) (order : ℕ) (result : Result (Unit {0}) Stop) (old new : Scene) → CommandEnds (a_ring abi order) result old new → MayBeDone (a_ring abi order) old new → (status_at result ≡ 0) ⊎ (status_at result ≡ 6)
 ring_completes abi order (Ok done) old new h may = inl refl
@@ -107,13 +107,13 @@ check_completes (Err (Length count expected)) old new h may = absurd h.0
 check_completes (Err Words) old new h may = absurd h.0
 
 wish_completes : (wish : Wish) (result : Result (Unit {0}) Stop) (old new : Scene) → CommandEnds wish result old new → MayBeDone wish old new → IsDoneAt wish (status_at result)
-wish_completes (a_run image detail) result old new h may = run_completes image detail result old new h may
+wish_completes (a_run image options) result old new h may = run_completes image options result old new h may
 wish_completes (a_ring abi order) result old new h may = ring_completes abi order result old new h may
 wish_completes a_check result old new h may = check_completes result old new h may
 wish_completes (a_bench seed count) result old new h may = bench_completes seed count result old new h may
 
 starves : (wish : Wish) (status : ℕ) → status ≡ 6 → IsDoneAt wish status
-starves (a_run image detail) status six = inr six
+starves (a_run image options) status six = inr six
 starves (a_ring abi order) status six = inr six
 starves a_check status six = inr (inr six)
 starves (a_bench seed count) status six = inr six

@@ -5,7 +5,7 @@ use Rattle.std.proofs.lemmas.List.Elements.{All-nil, All-cons, All-append, All-h
 use Rattle.rand_pcg.specs.Lcg.{Lcg}
 use Rattle.schedule_text.specs.declared.event.Event.{Event}
 use Rattle.schedule_text.specs.declared.event.Event.TheVariants as events
-use Rattle.schedule_text.specs.Event.{event_text, plain_event}
+use Rattle.schedule_text.specs.Event.{event_text}
 use Rattle.split_model.specs.Kind.{is_carried}
 use Rattle.schedule_run.specs.Reading.{text_of, IsLineOf, AreLinesOf, last_line, IsWholeSchedule, HasBadLine}
 use Rattle.bench_load.specs.Generated.{Words, words_of, after_words, event_by, lines_from, generator_of, schedule_of}
@@ -66,13 +66,9 @@ line_first (b ∷ line) text = ap (λ (l : List ℕ). b ∷ l) (line_first line 
 
 -- ---- no other events are asked for
 
-plain_there : (event : Event) → IsCarried event → plain_event event ≡ event
-plain_there (events.Key name text) h = absurd cc
-plain_there event h = refl
-
 one_event : (event : Event) (read : Option Event) → IsSpoken event → IsLineOf (event_text event) read → read ≡ Some event
 one_event event None s h = absurd (s.speaks h)
-one_event event (Some other) s h = ap Some (sym (plain_there other h.1) ∙ s.only other h.0)
+one_event event (Some other) s h = ap Some (s.only other h.0)
 
 empty_text : (b : ℕ) (bytes : List ℕ) → [] ≡ b ∷ bytes → ⊥
 empty_text b bytes e = cc

@@ -10,7 +10,7 @@ use Rattle.clap.specs.declared.error.Error.{Error}
 use Rattle.clap.specs.declared.error.kind.ErrorKind.TheVariants as kind
 use Rattle.commands.specs.declared.words.Command.{Command}
 use Rattle.commands.specs.declared.words.Command.TheVariants.{Inspect}
-use Rattle.commands.specs.Words.{Wish, a_run, a_ring, a_check, number_in, order_of, run_in, ring_with, ring_in, bench_with, bench_in, wish_in, wish_where, wish_of, wish_by, command_set}
+use Rattle.commands.specs.Words.{Wish, a_run, a_ring, a_check, number_in, order_of, run_with, run_in, ring_with, ring_in, bench_with, bench_in, wish_in, wish_where, wish_of, wish_by, command_set}
 
 -- where `clap` finds no fault, the words ask for what the subcommand asks for
 pub taken : (faults : Kinds) (entered entered' : Option (Text × List Row)) (wish : Option Wish) → faults ≡ [] → entered ≡ entered' → wish ≡ option_and_then (λ s. wish_in s.0 s.1) entered → wish ≡ wish_where faults entered'
@@ -48,9 +48,13 @@ ring_few None given abi order few is = cc
 ring_few (Some layout) None abi order few is = cc
 ring_few (Some layout) (Some n) abi order few is = few (cc)
 
-no_ring : (image : Option Text) (detail : Detail) (abi : Abi) (order : ℕ) → option_map (λ image. a_run image detail) image ≡ Some (a_ring abi order) → ⊥
-no_ring None detail abi order is = cc
-no_ring (Some image) detail abi order is = cc
+no_ring_with : (image : Text) (detail : Detail) (start : Option ℕ) (abi : Abi) (order : ℕ) → run_with image detail start ≡ Some (a_ring abi order) → ⊥
+no_ring_with image detail None abi order is = cc
+no_ring_with image detail (Some first) abi order is = cc
+
+no_ring : (image : Option Text) (detail : Detail) (start : Option ℕ) (abi : Abi) (order : ℕ) → option_and_then (λ image. run_with image detail start) image ≡ Some (a_ring abi order) → ⊥
+no_ring None detail start abi order is = cc
+no_ring (Some image) detail start abi order is = no_ring_with image detail start abi order is
 
 no_bench : (seed count : Option ℕ) (abi : Abi) (order : ℕ) → bench_with seed count ≡ Some (a_ring abi order) → ⊥
 no_bench None count abi order is = cc
@@ -58,7 +62,7 @@ no_bench (Some seed) None abi order is = cc
 no_bench (Some seed) (Some count) abi order is = cc
 
 wish_few : (name : Text) (rows : List Row) (run inspect check bench : Bool) (abi : Abi) (order : ℕ) → (if run then run_in rows else (if inspect then ring_in rows else (if check then Some a_check else (if bench then bench_in rows else None)))) ≡ Some (a_ring abi order) → order ≤ 4
-wish_few name rows true inspect check bench abi order is = absurd (no_ring _ _ abi order is)
+wish_few name rows true inspect check bench abi order is = absurd (no_ring _ _ _ abi order is)
 wish_few name rows false true check bench abi order is = ring_few _ _ abi order (order_few (number_in (codes "order") rows) order) is
 wish_few name rows false false true bench abi order is = cc
 wish_few name rows false false false true abi order is = absurd (no_bench _ _ abi order is)

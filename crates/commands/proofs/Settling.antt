@@ -3,7 +3,7 @@ use Rattle.std.proofs.Common.{◌≡◌, ◌≢◌, ◌⊎◌, ℕ, List, Some, 
 use Rattle.blk_io.specs.Outside.{Rose, SinkSeen, TakesBytes}
 use Rattle.blk_base.specs.declared.operation.Abi.{Abi}
 use Rattle.ring_words.specs.Shape.{Shape}
-use Rattle.schedule_text.specs.declared.line.Detail.{Detail}
+use Rattle.commands.specs.declared.words.RunOptions.{RunOptions}
 use Rattle.schedule_run.specs.declared.schedule.RunStop.{RunStop}
 use Rattle.schedule_run.specs.declared.schedule.RunStop.TheVariants as run
 use Rattle.commands.specs.declared.status.Stop.{Stop}
@@ -101,30 +101,30 @@ ring_settles shape (Err Image) old new h = absurd h
 ring_settles shape (Err TooLong) old new h = absurd h
 
 -- what a run did
-left_by : (image : List ℕ) (detail : Detail) (result : Result (Unit {0}) RunStop) (old new : Scene) (h : RunsOn image detail result old new) → Left result old.source new.source (reporting detail h.lender (with_image image h.sectors old.disk) old.output) (reporting detail h.lender new.disk new.output)
-left_by image detail result old new h = run_left (options_of h.sectors) bytes_limit result old.source new.source _ _ h.runs
+left_by : (image : List ℕ) (options : RunOptions) (result : Result (Unit {0}) RunStop) (old new : Scene) (h : RunsOn image options result old new) → Left result old.source new.source (reporting options.detail h.lender (with_image image h.sectors old.disk) old.output) (reporting options.detail h.lender new.disk new.output)
+left_by image options result old new h = run_left (options_of options h.sectors) bytes_limit result old.source new.source _ _ h.runs
 
-run_settles : (image : List ℕ) (detail : Detail) (result : Result (Unit {0}) Stop) (old new : Scene) → RunEnds image detail result old new → Settles (status_at result) old new
-run_settles image detail (Ok done) old new h = let left = left_by image detail (Ok tt) old new h in settles_done old new left.source left.sink.0 left.sink.1
-run_settles image detail (Err (BadLine number)) old new h =
-    let left = left_by image detail (Err (run.BadLine number)) old new h in
+run_settles : (image : List ℕ) (options : RunOptions) (result : Result (Unit {0}) Stop) (old new : Scene) → RunEnds image options result old new → Settles (status_at result) old new
+run_settles image options (Ok done) old new h = let left = left_by image options (Ok tt) old new h in settles_done old new left.source left.sink.0 left.sink.1
+run_settles image options (Err (BadLine number)) old new h =
+    let left = left_by image options (Err (run.BadLine number)) old new h in
     settles_other 3 old new (omega arith) (omega arith) (omega arith) (omega arith) left.source (handed old.output new.output left.sink)
-run_settles image detail (Err Source) old new h =
-    let left = left_by image detail (Err run.Source) old new h in settles_input old new left.source (handed old.output new.output left.sink)
-run_settles image detail (Err TooLong) old new h =
-    let left = left_by image detail (Err run.TooLong) old new h in
+run_settles image options (Err Source) old new h =
+    let left = left_by image options (Err run.Source) old new h in settles_input old new left.source (handed old.output new.output left.sink)
+run_settles image options (Err TooLong) old new h =
+    let left = left_by image options (Err run.TooLong) old new h in
     settles_other 8 old new (omega arith) (omega arith) (omega arith) (omega arith) left.source (handed old.output new.output left.sink)
-run_settles image detail (Err Sink) old new h = let left = left_by image detail (Err run.Sink) old new h in settles_output old new left.source left.sink
-run_settles image detail (Err OutOfMemory) old new (inl h) =
+run_settles image options (Err Sink) old new h = let left = left_by image options (Err run.Sink) old new h in settles_output old new left.source left.sink
+run_settles image options (Err OutOfMemory) old new (inl h) =
     settles_other 6 old new (omega arith) (omega arith) (omega arith) (omega arith) (ap (λ s. s.source.faults) h) (same_output old.output new.output (ap (λ s. s.output) h))
-run_settles image detail (Err OutOfMemory) old new (inr h) =
-    let left = left_by image detail (Err run.OutOfMemory) old new h in
+run_settles image options (Err OutOfMemory) old new (inr h) =
+    let left = left_by image options (Err run.OutOfMemory) old new h in
     settles_other 6 old new (omega arith) (omega arith) (omega arith) (omega arith) left.source (handed old.output new.output left.sink)
-run_settles image detail (Err Image) old new h =
+run_settles image options (Err Image) old new h =
     settles_image old new (ap (λ s. s.faults) h.source) (same_output old.output new.output h.output) h.failed.rose
-run_settles image detail (Err (Length count expected)) old new h = absurd h
-run_settles image detail (Err Words) old new h = absurd h
-run_settles image detail (Err Broken) old new h = absurd h
+run_settles image options (Err (Length count expected)) old new h = absurd h
+run_settles image options (Err Words) old new h = absurd h
+run_settles image options (Err Broken) old new h = absurd h
 
 fails_to_say : (text : List ℕ) (before after : SinkSeen) → FailsToSay text before after → Rose before.faults after.faults
 fails_to_say text before after (inl h) = h.rose
@@ -166,7 +166,7 @@ check_settles (Err Words) old new h = absurd h
 
 pub wish_settles : (wish : Wish) (result : Result (Unit {0}) Stop) (old new : Scene) → CommandEnds wish result old new → Settles (status_at result) old new
 wish_settles (a_ring abi order) result old new h = ring_settles (record { abi = abi; order = order }) result old new h.0
-wish_settles (a_run image detail) result old new h = run_settles image detail result old new h
+wish_settles (a_run image options) result old new h = run_settles image options result old new h
 wish_settles a_check result old new h = check_settles result old new h.0
 wish_settles (a_bench seed count) result old new h = bench_settles seed count result old new h.0 (ap (λ s. s.faults) h.1)
 
@@ -182,27 +182,27 @@ settles words result status old new same (inr (inl starved)) =
     rw (same, starved.0) (untouched_settles 6 old new (omega arith) (omega arith) (omega arith) (omega arith) starved.1)
 settles words result status old new same (inr (inr h)) = rw same (wish_settles h.0 result old new h.2)
 
-reports_at : (image : List ℕ) (detail : Detail) (result : Result (Unit {0}) Stop) (old new : Scene) → RunReports image detail result old new → ReportsAt (status_at result) image detail old new
-reports_at image detail (Ok done) old new h = grind arith
-reports_at image detail (Err (BadLine number)) old new h = grind arith
-reports_at image detail (Err Source) old new h = grind arith
-reports_at image detail (Err TooLong) old new h = grind arith
-reports_at image detail (Err Sink) old new h = grind arith
-reports_at image detail (Err OutOfMemory) old new h = grind arith
-reports_at image detail (Err Image) old new h = grind arith
-reports_at image detail (Err (Length count expected)) old new h = absurd h
-reports_at image detail (Err Words) old new h = absurd h
-reports_at image detail (Err Broken) old new h = absurd h
+reports_at : (image : List ℕ) (options : RunOptions) (result : Result (Unit {0}) Stop) (old new : Scene) → RunReports image options result old new → ReportsAt (status_at result) image options old new
+reports_at image options (Ok done) old new h = grind arith
+reports_at image options (Err (BadLine number)) old new h = grind arith
+reports_at image options (Err Source) old new h = grind arith
+reports_at image options (Err TooLong) old new h = grind arith
+reports_at image options (Err Sink) old new h = grind arith
+reports_at image options (Err OutOfMemory) old new h = grind arith
+reports_at image options (Err Image) old new h = grind arith
+reports_at image options (Err (Length count expected)) old new h = absurd h
+reports_at image options (Err Words) old new h = absurd h
+reports_at image options (Err Broken) old new h = absurd h
 
-pub reports : (image : List ℕ) (detail : Detail) (result : Result (Unit {0}) Stop) (status : ℕ) (old new : Scene) → status ≡ status_at result → RunReports image detail result old new → ReportsAt status image detail old new
-reports image detail result status old new same h = rw same (reports_at image detail result old new h)
+pub reports : (image : List ℕ) (options : RunOptions) (result : Result (Unit {0}) Stop) (status : ℕ) (old new : Scene) → status ≡ status_at result → RunReports image options result old new → ReportsAt status image options old new
+reports image options result status old new same h = rw same (reports_at image options result old new h)
 
 -- what a wish leads to isn't the status of bad words
 not_bad : (wish : Wish) (result : Result (Unit {0}) Stop) (old new : Scene) → CommandEnds wish result old new → status_at result ≡ 2 → ⊥
 not_bad wish (Ok done) old new h e = let no : 0 ≡ 2 = e in omega arith
 not_bad wish (Err (Length count expected)) old new h e = let no : 1 ≡ 2 = e in omega arith
 not_bad wish (Err Broken) old new h e = let no : 1 ≡ 2 = e in omega arith
-not_bad (a_run image detail) (Err Words) old new h e = h
+not_bad (a_run image options) (Err Words) old new h e = h
 not_bad (a_ring abi order) (Err Words) old new h e = h.0
 not_bad a_check (Err Words) old new h e = h.0
 not_bad (a_bench seed count) (Err Words) old new h e = h.0

@@ -18,7 +18,7 @@ use Rattle.schedule_run.specs.declared.schedule.RunStop.TheVariants as run
 use Rattle.bench_load.specs.Generated.{schedule_of}
 use Rattle.bench_load.specs.Text.{schedule_bytes}
 use Rattle.commands.specs.declared.status.Stop.{Stop}
-use Rattle.commands.specs.Scene.{options_of, bytes_limit}
+use Rattle.commands.specs.Scene.{options_of, no_options, bytes_limit}
 use Rattle.commands.specs.Ending.{run_stop}
 use Rattle.commands.specs.Bench.{zeros, no_counts, IsZeroDisk, IsTallyOf, Tallies}
 use Rattle.commands.proofs.Runs.{run_left}
@@ -31,16 +31,16 @@ giving bytes = record { left = Some bytes; faults = 0 }
 some_tally : (a b : Tally) → Some a ≡ Some b → a ≡ b
 some_tally a b e = cc
 
-tallied : (seed count : ℕ) (disk disk' : DiskSeen) (tally : Tally) → disk.content ≡ Some zeros → IsLawfulRun (options_of 4096) bytes_limit (Some (schedule_bytes seed count)) (outside disk (counting no_counts)) (outside disk' (counting tally)) → IsTallyOf (schedule_of seed count) tally
+tallied : (seed count : ℕ) (disk disk' : DiskSeen) (tally : Tally) → disk.content ≡ Some zeros → IsLawfulRun (options_of no_options 4096) bytes_limit (Some (schedule_bytes seed count)) (outside disk (counting no_counts)) (outside disk' (counting tally)) → IsTallyOf (schedule_of seed count) tally
 tallied seed count disk disk' tally content h =
     let same : h.events ≡ schedule_of seed count = exactly bytes_limit seed count h.events h.schedule in
     record {
       report = h.report;
       left = disk'.content;
-      echo = subst (λ es. Echoes (options_of 4096) Lines es h.report) same h.echo;
+      echo = subst (λ es. Echoes (options_of no_options 4096) Lines es h.report) same h.echo;
       lawful =
-          subst (λ es. IsLawful (options_of 4096) Lines (jobs_of es) (Some zeros) disk'.content h.report) same
-          (subst (λ c. IsLawful (options_of 4096) Lines (jobs_of h.events) c disk'.content h.report) content h.lawful);
+          subst (λ es. IsLawful (options_of no_options 4096) Lines (jobs_of es) (Some zeros) disk'.content h.report) same
+          (subst (λ c. IsLawful (options_of no_options 4096) Lines (jobs_of h.events) c disk'.content h.report) content h.lawful);
       counts = some_tally tally (fold counted no_counts h.report) (ap (λ (t : Told). t.tally) h.told);
     }
 
@@ -64,26 +64,26 @@ never_rose h = at h.above
     at (inl less) = omega arith
     at (inr most) = omega arith
 
-stops : (seed count : ℕ) (why : RunStop) (said : Stop) (rest : List ℕ) (disk disk' : DiskSeen) (tally : Tally) → said ≡ run_stop why → Runs (options_of 4096) bytes_limit (Err why) (giving (schedule_bytes seed count)) (giving rest) (outside disk (counting no_counts)) (outside disk' (counting tally)) → Tallies seed count (Err said)
+stops : (seed count : ℕ) (why : RunStop) (said : Stop) (rest : List ℕ) (disk disk' : DiskSeen) (tally : Tally) → said ≡ run_stop why → Runs (options_of no_options 4096) bytes_limit (Err why) (giving (schedule_bytes seed count)) (giving rest) (outside disk (counting no_counts)) (outside disk' (counting tally)) → Tallies seed count (Err said)
 stops seed count (run.BadLine n) said rest disk disk' tally is h = absurd (no_bad_line bytes_limit seed count n h.stands.1.0 h.stands.1.1)
 stops seed count run.Source said rest disk disk' tally is h = absurd (never_rose h.stands.0)
 stops seed count run.TooLong said rest disk disk' tally is h = rw is h.stands.1.1.reached
 stops seed count run.Sink said rest disk disk' tally is h =
-    absurd (never_rose (run_left (options_of 4096) bytes_limit (Err run.Sink) (giving (schedule_bytes seed count)) (giving rest) (outside disk (counting no_counts)) (outside disk' (counting tally)) h).sink)
+    absurd (never_rose (run_left (options_of no_options 4096) bytes_limit (Err run.Sink) (giving (schedule_bytes seed count)) (giving rest) (outside disk (counting no_counts)) (outside disk' (counting tally)) h).sink)
 stops seed count run.OutOfMemory said rest disk disk' tally is h = rw is tt
 
 -- a run that was done
-pub counts_told : (seed count : ℕ) (bytes : List ℕ) (disk disk' : DiskSeen) (begun tally : Tally) (rest : SourceSeen) → bytes ≡ schedule_bytes seed count → begun ≡ no_counts → disk.content ≡ Some zeros → (HasLength (content_of (outside disk (counting begun))) 4096 → RunsLawfully (options_of 4096) bytes_limit (Ok tt) (giving bytes) rest (outside disk (counting begun)) (outside disk' (counting tally))) → IsTallyOf (schedule_of seed count) tally
+pub counts_told : (seed count : ℕ) (bytes : List ℕ) (disk disk' : DiskSeen) (begun tally : Tally) (rest : SourceSeen) → bytes ≡ schedule_bytes seed count → begun ≡ no_counts → disk.content ≡ Some zeros → (HasLength (content_of (outside disk (counting begun))) 4096 → RunsLawfully (options_of no_options 4096) bytes_limit (Ok tt) (giving bytes) rest (outside disk (counting begun)) (outside disk' (counting tally))) → IsTallyOf (schedule_of seed count) tally
 counts_told seed count bytes disk disk' begun tally rest all none content lawful =
     let long : HasLength disk.content 4096 = subst (λ c. HasLength c 4096) (sym content) (length-replicate 4096 zero_sector) in
-    let told : IsLawfulRun (options_of 4096) bytes_limit (Some bytes) (outside disk (counting begun)) (outside disk' (counting tally)) = lawful long in
+    let told : IsLawfulRun (options_of no_options 4096) bytes_limit (Some bytes) (outside disk (counting begun)) (outside disk' (counting tally)) = lawful long in
     tallied seed count disk disk' tally content
-    (subst (λ b. IsLawfulRun (options_of 4096) bytes_limit (Some b) (outside disk (counting no_counts)) (outside disk' (counting tally))) all
-    (subst (λ t. IsLawfulRun (options_of 4096) bytes_limit (Some bytes) (outside disk (counting t)) (outside disk' (counting tally))) none told))
+    (subst (λ b. IsLawfulRun (options_of no_options 4096) bytes_limit (Some b) (outside disk (counting no_counts)) (outside disk' (counting tally))) all
+    (subst (λ t. IsLawfulRun (options_of no_options 4096) bytes_limit (Some bytes) (outside disk (counting t)) (outside disk' (counting tally))) none told))
 
 -- a run that stopped
-pub stopped : (seed count : ℕ) (bytes rest : List ℕ) (disk disk' : DiskSeen) (begun tally : Tally) (why : RunStop) (said : Stop) → bytes ≡ schedule_bytes seed count → begun ≡ no_counts → said ≡ run_stop why → Runs (options_of 4096) bytes_limit (Err why) (giving bytes) (giving rest) (outside disk (counting begun)) (outside disk' (counting tally)) → Tallies seed count (Err said)
+pub stopped : (seed count : ℕ) (bytes rest : List ℕ) (disk disk' : DiskSeen) (begun tally : Tally) (why : RunStop) (said : Stop) → bytes ≡ schedule_bytes seed count → begun ≡ no_counts → said ≡ run_stop why → Runs (options_of no_options 4096) bytes_limit (Err why) (giving bytes) (giving rest) (outside disk (counting begun)) (outside disk' (counting tally)) → Tallies seed count (Err said)
 stopped seed count bytes rest disk disk' begun tally why said all none is h =
     stops seed count why said rest disk disk' tally is
-    (subst (λ b. Runs (options_of 4096) bytes_limit (Err why) (giving b) (giving rest) (outside disk (counting no_counts)) (outside disk' (counting tally))) all
-    (subst (λ t. Runs (options_of 4096) bytes_limit (Err why) (giving bytes) (giving rest) (outside disk (counting t)) (outside disk' (counting tally))) none h))
+    (subst (λ b. Runs (options_of no_options 4096) bytes_limit (Err why) (giving b) (giving rest) (outside disk (counting no_counts)) (outside disk' (counting tally))) all
+    (subst (λ t. Runs (options_of no_options 4096) bytes_limit (Err why) (giving bytes) (giving rest) (outside disk (counting t)) (outside disk' (counting tally))) none h))

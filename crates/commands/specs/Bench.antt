@@ -16,7 +16,7 @@ use Rattle.bench_load.specs.Text.{schedule_bytes}
 use Rattle.bench_load.specs.Summary.{summary_of}
 use Rattle.commands.specs.declared.status.Stop.{Stop}
 use Rattle.commands.specs.declared.status.Stop.TheVariants.{Sink, OutOfMemory, TooLong}
-use Rattle.commands.specs.Scene.{Scene, options_of, bytes_limit}
+use Rattle.commands.specs.Scene.{Scene, options_of, no_options, bytes_limit}
 
 -- the sectors of the disk
 abbrev pub zeros : List (List ℕ)
@@ -34,8 +34,8 @@ no_counts = record { submitted = 0; refused = 0; effects = 0; answered = 0; last
 pub record IsTallyOf (schedule : List Event) (tally : Tally) : Type 0 where
   pub report : List Line
   pub left : Option (List (List ℕ))
-  pub echo : Echoes (options_of 4096) Lines schedule report
-  pub lawful : IsLawful (options_of 4096) Lines (jobs_of schedule) (Some zeros) left report
+  pub echo : Echoes (options_of no_options 4096) Lines schedule report
+  pub lawful : IsLawful (options_of no_options 4096) Lines (jobs_of schedule) (Some zeros) left report
   pub counts : tally ≡ fold counted no_counts report
 
 -- there is that tally; or no memory; or the schedule has as many bytes as a schedule may not have

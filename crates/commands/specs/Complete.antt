@@ -21,7 +21,7 @@ pub record IsWholeReport (bytes : List ℕ) : Type 0 where
 abbrev pub IsInputOf : Wish → Option (List ℕ) → Type 0
 IsInputOf (a_bench seed count) left = length (schedule_bytes seed count) < bytes_limit
 IsInputOf wish None = ⊥
-IsInputOf (a_run image detail) (Some bytes) = (events : List Event) × IsWholeSchedule bytes_limit bytes events
+IsInputOf (a_run image options) (Some bytes) = (events : List Event) × IsWholeSchedule bytes_limit bytes events
 IsInputOf (a_ring abi order) (Some bytes) = length bytes ≡ bytes_of order
 IsInputOf a_check (Some bytes) = IsWholeReport bytes
 

@@ -8,7 +8,7 @@ use Rattle.ring_words.specs.Shape.{Shape}
 use Rattle.ring_inspect.specs.Stop.{bytes_of, IsShown, IsPartlyShown, IsNoRing}
 use Rattle.ring_inspect.specs.declared.stop.InspectStop.{InspectStop}
 use Rattle.ring_inspect.specs.declared.stop.InspectStop.TheVariants as inspect
-use Rattle.schedule_text.specs.declared.line.Detail.{Detail}
+use Rattle.commands.specs.declared.words.RunOptions.{RunOptions}
 use Rattle.schedule_run.specs.Outcome.{Runs}
 use Rattle.schedule_run.specs.declared.schedule.RunStop.{RunStop}
 use Rattle.schedule_run.specs.declared.schedule.RunStop.TheVariants as run
@@ -21,11 +21,11 @@ use Rattle.commands.specs.Words.{Wish, a_run, a_ring, a_check, a_bench, wish_of,
 use Rattle.commands.specs.Status.{status_of, line_of}
 
 -- the image of that name was attached for writing, and the schedule was run on it
-pub record RunsOn (image : List ℕ) (detail : Detail) (result : Result (Unit {0}) RunStop) (old new : Scene) : Type 0 where
+pub record RunsOn (image : List ℕ) (options : RunOptions) (result : Result (Unit {0}) RunStop) (old new : Scene) : Type 0 where
   pub sectors : ℕ
   pub sized : HasLength old.disk.content sectors
   pub lender : GName
-  pub runs : Runs (options_of sectors) bytes_limit result old.source new.source (reporting detail lender (with_image image sectors old.disk) old.output) (reporting detail lender new.disk new.output)
+  pub runs : Runs (options_of options sectors) bytes_limit result old.source new.source (reporting options.detail lender (with_image image sectors old.disk) old.output) (reporting options.detail lender new.disk new.output)
 
 -- the image failed where it was attached, and nothing else was done
 pub record FailsToAttach (old new : Scene) : Type 0 where
@@ -34,20 +34,20 @@ pub record FailsToAttach (old new : Scene) : Type 0 where
   pub output : new.output ≡ old.output
 
 -- why a run stopped, and what it left
-abbrev pub RunStops : List ℕ → Detail → Stop → Scene → Scene → Type 0
-RunStops image detail (BadLine number) old new = RunsOn image detail (Err (run.BadLine number)) old new
-RunStops image detail Source old new = RunsOn image detail (Err run.Source) old new
-RunStops image detail TooLong old new = RunsOn image detail (Err run.TooLong) old new
-RunStops image detail Sink old new = RunsOn image detail (Err run.Sink) old new
-RunStops image detail OutOfMemory old new = (new ≡ old) ⊎ RunsOn image detail (Err run.OutOfMemory) old new
-RunStops image detail Image old new = FailsToAttach old new
-RunStops image detail (Length count expected) old new = ⊥
-RunStops image detail Words old new = ⊥
-RunStops image detail Broken old new = ⊥
+abbrev pub RunStops : List ℕ → RunOptions → Stop → Scene → Scene → Type 0
+RunStops image options (BadLine number) old new = RunsOn image options (Err (run.BadLine number)) old new
+RunStops image options Source old new = RunsOn image options (Err run.Source) old new
+RunStops image options TooLong old new = RunsOn image options (Err run.TooLong) old new
+RunStops image options Sink old new = RunsOn image options (Err run.Sink) old new
+RunStops image options OutOfMemory old new = (new ≡ old) ⊎ RunsOn image options (Err run.OutOfMemory) old new
+RunStops image options Image old new = FailsToAttach old new
+RunStops image options (Length count expected) old new = ⊥
+RunStops image options Words old new = ⊥
+RunStops image options Broken old new = ⊥
 
-abbrev pub RunEnds : List ℕ → Detail → Result (Unit {0}) Stop → Scene → Scene → Type 0
-RunEnds image detail (Ok done) old new = RunsOn image detail (Ok tt) old new
-RunEnds image detail (Err stop) old new = RunStops image detail stop old new
+abbrev pub RunEnds : List ℕ → RunOptions → Result (Unit {0}) Stop → Scene → Scene → Type 0
+RunEnds image options (Ok done) old new = RunsOn image options (Ok tt) old new
+RunEnds image options (Err stop) old new = RunStops image options stop old new
 
 -- a ring was shown, and the output handed on what it kept back
 pub record ShowsRing (shape : Shape) (a b : SourceSeen) (before after : SinkSeen) : Type 0 where
@@ -85,7 +85,7 @@ RingEnds shape (Err stop) a b before after = RingStops shape stop a b before aft
 -- what the carrying out of this wish made of the outside; the showing of a ring and a check leave the disk as it was, and a bench the input too
 abbrev pub CommandEnds : Wish → Result (Unit {0}) Stop → Scene → Scene → Type 0
 CommandEnds (a_ring abi order) result old new = RingEnds (record { abi = abi; order = order }) result old.source new.source old.output new.output × (new.disk ≡ old.disk)
-CommandEnds (a_run image detail) result old new = RunEnds image detail result old new
+CommandEnds (a_run image options) result old new = RunEnds image options result old new
 CommandEnds a_check result old new = CheckEnds result old.source new.source old.output new.output × (new.disk ≡ old.disk)
 CommandEnds (a_bench seed count) result old new = BenchEnds seed count result old.output new.output × (new.source ≡ old.source) × (new.disk ≡ old.disk)
 

@@ -6,6 +6,8 @@ use Rattle.blk_base.specs.declared.operation.Abi.TheVariants.{X64}
 use Rattle.blk_io.specs.Outside.{SourceSeen, SinkSeen}
 use Rattle.blk_io.specs.Disk.{Attachment, DiskSeen}
 use Rattle.schedule_text.specs.declared.line.Detail.{Detail}
+use Rattle.schedule_text.specs.declared.line.Detail.TheVariants.{Lines}
+use Rattle.commands.specs.declared.words.RunOptions.{RunOptions}
 use Rattle.schedule_text.specs.Recorders.{writing}
 use Rattle.schedule_run.specs.Outcome.{Outside, outside}
 
@@ -18,9 +20,13 @@ pub record Scene : Type 0 where
 abbrev pub scene : SourceSeen → DiskSeen → SinkSeen → Scene
 scene source disk output = record { source = source; disk = disk; output = output }
 
--- the options of a run on an image of so many sectors
-abbrev pub options_of : ℕ → Options
-options_of sectors = record { abi = X64; order = 0; persistent = 0; indirect = 0; start = 0; read_only = false; sectors = sectors }
+-- the options of a run that were asked for, on an image of so many sectors
+abbrev pub options_of : RunOptions → ℕ → Options
+options_of options sectors = record { abi = X64; order = 0; persistent = 0; indirect = 0; start = options.start; read_only = false; sectors = sectors }
+
+-- without any, no moves are shown, and the ring begins at 0
+abbrev pub no_options : RunOptions
+no_options = record { detail = Lines; start = 0 }
 
 -- a schedule has fewer bytes than this
 abbrev pub bytes_limit : ℕ

@@ -12,6 +12,7 @@ use Rattle.blk_base.specs.declared.operation.Abi.TheVariants.{X64, X32}
 use Rattle.schedule_text.specs.declared.line.Detail.{Detail}
 use Rattle.schedule_text.specs.declared.line.Detail.TheVariants.{Lines, Moves}
 use Rattle.commands.specs.declared.words.Command.{Command}
+use Rattle.commands.specs.declared.words.RunOptions.{RunOptions}
 use Rattle.commands.specs.declared.words.Command.TheVariants.{Inspect, Run, Check, Bench}
 
 -- ---- the command set
@@ -19,6 +20,10 @@ use Rattle.commands.specs.declared.words.Command.TheVariants.{Inspect, Run, Chec
 -- IMAGE, which a run has to have
 abbrev pub image_rule : Rule
 image_rule = record (new_rule (codes "image")) { required = true }
+
+-- `--start`, a number of 32 bits, and 0 where there is none
+abbrev pub start_rule : Rule
+start_rule = record (new_rule (codes "start")) { long = Some (codes "start"); defaults = codes "0" ∷ []; parser = Some (parser.Unsigned 0 4294967295) }
 
 -- `--moves`
 abbrev pub moves_rule : Rule
@@ -38,7 +43,7 @@ number_rule id = record (new_rule id) { required = true; parser = Some (parser.U
 
 -- `run`
 abbrev pub run_set : App
-run_set = with_rule (with_rule (new_app (codes "run")) image_rule) moves_rule
+run_set = with_rule (with_rule (with_rule (new_app (codes "run")) image_rule) moves_rule) start_rule
 
 -- `inspect`
 abbrev pub inspect_set : App
@@ -80,6 +85,10 @@ layout_of n = if n == 64 then Some X64 else (if n == 32 then Some X32 else None)
 abbrev pub order_of : ℕ → Option ℕ
 order_of n = if nat_le n 4 then Some n else None
 
+-- an index of the ring
+abbrev pub start_of : ℕ → Option ℕ
+start_of n = if nat_le n 4294967295 then Some n else None
+
 -- a flag that was used has the text `true`
 abbrev pub is_yes : Option Text → Bool
 is_yes None = false
@@ -88,15 +97,18 @@ is_yes (Some text) = bytes_eq text (codes "true")
 abbrev pub detail_in : List Row → Detail
 detail_in rows = if is_yes (first_of (codes "moves") rows) then Moves else Lines
 
--- a run on the image of that name, the showing of a ring of that layout and order, the check of a report, or a bench of that seed and that many lines
+-- a run on the image of that name with those options, the showing of a ring of that layout and order, the check of a report, or a bench of that seed and that many lines
 pub data Wish : Type 0 where
-  a_run : Text → Detail → Wish
+  a_run : Text → RunOptions → Wish
   a_ring : Abi → ℕ → Wish
   a_check : Wish
   a_bench : ℕ → ℕ → Wish
 
+abbrev pub run_with : Text → Detail → Option ℕ → Option Wish
+run_with image detail start = option_map (λ first. a_run image (record { detail = detail; start = first })) start
+
 abbrev pub run_in : List Row → Option Wish
-run_in rows = option_map (λ image. a_run image (detail_in rows)) (first_of (codes "image") rows)
+run_in rows = option_and_then (λ image. run_with image (detail_in rows) (option_and_then start_of (number_in (codes "start") rows))) (first_of (codes "image") rows)
 
 abbrev pub ring_with : Option Abi → Option ℕ → Option Wish
 ring_with None order = None
@@ -130,8 +142,8 @@ abbrev pub wish_of : List Text → Option Wish
 wish_of words = wish_where (fault_of command_set words) (subcommand_of command_set words)
 
 -- the words ask for a run, for a ring, for a check, for a bench, or for nothing
-abbrev pub AsksRun : List Text → Text → Detail → Type 0
-AsksRun words image detail = wish_of words ≡ Some (a_run image detail)
+abbrev pub AsksRun : List Text → Text → RunOptions → Type 0
+AsksRun words image options = wish_of words ≡ Some (a_run image options)
 
 abbrev pub AsksRing : List Text → Abi → ℕ → Type 0
 AsksRing words abi order = wish_of words ≡ Some (a_ring abi order)
@@ -148,6 +160,6 @@ AsksNothing words = wish_of words ≡ None
 -- the command that carries a wish out
 abbrev pub wish_by : Command → Wish
 wish_by (Inspect abi order) = a_ring abi order
-wish_by (Run image detail) = a_run image.now detail
+wish_by (Run image options) = a_run image.now options
 wish_by Check = a_check
 wish_by (Bench seed count) = a_bench seed count

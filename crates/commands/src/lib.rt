@@ -11,7 +11,7 @@ mod words;
 
 pub use status::{ErrorLine, Stop};
 pub use top::{blkring, stop_with};
-pub use words::{Command, read_command};
+pub use words::{Command, RunOptions, read_command};
 
 #[cfg(test)]
 mod tests;

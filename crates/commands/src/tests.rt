@@ -2,7 +2,7 @@
 
 mod checking;
 
-use crate::{Command, blkring, read_command};
+use crate::{Command, RunOptions, blkring, read_command};
 use blk_base::Abi;
 use blk_io::{FailsAt, MemorySink, MemorySource};
 use image_disk::{FailsAtCalls, ListedCalls, MemoryDisk};
@@ -32,19 +32,28 @@ fn ask_for(alloc: Global, line: &str, command: Option<Command<'_>>) -> Result<bo
 #[test]
 fn words_that_ask_for_a_run(rt: HostRuntime) -> Result<(), Fail> {
     let alloc = rt.alloc();
-    for (line, image, detail) in [
-        ("run disk", "disk", Detail::Lines),
-        ("run disk --moves", "disk", Detail::Moves),
-        ("run --moves disk", "disk", Detail::Moves),
-        ("run -", "-", Detail::Lines),
-        ("run ", "", Detail::Lines),
-        ("run disk --", "disk", Detail::Lines),
-        ("run -- --moves", "--moves", Detail::Lines),
-        ("run --moves -- -h", "-h", Detail::Moves),
-        ("run help", "help", Detail::Lines),
-        ("run run", "run", Detail::Lines),
+    for (line, image, detail, start) in [
+        ("run disk", "disk", Detail::Lines, 0),
+        ("run disk --moves", "disk", Detail::Moves, 0),
+        ("run --moves disk", "disk", Detail::Moves, 0),
+        ("run -", "-", Detail::Lines, 0),
+        ("run ", "", Detail::Lines, 0),
+        ("run disk --", "disk", Detail::Lines, 0),
+        ("run -- --moves", "--moves", Detail::Lines, 0),
+        ("run --moves -- -h", "-h", Detail::Moves, 0),
+        ("run help", "help", Detail::Lines, 0),
+        ("run run", "run", Detail::Lines, 0),
+        ("run disk --start 7", "disk", Detail::Lines, 7),
+        (
+            "run --start=4294967295 disk",
+            "disk",
+            Detail::Lines,
+            4294967295,
+        ),
+        ("run disk --start +4 --moves", "disk", Detail::Moves, 4),
     ] {
-        assert!(rt; ask_for(alloc, line, Some(Command::Run { image, detail }))?);
+        let options = RunOptions { detail, start };
+        assert!(rt; ask_for(alloc, line, Some(Command::Run { image, options }))?);
     }
     Ok(())
 }
@@ -138,6 +147,11 @@ fn words_that_ask_for_no_run(rt: HostRuntime) -> Result<(), Fail> {
         "run disk --moves --moves",
         "run disk --moves=true",
         "run disk --abi 32",
+        "run disk --start",
+        "run disk --start x",
+        "run disk --start -1",
+        "run disk --start 4294967296",
+        "run disk --start 1 --start 1",
         "run disk --move",
         "run -x",
         "--moves run disk",

@@ -15,12 +15,13 @@ ghost use Rattle.commands.specs.Complete.{MayBeDone, IsDoneAt};
 use crate::bench::bench;
 use crate::checking::check_report;
 use crate::status::Stop;
-use crate::words::{Command, read_command};
+use crate::words::{Command, RunOptions, read_command};
 use blk_base::{Abi, Config};
 use blk_io::{AttachStop, Failed, SectorDisk, Sink, Source};
+use line_text::LineText;
 use ring_inspect::{InspectStop, inspect};
 use schedule_run::{RunStop, run};
-use schedule_text::{Detail, LineSink};
+use schedule_text::LineSink;
 use std::alloc::Global;
 
 /// Carries out the command that the words after the program's name ask for, and answers the exit
@@ -73,8 +74,8 @@ pub fn blkring<S: Source, D: SectorDisk, O: Sink, E: Sink>(
         (scene (S.seen src.old) (D.seen disk.old) (O.seen out.old))
         (scene (S.seen src.new) (D.seen disk.new) (O.seen out.new)) (E.seen err.old) (E.seen err.new) }
     // A run's image is the one named, and its report is lawful: whole, or as far as it was written.
-    ensures reported { (image : List ℕ) → (detail : Detail) → AsksRun (map string_bytes words.now) image detail
-        → ReportsAt result image detail
+    ensures reported { (image : List ℕ) → (options : RunOptions) → AsksRun (map string_bytes words.now) image options
+        → ReportsAt result image options
         (scene (S.seen src.old) (D.seen disk.old) (O.seen out.old))
         (scene (S.seen src.new) (D.seen disk.new) (O.seen out.new)) }
     // A ring's showing leaves the disk as it was.
@@ -139,8 +140,8 @@ fn do_command<S: Source, D: SectorDisk, O: Sink>(
     ensures carried_out { CarriesOut (map string_bytes words.now) result
         (scene (S.seen src.old) (D.seen disk.old) (O.seen out.old))
         (scene (S.seen src.new) (D.seen disk.new) (O.seen out.new)) }
-    ensures reported { (image : List ℕ) → (detail : Detail) → AsksRun (map string_bytes words.now) image detail
-        → RunReports image detail result
+    ensures reported { (image : List ℕ) → (options : RunOptions) → AsksRun (map string_bytes words.now) image options
+        → RunReports image options result
         (scene (S.seen src.old) (D.seen disk.old) (O.seen out.old))
         (scene (S.seen src.new) (D.seen disk.new) (O.seen out.new)) }
     ensures nothing_done { AsksNothing (map string_bytes words.now)
@@ -148,7 +149,9 @@ fn do_command<S: Source, D: SectorDisk, O: Sink>(
 {
     match read_command(alloc, words)? {
         Some(Command::Inspect { abi, order }) => show_ring(alloc, src, abi, order, out),
-        Some(Command::Run { image, detail }) => run_schedule(alloc, image, detail, src, disk, out),
+        Some(Command::Run { image, options }) => run_schedule(
+            alloc, image, options, src, disk, out,
+        ),
         Some(Command::Check) => check_report(alloc, src, out),
         Some(Command::Bench { seed, count }) => bench(alloc, seed, count, out),
         None => Err(Stop::Words),
@@ -193,15 +196,15 @@ pub fn hand_on<O: Sink>(out: &mut O) -> Result<(), Stop>
 fn run_schedule<S: Source, D: SectorDisk, O: Sink>(
     alloc: Global,
     image: &str,
-    detail: Detail,
+    options: RunOptions,
     src: &mut S,
     disk: &mut D,
     out: &mut O,
 ) -> Result<(), Stop>
-    ensures ends { RunEnds image.now detail result
+    ensures ends { RunEnds image.now options result
         (scene (S.seen src.old) (D.seen disk.old) (O.seen out.old))
         (scene (S.seen src.new) (D.seen disk.new) (O.seen out.new)) }
-    ensures reported { RunReports image.now detail result
+    ensures reported { RunReports image.now options result
         (scene (S.seen src.old) (D.seen disk.old) (O.seen out.old))
         (scene (S.seen src.new) (D.seen disk.new) (O.seen out.new)) }
 {
@@ -215,11 +218,15 @@ fn run_schedule<S: Source, D: SectorDisk, O: Sink>(
         order: 0,
         persistent: 0,
         indirect: 0,
-        start: 0,
+        start: options.start,
         read_only: false,
         sectors,
     };
-    let mut report = LineSink { sink: out, detail };
+    let mut report = LineSink {
+        sink: out,
+        detail: options.detail,
+        room: LineText::new(),
+    };
     match run(alloc, config, 4_294_967_296, src, disk, &mut report) {
         Ok(()) => Ok(()),
         Err(stop) => Err(run_stop(stop)),

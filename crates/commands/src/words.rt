@@ -2,8 +2,8 @@
 ghost use Rattle.std.specs.Prelude.{◌≡◌, ℕ, IfOk, codes, map, option_map, option_and_then};
 ghost use Rattle.std.specs.String.{string_bytes};
 ghost use Rattle.clap.specs.Words.{first_of, found_of, rows_of, subcommand_rows_of, rule_of};
-ghost use Rattle.commands.specs.Words.{wish_of, wish_by, wish_in, run_in, ring_in, bench_in, detail_in, number_in, layout_of, order_of};
-ghost use Rattle.commands.specs.Words.{command_set, read_set, run_set, inspect_set, check_set, bench_set, image_rule, moves_rule, abi_rule, order_rule, number_rule};
+ghost use Rattle.commands.specs.Words.{wish_of, wish_by, wish_in, run_in, run_with, ring_in, bench_in, detail_in, number_in, start_of, layout_of, order_of};
+ghost use Rattle.commands.specs.Words.{command_set, read_set, run_set, inspect_set, check_set, bench_set, image_rule, moves_rule, start_rule, abi_rule, order_rule, number_rule};
 ghost use Rattle.commands.specs.Reading.{IsArgument, IsSet};
 
 use blk_base::{Abi, OutOfMemory};
@@ -17,20 +17,28 @@ use std::alloc::{AllocError, Global};
 pub enum Command<'a> {
     /// Show a ring of that layout and of `2^order` pages (0 to 4) as text.
     Inspect { abi: Abi, order: u32 },
-    /// Run the schedule that the input holds on the image of that name, and report with or without
-    /// each move.
-    Run { image: &'a str, detail: Detail },
+    /// Run the schedule that the input holds on the image of that name.
+    Run { image: &'a str, options: RunOptions },
     /// Hold the report that the input holds against the rules.
     Check,
     /// Run the schedule of that seed and that many lines on zeros in memory, and count what comes.
     Bench { seed: u64, count: u64 },
 }
 
+/// What a run is told besides its image's name.
+#[derive(Clone, Copy, Debug, PartialEq, Eq)]
+pub struct RunOptions {
+    /// Whether the report has each move.
+    pub detail: Detail,
+    /// The ring's first index: its producers begin there.
+    pub start: u32,
+}
+
 /// The command that the words after the program's name ask for, as `clap` reads them: `run` with an
-/// image's name, and `--moves` before or after it; `inspect`, with `--abi` 64 or 32 and `--order`
+/// image's name, and `--moves` and `--start`, a number of 32 bits, before or after it; `inspect`, with `--abi` 64 or 32 and `--order`
 /// from 0 to 4; `check`; or `bench`, with a seed and a count, numbers of 64 bits. Each option comes at most
 /// once, and a number may have a plus and zeros before it.
-/// Without them the layout is that of x86_64 and the order 0.
+/// Without them the layout is that of x86_64, the order 0, and the ring's first index 0.
 ///
 /// `None` where `clap` finds a fault in the words, of which a wish for help is one, and at an `--abi`
 /// between 32 and 64. The error comes where there was no memory.
@@ -68,13 +76,14 @@ fn read_commands<'a>(alloc: Global) -> Result<clap::Command<'a>, AllocError>
         .subcommand(check_command(alloc))
 }
 
-// `run IMAGE [--moves]`.
+// `run IMAGE [--moves] [--start N]`.
 fn run_command<'a>(alloc: Global) -> Result<clap::Command<'a>, AllocError>
     ensures { IfOk result (IsSet run_set) }
 {
     clap::Command::new(alloc, "run")
         .arg(image_argument(alloc))?
-        .arg(moves_flag(alloc))
+        .arg(moves_flag(alloc))?
+        .arg(start_option(alloc))
 }
 
 // `inspect [--abi N] [--order N]`.
@@ -124,6 +133,15 @@ fn moves_flag<'a>(alloc: Global) -> Arg<'a>
         .action(ArgAction::SetTrue)
 }
 
+fn start_option<'a>(alloc: Global) -> Arg<'a>
+    ensures { IsArgument start_rule result }
+{
+    Arg::new(alloc, "start")
+        .long("start")
+        .value_parser(value_parser!(u64).range(0..=4_294_967_295))
+        .default_value("0")
+}
+
 fn abi_option<'a>(alloc: Global) -> Arg<'a>
     ensures { IsArgument abi_rule result }
 {
@@ -160,9 +178,17 @@ fn run<'a>(found: &ArgMatches<'a>) -> Option<Command<'a>>
     ensures { option_map wish_by result ≡ run_in (rows_of (found_of found.now)) }
 {
     let image = text(found, "image")?;
+    run_with(image, detail(found), number(found, "start"))
+}
+
+// A run on the image of that name, whose ring begins at that number.
+fn run_with(image: &str, detail: Detail, number: Option<u64>) -> Option<Command<'_>>
+    ensures { option_map wish_by result ≡ run_with image.now detail (option_and_then start_of number) }
+{
+    let start = start(number?)?;
     Some(Command::Run {
         image,
-        detail: detail(found),
+        options: RunOptions { detail, start },
     })
 }
 
@@ -200,6 +226,17 @@ fn layout(number: u64) -> Option<Abi>
         64 => Some(Abi::X64),
         32 => Some(Abi::X32),
         _ => None,
+    }
+}
+
+// An index of the ring.
+fn start(number: u64) -> Option<u32>
+    ensures { result ≡ start_of number }
+{
+    if number <= 4_294_967_295 {
+        Some(number as u32)
+    } else {
+        None
     }
 }
 

@@ -252,11 +252,9 @@ fn guess(held: &[Held], number: u64) -> Option<usize>
     ensures { IfSome result (IsPlace held.now number) }
 {
     let newest = held.last()?.mapping.number;
-    if number > newest || newest - number >= held.len() as u64 {
-        return None;
-    }
-    let place = held.len() - 1 - (newest - number) as usize;
-    if held[place].mapping.number == number {
+    // Where none is as far before the last one, this is no place.
+    let place = (held.len() - 1).wrapping_sub(newest.wrapping_sub(number) as usize);
+    if place < held.len() && held[place].mapping.number == number {
         Some(place)
     } else {
         None

@@ -1,7 +1,8 @@
 -- What is done at an ask: the answer that its end is told, what lies under the ends after it, and the move that a report shows.
-use Rattle.std.specs.Prelude.{◌≡◌, ℕ, ◌+◌, ◌^◌, ◌<◌, All, length, List, Option, Some, None, Result, Ok, Err, if◌then◌else◌, ◌==◌}
+use Rattle.std.specs.Prelude.{◌≡◌, ℕ, ◌+◌, ◌^◌, ◌<◌, All, length, Bool, List, Option, Some, None, Result, Ok, Err, if◌then◌else◌, ◌==◌, ◌||◌}
 use Rattle.std.specs.Option.{option_map}
 use Rattle.blk_base.specs.declared.parts.Mode.{Mode}
+use Rattle.blk_base.specs.declared.parts.End.{End}
 use Rattle.blk_base.specs.declared.parts.End.TheVariants as end
 use Rattle.blk_base.specs.declared.ask.FrontAsk.{FrontAsk}
 use Rattle.blk_base.specs.declared.ask.FrontAsk.TheVariants as front_ask
@@ -24,6 +25,9 @@ use Rattle.grant_table.specs.Table.{frame_of, verdict_at, next_mapping, map_tabl
 use Rattle.event_channel.specs.declared.channels.PortState.{PortState}
 use Rattle.event_channel.specs.declared.channels.PortState.TheVariants as port
 use Rattle.event_channel.specs.Channels.{state_of, with_port, bound, is_pending, sent, taken, closed}
+use Rattle.key_directory.specs.Paths.{is_under, directory_of}
+use Rattle.key_directory.specs.Watches.{with_watch, next_watch, has_pending, taken as taken_watch}
+use Rattle.key_directory.specs.Directory.{Directory, key_of, written, watches_of, with_watches}
 use Rattle.hypervisor.specs.Hypervisor.{Hypervisor}
 
 pub record FrontAct : Type 0 where
@@ -54,12 +58,52 @@ with_pages h pages = record h { pages = pages }
 abbrev pub exchanged : List ℕ → ℕ → ℕ → ℕ → ℕ → List ℕ
 exchanged pages frame word old new = if word_of pages frame word == old then with_word pages frame word new else pages
 
--- the front's act; none where it waits and no event is pending, or asks for a key, of which there are none yet
+-- keys alone change
+abbrev pub with_keys : Hypervisor → Directory → Hypervisor
+with_keys h keys = record h { keys = keys }
+
+-- the text at a path
+abbrev pub key_at : Hypervisor → List ℕ → Option (List ℕ)
+key_at h path = key_of h.keys.keys path
+
+-- an end writes under its own directory alone
+abbrev pub is_own_path : End → List ℕ → Bool
+is_own_path who path = is_under (directory_of who) path
+
+-- a text is written at a path
+abbrev pub key_set : Hypervisor → List ℕ → List ℕ → Hypervisor
+key_set h path text = with_keys h (written h.keys path text)
+
+-- where it is done at all
+abbrev pub set_done : Bool → Hypervisor → List ℕ → List ℕ → Hypervisor
+set_done done h path text = if done then key_set h path text else h
+
+-- an end watches a path
+abbrev pub watch_set : Hypervisor → End → List ℕ → Hypervisor
+watch_set h who path = with_keys h (with_watches h.keys who (with_watch (watches_of h.keys who) path))
+
+-- the watch of an end that fired first, if one did, and without it
+abbrev pub watch_next : Hypervisor → End → Option (List ℕ)
+watch_next h who = next_watch (watches_of h.keys who)
+
+abbrev pub watch_taken : Hypervisor → End → Hypervisor
+watch_taken h who = with_keys h (with_watches h.keys who (taken_watch (watches_of h.keys who)))
+
+-- an event of the end is pending, or one of its watches
+abbrev pub has_to_take : Hypervisor → End → Bool
+has_to_take h who = is_pending h.channels who || has_pending (watches_of h.keys who)
+
+-- the front takes the watch that fired first; none where none did
+abbrev pub front_watched : Hypervisor → Option (List ℕ) → Option FrontAct
+front_watched h None = None
+front_watched h (Some path) = Some (record { answer = front_answer.Watched path; under = watch_taken h end.Front; shown = moves.Watched mover.Front path })
+
+-- the front's act; none where it waits and neither an event is pending nor a watch, or writes a key outside its own directory
 abbrev pub front_act : Hypervisor → FrontAsk → Option FrontAct
 front_act h front_ask.Wait =
     if is_pending h.channels end.Front
     then Some (record { answer = front_answer.Event; under = record h { channels = taken h.channels end.Front }; shown = moves.Event mover.Front })
-    else None
+    else front_watched h (watch_next h end.Front)
 front_act h front_ask.Fence = Some (record { answer = front_answer.Done; under = h; shown = moves.Fence mover.Front })
 front_act h (front_ask.Read frame word) = Some (record {
   answer = front_answer.Word (word_of h.pages frame word);
@@ -83,9 +127,20 @@ front_act h front_ask.NewPort = Some (record {
 })
 front_act h front_ask.Send = Some (record { answer = front_answer.Done; under = record h { channels = sent h.channels end.Front }; shown = moves.Send mover.Front })
 front_act h front_ask.ClosePort = Some (record { answer = front_answer.Done; under = record h { channels = closed h.channels end.Front }; shown = moves.ClosePort mover.Front })
-front_act h (front_ask.GetKey path) = None
-front_act h (front_ask.SetKey path text) = None
-front_act h (front_ask.Watch path) = None
+front_act h (front_ask.GetKey path) = Some (record { answer = front_answer.Key (key_at h path); under = h; shown = moves.GetKey mover.Front path (key_at h path) })
+front_act h (front_ask.SetKey path text) =
+    if is_own_path end.Front path
+    then Some (record { answer = front_answer.Done; under = key_set h path text; shown = moves.SetKey mover.Front path text })
+    else None
+front_act h (front_ask.Watch path) = Some (record { answer = front_answer.Done; under = watch_set h end.Front path; shown = moves.Watch mover.Front path })
+
+-- the front's move on a key or a watch, or its event
+abbrev pub front_key_shown : FrontAsk → FrontAnswer → Move
+front_key_shown (front_ask.GetKey path) (front_answer.Key text) = moves.GetKey mover.Front path text
+front_key_shown (front_ask.SetKey path text) answer = moves.SetKey mover.Front path text
+front_key_shown (front_ask.Watch path) answer = moves.Watch mover.Front path
+front_key_shown front_ask.Wait (front_answer.Watched path) = moves.Watched mover.Front path
+front_key_shown ask answer = moves.Event mover.Front
 
 -- the move that a report shows, by what the front asked and was answered
 abbrev pub front_shown : FrontAsk → FrontAnswer → Move
@@ -96,7 +151,7 @@ front_shown (front_ask.Cas frame word old new) (front_answer.Word seen) = moves.
 front_shown front_ask.NewPort (front_answer.Port port) = moves.FrontPort port
 front_shown front_ask.Send answer = moves.Send mover.Front
 front_shown front_ask.ClosePort answer = moves.ClosePort mover.Front
-front_shown ask answer = moves.Event mover.Front
+front_shown ask answer = front_key_shown ask answer
 
 -- what the front was answered, with the move that a report shows
 abbrev pub front_with_move : FrontAsk → Option FrontAnswer → Option (FrontAnswer × Move)
@@ -146,15 +201,36 @@ disk_act h shown Took = Some (record { answer = back_answer.Done; under = h; sho
 disk_act h shown Failed = Some (record { answer = back_answer.DiskFailed; under = h; shown = shown })
 disk_act h shown (Gave words) = None
 
--- the back waits: it takes its event; a job that waits is told nothing
+-- the back takes the watch that fired first; none where none did
+abbrev pub back_watched : Hypervisor → Option (List ℕ) → Option BackAct
+back_watched h None = None
+back_watched h (Some path) = Some (record { answer = back_answer.Watched path; under = watch_taken h end.Back; shown = moves.Watched mover.Back path })
+
+-- the back waits: it takes its event, or else its watch; a job that waits is told nothing
 abbrev pub wait_act : Hypervisor → BackMover → Option BackAct
 wait_act h back_mover.Back =
     if is_pending h.channels end.Back
     then Some (record { answer = back_answer.Event; under = record h { channels = taken h.channels end.Back }; shown = moves.Event mover.Back })
-    else None
+    else back_watched h (watch_next h end.Back)
 wait_act h (back_mover.Job k) = None
 
--- the act of the back or a job; none where it waits and no event is pending, where the disk's outcome isn't one of its ask, or where it asks for a key
+-- the back's keys and watches; a job has none, and is told nothing
+abbrev pub get_act : Hypervisor → BackMover → List ℕ → Option BackAct
+get_act h back_mover.Back path = Some (record { answer = back_answer.Key (key_at h path); under = h; shown = moves.GetKey mover.Back path (key_at h path) })
+get_act h (back_mover.Job k) path = None
+
+abbrev pub set_act : Hypervisor → BackMover → List ℕ → List ℕ → Option BackAct
+set_act h back_mover.Back path text =
+    if is_own_path end.Back path
+    then Some (record { answer = back_answer.Done; under = key_set h path text; shown = moves.SetKey mover.Back path text })
+    else None
+set_act h (back_mover.Job k) path text = None
+
+abbrev pub watch_act : Hypervisor → BackMover → List ℕ → Option BackAct
+watch_act h back_mover.Back path = Some (record { answer = back_answer.Done; under = watch_set h end.Back path; shown = moves.Watch mover.Back path })
+watch_act h (back_mover.Job k) path = None
+
+-- the act of the back or a job; none where it waits and neither an event is pending nor a watch, where the disk's outcome isn't one of its ask, where a key is written outside the back's own directory, or where a job asks for a key
 abbrev pub back_act : Hypervisor → BackMover → BackAsk → Outcome → Option BackAct
 back_act h who back_ask.Wait outcome = wait_act h who
 back_act h who back_ask.Fence outcome = Some (record { answer = back_answer.Done; under = h; shown = moves.Fence (mover_of who) })
@@ -173,9 +249,9 @@ back_act h who (back_ask.Unmap m) outcome = Some (record {
 back_act h who (back_ask.Bind p) outcome = Some (bind_act h p (state_of h.channels p))
 back_act h who back_ask.Send outcome = Some (record { answer = back_answer.Done; under = record h { channels = sent h.channels end.Back }; shown = moves.Send (mover_of who) })
 back_act h who back_ask.ClosePort outcome = Some (record { answer = back_answer.Done; under = record h { channels = closed h.channels end.Back }; shown = moves.ClosePort (mover_of who) })
-back_act h who (back_ask.GetKey path) outcome = None
-back_act h who (back_ask.SetKey path text) outcome = None
-back_act h who (back_ask.Watch path) outcome = None
+back_act h who (back_ask.GetKey path) outcome = get_act h who path
+back_act h who (back_ask.SetKey path text) outcome = set_act h who path text
+back_act h who (back_ask.Watch path) outcome = watch_act h who path
 back_act h who (back_ask.DiskRead sector) outcome = read_act h (moves.DiskRead (job_number who) sector) outcome
 back_act h who (back_ask.DiskWrite sector words) outcome = disk_act h (moves.DiskWrite (job_number who) sector) outcome
 back_act h who back_ask.Flush outcome = disk_act h (moves.DiskFlush (job_number who)) outcome
@@ -193,6 +269,10 @@ back_shown h who (back_ask.Bind p) back_answer.BindRefused = moves.BindRefused p
 back_shown h who (back_ask.Bind p) answer = moves.Bind p
 back_shown h who back_ask.Send answer = moves.Send (mover_of who)
 back_shown h who back_ask.ClosePort answer = moves.ClosePort (mover_of who)
+back_shown h who (back_ask.GetKey path) (back_answer.Key text) = moves.GetKey (mover_of who) path text
+back_shown h who (back_ask.SetKey path text) answer = moves.SetKey (mover_of who) path text
+back_shown h who (back_ask.Watch path) answer = moves.Watch (mover_of who) path
+back_shown h who back_ask.Wait (back_answer.Watched path) = moves.Watched (mover_of who) path
 back_shown h who (back_ask.DiskRead sector) answer = moves.DiskRead (job_number who) sector
 back_shown h who (back_ask.DiskWrite sector words) answer = moves.DiskWrite (job_number who) sector
 back_shown h who back_ask.Flush answer = moves.DiskFlush (job_number who)

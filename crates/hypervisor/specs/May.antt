@@ -45,6 +45,17 @@ BackMay h attached back_ask.Flush = IsIn attached 0
 BackMay h attached (back_ask.Trim sector count) = AreIn attached sector count
 BackMay h attached ask = Unit {0}
 
+-- an ask that may lack memory: a key's text is kept, and a watch is
+abbrev pub FrontTakesMemory : FrontAsk → Type 0
+FrontTakesMemory (front_ask.SetKey path text) = Unit {0}
+FrontTakesMemory (front_ask.Watch path) = Unit {0}
+FrontTakesMemory ask = ⊥
+
+abbrev pub BackTakesMemory : BackAsk → Type 0
+BackTakesMemory (back_ask.SetKey path text) = Unit {0}
+BackTakesMemory (back_ask.Watch path) = Unit {0}
+BackTakesMemory ask = ⊥
+
 -- an ask that is neither a word, a fence nor a wait
 abbrev pub IsCall : BackAsk → Type 0
 IsCall back_ask.Wait = ⊥

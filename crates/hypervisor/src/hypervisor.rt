@@ -1,4 +1,4 @@
-// Memory, mappings and event channels, and what is done at an ask.
+// Memory, mappings, event channels and keys, and what is done at an ask.
 ghost use Rattle.std.specs.Prelude.{◌≡◌, ◌<◌, IfOk};
 ghost use Rattle.event_channel.specs.Channels.{is_pending, sent};
 ghost use Rattle.hypervisor.specs.Hypervisor.{fresh};
@@ -8,22 +8,27 @@ ghost use Rattle.xen_pages.specs.Pages.{with_word};
 use blk_base::{End, OutOfMemory};
 use event_channel::Channels;
 use grant_table::Grants;
+use key_directory::Keys;
 use std::alloc::Global;
 use std::marker::Model;
 use xen_pages::Pages;
 
 mod back;
 mod front;
+mod keys;
 mod shown;
 
+pub use keys::Room;
 pub use shown::front_shown;
 
-/// The memory of the domains, the back's mappings, and the event channels. Only `new` takes memory.
+/// The memory of the domains, the back's mappings, the event channels, and the directory of keys with
+/// both ends' watches. Once it is made, only keys and watches take memory.
 #[derive(Drop)]
 pub struct Hypervisor {
     pages: Pages,
     grants: Grants,
     channels: Channels,
+    keys: Keys,
 }
 
 impl Model for Hypervisor {
@@ -31,12 +36,12 @@ impl Model for Hypervisor {
 
     ghost Value = { Hypervisor };
 
-    ghost view = { λ h. record { pages = h.pages; grants = h.grants; channels = h.channels } };
+    ghost view = { λ h. record { pages = h.pages; grants = h.grants; channels = h.channels; keys = h.keys } };
 }
 
 impl Hypervisor {
-    /// Memory of zeros, and nothing mapped, made or pending. It fails only where there is not enough
-    /// memory.
+    /// Memory of zeros, nothing mapped, made or pending, and both ends' states `1`. It fails only where
+    /// there is not enough memory.
     pub fn new(alloc: Global) -> Result<Hypervisor, OutOfMemory>
         ensures { IfOk result (λ hypervisor. hypervisor ≡ fresh) }
     {
@@ -44,6 +49,7 @@ impl Hypervisor {
             pages: Pages::new(alloc)?,
             grants: Grants::new(alloc)?,
             channels: Channels::new(),
+            keys: Keys::new(alloc)?,
         })
     }
 

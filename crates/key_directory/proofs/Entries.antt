@@ -1,41 +1,14 @@
--- A map of texts, as bytes: what is found in it, and what an insertion makes of it.
-use Rattle.std.proofs.Common.{◌≡◌, ◌≢◌, ℕ, Bool, true, false, cond, List, [], ◌∷◌, map, Option, Some, option_map, refl, sym, ap, ◌∙◌}
-use Rattle.std.specs.Map.{lookup}
-use Rattle.std.specs.BTreeMap.{is_at, insert_entry}
-use Rattle.std.specs.Ordering.{nat_cmp, is_eq, match_ordering}
+-- What is found among the keys after a text was written.
+use Rattle.std.proofs.Common.{◌≡◌, ◌≢◌, ℕ, Bool, true, false, cond, List, [], ◌∷◌, Some, refl, sym, ap, ◌∙◌}
+use Rattle.std.specs.BTreeMap.{is_at}
+use Rattle.std.specs.Ordering.{nat_cmp}
 use Rattle.std.specs.declared.cmp.Ordering.{Ordering}
 use Rattle.std.specs.declared.cmp.Ordering.TheVariants.{Less, Equal, Greater}
 use Rattle.std.specs.Cmp.Lexicographic.{slice_cmp}
 use Rattle.std.proofs.lemmas.Map.Text.{is_eq-slice_cmp}
 use Rattle.std.proofs.lemmas.Map.Lookups.{exact_bytes}
 use Rattle.std.proofs.lemmas.Slice.Eq.{bytes_eq-Decides}
-use Rattle.arrayvec.specs.ArrayString.{ArrayString}
-use Rattle.key_directory.specs.Directory.{key_bytes, keys_as_bytes, key_of, with_key, OnlySets}
-
-abbrev pub by_bytes : ArrayString → ArrayString → Ordering
-by_bytes a b = slice_cmp nat_cmp a.bytes b.bytes
-
-option_map-cond : (b : Bool) (x : ArrayString) (o : Option ArrayString) → cond b (Some x.bytes) (option_map (λ text. text.bytes) o) ≡ option_map (λ text. text.bytes) (cond b (Some x) o)
-option_map-cond true x o = refl
-option_map-cond false x o = refl
-
--- what is found among the bytes is the bytes of what is found
-pub key_of-as_bytes : (entries : List (ArrayString × ArrayString)) (path : ArrayString) → key_of (keys_as_bytes entries) path.bytes ≡ option_map (λ text. text.bytes) (lookup (is_at (by_bytes path)) entries)
-key_of-as_bytes [] path = refl
-key_of-as_bytes (e ∷ entries) path =
-    ap (λ o. cond (is_eq (by_bytes path e.0)) (Some e.1.bytes) o) (key_of-as_bytes entries path) ∙ option_map-cond (is_eq (by_bytes path e.0)) e.1 (lookup (is_at (by_bytes path)) entries)
-
-map-match_ordering : (o : Ordering) (a b c : List (ArrayString × ArrayString)) → map key_bytes (match_ordering o a b c) ≡ match_ordering o (map key_bytes a) (map key_bytes b) (map key_bytes c)
-map-match_ordering Less a b c = refl
-map-match_ordering Equal a b c = refl
-map-match_ordering Greater a b c = refl
-
--- and an insertion among the bytes is the bytes of the insertion
-pub with_key-as_bytes : (entries : List (ArrayString × ArrayString)) (path text : ArrayString) → keys_as_bytes (insert_entry by_bytes entries path text) ≡ with_key (keys_as_bytes entries) path.bytes text.bytes
-with_key-as_bytes [] path text = refl
-with_key-as_bytes (e ∷ entries) path text =
-    map-match_ordering (by_bytes path e.0) ((path, text) ∷ e ∷ entries) ((e.0, text) ∷ entries) (e ∷ insert_entry by_bytes entries path text)
-    ∙ ap (λ rest. match_ordering (by_bytes path e.0) ((path.bytes, text.bytes) ∷ key_bytes e ∷ keys_as_bytes entries) ((e.0.bytes, text.bytes) ∷ keys_as_bytes entries) (key_bytes e ∷ rest)) (with_key-as_bytes entries path text)
+use Rattle.key_directory.specs.Directory.{key_of, with_key, OnlySets}
 
 -- a path is at itself, and at no other
 at_itself : (path : List ℕ) → is_at (slice_cmp nat_cmp path) path ≡ true

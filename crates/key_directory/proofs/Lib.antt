@@ -1,4 +1,2 @@
 pub mod Below
-pub mod Changes
 pub mod Entries
-pub mod Texts

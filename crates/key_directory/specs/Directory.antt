@@ -1,12 +1,11 @@
 -- The directory of keys: a text at each path, in the order of the paths, and both ends' watches.
-use Rattle.std.specs.Prelude.{◌≡◌, ◌≢◌, ℕ, List, [], ◌∷◌, map, Option, Some, codes}
+use Rattle.std.specs.Prelude.{◌≡◌, ◌≢◌, ℕ, List, [], ◌∷◌, Option, Some, codes}
 use Rattle.std.specs.Map.{lookup}
 use Rattle.std.specs.BTreeMap.{is_at, insert_entry}
 use Rattle.std.specs.Ordering.{nat_cmp}
 use Rattle.std.specs.Cmp.Lexicographic.{slice_cmp}
 use Rattle.blk_base.specs.declared.parts.End.{End}
 use Rattle.blk_base.specs.declared.parts.End.TheVariants.{Front, Back}
-use Rattle.arrayvec.specs.ArrayString.{ArrayString}
 use Rattle.key_directory.specs.Watches.{Watches, no_watches, fired}
 
 -- paths with their texts, and the watches of both ends
@@ -14,13 +13,6 @@ pub record Directory : Type 0 where
   pub keys : List (List ℕ × List ℕ)
   pub front : Watches
   pub back : Watches
-
--- the bytes of the paths and their texts
-abbrev pub key_bytes : ArrayString × ArrayString → List ℕ × List ℕ
-key_bytes entry = (entry.0.bytes, entry.1.bytes)
-
-abbrev pub keys_as_bytes : List (ArrayString × ArrayString) → List (List ℕ × List ℕ)
-keys_as_bytes entries = map key_bytes entries
 
 -- the text at a path
 abbrev pub key_of : List (List ℕ × List ℕ) → List ℕ → Option (List ℕ)

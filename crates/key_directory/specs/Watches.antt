@@ -1,8 +1,7 @@
 -- The watches of one end, by their paths: those that fired and weren't taken, oldest first, and the others.
-use Rattle.std.specs.Prelude.{ℕ, Bool, true, false, not, if◌then◌else◌, List, [], ◌∷◌, ◌++◌, filter, map, nat_eq, Option, Some, None}
-use Rattle.std.specs.List.{list_any}
+use Rattle.std.specs.Prelude.{ℕ, Bool, true, false, not, if◌then◌else◌, ◌-◌, List, [], ◌∷◌, ◌++◌, length, filter, nat_eq, Option, Some, None}
+use Rattle.std.specs.List.{list_any, slice_get}
 use Rattle.std.specs.Cmp.Lexicographic.{pointwise}
-use Rattle.arrayvec.specs.ArrayString.{ArrayString}
 use Rattle.key_directory.specs.Paths.{is_at_or_under}
 
 pub record Watches : Type 0 where
@@ -11,10 +10,6 @@ pub record Watches : Type 0 where
 
 abbrev pub no_watches : Watches
 no_watches = record { pending = []; idle = [] }
-
--- the bytes of each text
-abbrev pub texts : List ArrayString → List (List ℕ)
-texts paths = map (λ path. path.bytes) paths
 
 abbrev pub same_path : List ℕ → List ℕ → Bool
 same_path a b = pointwise nat_eq a b
@@ -40,6 +35,10 @@ first_of (watch ∷ later) = Some watch
 
 abbrev pub next_watch : Watches → Option (List ℕ)
 next_watch watches = first_of watches.pending
+
+-- the watch at the end of the idle ones: the one taken last, until it is set or fires again
+abbrev pub last_idle : Watches → Option (List ℕ)
+last_idle watches = slice_get watches.idle (length watches.idle - 1)
 
 abbrev pub is_empty_list : List (List ℕ) → Bool
 is_empty_list [] = true

@@ -1,13 +1,12 @@
 // The keys and both ends' watches.
-ghost use Rattle.std.specs.Prelude.{◌≡◌, ◌↔◌, None, OnOk, OnErr, IfOk, IsErrOf, IsTrue, not, option_map, codes, length, ◌≤◌};
+ghost use Rattle.std.specs.Prelude.{◌≡◌, ◌↔◌, None, OnOk, OnErr, IfOk, IsErrOf, IsTrue, not, codes};
 ghost use Rattle.std.specs.Option.{option_copied};
 ghost use Rattle.key_directory.specs.Paths.{is_under, directory_of};
-ghost use Rattle.key_directory.specs.Watches.{with_watch, next_watch, taken, has_pending};
-ghost use Rattle.key_directory.specs.Directory.{fresh_directory, key_of, keys_as_bytes, written, OnlySets, watches_of, with_watches};
+ghost use Rattle.key_directory.specs.Watches.{with_watch, next_watch, last_idle, taken, has_pending};
+ghost use Rattle.key_directory.specs.Directory.{fresh_directory, key_of, written, OnlySets, watches_of, with_watches};
 
 use crate::paths::{directory_of, is_under};
-use crate::watches::{Watch, WatchList};
-use arrayvec::ArrayString;
+use crate::watches::WatchList;
 use blk_base::{End, OutOfMemory, Path, Text};
 use std::alloc::Global;
 use std::collections::BTreeMap;
@@ -40,7 +39,7 @@ impl fmt::Display for KeyStop {
 impl Error for KeyStop {}
 
 /// The directory. Contracts see the paths with their texts, in the order of the paths, and both
-/// ends' watches, all as bytes.
+/// ends' watches.
 #[derive(Drop)]
 pub struct Keys {
     alloc: Global,
@@ -50,11 +49,11 @@ pub struct Keys {
 }
 
 impl Model for Keys {
-    ghost use Rattle.key_directory.specs.Directory.{Directory, keys_as_bytes};
+    ghost use Rattle.key_directory.specs.Directory.{Directory};
 
     ghost Value = { Directory };
 
-    ghost view = { λ k. record { keys = keys_as_bytes k.keys.entries; front = k.front; back = k.back } };
+    ghost view = { λ k. record { keys = k.keys.entries; front = k.front; back = k.back } };
 }
 
 impl Keys {
@@ -62,7 +61,7 @@ impl Keys {
     pub fn new(alloc: Global) -> Result<Keys, OutOfMemory>
         ensures fresh { IfOk result (λ keys. keys ≡ fresh_directory (codes "1")) }
     {
-        let state = short("1");
+        let state = Text::of("1");
         Ok(Keys {
             alloc,
             keys: states(alloc, &state)?,
@@ -72,26 +71,23 @@ impl Keys {
     }
 
     /// The text last written at a path; `None` exactly where there is none.
-    pub fn read(&self, path: &Path) -> Option<&str>
-        ensures { option_copied result ≡ key_of self.now.keys path.now.bytes }
+    pub fn read(&self, path: &Path) -> Option<&Text>
+        ensures { option_copied result ≡ key_of self.now.keys path.now }
     {
-        match self.keys.get(path) {
-            Some(text) => Some(text.as_str()),
-            None => None,
-        }
+        self.keys.get(path)
     }
 
     /// Writes a text at a path under the writer's own directory, and fires every watch at or above
     /// it, of both ends. `NotOwner` exactly where the path is not under that directory, which is
     /// tested first; `OutOfMemory` never where the path is there. An error changes nothing.
     pub fn write(&mut self, who: End, path: &Path, text: &Text) -> Result<(), KeyStop>
-        ensures not_owner { IsErrOf result KeyStop.NotOwner ↔ IsTrue (not (is_under (directory_of who) path.now.bytes)) }
-        ensures ok { OnOk result (self.new ≡ written self.old path.now.bytes text.now.bytes) }
-        ensures only { OnOk result (OnlySets self.old.keys self.new.keys path.now.bytes text.now.bytes) }
+        ensures not_owner { IsErrOf result KeyStop.NotOwner ↔ IsTrue (not (is_under (directory_of who) path.now)) }
+        ensures ok { OnOk result (self.new ≡ written self.old path.now text.now) }
+        ensures only { OnOk result (OnlySets self.old.keys self.new.keys path.now text.now) }
         ensures err { OnErr result (self.new ≡ self.old) }
-        ensures absent { IsErrOf result KeyStop.OutOfMemory → key_of self.old.keys path.now.bytes ≡ None }
+        ensures absent { IsErrOf result KeyStop.OutOfMemory → key_of self.old.keys path.now ≡ None }
     {
-        if !is_under(directory_of(who), path) {
+        if !is_under(directory_of(who), path.as_str()) {
             return Err(KeyStop::NotOwner);
         }
         match self.keys.insert(*path, *text) {
@@ -106,7 +102,7 @@ impl Keys {
 
     /// Sets an end's watch at a path, which fires at once. After an `Err` nothing has changed.
     pub fn watch(&mut self, who: End, path: &Path) -> Result<(), OutOfMemory>
-        ensures ok { OnOk result (self.new ≡ with_watches self.old who (with_watch (watches_of self.old who) path.now.bytes)) }
+        ensures ok { OnOk result (self.new ≡ with_watches self.old who (with_watch (watches_of self.old who) path.now)) }
         ensures err { OnErr result (self.new ≡ self.old) }
     {
         match who {
@@ -115,14 +111,26 @@ impl Keys {
         }
     }
 
-    /// Takes the watch of an end that fired first; `None` exactly where none is pending.
-    pub fn take_watch(&mut self, who: End) -> Option<Watch>
-        ensures watch { option_map (λ watch. watch.path.bytes) result ≡ next_watch (watches_of self.old who) }
+    /// Takes the watch of an end that fired first, and says whether there was one. It goes to the end
+    /// of the idle ones, where `taken_watch` finds it.
+    pub fn take_watch(&mut self, who: End) -> bool
+        ensures pending { result ≡ has_pending (watches_of self.old who) }
+        ensures watch { IsTrue result → last_idle (watches_of self.new who) ≡ next_watch (watches_of self.old who) }
         ensures taken { self.new ≡ with_watches self.old who (taken (watches_of self.old who)) }
     {
         match who {
             End::Front => self.front.take(),
             End::Back => self.back.take(),
+        }
+    }
+
+    /// The path of the watch that an end took last, until that watch is set or fires again.
+    pub fn taken_watch(&self, who: End) -> Option<&Path>
+        ensures { option_copied result ≡ last_idle (watches_of self.now who) }
+    {
+        match who {
+            End::Front => self.front.last_idle(),
+            End::Back => self.back.last_idle(),
         }
     }
 
@@ -139,7 +147,7 @@ impl Keys {
     /// Leaves both ends' states alone, with this text, and no watch, as after a suspend. After an
     /// `Err` nothing has changed.
     pub fn reset(&mut self, state: &Text) -> Result<(), OutOfMemory>
-        ensures ok { OnOk result (self.new ≡ fresh_directory state.now.bytes) }
+        ensures ok { OnOk result (self.new ≡ fresh_directory state.now) }
         ensures err { OnErr result (self.new ≡ self.old) }
     {
         self.keys = states(self.alloc, state)?;
@@ -151,20 +159,10 @@ impl Keys {
 
 // Both ends' state keys with that text.
 fn states(alloc: Global, state: &Text) -> Result<BTreeMap<Path, Text>, OutOfMemory>
-    ensures { IfOk result (λ keys. keys_as_bytes keys.entries ≡ (fresh_directory state.now.bytes).keys) }
+    ensures { IfOk result (λ keys. keys.entries ≡ (fresh_directory state.now).keys) }
 {
     let mut keys = BTreeMap::new(alloc);
-    keys.insert(short(BACK_STATE), *state)?;
-    keys.insert(short(FRONT_STATE), *state)?;
+    keys.insert(Path::of(BACK_STATE), *state)?;
+    keys.insert(Path::of(FRONT_STATE), *state)?;
     Ok(keys)
-}
-
-// A text that fits.
-pub(crate) fn short<const N: usize>(text: &str) -> ArrayString<N>
-    requires { length text.now ≤ N }
-    ensures { result.bytes ≡ text.now }
-{
-    let mut short = ArrayString::new();
-    short.push_str(text);
-    short
 }

@@ -11,4 +11,3 @@ mod watches;
 
 pub use keys::{KeyStop, Keys};
 pub use paths::directory_of;
-pub use watches::Watch;

@@ -2,9 +2,8 @@
 // the tests are proved without what the directory holds.
 ghost use Rattle.std.specs.Prelude.{◌≤◌, length};
 
-use crate::keys::short;
 use crate::{KeyStop, Keys};
-use blk_base::{End, OutOfMemory, Path};
+use blk_base::{End, OutOfMemory, Path, Text};
 use std::alloc::Global;
 use std::test::Fail;
 
@@ -19,17 +18,20 @@ fn start(alloc: Global) -> Result<Keys, OutOfMemory> {
 fn path(text: &str) -> Path
     requires { length text.now ≤ 80 }
 {
-    short(text)
+    Path::of(text)
 }
 
 fn read<'a>(keys: &'a Keys, at: &Path) -> Option<&'a str> {
-    keys.read(at)
+    match keys.read(at) {
+        Some(text) => Some(text.as_str()),
+        None => None,
+    }
 }
 
 fn write(keys: &mut Keys, who: End, at: &Path, text: &str) -> Result<(), KeyStop>
     requires { length text.now ≤ 64 }
 {
-    keys.write(who, at, &short(text))
+    keys.write(who, at, &Text::of(text))
 }
 
 fn watch(keys: &mut Keys, who: End, at: &Path) -> Result<(), OutOfMemory> {
@@ -37,7 +39,11 @@ fn watch(keys: &mut Keys, who: End, at: &Path) -> Result<(), OutOfMemory> {
 }
 
 fn take(keys: &mut Keys, who: End) -> Option<Path> {
-    keys.take_watch(who).map(|watch| watch.path)
+    if keys.take_watch(who) {
+        keys.taken_watch(who).copied()
+    } else {
+        None
+    }
 }
 
 fn pending(keys: &Keys, who: End) -> bool {
@@ -45,7 +51,7 @@ fn pending(keys: &Keys, who: End) -> bool {
 }
 
 fn restart(keys: &mut Keys) -> Result<(), OutOfMemory> {
-    keys.reset(&short("6"))
+    keys.reset(&Text::of("6"))
 }
 
 #[test]

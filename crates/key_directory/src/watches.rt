@@ -1,21 +1,16 @@
 // One end's watches.
-ghost use Rattle.std.specs.Prelude.{◌≡◌, ◌+◌, ◌≤◌, ◌++◌, length, filter, IsTrue, ◌↔◌, IfSome, IfNone, OnOk, OnErr, IsSome, option_map, vec_len, vec_capacity};
+ghost use Rattle.std.specs.Prelude.{◌≡◌, ◌+◌, ◌≤◌, ◌++◌, length, filter, IsTrue, ◌↔◌, IfSome, IfNone, OnOk, OnErr, IsSome, vec_len, vec_capacity};
 ghost use Rattle.std.specs.Prelude.{nat_eq};
 ghost use Rattle.std.specs.List.{list_any};
+ghost use Rattle.std.specs.Option.{option_copied};
 ghost use Rattle.std.specs.Cmp.Lexicographic.{pointwise};
 ghost use Rattle.key_directory.specs.Paths.{is_at_or_under};
-ghost use Rattle.key_directory.specs.Watches.{no_watches, with_watch, fired, next_watch, taken, has_pending, texts};
+ghost use Rattle.key_directory.specs.Watches.{no_watches, with_watch, fired, next_watch, last_idle, taken, has_pending};
 
 use crate::paths::is_at_or_under;
 use blk_base::{OutOfMemory, Path};
 use std::alloc::Global;
 use std::marker::Model;
-
-/// A watch that fired: it stands at this path.
-#[derive(Clone, Copy, Debug, PartialEq, Eq)]
-pub struct Watch {
-    pub path: Path,
-}
 
 /// The watches of one end: those that fired and weren't taken, oldest first, and the others. Both
 /// lists have room for all of them, so firing and taking ask for no memory.
@@ -27,11 +22,11 @@ pub(crate) struct WatchList {
 
 impl Model for WatchList {
     ghost use Rattle.std.specs.Prelude.{◌+◌, ◌≤◌, length, vec_capacity};
-    ghost use Rattle.key_directory.specs.Watches.{Watches, texts};
+    ghost use Rattle.key_directory.specs.Watches.{Watches};
 
     ghost Value = { Watches };
 
-    ghost view = { λ w. record { pending = texts w.pending.items; idle = texts w.idle.items } };
+    ghost view = { λ w. record { pending = w.pending.items; idle = w.idle.items } };
 
     ghost invariant = { λ w. (length w.pending.items + length w.idle.items ≤ vec_capacity w.pending)
         × (length w.pending.items + length w.idle.items ≤ vec_capacity w.idle) };
@@ -50,7 +45,7 @@ impl WatchList {
     /// Sets a watch, which fires at once: it goes to the end of the pending ones, if it isn't one of
     /// them. After an `Err` the list is as before.
     pub(crate) fn set(&mut self, path: &Path) -> Result<(), OutOfMemory>
-        ensures ok { OnOk result (self.new ≡ with_watch self.old path.now.bytes) }
+        ensures ok { OnOk result (self.new ≡ with_watch self.old path.now) }
         ensures err { OnErr result (self.new ≡ self.old) }
     {
         if has(&self.pending, path) {
@@ -66,23 +61,32 @@ impl WatchList {
 
     /// Fires the watches at or above a path.
     pub(crate) fn fire(&mut self, path: &Path)
-        ensures { self.new ≡ fired self.old path.now.bytes }
+        ensures { self.new ≡ fired self.old path.now }
     {
         move_fired(&mut self.pending, &self.idle, path);
-        self.idle.retain(|watch| !is_at_or_under(watch, path));
+        self.idle
+            .retain(|watch| !is_at_or_under(watch.as_str(), path.as_str()));
     }
 
-    /// Takes the watch that fired first.
-    pub(crate) fn take(&mut self) -> Option<Watch>
-        ensures watch { option_map (λ watch. watch.path.bytes) result ≡ next_watch self.old }
+    /// Takes the watch that fired first, if there is one.
+    pub(crate) fn take(&mut self) -> bool
+        ensures pending { result ≡ has_pending self.old }
+        ensures watch { IsTrue result → last_idle self.new ≡ next_watch self.old }
         ensures taken { self.new ≡ taken self.old }
     {
         if self.pending.is_empty() {
-            return None;
+            return false;
         }
         let path = self.pending.remove(0);
         self.idle.push(path).unwrap();
-        Some(Watch { path })
+        true
+    }
+
+    /// The watch at the end of the idle ones.
+    pub(crate) fn last_idle(&self) -> Option<&Path>
+        ensures { option_copied result ≡ last_idle self.now }
+    {
+        self.idle.last()
     }
 
     pub(crate) fn is_pending(&self) -> bool
@@ -95,18 +99,18 @@ impl WatchList {
 // Adds the watches at or above a path.
 fn move_fired(pending: &mut Vec<Path>, idle: &[Path], path: &Path)
     requires { vec_len pending.old + length idle.now ≤ vec_capacity pending.old }
-    ensures items { pending.new.items ≡ pending.old.items ++ filter (λ watch. is_at_or_under watch.bytes path.now.bytes) idle.now }
+    ensures items { pending.new.items ≡ pending.old.items ++ filter (λ watch. is_at_or_under watch path.now) idle.now }
     ensures capacity { vec_capacity pending.old ≤ vec_capacity pending.new }
 {
     for watch in idle {
-        if is_at_or_under(watch, path) {
+        if is_at_or_under(watch.as_str(), path.as_str()) {
             pending.push(*watch).unwrap();
         }
     }
 }
 
 fn has(watches: &[Path], path: &Path) -> bool
-    ensures { result ≡ list_any (λ watch. pointwise nat_eq path.now.bytes watch.bytes) watches.now }
+    ensures { result ≡ list_any (λ watch. pointwise nat_eq path.now watch) watches.now }
 {
     watches.iter().any(|watch| path == watch)
 }

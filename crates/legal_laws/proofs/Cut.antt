@@ -1,15 +1,12 @@
 -- The lines that bytes begin with, among those whose text they are.
-use Rattle.std.proofs.Common.{◌≡◌, ◌≢◌, ℕ, List, [], ◌∷◌, ◌++◌, map, refl, ap, sym, ◌∙◌, append_assoc}
+use Rattle.std.proofs.Common.{◌≡◌, ◌≢◌, ℕ, List, [], ◌∷◌, ◌++◌, refl, ap, sym, ◌∙◌, append_assoc}
 use Rattle.std.specs.Prelude.{All}
 use Rattle.std.proofs.lemmas.List.Elements.{All-nil, All-cons, All-head, All-tail}
-use Rattle.line_text.specs.Words.{words_in}
 use Rattle.schedule_text.specs.declared.line.Line.{Line}
 use Rattle.schedule_text.specs.Line.{text_of}
-use Rattle.schedule_text.specs.Plain.{plain}
 use Rattle.schedule_text.specs.Range.{IsInRange}
-use Rattle.schedule_text.specs.Reading.{line_at}
 use Rattle.schedule_text.specs.Recorder.{report_text}
-use Rattle.schedule_text.proofs.Spelling.{says_line}
+use Rattle.schedule_text.proofs.Spelling.{one_line}
 use Rattle.report_lines.specs.Text.{HasNoLineFeed, BeginsWith, IsReportText}
 use Rattle.legal_laws.proofs.Short.{unbroken_text}
 
@@ -37,9 +34,6 @@ some_bytes (c ∷ a) x e = absurd cc
 pub cut_first : (line : Line) (report : List Line) → report_text (line ∷ report) ≡ text_of line ++ 10 ∷ report_text report
 cut_first line report = append_assoc (text_of line) (10 ∷ []) (report_text report)
 
-one_line : (a b : Line) → IsInRange a → IsInRange b → text_of a ≡ text_of b → plain a ≡ plain b
-one_line a b h k e = sym (says_line a h) ∙ (ap (λ (text : List ℕ). line_at (words_in text)) e ∙ says_line b k)
-
 -- bytes that are the text of lines are the lines' texts, one after another
 pub whole_text : (report : List Line) (bytes : List ℕ) → IsReportText report bytes → bytes ≡ report_text report
 whole_text [] bytes read = read
@@ -52,25 +46,24 @@ pub whole_range : (report : List Line) (bytes : List ℕ) → IsReportText repor
 whole_range [] bytes read = All-nil IsInRange
 whole_range (line ∷ report) bytes read = All-cons IsInRange line report read.3.in_range (whole_range report read.1 read.4)
 
--- these lines say the same as the first ones of a report, and the text of the others is left
+-- these lines are the first ones of a report, and the text of the others is left
 pub record IsCut (lines report : List Line) (rest : List ℕ) : Type 0 where
-  pub first : List Line
   pub later : List Line
-  pub whole : report ≡ first ++ later
-  pub same : map plain lines ≡ map plain first
+  pub whole : report ≡ lines ++ later
   pub left : rest ≡ report_text later
 
-more_cut : (line r : Line) (lines report : List Line) (rest : List ℕ) → plain line ≡ plain r → IsCut lines report rest → IsCut (line ∷ lines) (r ∷ report) rest
+more_cut : (line r : Line) (lines report : List Line) (rest : List ℕ) → line ≡ r → IsCut lines report rest → IsCut (line ∷ lines) (r ∷ report) rest
 more_cut line r lines report rest here c =
-    let same = c.same in
-    record { first = r ∷ c.first; later = c.later; whole = ap (λ (ls : List Line). r ∷ ls) c.whole; same = cc; left = c.left }
+    let whole = c.whole in
+    record { later = c.later; whole = cc; left = c.left }
 
 pub cut : (lines report : List Line) (bytes rest : List ℕ) → All IsInRange report → bytes ≡ report_text report → BeginsWith lines bytes rest → IsCut lines report rest
-cut [] report bytes rest all is begins = record { first = []; later = report; whole = refl; same = refl; left = sym begins ∙ is }
+cut [] report bytes rest all is begins = record { later = report; whole = refl; left = sym begins ∙ is }
 cut (line ∷ lines) [] bytes rest all is begins = absurd (some_bytes begins.0 begins.1 (sym begins.2 ∙ is))
 cut (line ∷ lines) (r ∷ report) bytes rest all is begins =
     let range = All-head IsInRange r report all in
     let said : text_of line ≡ begins.0 = begins.3.text in
     let both = split (text_of line) (text_of r) begins.1 (report_text report) (unbroken_text line begins.3.in_range) (unbroken_text r range)
     (ap (λ (text : List ℕ). text ++ 10 ∷ begins.1) said ∙ (sym begins.2 ∙ (is ∙ cut_first r report))) in
-    more_cut line r lines report rest (one_line line r begins.3.in_range range both.first) (cut lines report begins.1 rest (All-tail IsInRange r report all) both.rest begins.4)
+    let here : line ≡ r = one_line line r (text_of r) (record { in_range = begins.3.in_range; text = both.first }) (record { in_range = range; text = refl }) in
+    more_cut line r lines report rest here (cut lines report begins.1 rest (All-tail IsInRange r report all) both.rest begins.4)

@@ -1,13 +1,11 @@
 -- A check finds the text of a sound report legal.
-use Rattle.std.proofs.Common.{◌≡◌, ◌≢◌, ℕ, inl, inr, List, [], ◌∷◌, ◌++◌, map, length, refl, ap, sym, subst, ◌∙◌, arith, append-nil}
+use Rattle.std.proofs.Common.{◌≡◌, ◌≢◌, ℕ, inl, inr, List, [], ◌∷◌, ◌++◌, length, refl, ap, sym, subst, ◌∙◌, arith, append-nil}
 use Rattle.std.specs.Prelude.{All, Some, Result, Ok, Err}
 use Rattle.std.proofs.lemmas.Option.{none-some}
 use Rattle.std.proofs.lemmas.List.Elements.{All-head, All-tail}
 use Rattle.blk_io.specs.Outside.{SourceSeen}
 use Rattle.schedule_text.specs.declared.line.Line.{Line}
-use Rattle.schedule_text.specs.declared.line.Line.TheVariants as lines
 use Rattle.schedule_text.specs.Line.{text_of}
-use Rattle.schedule_text.specs.Plain.{plain}
 use Rattle.schedule_text.specs.Range.{IsInRange}
 use Rattle.schedule_text.specs.Recorder.{report_text}
 use Rattle.report_rules.proofs.Obeys.{obeys_before}
@@ -22,13 +20,12 @@ use Rattle.trace_check.specs.declared.finding.CheckStop.TheVariants.{BadLine, So
 use Rattle.trace_check.specs.Found.{IsSoundAt, AreSound, EndsWell, IsBrokenAt, LacksEnd, IsFound, IsBadAt, IsLong, Finds}
 use Rattle.legal_laws.specs.Found.{FindsLegal}
 use Rattle.legal_laws.proofs.Lists.{all_there}
-use Rattle.legal_laws.proofs.Same.{IsAmong, among, same_sound}
 use Rattle.legal_laws.proofs.Short.{short_text, unbroken_text}
 use Rattle.legal_laws.proofs.Cut.{IsCut, cut, cut_first, some_bytes, whole_text, whole_range}
 
 -- lines that a sound report begins with are sound
 begins_sound : (lines report : List Line) (rest : List ℕ) → AreSound report → IsCut lines report rest → AreSound lines
-begins_sound lines report rest sound c = same_sound c.first lines c.same (obeys_before IsSoundAt c.first c.later (subst AreSound c.whole sound))
+begins_sound lines report rest sound c = obeys_before IsSoundAt lines c.later (subst AreSound c.whole sound)
 
 unbroken : (report : List Line) (limit number : ℕ) (broken : Rule) → AreSound report → All IsInRange report → IsBrokenAt limit number broken (report_text report) → ⊥
 unbroken report limit number broken sound all b =
@@ -41,25 +38,12 @@ no_text : (report : List Line) → report_text report ≡ [] → report ≡ []
 no_text [] none = refl
 no_text (line ∷ report) none = absurd (some_bytes (text_of line) (report_text report) (sym (cut_first line report) ∙ none))
 
-no_lines : (report : List Line) → map plain report ≡ [] → report ≡ []
-no_lines [] none = refl
-no_lines (line ∷ report) none = absurd cc
-
-is_end : (line : Line) → plain line ≡ lines.End → line ≡ lines.End
-is_end lines.End e = refl
-is_end line e = absurd cc
-
-ends_so : (report : List Line) (before : List Line) → IsAmong before [] lines.End report → EndsWell report
-ends_so report before m =
-    (m.first, m.whole ∙ (ap (λ (later : List Line). m.first ++ m.here ∷ later) (no_lines m.later m.laters) ∙ ap (λ (line : Line). m.first ++ line ∷ []) (is_end m.here m.heres)))
-
 ended : (report : List Line) (number : ℕ) (broken : Rule) → EndsWell report → All IsInRange report → LacksEnd number broken (report_text report) → ⊥
 ended report number broken ends all l =
     let c = cut l.report report (report_text report) [] all refl l.text.read in
     let none : c.later ≡ [] = no_text c.later (sym c.left) in
-    let whole : report ≡ c.first = c.whole ∙ (ap (λ (later : List Line). c.first ++ later) none ∙ append-nil c.first) in
-    let same : map plain l.report ≡ map plain (ends.0 ++ lines.End ∷ []) = c.same ∙ ap (map plain) (sym whole ∙ ends.1) in
-    l.unended (ends_so l.report ends.0 (among ends.0 [] lines.End l.report same))
+    let whole : report ≡ l.report = c.whole ∙ (ap (λ (later : List Line). l.report ++ later) none ∙ append-nil l.report) in
+    l.unended (ends.0, sym whole ∙ ends.1)
 
 found_legal : (limit : ℕ) (report : List Line) (finding : Finding) → AreSound report → EndsWell report → All IsInRange report → IsFound limit finding (report_text report) → finding ≡ Legal
 found_legal limit report Legal sound ends all found = refl
@@ -90,7 +74,7 @@ all_after (x ∷ xs) ys all = all_after xs ys (All-tail IsInRange x (xs ++ ys) a
 never_bad : (report : List Line) (limit number : ℕ) → All IsInRange report → IsBadAt limit number (report_text report) → ⊥
 never_bad report limit number all b =
     let c = cut b.before report (report_text report) b.rest all refl b.read in
-    bad_left c.later b.rest (all_after c.first c.later (subst (All IsInRange) c.whole all)) c.left b.bad.0 b.bad.1
+    bad_left c.later b.rest (all_after b.before c.later (subst (All IsInRange) c.whole all)) c.left b.bad.0 b.bad.1
 
 -- bytes that are the text of a report have no line that is none of one
 pub whole_never_bad : (limit number : ℕ) (report : List Line) (bytes : List ℕ) → IsReportText report bytes → IsBadAt limit number bytes → ⊥

@@ -3,10 +3,6 @@ pub mod Unknown
 pub mod Kept
 pub mod Legal
 pub mod Order
-pub mod SameSteps
-pub mod SameKept
-pub mod SameRules
-pub mod Same
 pub mod Cut
 pub mod Found
 pub mod Words

@@ -71,7 +71,7 @@ narrow_halt : (halt : Halt) → HaltHasWidths halt → is_halt_allowed halt ≡ 
 narrow_halt (halts.Overrun p r) h e = rw (small p h.0, small r h.1) refl
 narrow_halt (halts.Gone s) h e = rw (small s h) refl
 narrow_halt (halts.Unplugged s) h e = rw (small s h) refl
-narrow_halt (halts.BadKey name) h e = rw (narrow_name name.bytes e) refl
+narrow_halt (halts.BadKey name) h e = rw (narrow_name name e) refl
 narrow_halt (halts.BadOrder s) h e = rw (small s h) refl
 narrow_halt (halts.BadPort p) h e = rw (small p h) refl
 narrow_halt (halts.MapRefused g s) h e = rw (small g h.0, narrow_signed s h.1) refl
@@ -106,22 +106,22 @@ narrow_move (moves.Send who) h e = narrow_mover who _ h refl
 narrow_move (moves.ClosePort who) h e = narrow_mover who _ h refl
 narrow_move (moves.Event who) h e = narrow_mover who _ h refl
 narrow_move (moves.Watch who path) h e =
-    let t = both_true (is_mover_allowed who) (is_key_path path.bytes) e in
-    narrow_mover who _ h (rw (narrow_path path.bytes t.1) refl)
+    let t = both_true (is_mover_allowed who) (is_key_path path) e in
+    narrow_mover who _ h (rw (narrow_path path t.1) refl)
 narrow_move (moves.Watched who path) h e =
-    let t = both_true (is_mover_allowed who) (is_key_path path.bytes) e in
-    narrow_mover who _ h (rw (narrow_path path.bytes t.1) refl)
+    let t = both_true (is_mover_allowed who) (is_key_path path) e in
+    narrow_mover who _ h (rw (narrow_path path t.1) refl)
 narrow_move (moves.GetKey who path None) h e =
-    let t = both_true (is_mover_allowed who) (is_key_path path.bytes) e in
-    narrow_mover who _ h (rw (narrow_path path.bytes t.1) refl)
+    let t = both_true (is_mover_allowed who) (is_key_path path) e in
+    narrow_mover who _ h (rw (narrow_path path t.1) refl)
 narrow_move (moves.GetKey who path (Some text)) h e =
-    let t = both_true (is_mover_allowed who && is_key_path path.bytes) (is_key_text text.bytes) e in
-    let u = both_true (is_mover_allowed who) (is_key_path path.bytes) t.0 in
-    narrow_mover who _ h (rw (narrow_path path.bytes u.1, narrow_equals text.bytes t.1) refl)
+    let t = both_true (is_mover_allowed who && is_key_path path) (is_key_text text) e in
+    let u = both_true (is_mover_allowed who) (is_key_path path) t.0 in
+    narrow_mover who _ h (rw (narrow_path path u.1, narrow_equals text t.1) refl)
 narrow_move (moves.SetKey who path text) h e =
-    let t = both_true (is_mover_allowed who && is_key_path path.bytes) (is_key_text text.bytes) e in
-    let u = both_true (is_mover_allowed who) (is_key_path path.bytes) t.0 in
-    narrow_mover who _ h (rw (narrow_path path.bytes u.1, narrow_equals text.bytes t.1) refl)
+    let t = both_true (is_mover_allowed who && is_key_path path) (is_key_text text) e in
+    let u = both_true (is_mover_allowed who) (is_key_path path) t.0 in
+    narrow_mover who _ h (rw (narrow_path path u.1, narrow_equals text t.1) refl)
 
 -- a line that shows a sector
 abbrev pub shows_sector : Line → Bool
@@ -149,8 +149,8 @@ narrow_line lines.Epoch h other = refl
 narrow_line (lines.Halt halt) h other = narrow_halt halt h.widths h.allowed
 narrow_line (lines.Poke f w v) h other = rw (small f h.widths.0, small w h.widths.1, small v h.widths.2) refl
 narrow_line (lines.Key name text) h other =
-    let t = both_true (is_key_name name.bytes) (is_key_text text.bytes) h.allowed in
-    rw (narrow_name name.bytes t.0, narrow_text text.bytes t.1) refl
+    let t = both_true (is_key_name name) (is_key_text text) h.allowed in
+    rw (narrow_name name t.0, narrow_text text t.1) refl
 narrow_line lines.Quiet h other = refl
 narrow_line lines.Busy h other = refl
 narrow_line lines.Unsettled h other = refl

@@ -60,11 +60,11 @@ few_move (moves.Fence who) = let few = few_mover who (codes "fence" ∷ []) in o
 few_move (moves.Send who) = let few = few_mover who (codes "send" ∷ []) in omega arith
 few_move (moves.ClosePort who) = let few = few_mover who (codes "closeport" ∷ []) in omega arith
 few_move (moves.Event who) = let few = few_mover who (codes "event" ∷ []) in omega arith
-few_move (moves.Watch who path) = let few = few_mover who (codes "watch" ∷ path.bytes ∷ []) in omega arith
-few_move (moves.Watched who path) = let few = few_mover who (codes "watched" ∷ path.bytes ∷ []) in omega arith
-few_move (moves.GetKey who path None) = let few = few_mover who (codes "getkey" ∷ path.bytes ∷ []) in omega arith
-few_move (moves.GetKey who path (Some text)) = let few = few_mover who (codes "getkey" ∷ path.bytes ∷ (61 ∷ text.bytes) ∷ []) in omega arith
-few_move (moves.SetKey who path text) = let few = few_mover who (codes "setkey" ∷ path.bytes ∷ (61 ∷ text.bytes) ∷ []) in omega arith
+few_move (moves.Watch who path) = let few = few_mover who (codes "watch" ∷ path ∷ []) in omega arith
+few_move (moves.Watched who path) = let few = few_mover who (codes "watched" ∷ path ∷ []) in omega arith
+few_move (moves.GetKey who path None) = let few = few_mover who (codes "getkey" ∷ path ∷ []) in omega arith
+few_move (moves.GetKey who path (Some text)) = let few = few_mover who (codes "getkey" ∷ path ∷ (61 ∷ text) ∷ []) in omega arith
+few_move (moves.SetKey who path text) = let few = few_mover who (codes "setkey" ∷ path ∷ (61 ∷ text) ∷ []) in omega arith
 few_move m = omega arith
 
 few_words : (line : Line) → shows_sector line ≡ false → length (words_of line) ≤ 10

@@ -3,6 +3,5 @@ pub mod Kept
 pub mod Legal
 pub mod Order
 pub mod Promised
-pub mod Same
 pub mod Found
 pub mod Protocol

@@ -3,7 +3,6 @@ ghost use Rattle.legal_laws.specs.Unknown.{KnownIsUnknown, RunIsUnknown};
 ghost use Rattle.legal_laws.specs.Kept.{RunSoFarIsKept, RunIsKept};
 ghost use Rattle.legal_laws.specs.Legal.{HonestPartIsLegal, KeptIsLegal};
 ghost use Rattle.legal_laws.specs.Order.{AnswersAreInOrder, EchoIsInOrder};
-ghost use Rattle.legal_laws.specs.Same.{SameIsSound};
 ghost use Rattle.legal_laws.specs.Found.{SoundIsFoundLegal};
 ghost use Rattle.legal_laws.specs.Protocol.{ProtocolFirstKeepsLayout};
 ghost use Rattle.legal_laws.specs.Promised.{JobsCanBeAsked, PromisedSoFarIsLegal, PromisedIsLegal, PromisedIsSound, PromisedIsFoundLegal};
@@ -42,12 +41,6 @@ pub fn a_report_that_echoes_its_schedule_is_in_order()
 /// The jobs whose numbers are those of the grammar are ones that a schedule can ask for.
 pub fn the_jobs_of_a_schedule_can_be_asked()
     ensures { JobsCanBeAsked }
-{}
-
-/// What lies unused after the texts of lines counts for nothing in a check: lines that say the same
-/// as those of a sound report are sound.
-pub fn lines_that_say_the_same_are_as_sound()
-    ensures { SameIsSound }
 {}
 
 /// A check finds the text of a sound report legal, and calls no line of it bad, unless it stops before

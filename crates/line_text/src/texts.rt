@@ -3,7 +3,7 @@ ghost use Rattle.std.specs.Prelude.{◌≡◌, ℕ, ◌≤◌, List, length, IsA
 ghost use Rattle.std.specs.List.{list_all};
 ghost use Rattle.line_text.specs.Texts.{is_graphic, is_name_byte, is_key_name, is_key_text, is_key_path, text_in};
 
-use arrayvec::ArrayString;
+use blk_base::ShortText;
 use std::str;
 
 /// Whether each byte is from `!` to `~`.
@@ -57,12 +57,12 @@ pub fn is_key_path(bytes: &[u8]) -> bool
 /// The text of a word. It is empty where a byte of the word isn't from `!` to `~`, and where the
 /// word is longer than `N` bytes.
 #[tactic(auto, unfolding(crate::specs::Texts::text_in))]
-pub fn short_text<const N: usize>(word: &[u8]) -> ArrayString<N>
-    ensures { result.bytes ≡ text_in N word.now }
+pub fn short_text<const N: usize>(word: &[u8]) -> ShortText<N>
+    ensures { result ≡ text_in N word.now }
 {
-    let mut text = ArrayString::new();
     if word.len() <= N && are_graphic(word) {
-        text.push_str(unsafe { str::from_utf8_unchecked(word) });
+        ShortText::of(unsafe { str::from_utf8_unchecked(word) })
+    } else {
+        ShortText::new()
     }
-    text
 }

@@ -1,5 +1,5 @@
 -- The back's loop: it replies to what is done, or sleeps, or looks for more, or begins to copy the next entry.
-use Rattle.std.proofs.Common.{◌≡◌, ◌==◌, Bool, true, false, if◌then◌else◌, List, [], ◌∷◌, ◌++◌, refl, sym, subst}
+use Rattle.std.proofs.Common.{◌≡◌, ℕ, ◌==◌, Bool, true, false, if◌then◌else◌, List, [], ◌∷◌, ◌++◌, refl, sym, subst}
 use Rattle.std.specs.Prelude.{Option, Some, None}
 use Rattle.std.proofs.lemmas.Bool.{false≢true}
 use Rattle.blk_base.specs.Options.{Options}
@@ -18,7 +18,7 @@ use Rattle.xen_pages.specs.Pages.{word_of}
 use Rattle.grant_table.specs.Table.{frame_of}
 use Rattle.event_channel.specs.Channels.{ChannelState, taken}
 use Rattle.hypervisor.specs.Hypervisor.{Hypervisor}
-use Rattle.hypervisor.specs.Act.{BackAct, Took, back_act}
+use Rattle.hypervisor.specs.Act.{BackAct, Took, back_act, back_watched, watch_next, watch_taken}
 use Rattle.back_jobs.specs.Hands.{hands_in}
 use Rattle.blk_front.specs.View.{slot_word}
 use Rattle.blk_back.specs.declared.stage.Reply.{Reply}
@@ -30,8 +30,9 @@ use Rattle.blk_back.specs.Step.{looked, loop_step}
 use Rattle.split_model.specs.World.{World}
 use Rattle.split_model.specs.Shown.{back_lines, halt_lines}
 use Rattle.machine_pipeline.proofs.Flow.{Flow}
-use Rattle.machine_pipeline.proofs.Holds.{Holds}
+use Rattle.machine_pipeline.proofs.Holds.{Holds, IsFrontSleep}
 use Rattle.machine_pipeline.proofs.Turns.{BackGoes, Goes, no_move}
+use Rattle.machine_pipeline.proofs.Keyed.{goes_keyed}
 use Rattle.machine_pipeline.proofs.BackStill.{BackStands}
 use Rattle.machine_pipeline.proofs.BackQuiet.{IsBetween, goes_still, quiet_with}
 use Rattle.machine_pipeline.proofs.BackFences.{page_frame, between}
@@ -61,24 +62,30 @@ ActGoes config w d step act = Goes config (says_by w step act) (next_by w step a
 stays : (config : Options) (w : World) (g : Flow) (d : Pipeline) (b : BackStage) → BackStands config w g d b → Goes config [] w d
 stays config w g d b p = record { flow = g; step = None; does = no_move IsSame d (λ a b same. same); holds = subst (λ (s : BackStage). Holds config w g d w.front.stage s) (sym p.at) p.holds }
 
--- an event wakes the back
-goes_event : (config : Options) (w : World) (g : Flow) (d : Pipeline) (shown : Shown) (given : BackAnswer) → BackStands config w g d stage.Loop
-    → Goes config (Move shown ∷ back_lines w.back.told given ++ halt_lines w.back.halted w.back.halted) (record { front = w.front; back = record w.back { asleep = false; told = None }; under = (let u : Hypervisor = w.under in record u { channels = taken w.under.channels end.Back }) }) d
-goes_event config w g d shown given p =
+-- an event wakes the back, and so does a watch
+goes_woken : (config : Options) (w : World) (g : Flow) (d : Pipeline) (shown : Shown) (given : BackAnswer) (c : ChannelState)
+    → c.front_pending ≡ w.under.channels.front_pending
+    → c.made ≡ w.under.channels.made
+    → c.ports ≡ w.under.channels.ports
+    → BackStands config w g d stage.Loop
+    → Goes config (Move shown ∷ back_lines w.back.told given ++ halt_lines w.back.halted w.back.halted) (record { front = w.front; back = record w.back { asleep = false; told = None }; under = (let u : Hypervisor = w.under in record u { channels = c }) }) d
+goes_woken config w g d shown given c pending made ports p =
     let h : Holds config w g d w.front.stage stage.Loop = p.holds in
     let i : IsBetween stage.Loop w.back = between stage.Loop w.back refl refl refl refl in
-    let c : ChannelState = taken w.under.channels end.Back in
-    subst (λ (s : BackStage). Goes config (Move shown ∷ back_lines w.back.told given ++ halt_lines w.back.halted w.back.halted) (record { front = w.front; back = record w.back { stage = s; asleep = false; told = None }; under = (let u : Hypervisor = w.under in record u { channels = taken w.under.channels end.Back }) }) d) (sym p.at)
+    subst (λ (s : BackStage). Goes config (Move shown ∷ back_lines w.back.told given ++ halt_lines w.back.halted w.back.halted) (record { front = w.front; back = record w.back { stage = s; asleep = false; told = None }; under = (let u : Hypervisor = w.under in record u { channels = c }) }) d) (sym p.at)
     (goes_still config w g d stage.Loop stage.Loop (record w.back { asleep = false }) w.under.pages c g.back_seen shown given p
     (quiet_with config w g d stage.Loop stage.Loop false w.back.seen w.back.entry c g.back_seen h i i h.stations h.indices tt
-    (record { arming = h.front_sleep.arming; armed = h.front_sleep.armed; may = h.front_sleep.may; woken = h.front_sleep.woken })
+    (subst (λ (b : Bool). IsFrontSleep g.start g.taken g.replied w.under.pages w.front.asleep b w.front.stage stage.Loop) (sym pending) h.front_sleep)
     (record { arming = λ t. absurd (false≢true t); armed = λ t. absurd (false≢true t); may = λ t. refl; woken = λ t. absurd (false≢true t) })
-    refl refl))
+    made ports))
 
-waits : (config : Options) (w : World) (g : Flow) (d : Pipeline) (pending : Bool) → BackStands config w g d stage.Loop
-    → ActGoes config w d (loop_step w.back None) (if pending then Some (record { answer = answer.Event; under = (let u : Hypervisor = w.under in record u { channels = taken w.under.channels end.Back }); shown = moves.Event mover.Back }) else None)
-waits config w g d true p = goes_event config w g d (moves.Event mover.Back) answer.Event p
-waits config w g d false p = stays config w g d stage.Loop p
+waits : (config : Options) (w : World) (g : Flow) (d : Pipeline) (pending : Bool) (next : Option (List ℕ)) → BackStands config w g d stage.Loop
+    → ActGoes config w d (loop_step w.back None) (if pending then Some (record { answer = answer.Event; under = (let u : Hypervisor = w.under in record u { channels = taken w.under.channels end.Back }); shown = moves.Event mover.Back }) else back_watched w.under next)
+waits config w g d true next p = goes_woken config w g d (moves.Event mover.Back) answer.Event (taken w.under.channels end.Back) refl refl refl p
+waits config w g d false None p = stays config w g d stage.Loop p
+waits config w g d false (Some path) p =
+    let left : Hypervisor = watch_taken w.under end.Back in
+    goes_keyed config _ _ d left.keys (goes_woken config w g d (moves.Watched mover.Back path) (answer.Watched path) w.under.channels refl refl refl p)
 
 -- the producer, or the next entry's first word
 abbrev read_ask : Bool → View → BackAsk
@@ -95,7 +102,7 @@ reads config w g d false some awake p = goes_first config w g d _ _ (word_of w.u
 
 looks : (config : Options) (w : World) (g : Flow) (d : Pipeline) (asleep : Bool) → w.back.asleep ≡ asleep → BackStands config w g d stage.Loop
     → ActGoes config w d (loop_step w.back None) (back_act w.under back_mover.Back (if asleep then ask.Wait else read_ask (requests_of w.back.ring w.back.seen == 0) w.back) Took)
-looks config w g d true sleeps p = waits config w g d w.under.channels.back_pending p
+looks config w g d true sleeps p = waits config w g d w.under.channels.back_pending (watch_next w.under end.Back) p
 looks config w g d false sleeps p = reads config w g d (requests_of w.back.ring w.back.seen == 0) refl sleeps p
 
 loops : (config : Options) (w : World) (g : Flow) (d : Pipeline) (r : Option Reply) → next_reply w.back ≡ r → BackStands config w g d stage.Loop

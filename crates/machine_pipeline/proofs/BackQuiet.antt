@@ -73,7 +73,7 @@ pub goes_moved : (config : Options) (w : World) (g : Flow) (d : Pipeline) (step 
     → Does None IsSame (Move shown ∷ back_lines w.back.told answer ++ halt_lines w.back.halted w.back.halted) d step
     → BackStands config w g d b
     → Moves config w g (after_step d step) w.front.stage b b' (record v { stage = b'; told = None }) pages channels seen
-    → Goes config (Move shown ∷ back_lines w.back.told answer ++ halt_lines w.back.halted w.back.halted) (record { front = w.front; back = record v { stage = b'; told = None }; under = record { pages = pages; grants = w.under.grants; channels = channels } }) d
+    → Goes config (Move shown ∷ back_lines w.back.told answer ++ halt_lines w.back.halted w.back.halted) (record { front = w.front; back = record v { stage = b'; told = None }; under = record w.under { pages = pages; channels = channels } }) d
 goes_moved config w g d step b b' v pages channels seen shown answer does p m = record {
   flow = record g { back_seen = seen };
   step = step;
@@ -85,7 +85,7 @@ goes_moved config w g d step b b' v pages channels seen shown answer does p m = 
 pub goes_still : (config : Options) (w : World) (g : Flow) (d : Pipeline) (b b' : BackStage) (v : View) (pages : List ℕ) (channels : ChannelState) (seen : ℕ) (shown : Shown) (answer : BackAnswer)
     → BackStands config w g d b
     → Moves config w g d w.front.stage b b' (record v { stage = b'; told = None }) pages channels seen
-    → Goes config (Move shown ∷ back_lines w.back.told answer ++ halt_lines w.back.halted w.back.halted) (record { front = w.front; back = record v { stage = b'; told = None }; under = record { pages = pages; grants = w.under.grants; channels = channels } }) d
+    → Goes config (Move shown ∷ back_lines w.back.told answer ++ halt_lines w.back.halted w.back.halted) (record { front = w.front; back = record v { stage = b'; told = None }; under = record w.under { pages = pages; channels = channels } }) d
 goes_still config w g d b b' v pages channels seen shown answer p m =
     goes_moved config w g d None b b' v pages channels seen shown answer (let h : Holds config w g d w.front.stage b = p.holds in silent shown w.back.told w.back.halted answer d p.untold h.unhalted) p m
 

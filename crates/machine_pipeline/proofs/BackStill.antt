@@ -112,7 +112,7 @@ entries_beside config w g d s b pages h others =
 pub still : (config : Options) (w : World) (g : Flow) (d d' : Pipeline) (s : FrontStage) (b b' : BackStage) (v : View) (pages : List ℕ) (channels : ChannelState) (seen : ℕ)
     → Holds config w g d s b
     → Moves config w g d' s b b' v pages channels seen
-    → Holds config (record { front = w.front; back = v; under = record { pages = pages; grants = w.under.grants; channels = channels } }) (record g { back_seen = seen }) d' s b'
+    → Holds config (record { front = w.front; back = v; under = record w.under { pages = pages; channels = channels } }) (record g { back_seen = seen }) d' s b'
 still config w g d d' s b b' v pages channels seen h m = record {
   started = h.started;
   sized = h.sized;

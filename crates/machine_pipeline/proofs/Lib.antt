@@ -8,6 +8,7 @@ pub mod Segments
 pub mod Indices
 pub mod Sectors
 pub mod Turns
+pub mod Keyed
 pub mod Kept
 pub mod Wrapped
 pub mod Removals

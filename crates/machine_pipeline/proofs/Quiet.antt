@@ -1,11 +1,12 @@
 -- Where all is quiet, each request of the pipeline is finished.
-use Rattle.std.proofs.Common.{◌≡◌, ℕ, ◌+◌, ◌-◌, ◌==◌, ◌&&◌, ◌⊎◌, inl, inr, not, if◌then◌else◌, Bool, true, false, List, [], ◌∷◌, length, refl, ap, sym, ◌∙◌, subst, arith, true≢false}
+use Rattle.std.proofs.Common.{◌≡◌, ℕ, ◌+◌, ◌-◌, ◌==◌, ◌&&◌, ◌||◌, ◌⊎◌, inl, inr, not, if◌then◌else◌, Bool, true, false, List, [], ◌∷◌, length, refl, ap, sym, ◌∙◌, subst, arith, true≢false}
 use Rattle.std.specs.Prelude.{Option, Some, None, count_by, slice_get}
 use Rattle.std.specs.List.{AllByRecursion, list_all}
 use Rattle.std.proofs.lemmas.List.{append-nil}
 use Rattle.std.proofs.lemmas.Option.{none-some}
 use Rattle.std.proofs.lemmas.Bool.Decides.{nat_tests}
 use Rattle.blk_base.specs.Options.{Options}
+use Rattle.blk_base.specs.declared.parts.End.TheVariants as end
 use Rattle.blk_base.specs.declared.ask.FrontAsk.{FrontAsk}
 use Rattle.blk_base.specs.declared.ask.BackAsk.{BackAsk}
 use Rattle.schedule_text.specs.declared.line.Line.{Line}
@@ -31,6 +32,7 @@ use Rattle.blk_back.specs.declared.stage.Stage.TheVariants as back
 use Rattle.blk_back.specs.Ask as back_ask
 use Rattle.blk_back.specs.View as back_view
 use Rattle.split_model.specs.World.{World, is_quiet}
+use Rattle.hypervisor.specs.Act.{has_to_take}
 use Rattle.split_model.specs.Happening.{Dumps, Looks, Settles, lines_at}
 use Rattle.split_model.proofs.Overwriting.{dump_lines_are}
 use Rattle.machine_pipeline.proofs.Flow.{Flow, ending_at, count_of, reply_at, reply_count}
@@ -115,6 +117,11 @@ all_quiet true false c e t = absurd (true≢false (sym t))
 all_quiet true true true e t = absurd (true≢false (sym t))
 all_quiet true true false true t = absurd (true≢false (sym t))
 
+-- where nothing is to be taken, no event is pending
+neither : (a b : Bool) → (a || b) ≡ false → a ≡ false
+neither false b t = refl
+neither true b t = t
+
 both : (a b : Bool) → (a && b) ≡ true → (a ≡ true) × (b ≡ true)
 both true true t = (refl, refl)
 both false b t = absurd (true≢false (sym t))
@@ -167,7 +174,7 @@ caught_up_at config w g d quiet stands = record {
     h : Holds config w g d w.front.stage w.back.stage
     h = stands.holds
 
-    parts : AreQuiet (front_submit.is_wait (front_ask.ask_of w.front)) (back_ask.is_idle w.back) w.under.channels.front_pending w.under.channels.back_pending
+    parts : AreQuiet (front_submit.is_wait (front_ask.ask_of w.front)) (back_ask.is_idle w.back) (has_to_take w.under end.Front) (has_to_take w.under end.Back)
     parts = all_quiet _ _ _ _ quiet
 
     front_side : FrontSleeps w.front.stage w.front.asleep (next_request w.front)
@@ -182,12 +189,12 @@ caught_up_at config w g d quiet stands = record {
     all_taken : g.replied ≡ g.taken
     all_taken =
         let sleep = h.front_sleep in
-        caught_up g.replied g.taken w.under.channels.front_pending (BackSends w.back.stage g.replied g.taken) parts.no_front (back_side.sends_none g.replied g.taken) (sleep.woken front_side.sleeps)
+        caught_up g.replied g.taken w.under.channels.front_pending (BackSends w.back.stage g.replied g.taken) (neither _ _ parts.no_front) (back_side.sends_none g.replied g.taken) (sleep.woken front_side.sleeps)
 
     all_fetched : g.pushed ≡ g.fetched
     all_fetched =
         let sleep = h.back_sleep in
-        caught_up g.pushed g.fetched w.under.channels.back_pending (FrontSends w.front.stage g.pushed g.fetched) parts.no_back (front_side.sends_none g.pushed g.fetched) (sleep.woken back_side.sleeps)
+        caught_up g.pushed g.fetched w.under.channels.back_pending (FrontSends w.front.stage g.pushed g.fetched) (neither _ _ parts.no_back) (front_side.sends_none g.pushed g.fetched) (sleep.woken back_side.sleeps)
 
     no_job : length w.back.jobs.works ≡ 0
     no_job = let t = idle.1 in grind (arith, nat_tests)

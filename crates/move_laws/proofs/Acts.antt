@@ -14,6 +14,7 @@ use Rattle.blk_base.specs.declared.ask.BackAsk.{BackAsk}
 use Rattle.blk_base.specs.declared.ask.BackAsk.TheVariants as back_ask
 use Rattle.blk_base.specs.declared.moves.BackMover.{BackMover}
 use Rattle.blk_base.specs.declared.moves.BackMover.TheVariants as back_mover
+use Rattle.blk_base.specs.declared.moves.Mover.{Mover}
 use Rattle.blk_base.specs.declared.moves.Mover.TheVariants as mover
 use Rattle.blk_base.specs.declared.moves.Move.{Move}
 use Rattle.blk_base.specs.declared.moves.Move.TheVariants as moves
@@ -27,7 +28,7 @@ use Rattle.event_channel.specs.declared.channels.PortState.{PortState}
 use Rattle.event_channel.specs.declared.channels.PortState.TheVariants as port
 use Rattle.event_channel.specs.Channels.{state_of, is_pending}
 use Rattle.hypervisor.specs.Hypervisor.{Hypervisor}
-use Rattle.hypervisor.specs.Act.{FrontAct, BackAct, Outcome, Gave, Took, Failed, front_act, back_act, map_act, bind_act, read_act, disk_act, wait_act, exchanged, mover_of, job_number}
+use Rattle.hypervisor.specs.Act.{FrontAct, BackAct, Outcome, Gave, Took, Failed, front_act, back_act, map_act, bind_act, read_act, disk_act, wait_act, exchanged, mover_of, job_number, with_keys}
 use Rattle.schedule_text.specs.declared.line.Line.{Line}
 use Rattle.schedule_text.specs.declared.line.Line.TheVariants as lines
 use Rattle.report_rules.specs.declared.standing.Standing.{Standing}
@@ -36,7 +37,7 @@ use Rattle.report_rules.specs.Value.{value_after, after_write}
 use Rattle.blk_front.specs.Ask.{StaysInMemory}
 use Rattle.back_jobs.specs.Hands.{Names}
 use Rattle.split_model.specs.Safe.{AreHeld}
-use Rattle.split_model.proofs.SafeActs.{of_front, of_back, front_test, back_test}
+use Rattle.split_model.proofs.SafeActs.{of_front, of_back, IsKeyMove, IsFrontKeyAct, IsBackKeyAct, front_keys, back_keys, front_wait, back_wait, front_watch, back_watch, front_watch_keys, back_watch_keys}
 use Rattle.move_laws.specs.Tells.{Tells, standing_of}
 use Rattle.move_laws.proofs.Follows.{IsAllowed}
 use Rattle.move_laws.proofs.Memory.{length_written, word_written, flags_written}
@@ -84,8 +85,35 @@ cas_kept before pages table frame word old new framed worded tells = by_test (wo
         subst (λ (p : List ℕ). Tells (before ++ lines.Move (moves.FrontCas frame word old new (word_of pages frame word)) ∷ []) p table) same
         (tells_still before (lines.Move (moves.FrontCas frame word old new (word_of pages frame word))) pages table (still _ refl (λ f w v b. rw t refl) (λ n. refl) refl) tells)
 
+-- a move on a key or a watch changes neither memory nor mappings
+key_still : (who : Mover) (shown : Move) → IsKeyMove who shown → IsStill (lines.Move shown)
+key_still who (moves.Watch m path) is = still _ refl (λ f w v b. refl) (λ n. refl) refl
+key_still who (moves.Watched m path) is = still _ refl (λ f w v b. refl) (λ n. refl) refl
+key_still who (moves.GetKey m path text) is = still _ refl (λ f w v b. refl) (λ n. refl) refl
+key_still who (moves.SetKey m path text) is = still _ refl (λ f w v b. refl) (λ n. refl) refl
+key_still who shown is = absurd is
+
+key_allowed : (before : List Line) (who : Mover) (shown : Move) → IsKeyMove who shown → IsAllowed before (lines.Move shown)
+key_allowed before who (moves.Watch m path) is = record { coherent = tt; answered = tt; numbered = tt; touched = tt; grantable = tt }
+key_allowed before who (moves.Watched m path) is = record { coherent = tt; answered = tt; numbered = tt; touched = tt; grantable = tt }
+key_allowed before who (moves.GetKey m path text) is = record { coherent = tt; answered = tt; numbered = tt; touched = tt; grantable = tt }
+key_allowed before who (moves.SetKey m path text) is = record { coherent = tt; answered = tt; numbered = tt; touched = tt; grantable = tt }
+key_allowed before who shown is = absurd is
+
+key_kept : (before : List Line) (who : Mover) (shown : Move) (h u : Hypervisor) → IsKeyMove who shown → u ≡ with_keys h u.keys → Tells before h.pages h.grants → IsKept before shown u.pages u.grants
+key_kept before who shown h u is same tells =
+    subst (λ (x : Hypervisor). IsKept before shown x.pages x.grants) (sym same)
+    (kept_still before shown h.pages h.grants (key_still who shown is) (key_allowed before who shown is) tells)
+
+front_key_kept : (before : List Line) (h : Hypervisor) → Tells before h.pages h.grants → (x : FrontAct) → IsFrontKeyAct h x → FrontKeeps before x
+front_key_kept before h tells x is = key_kept before mover.Front x.shown h x.under is.shown is.under tells
+
+back_key_kept : (before : List Line) (h : Hypervisor) → Tells before h.pages h.grants → (x : BackAct) → IsBackKeyAct h x → BackKeeps before x
+back_key_kept before h tells x is = key_kept before mover.Back x.shown h x.under is.shown is.under tells
+
 pub front_kept : (before : List Line) (h : Hypervisor) (ask : FrontAsk) (a : FrontAct) → Tells before h.pages h.grants → StaysInMemory ask → front_act h ask ≡ Some a → FrontKeeps before a
-front_kept before h front_ask.Wait a tells within e = front_test (FrontKeeps before) (is_pending h.channels end.Front) _ a (kept_still before (moves.Event mover.Front) h.pages h.grants (still _ refl (λ f w v b. refl) (λ n. refl) refl) (record { coherent = tt; answered = tt; numbered = tt; touched = tt; grantable = tt }) tells) e
+front_kept before h front_ask.Wait a tells within e =
+    front_wait (FrontKeeps before) h a (kept_still before (moves.Event mover.Front) h.pages h.grants (still _ refl (λ f w v b. refl) (λ n. refl) refl) (record { coherent = tt; answered = tt; numbered = tt; touched = tt; grantable = tt }) tells) (λ path. front_key_kept before h tells (front_watch h path) (front_watch_keys h path)) e
 front_kept before h front_ask.Fence a tells within e = of_front (FrontKeeps before) _ a (kept_still before (moves.Fence mover.Front) h.pages h.grants (still _ refl (λ f w v b. refl) (λ n. refl) refl) (record { coherent = tt; answered = tt; numbered = tt; touched = tt; grantable = tt }) tells) e
 front_kept before h (front_ask.Read frame word) a tells within e = of_front (FrontKeeps before) _ a (kept_still before (moves.FrontRead frame word (word_of h.pages frame word)) h.pages h.grants (still _ refl (λ f w v b. refl) (λ n. refl) refl) (record { coherent = sym (tells.values frame word (omega (arith, within.0)) within.1); answered = tt; numbered = tt; touched = tt; grantable = tt }) tells) e
 front_kept before h (front_ask.Write frame word value) a tells within e = of_front (FrontKeeps before) _ a (record {
@@ -99,9 +127,9 @@ front_kept before h (front_ask.Cas frame word old new) a tells within e = of_fro
 front_kept before h front_ask.NewPort a tells within e = of_front (FrontKeeps before) _ a (kept_still before (moves.FrontPort (h.channels.made + 1)) h.pages h.grants (still _ refl (λ f w v b. refl) (λ n. refl) refl) (record { coherent = tt; answered = tt; numbered = tt; touched = tt; grantable = tt }) tells) e
 front_kept before h front_ask.Send a tells within e = of_front (FrontKeeps before) _ a (kept_still before (moves.Send mover.Front) h.pages h.grants (still _ refl (λ f w v b. refl) (λ n. refl) refl) (record { coherent = tt; answered = tt; numbered = tt; touched = tt; grantable = tt }) tells) e
 front_kept before h front_ask.ClosePort a tells within e = of_front (FrontKeeps before) _ a (kept_still before (moves.ClosePort mover.Front) h.pages h.grants (still _ refl (λ f w v b. refl) (λ n. refl) refl) (record { coherent = tt; answered = tt; numbered = tt; touched = tt; grantable = tt }) tells) e
-front_kept before h (front_ask.GetKey path) a tells within e = absurd (none-some a e)
-front_kept before h (front_ask.SetKey path text) a tells within e = absurd (none-some a e)
-front_kept before h (front_ask.Watch path) a tells within e = absurd (none-some a e)
+front_kept before h (front_ask.GetKey path) a tells within e = front_keys (FrontKeeps before) h (front_ask.GetKey path) a tt (front_key_kept before h tells) e
+front_kept before h (front_ask.SetKey path text) a tells within e = front_keys (FrontKeeps before) h (front_ask.SetKey path text) a tt (front_key_kept before h tells) e
+front_kept before h (front_ask.Watch path) a tells within e = front_keys (FrontKeeps before) h (front_ask.Watch path) a tt (front_key_kept before h tells) e
 
 -- the mapping that an ask names stands, with its frame and mode
 standing_found : (before : List Line) (pages : List ℕ) (table : GrantTable) (m : Mapping) (f : Found table m) → Tells before pages table → numbered m.number (standing_behind before) ≡ Some (standing_of f.held)
@@ -187,8 +215,8 @@ bind_kept before h p port.Closed tells = kept_still before (moves.BindRefused p)
 bind_kept before h p port.Bound tells = kept_still before (moves.BindRefused p) h.pages h.grants (still _ refl (λ f w v b. refl) (λ n. refl) refl) (record { coherent = tt; answered = tt; numbered = tt; touched = tt; grantable = tt }) tells
 
 wait_kept : (before : List Line) (h : Hypervisor) (who : BackMover) (a : BackAct) → Tells before h.pages h.grants → wait_act h who ≡ Some a → BackKeeps before a
-wait_kept before h back_mover.Back a tells e = back_test (BackKeeps before) (is_pending h.channels end.Back) _ a (kept_still before (moves.Event mover.Back) h.pages h.grants (still _ refl (λ f w v b. refl) (λ n. refl) refl) (record { coherent = tt; answered = tt; numbered = tt; touched = tt; grantable = tt }) tells) e
-wait_kept before h (back_mover.Job k) a tells e = absurd (none-some a e)
+wait_kept before h who a tells e =
+    back_wait (BackKeeps before) h who a (kept_still before (moves.Event mover.Back) h.pages h.grants (still _ refl (λ f w v b. refl) (λ n. refl) refl) (record { coherent = tt; answered = tt; numbered = tt; touched = tt; grantable = tt }) tells) (λ path. back_key_kept before h tells (back_watch h path) (back_watch_keys h path)) e
 
 pub back_kept : (before : List Line) (h : Hypervisor) (who : BackMover) (ask : BackAsk) (o : Outcome) (a : BackAct) (hands : List Mapping) → Tells before h.pages h.grants → AreHeld h.grants hands → Names hands ask → back_act h who ask o ≡ Some a → BackKeeps before a
 back_kept before h who back_ask.Wait o a hands tells held names e = wait_kept before h who a tells e
@@ -210,9 +238,9 @@ back_kept before h who (back_ask.Unmap m) o a hands tells held names e =
 back_kept before h who (back_ask.Bind p) o a hands tells held names e = of_back (BackKeeps before) _ a (bind_kept before h p (state_of h.channels p) tells) e
 back_kept before h who back_ask.Send o a hands tells held names e = of_back (BackKeeps before) _ a (kept_still before (moves.Send (mover_of who)) h.pages h.grants (still _ refl (λ f w v b. refl) (λ n. refl) refl) (record { coherent = tt; answered = tt; numbered = tt; touched = tt; grantable = tt }) tells) e
 back_kept before h who back_ask.ClosePort o a hands tells held names e = of_back (BackKeeps before) _ a (kept_still before (moves.ClosePort (mover_of who)) h.pages h.grants (still _ refl (λ f w v b. refl) (λ n. refl) refl) (record { coherent = tt; answered = tt; numbered = tt; touched = tt; grantable = tt }) tells) e
-back_kept before h who (back_ask.GetKey path) o a hands tells held names e = absurd (none-some a e)
-back_kept before h who (back_ask.SetKey path text) o a hands tells held names e = absurd (none-some a e)
-back_kept before h who (back_ask.Watch path) o a hands tells held names e = absurd (none-some a e)
+back_kept before h who (back_ask.GetKey path) o a hands tells held names e = back_keys (BackKeeps before) h who (back_ask.GetKey path) o a tt (back_key_kept before h tells) e
+back_kept before h who (back_ask.SetKey path text) o a hands tells held names e = back_keys (BackKeeps before) h who (back_ask.SetKey path text) o a tt (back_key_kept before h tells) e
+back_kept before h who (back_ask.Watch path) o a hands tells held names e = back_keys (BackKeeps before) h who (back_ask.Watch path) o a tt (back_key_kept before h tells) e
 back_kept before h who (back_ask.DiskRead sector) o a hands tells held names e = read_disk before h (moves.DiskRead (job_number who) sector) o a (still _ refl (λ f w v b. refl) (λ n. refl) refl) (record { coherent = tt; answered = tt; numbered = tt; touched = tt; grantable = tt }) tells e
 back_kept before h who (back_ask.DiskWrite sector words) o a hands tells held names e = call_disk before h (moves.DiskWrite (job_number who) sector) o a (still _ refl (λ f w v b. refl) (λ n. refl) refl) (record { coherent = tt; answered = tt; numbered = tt; touched = tt; grantable = tt }) tells e
 back_kept before h who back_ask.Flush o a hands tells held names e = call_disk before h (moves.DiskFlush (job_number who)) o a (still _ refl (λ f w v b. refl) (λ n. refl) refl) (record { coherent = tt; answered = tt; numbered = tt; touched = tt; grantable = tt }) tells e

@@ -2,7 +2,6 @@
 use Rattle.std.proofs.Common.{◌≡◌, sym, subst, ap, ℕ, ◌+◌, ◌<◌, ◌==◌, nat_lt, Bool, true, false, List, [], ◌∷◌, length, refl, arith, inl, inr, if◌then◌else◌}
 use Rattle.std.specs.Prelude.{Option, Some, None}
 use Rattle.std.specs.Option.{option_map}
-use Rattle.arrayvec.specs.ArrayString.{ArrayString}
 use Rattle.blk_base.specs.declared.parts.Mapping.{Mapping}
 use Rattle.key_directory.specs.Directory.{Directory, key_of}
 use Rattle.key_directory.specs.Watches.{Watches, next_watch, taken, fired, with_watch, no_watches}
@@ -27,7 +26,7 @@ use Rattle.xenbus_state.specs.BackReading as reading
 use Rattle.xenbus_state.specs.BackReading.{order_of, layout_read, with_order, with_gref, with_port, with_layout, with_persistent}
 use Rattle.xenbus_state.specs.BackStep.{at, step_at, acted, kept_or_halted, after_state, last_state, giving_up, after_feature, after_fact}
 use Rattle.xenbus_state.specs.BackSound.{IsPlaced, IsWriting}
-use Rattle.negotiation_laws.specs.Negotiation.{front_path, back_path, front_state, back_state, state_text, handed, back_woken, back_answered, back_done}
+use Rattle.negotiation_laws.specs.Negotiation.{front_path, back_path, front_state, back_state, state_text, back_woken, back_answered, back_done}
 use Rattle.negotiation_laws.proofs.Shown.{state_shown}
 use Rattle.negotiation_laws.proofs.BackActs.{ActsFor}
 use Rattle.negotiation_laws.proofs.Between.{back_own}
@@ -62,15 +61,15 @@ only_reads : (single : Bool) (v : BackView) → ReadsOn v (kept_or_halted (if si
 only_reads true v = record { same = refl; stage = tt }
 only_reads false v = record { same = refl; stage = tt }
 
-key_reads : (k : FrontKey) (text : Option ArrayString) (v : BackView) → ReadsOn v (kept_or_halted (reading.key_read k text v) v)
+key_reads : (k : FrontKey) (text : Option (List ℕ)) (v : BackView) → ReadsOn v (kept_or_halted (reading.key_read k text v) v)
 key_reads key.RingPageOrder None v = record { same = refl; stage = tt }
-key_reads key.RingPageOrder (Some text) v = read_or_halted (with_order v (key.RingRefOf 0)) (order_of (number_of text.bytes)) v (λ x. record { same = refl; stage = tt })
+key_reads key.RingPageOrder (Some text) v = read_or_halted (with_order v (key.RingRefOf 0)) (order_of (number_of text)) v (λ x. record { same = refl; stage = tt })
 key_reads (key.RingRefOf page) None v = only_reads (v.terms.order == 0) v
-key_reads (key.RingRefOf page) (Some text) v = read_or_halted (with_gref v (after_page v.terms.order page)) (number_of text.bytes) v (λ x. record { same = refl; stage = tt })
+key_reads (key.RingRefOf page) (Some text) v = read_or_halted (with_gref v (after_page v.terms.order page)) (number_of text) v (λ x. record { same = refl; stage = tt })
 key_reads key.RingRef None v = record { same = refl; stage = tt }
-key_reads key.RingRef (Some text) v = read_or_halted (with_gref v key.EventChannel) (number_of text.bytes) v (λ x. record { same = refl; stage = tt })
+key_reads key.RingRef (Some text) v = read_or_halted (with_gref v key.EventChannel) (number_of text) v (λ x. record { same = refl; stage = tt })
 key_reads key.EventChannel None v = record { same = refl; stage = tt }
-key_reads key.EventChannel (Some text) v = read_or_halted (with_port v) (number_of text.bytes) v (λ x. record { same = refl; stage = tt })
+key_reads key.EventChannel (Some text) v = read_or_halted (with_port v) (number_of text) v (λ x. record { same = refl; stage = tt })
 key_reads key.Protocol text v = read_or_halted (with_layout v) (layout_read text) v (λ x. record { same = refl; stage = tt })
 key_reads key.FeaturePersistent text v = read_or_halted (with_persistent v) (count_read text) v (λ x. record { same = refl; stage = tt })
 
@@ -102,10 +101,10 @@ module _ (fs : BusState) where
   giving_sees [] true own w h = h
   giving_sees [] false own w h = last_sees own own w h
 
-  unmap_sees : (pages : List Mapping) (v : BackView) (page : Mapping) (spare : List ℕ) (d : Directory) → 0 < length pages → Sees front_state d.back (Unit {0})
-      → let u = record v { pages = pages; stage = stage.UnmapPage } in Sight (step_at stage.UnmapPage u (back_answered (ask_at stage.UnmapPage u) page spare d)) fs (back_done (ask_at stage.UnmapPage u) d).back
-  unmap_sees [] v page spare d some h = absurd (omega arith)
-  unmap_sees (first ∷ pages) v page spare d some h = giving_sees pages v.bound v.state d.back h
+  unmap_sees : (pages : List Mapping) (v : BackView) (page : Mapping) (d : Directory) → 0 < length pages → Sees front_state d.back (Unit {0})
+      → let u = record v { pages = pages; stage = stage.UnmapPage } in Sight (step_at stage.UnmapPage u (back_answered (ask_at stage.UnmapPage u) page d)) fs (back_done (ask_at stage.UnmapPage u) d).back
+  unmap_sees [] v page d some h = absurd (omega arith)
+  unmap_sees (first ∷ pages) v page d some h = giving_sees pages v.bound v.state d.back h
 
   written_sees : (s own : BusState) (v : BackView) (w : Watches) → IsWriting s v → BackSees (stage.WriteState s) own fs w → BackSees (after_state s) s fs w
   written_sees state.InitWait own v w writing h = h
@@ -119,43 +118,43 @@ module _ (fs : BusState) where
   acted_sees action.Connect v w acts h = sees_so front_state w (Unit {0}) (IsReady fs) (λ u. acts.1) h
   acted_sees (action.Halt reason) v w acts h = h
 
-  state_sees : (v : BackView) (spare : List ℕ) (o : Option (List ℕ)) (w : Watches) → o ≡ Some (state_text fs)
+  state_sees : (v : BackView) (o : Option (List ℕ)) (w : Watches) → o ≡ Some (state_text fs)
       → ActsFor (back_action v.state v.unplugged (Some fs)) v.state fs v.unplugged → Sees front_state w (Unit {0})
-      → Sight (acted (back_action v.state v.unplugged (state_read (handed spare o))) (at stage.ReadState v)) fs w
-  state_sees v spare o w shown acts h =
-      subst (λ (r : Option BusState). Sight (acted (back_action v.state v.unplugged r) (at stage.ReadState v)) fs w) (sym (state_shown spare o fs shown)) (acted_sees (back_action v.state v.unplugged (Some fs)) v w acts h)
+      → Sight (acted (back_action v.state v.unplugged (state_read o)) (at stage.ReadState v)) fs w
+  state_sees v o w shown acts h =
+      subst (λ (r : Option BusState). Sight (acted (back_action v.state v.unplugged r) (at stage.ReadState v)) fs w) (sym (state_shown o fs shown)) (acted_sees (back_action v.state v.unplugged (Some fs)) v w acts h)
 
-  woken : (v : BackView) (spare : List ℕ) (w : Watches) → Sees front_state w (SettledBack v.state fs)
-      → Sight (step_at stage.Rest (at stage.Rest v) (back_woken (next_watch w) spare)) fs (taken w)
-  woken v spare w (inl e) = subst (λ (u : Watches). Sight (step_at stage.Rest (at stage.Rest v) (back_woken (next_watch u) spare)) fs (taken u)) (sym e) (inr (refl, tt))
-  woken v spare w (inr (e, heard)) =
-      subst (λ (u : Watches). Sight (step_at stage.Rest (at stage.Rest v) (back_woken (next_watch u) spare)) fs (taken u)) (sym e) (inr (refl, heard))
+  woken : (v : BackView) (w : Watches) → Sees front_state w (SettledBack v.state fs)
+      → Sight (step_at stage.Rest (at stage.Rest v) (back_woken (next_watch w))) fs (taken w)
+  woken v w (inl e) = subst (λ (u : Watches). Sight (step_at stage.Rest (at stage.Rest v) (back_woken (next_watch u))) fs (taken u)) (sym e) (inr (refl, tt))
+  woken v w (inr (e, heard)) =
+      subst (λ (u : Watches). Sight (step_at stage.Rest (at stage.Rest v) (back_woken (next_watch u))) fs (taken u)) (sym e) (inr (refl, heard))
 
-  halted_sees : (o : Option (List ℕ)) (v : BackView) (spare : List ℕ) (w : Watches) → Sees front_state w (Unit {0})
-      → Sight (step_at stage.Halted (at stage.Halted v) (back_woken o spare)) fs (taken w)
-  halted_sees None v spare w h = sees_taken front_state w (Unit {0}) h
-  halted_sees (Some path) v spare w h = sees_taken front_state w (Unit {0}) h
+  halted_sees : (o : Option (List ℕ)) (v : BackView) (w : Watches) → Sees front_state w (Unit {0})
+      → Sight (step_at stage.Halted (at stage.Halted v) (back_woken o)) fs (taken w)
+  halted_sees None v w h = sees_taken front_state w (Unit {0}) h
+  halted_sees (Some path) v w h = sees_taken front_state w (Unit {0}) h
 
   -- each move of the back but that it says that it closes
-  pub back_sees_at : (s : BackStage) (v : BackView) (page : Mapping) (spare : List ℕ) (d : Directory) → key_of d.keys front_state ≡ Some (state_text fs)
+  pub back_sees_at : (s : BackStage) (v : BackView) (page : Mapping) (d : Directory) → key_of d.keys front_state ≡ Some (state_text fs)
       → ActsAt s v fs → IsPlaced s v → BackSees s v.state fs d.back
-      → Sight (step_at s (at s v) (back_answered (ask_at s v) page spare d)) fs (back_done (ask_at s v) d).back
-  back_sees_at (stage.Publish k) v page spare d shown acts placed h = offered_sees k v.state (fired d.back (back_path k)) (ap (λ (u : Watches). fired u (back_path k)) h)
-  back_sees_at (stage.WriteState s) v page spare d shown acts placed h = back_sees_kept back_state (after_state s) s fs d.back refl (written_sees s v.state v d.back placed h)
-  back_sees_at stage.Watch v page spare d shown acts placed h = inl (ap (λ (u : Watches). with_watch u front_state) h)
-  back_sees_at stage.Rest v page spare d shown acts placed h = woken v spare d.back h
-  back_sees_at stage.ReadState v page spare d shown acts placed h = state_sees v spare (key_of d.keys front_state) d.back shown acts h
-  back_sees_at (stage.ReadKey k) v page spare d shown acts placed h =
-      let reads = key_reads k (handed spare (key_of d.keys (front_path k))) (at (stage.ReadKey k) v) in
+      → Sight (step_at s (at s v) (back_answered (ask_at s v) page d)) fs (back_done (ask_at s v) d).back
+  back_sees_at (stage.Publish k) v page d shown acts placed h = offered_sees k v.state (fired d.back (back_path k)) (ap (λ (u : Watches). fired u (back_path k)) h)
+  back_sees_at (stage.WriteState s) v page d shown acts placed h = back_sees_kept back_state (after_state s) s fs d.back refl (written_sees s v.state v d.back placed h)
+  back_sees_at stage.Watch v page d shown acts placed h = inl (ap (λ (u : Watches). with_watch u front_state) h)
+  back_sees_at stage.Rest v page d shown acts placed h = woken v d.back h
+  back_sees_at stage.ReadState v page d shown acts placed h = state_sees v (key_of d.keys front_state) d.back shown acts h
+  back_sees_at (stage.ReadKey k) v page d shown acts placed h =
+      let reads = key_reads k (key_of d.keys (front_path k)) (at (stage.ReadKey k) v) in
       key_stage_sees _ _ d.back reads.stage h
-  back_sees_at stage.MapPage v page spare d shown acts placed h = map_sees (nat_lt (length v.pages + 1) (length v.grefs)) v.state d.back h
-  back_sees_at stage.Bind v page spare d shown acts placed h = h
-  back_sees_at (stage.PublishFact k) v page spare d shown acts placed h =
+  back_sees_at stage.MapPage v page d shown acts placed h = map_sees (nat_lt (length v.pages + 1) (length v.grefs)) v.state d.back h
+  back_sees_at stage.Bind v page d shown acts placed h = h
+  back_sees_at (stage.PublishFact k) v page d shown acts placed h =
       fact_sees k v.state (fired d.back (back_path k)) (back_sees_kept (back_path k) (stage.PublishFact k) v.state fs d.back refl h)
-  back_sees_at stage.UnmapOthers v page spare d shown acts placed h = giving_sees v.pages v.bound v.state d.back h
-  back_sees_at stage.UnmapPage v page spare d shown acts placed h = unmap_sees v.pages v page spare d placed.1 h
-  back_sees_at stage.ClosePort v page spare d shown acts placed h = last_sees v.state v.state d.back h
-  back_sees_at stage.Halted v page spare d shown acts placed h = halted_sees (next_watch d.back) v spare d.back h
+  back_sees_at stage.UnmapOthers v page d shown acts placed h = giving_sees v.pages v.bound v.state d.back h
+  back_sees_at stage.UnmapPage v page d shown acts placed h = unmap_sees v.pages v page d placed.1 h
+  back_sees_at stage.ClosePort v page d shown acts placed h = last_sees v.state v.state d.back h
+  back_sees_at stage.Halted v page d shown acts placed h = halted_sees (next_watch d.back) v d.back h
 
 -- which state the back has written after a move
 acted_state : (act : BackAction) (v : BackView) → (acted act v).state ≡ v.state
@@ -163,33 +162,33 @@ acted_state action.Nothing v = refl
 acted_state action.Connect v = refl
 acted_state (action.Halt reason) v = refl
 
-woken_state : (s : BackStage) (o : Option (List ℕ)) (v : BackView) (spare : List ℕ) → (step_at s (at s v) (back_woken o spare)).state ≡ v.state
-woken_state stage.Rest None v spare = refl
-woken_state stage.Rest (Some path) v spare = refl
-woken_state s None v spare = refl
-woken_state s (Some path) v spare = refl
+woken_state : (s : BackStage) (o : Option (List ℕ)) (v : BackView) → (step_at s (at s v) (back_woken o)).state ≡ v.state
+woken_state stage.Rest None v = refl
+woken_state stage.Rest (Some path) v = refl
+woken_state s None v = refl
+woken_state s (Some path) v = refl
 
-unmap_state : (pages : List Mapping) (v : BackView) (page : Mapping) (spare : List ℕ) (d : Directory)
-    → let u = record v { pages = pages; stage = stage.UnmapPage } in (step_at stage.UnmapPage u (back_answered (ask_at stage.UnmapPage u) page spare d)).state ≡ back_own (ask_at stage.UnmapPage u) v.state
-unmap_state [] v page spare d = unmap_none (next_watch d.back)
+unmap_state : (pages : List Mapping) (v : BackView) (page : Mapping) (d : Directory)
+    → let u = record v { pages = pages; stage = stage.UnmapPage } in (step_at stage.UnmapPage u (back_answered (ask_at stage.UnmapPage u) page d)).state ≡ back_own (ask_at stage.UnmapPage u) v.state
+unmap_state [] v page d = unmap_none (next_watch d.back)
   where
-    unmap_none : (o : Option (List ℕ)) → (step_at stage.UnmapPage (record v { pages = []; stage = stage.UnmapPage }) (back_woken o spare)).state ≡ v.state
+    unmap_none : (o : Option (List ℕ)) → (step_at stage.UnmapPage (record v { pages = []; stage = stage.UnmapPage }) (back_woken o)).state ≡ v.state
     unmap_none None = refl
     unmap_none (Some path) = refl
-unmap_state (first ∷ pages) v page spare d = refl
+unmap_state (first ∷ pages) v page d = refl
 
-pub back_state_at : (s : BackStage) (v : BackView) (page : Mapping) (spare : List ℕ) (d : Directory)
-    → (step_at s (at s v) (back_answered (ask_at s v) page spare d)).state ≡ back_own (ask_at s v) v.state
-back_state_at (stage.Publish k) v page spare d = refl
-back_state_at (stage.WriteState s) v page spare d = refl
-back_state_at stage.Watch v page spare d = refl
-back_state_at stage.Rest v page spare d = woken_state stage.Rest (next_watch d.back) v spare
-back_state_at stage.ReadState v page spare d = acted_state (back_action v.state v.unplugged (state_read (handed spare (key_of d.keys front_state)))) (at stage.ReadState v)
-back_state_at (stage.ReadKey k) v page spare d = (key_reads k (handed spare (key_of d.keys (front_path k))) (at (stage.ReadKey k) v)).same
-back_state_at stage.MapPage v page spare d = refl
-back_state_at stage.Bind v page spare d = refl
-back_state_at (stage.PublishFact k) v page spare d = refl
-back_state_at stage.UnmapOthers v page spare d = refl
-back_state_at stage.UnmapPage v page spare d = unmap_state v.pages v page spare d
-back_state_at stage.ClosePort v page spare d = refl
-back_state_at stage.Halted v page spare d = woken_state stage.Halted (next_watch d.back) v spare
+pub back_state_at : (s : BackStage) (v : BackView) (page : Mapping) (d : Directory)
+    → (step_at s (at s v) (back_answered (ask_at s v) page d)).state ≡ back_own (ask_at s v) v.state
+back_state_at (stage.Publish k) v page d = refl
+back_state_at (stage.WriteState s) v page d = refl
+back_state_at stage.Watch v page d = refl
+back_state_at stage.Rest v page d = woken_state stage.Rest (next_watch d.back) v
+back_state_at stage.ReadState v page d = acted_state (back_action v.state v.unplugged (state_read (key_of d.keys front_state))) (at stage.ReadState v)
+back_state_at (stage.ReadKey k) v page d = (key_reads k (key_of d.keys (front_path k)) (at (stage.ReadKey k) v)).same
+back_state_at stage.MapPage v page d = refl
+back_state_at stage.Bind v page d = refl
+back_state_at (stage.PublishFact k) v page d = refl
+back_state_at stage.UnmapOthers v page d = refl
+back_state_at stage.UnmapPage v page d = unmap_state v.pages v page d
+back_state_at stage.ClosePort v page d = refl
+back_state_at stage.Halted v page d = woken_state stage.Halted (next_watch d.back) v

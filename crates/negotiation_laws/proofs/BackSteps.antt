@@ -31,7 +31,7 @@ use Rattle.xenbus_state.specs.BackReading as reading
 use Rattle.xenbus_state.specs.BackStep.{at, step_at, acted, kept_or_halted, after_state, last_state, giving_up, after_feature, after_fact}
 use Rattle.xenbus_state.specs.BackSound.{IsPlaced, IsResting, IsWriting, IsReading}
 use Rattle.xenbus_state.proofs.Agreement.{terms_again}
-use Rattle.negotiation_laws.specs.Negotiation.{back_path, front_state, state_text, handed, back_woken, back_answered, back_done}
+use Rattle.negotiation_laws.specs.Negotiation.{back_path, front_state, state_text, back_woken, back_answered, back_done}
 use Rattle.negotiation_laws.specs.Said.{front_texts, back_texts, AreTermsSaid, AreFeaturesSaid, AreFactsSaid}
 use Rattle.negotiation_laws.proofs.Keys.{back_texts_state, back_kept, back_said}
 use Rattle.negotiation_laws.proofs.Shown.{state_shown, is_one}
@@ -165,13 +165,13 @@ module _ (n : ℕ) (port : Option ℕ) (terms : FrontTerms) (f : Features) (disk
       moves stage.ReadState (stage.ReadKey key.RingPageOrder) v texts texts h (λ s. (late, ready acts.1)) never (h.said.0, tt) (λ s. tt)
   acted_holds (action.Halt reason) v fs texts e acts ready h = halts v texts (rw e acts.0) h
 
-  state_holds : (v : BackView) (spare : List ℕ) (keys : List (List ℕ × List ℕ)) (fs : BusState) → n ≡ state_number fs → IsResting v.state v
+  state_holds : (v : BackView) (keys : List (List ℕ × List ℕ)) (fs : BusState) → n ≡ state_number fs → IsResting v.state v
       → FrontShows keys fs port terms → BackHolds stage.ReadState v n port terms f disk (back_texts keys)
-      → Stands (acted (back_action v.state v.unplugged (state_read (handed spare (key_of keys front_state)))) (at stage.ReadState v)) keys
-  state_holds v spare keys fs e rests shows h =
+      → Stands (acted (back_action v.state v.unplugged (state_read (key_of keys front_state))) (at stage.ReadState v)) keys
+  state_holds v keys fs e rests shows h =
       let serving : serves stage.ReadState v.state ≡ true → 3 ≤ state_number fs = λ s. subst (λ (m : ℕ). 3 ≤ m) e (h.serving_after s).0 in
       let acts = back_acts fs v.state v.unplugged v shows.honest rests serving in
-      subst (λ (r : Option BusState). Stands (acted (back_action v.state v.unplugged r) (at stage.ReadState v)) keys) (sym (state_shown spare (key_of keys front_state) fs shows.state))
+      subst (λ (r : Option BusState). Stands (acted (back_action v.state v.unplugged r) (at stage.ReadState v)) keys) (sym (state_shown (key_of keys front_state) fs shows.state))
       (acted_holds (back_action v.state v.unplugged (Some fs)) v fs (back_texts keys) e acts shows.ready h)
 
   -- a key of the front is read, and the back goes on
@@ -185,35 +185,35 @@ module _ (n : ℕ) (port : Option ℕ) (terms : FrontTerms) (f : Features) (disk
       (record { own = h.own; offer = h.offer; disk = h.disk; serving_after = h.serving_after; halting_after = never; said = h.said; read = λ s. read }, refl)
 
   -- what the read of a key makes of the back
-  abbrev pub KeyRead : FrontKey → BackView → List ℕ → Option (List ℕ) → List (List ℕ × List ℕ) → Type 0
-  KeyRead k v spare o keys = Goes (kept_or_halted (reading.key_read k (handed spare o) (at (stage.ReadKey k) v)) (at (stage.ReadKey k) v)) keys
+  abbrev pub KeyRead : FrontKey → BackView → Option (List ℕ) → List (List ℕ × List ℕ) → Type 0
+  KeyRead k v o keys = Goes (kept_or_halted (reading.key_read k o (at (stage.ReadKey k) v)) (at (stage.ReadKey k) v)) keys
 
-  order_holds : (v : BackView) (spare : List ℕ) (keys : List (List ℕ × List ℕ)) → length v.grefs ≡ 0 → terms.order ≤ 4 → terms.port < 2 ^ 32
+  order_holds : (v : BackView) (keys : List (List ℕ × List ℕ)) → length v.grefs ≡ 0 → terms.order ≤ 4 → terms.port < 2 ^ 32
       → AreTermsSaid (front_texts keys) terms → BackHolds (stage.ReadKey key.RingPageOrder) v n port terms f disk (back_texts keys)
-      → KeyRead key.RingPageOrder v spare (front_texts keys key.RingPageOrder) keys
-  order_holds v spare keys none few fits says h = by_test (terms.order == 0) refl
+      → KeyRead key.RingPageOrder v (front_texts keys key.RingPageOrder) keys
+  order_holds v keys none few fits says h = by_test (terms.order == 0) refl
     where
-      by_test : (single : Bool) → (terms.order == 0) ≡ single → KeyRead key.RingPageOrder v spare (front_texts keys key.RingPageOrder) keys
+      by_test : (single : Bool) → (terms.order == 0) ≡ single → KeyRead key.RingPageOrder v (front_texts keys key.RingPageOrder) keys
       by_test true e =
           let zero : terms.order ≡ 0 = grind (arith, nat_tests) in
           let single = reads_next key.RingPageOrder key.RingRef v (record v.terms { order = 0 }) v.grefs keys h (sym zero, zero) in
-          subst (λ (o : Option (List ℕ)). KeyRead key.RingPageOrder v spare o keys) (sym (says.ring.only zero).1) single
+          subst (λ (o : Option (List ℕ)). KeyRead key.RingPageOrder v o keys) (sym (says.ring.only zero).1) single
       by_test false e =
           let some : 0 < terms.order = grind (arith, nat_tests) in
           let first = reads_next key.RingPageOrder (key.RingRefOf 0) v (record v.terms { order = terms.order }) v.grefs keys h (refl, some, no_grefs v.grefs none) in
           let read = subst (λ (r : Option ℕ). Goes (kept_or_halted (option_map (reading.with_order (at (stage.ReadKey key.RingPageOrder) v) (key.RingRefOf 0)) r) (at (stage.ReadKey key.RingPageOrder) v)) keys) (sym (terms_again terms few fits).order) first in
-          subst (λ (o : Option (List ℕ)). KeyRead key.RingPageOrder v spare o keys) (sym (says.ring.order some)) read
+          subst (λ (o : Option (List ℕ)). KeyRead key.RingPageOrder v o keys) (sym (says.ring.order some)) read
 
-  page_holds : (page : ℕ) (v : BackView) (spare : List ℕ) (keys : List (List ℕ × List ℕ)) → page < 2 ^ v.terms.order → terms.order ≤ 4 → terms.port < 2 ^ 32
+  page_holds : (page : ℕ) (v : BackView) (keys : List (List ℕ × List ℕ)) → page < 2 ^ v.terms.order → terms.order ≤ 4 → terms.port < 2 ^ 32
       → AreTermsSaid (front_texts keys) terms → BackHolds (stage.ReadKey (key.RingRefOf page)) v n port terms f disk (back_texts keys)
-      → KeyRead (key.RingRefOf page) v spare (front_texts keys (key.RingRefOf page)) keys
-  page_holds page v spare keys low few fits says h =
+      → KeyRead (key.RingRefOf page) v (front_texts keys (key.RingRefOf page)) keys
+  page_holds page v keys low few fits says h =
       let r = h.read refl in
       let within : page < 2 ^ terms.order = subst (λ (m : ℕ). page < 2 ^ m) r.0 low in
       let pages = few_pages terms.order few in
       let again : number_of (text_of (front_value terms (key.RingRefOf page))) ≡ Some (ring_gref page) = (terms_again terms few fits).pages page (omega arith) in
       let read = subst (λ (o : Option ℕ). Goes (kept_or_halted (option_map (reading.with_gref (at (stage.ReadKey (key.RingRefOf page)) v) (after_page v.terms.order page)) o) (at (stage.ReadKey (key.RingRefOf page)) v)) keys) (sym again) (by_test (nat_lt (page + 1) (2 ^ v.terms.order)) refl) in
-      subst (λ (o : Option (List ℕ)). KeyRead (key.RingRefOf page) v spare o keys) (sym (says.ring.pages r.1 page within)) read
+      subst (λ (o : Option (List ℕ)). KeyRead (key.RingRefOf page) v o keys) (sym (says.ring.pages r.1 page within)) read
     where
       by_test : (more : Bool) → nat_lt (page + 1) (2 ^ v.terms.order) ≡ more
           → Goes (reading.with_gref (at (stage.ReadKey (key.RingRefOf page)) v) (if more then key.RingRefOf (page + 1) else key.EventChannel) (ring_gref page)) keys
@@ -227,54 +227,54 @@ module _ (n : ℕ) (port : Option ℕ) (terms : FrontTerms) (f : Features) (disk
           let pushed : v.grefs ++ ring_gref page ∷ [] ≡ grefs_of (2 ^ terms.order) = subst (λ (m : ℕ). v.grefs ++ ring_gref page ∷ [] ≡ grefs_of m) all (grefs_push page v.grefs r.2) in
           reads_next (key.RingRefOf page) key.EventChannel v v.terms (v.grefs ++ ring_gref page ∷ []) keys h (r.0, pushed)
 
-  only_holds : (v : BackView) (spare : List ℕ) (keys : List (List ℕ × List ℕ)) → length v.grefs ≡ 0 → terms.order ≤ 4 → terms.port < 2 ^ 32
+  only_holds : (v : BackView) (keys : List (List ℕ × List ℕ)) → length v.grefs ≡ 0 → terms.order ≤ 4 → terms.port < 2 ^ 32
       → AreTermsSaid (front_texts keys) terms → BackHolds (stage.ReadKey key.RingRef) v n port terms f disk (back_texts keys)
-      → KeyRead key.RingRef v spare (front_texts keys key.RingRef) keys
-  only_holds v spare keys none few fits says h =
+      → KeyRead key.RingRef v (front_texts keys key.RingRef) keys
+  only_holds v keys none few fits says h =
       let r = h.read refl in
       let pushed : v.grefs ++ 8 ∷ [] ≡ grefs_of (2 ^ terms.order) = rw (no_grefs v.grefs none, r.1) refl in
       let next = reads_next key.RingRef key.EventChannel v v.terms (v.grefs ++ 8 ∷ []) keys h (r.0, pushed) in
       let read = subst (λ (o : Option ℕ). Goes (kept_or_halted (option_map (reading.with_gref (at (stage.ReadKey key.RingRef) v) key.EventChannel) o) (at (stage.ReadKey key.RingRef) v)) keys) (sym (terms_again terms few fits).only) next in
-      subst (λ (o : Option (List ℕ)). KeyRead key.RingRef v spare o keys) (sym (says.ring.only r.1).0) read
+      subst (λ (o : Option (List ℕ)). KeyRead key.RingRef v o keys) (sym (says.ring.only r.1).0) read
 
-  port_holds : (v : BackView) (spare : List ℕ) (keys : List (List ℕ × List ℕ)) → terms.order ≤ 4 → terms.port < 2 ^ 32 → AreTermsSaid (front_texts keys) terms
+  port_holds : (v : BackView) (keys : List (List ℕ × List ℕ)) → terms.order ≤ 4 → terms.port < 2 ^ 32 → AreTermsSaid (front_texts keys) terms
       → BackHolds (stage.ReadKey key.EventChannel) v n port terms f disk (back_texts keys)
-      → KeyRead key.EventChannel v spare (front_texts keys key.EventChannel) keys
-  port_holds v spare keys few fits says h =
+      → KeyRead key.EventChannel v (front_texts keys key.EventChannel) keys
+  port_holds v keys few fits says h =
       let r = h.read refl in
       let next = reads_next key.EventChannel key.Protocol v (record v.terms { port = terms.port }) v.grefs keys h (r.0, r.1, refl) in
       let read = subst (λ (o : Option ℕ). Goes (kept_or_halted (option_map (reading.with_port (at (stage.ReadKey key.EventChannel) v)) o) (at (stage.ReadKey key.EventChannel) v)) keys) (sym (terms_again terms few fits).port) next in
-      subst (λ (o : Option (List ℕ)). KeyRead key.EventChannel v spare o keys) (sym says.port) read
+      subst (λ (o : Option (List ℕ)). KeyRead key.EventChannel v o keys) (sym says.port) read
 
-  layout_holds : (v : BackView) (spare : List ℕ) (keys : List (List ℕ × List ℕ)) → terms.order ≤ 4 → terms.port < 2 ^ 32 → AreTermsSaid (front_texts keys) terms
+  layout_holds : (v : BackView) (keys : List (List ℕ × List ℕ)) → terms.order ≤ 4 → terms.port < 2 ^ 32 → AreTermsSaid (front_texts keys) terms
       → BackHolds (stage.ReadKey key.Protocol) v n port terms f disk (back_texts keys)
-      → KeyRead key.Protocol v spare (front_texts keys key.Protocol) keys
-  layout_holds v spare keys few fits says h =
+      → KeyRead key.Protocol v (front_texts keys key.Protocol) keys
+  layout_holds v keys few fits says h =
       let r = h.read refl in
       let next = reads_next key.Protocol key.FeaturePersistent v (record v.terms { abi = terms.abi }) v.grefs keys h (r.0, r.1, r.2, refl) in
-      let again = (terms_again terms few fits).layout (record { bytes = text_of (front_value terms key.Protocol); spare = spare }) refl in
+      let again = (terms_again terms few fits).layout in
       let read = subst (λ (o : Option Abi). Goes (kept_or_halted (option_map (reading.with_layout (at (stage.ReadKey key.Protocol) v)) o) (at (stage.ReadKey key.Protocol) v)) keys) (sym again) next in
-      subst (λ (o : Option (List ℕ)). KeyRead key.Protocol v spare o keys) (sym says.layout) read
+      subst (λ (o : Option (List ℕ)). KeyRead key.Protocol v o keys) (sym says.layout) read
 
-  persistent_holds : (v : BackView) (spare : List ℕ) (keys : List (List ℕ × List ℕ)) → terms.order ≤ 4 → terms.port < 2 ^ 32
+  persistent_holds : (v : BackView) (keys : List (List ℕ × List ℕ)) → terms.order ≤ 4 → terms.port < 2 ^ 32
       → AreTermsSaid (front_texts keys) terms → BackHolds (stage.ReadKey key.FeaturePersistent) v n port terms f disk (back_texts keys)
-      → KeyRead key.FeaturePersistent v spare (front_texts keys key.FeaturePersistent) keys
-  persistent_holds v spare keys few fits says h =
+      → KeyRead key.FeaturePersistent v (front_texts keys key.FeaturePersistent) keys
+  persistent_holds v keys few fits says h =
       let r = h.read refl in
       let all : record v.terms { persistent = flag_of terms.persistent == 1 } ≡ terms = λ i. record { abi = r.3 i; order = r.0 i; persistent = is_one terms.persistent i; port = r.2 i } in
       let next : Goes (reading.with_persistent (at (stage.ReadKey key.FeaturePersistent) v) (flag_of terms.persistent)) keys = (record { own = h.own; offer = h.offer; disk = h.disk; serving_after = h.serving_after; halting_after = never; said = h.said; read = λ s. (all, r.1) }, refl) in
       let read = subst (λ (o : Option ℕ). Goes (kept_or_halted (option_map (reading.with_persistent (at (stage.ReadKey key.FeaturePersistent) v)) o) (at (stage.ReadKey key.FeaturePersistent) v)) keys) (sym (terms_again terms few fits).persistent) next in
-      subst (λ (o : Option (List ℕ)). KeyRead key.FeaturePersistent v spare o keys) (sym says.persistent) read
+      subst (λ (o : Option (List ℕ)). KeyRead key.FeaturePersistent v o keys) (sym says.persistent) read
 
-  pub key_holds : (k : FrontKey) (v : BackView) (spare : List ℕ) (keys : List (List ℕ × List ℕ)) → IsReading k v → terms.order ≤ 4 → terms.port < 2 ^ 32
+  pub key_holds : (k : FrontKey) (v : BackView) (keys : List (List ℕ × List ℕ)) → IsReading k v → terms.order ≤ 4 → terms.port < 2 ^ 32
       → AreTermsSaid (front_texts keys) terms → BackHolds (stage.ReadKey k) v n port terms f disk (back_texts keys)
-      → KeyRead k v spare (front_texts keys k) keys
-  key_holds key.RingPageOrder v spare keys reads few fits says h = order_holds v spare keys reads few fits says h
-  key_holds (key.RingRefOf page) v spare keys reads few fits says h = page_holds page v spare keys reads.1 few fits says h
-  key_holds key.RingRef v spare keys reads few fits says h = only_holds v spare keys reads.0 few fits says h
-  key_holds key.EventChannel v spare keys reads few fits says h = port_holds v spare keys few fits says h
-  key_holds key.Protocol v spare keys reads few fits says h = layout_holds v spare keys few fits says h
-  key_holds key.FeaturePersistent v spare keys reads few fits says h = persistent_holds v spare keys few fits says h
+      → KeyRead k v (front_texts keys k) keys
+  key_holds key.RingPageOrder v keys reads few fits says h = order_holds v keys reads few fits says h
+  key_holds (key.RingRefOf page) v keys reads few fits says h = page_holds page v keys reads.1 few fits says h
+  key_holds key.RingRef v keys reads few fits says h = only_holds v keys reads.0 few fits says h
+  key_holds key.EventChannel v keys reads few fits says h = port_holds v keys few fits says h
+  key_holds key.Protocol v keys reads few fits says h = layout_holds v keys few fits says h
+  key_holds key.FeaturePersistent v keys reads few fits says h = persistent_holds v keys few fits says h
 
   -- a page is mapped
   map_holds : (page : Mapping) (v : BackView) (texts : BackKey → Option (List ℕ)) (more : Bool) → BackHolds stage.MapPage v n port terms f disk texts
@@ -306,50 +306,50 @@ module _ (n : ℕ) (port : Option ℕ) (terms : FrontTerms) (f : Features) (disk
   giving_holds [] true v texts g = record { own = g.own; offer = g.offer; disk = g.same; serving_after = g.serving; halting_after = λ e. g.late; said = g.said; read = g.read }
   giving_holds [] false v texts g = last_holds v.state [] false v texts g
 
-  unmap_holds : (pages : List Mapping) (v : BackView) (page : Mapping) (spare : List ℕ) (d : Directory) → 0 < length pages
+  unmap_holds : (pages : List Mapping) (v : BackView) (page : Mapping) (d : Directory) → 0 < length pages
       → BackHolds stage.UnmapPage v n port terms f disk (back_texts d.keys)
-      → let u = record v { pages = pages; stage = stage.UnmapPage } in Stands (step_at stage.UnmapPage u (back_answered (ask_at stage.UnmapPage u) page spare d)) (back_done (ask_at stage.UnmapPage u) d).keys
-  unmap_holds [] v page spare d some h = absurd (omega arith)
-  unmap_holds (first ∷ pages) v page spare d some h =
+      → let u = record v { pages = pages; stage = stage.UnmapPage } in Stands (step_at stage.UnmapPage u (back_answered (ask_at stage.UnmapPage u) page d)) (back_done (ask_at stage.UnmapPage u) d).keys
+  unmap_holds [] v page d some h = absurd (omega arith)
+  unmap_holds (first ∷ pages) v page d some h =
       giving_holds pages v.bound v (back_texts d.keys) (record { own = h.own; offer = h.offer; same = h.disk; late = h.halting_after refl; said = h.said; serving = h.serving_after; read = h.read })
 
   -- the back waits
-  rest_holds : (o : Option (List ℕ)) (v : BackView) (spare : List ℕ) (keys : List (List ℕ × List ℕ))
-      → BackHolds stage.Rest v n port terms f disk (back_texts keys) → Stands (step_at stage.Rest (at stage.Rest v) (back_woken o spare)) keys
-  rest_holds None v spare keys h = moves stage.Rest stage.Rest v _ _ h h.serving_after never h.said h.read
-  rest_holds (Some path) v spare keys h = moves stage.Rest stage.ReadState v _ _ h h.serving_after never h.said h.read
+  rest_holds : (o : Option (List ℕ)) (v : BackView) (keys : List (List ℕ × List ℕ))
+      → BackHolds stage.Rest v n port terms f disk (back_texts keys) → Stands (step_at stage.Rest (at stage.Rest v) (back_woken o)) keys
+  rest_holds None v keys h = moves stage.Rest stage.Rest v _ _ h h.serving_after never h.said h.read
+  rest_holds (Some path) v keys h = moves stage.Rest stage.ReadState v _ _ h h.serving_after never h.said h.read
 
-  halted_holds : (o : Option (List ℕ)) (v : BackView) (spare : List ℕ) (keys : List (List ℕ × List ℕ))
-      → BackHolds stage.Halted v n port terms f disk (back_texts keys) → Stands (step_at stage.Halted (at stage.Halted v) (back_woken o spare)) keys
-  halted_holds None v spare keys h = moves stage.Halted stage.Halted v _ _ h never h.halting_after h.said never
-  halted_holds (Some path) v spare keys h = moves stage.Halted stage.Halted v _ _ h never h.halting_after h.said never
+  halted_holds : (o : Option (List ℕ)) (v : BackView) (keys : List (List ℕ × List ℕ))
+      → BackHolds stage.Halted v n port terms f disk (back_texts keys) → Stands (step_at stage.Halted (at stage.Halted v) (back_woken o)) keys
+  halted_holds None v keys h = moves stage.Halted stage.Halted v _ _ h never h.halting_after h.said never
+  halted_holds (Some path) v keys h = moves stage.Halted stage.Halted v _ _ h never h.halting_after h.said never
 
   watch_holds : (own : BusState) (v : BackView) (texts : BackKey → Option (List ℕ)) → v.state ≡ own → own ≡ state.InitWait
       → BackHolds stage.Watch v n port terms f disk texts → BackHolds stage.Rest (at stage.Rest v) n port terms f disk texts
   watch_holds own v texts e g h = moves stage.Watch stage.Rest v texts texts h (rw (e, g) never) never (h.said.0, rw (e, g) tt) (rw (e, g) never)
 
   -- each move of the back but that it says that it closes
-  pub back_holds_at : (s : BackStage) (v : BackView) (page : Mapping) (spare : List ℕ) (d : Directory) (fs : BusState) → n ≡ state_number fs → IsPlaced s v
+  pub back_holds_at : (s : BackStage) (v : BackView) (page : Mapping) (d : Directory) (fs : BusState) → n ≡ state_number fs → IsPlaced s v
       → FrontShows d.keys fs port terms → BackHolds s v n port terms f disk (back_texts d.keys)
-      → Stands (step_at s (at s v) (back_answered (ask_at s v) page spare d)) (back_done (ask_at s v) d).keys
-  back_holds_at (stage.Publish k) v page spare d fs e placed shows h = publish_holds k v d.keys h
-  back_holds_at (stage.WriteState s) v page spare d fs e placed shows h =
+      → Stands (step_at s (at s v) (back_answered (ask_at s v) page d)) (back_done (ask_at s v) d).keys
+  back_holds_at (stage.Publish k) v page d fs e placed shows h = publish_holds k v d.keys h
+  back_holds_at (stage.WriteState s) v page d fs e placed shows h =
       let w = record v { state = s; stage = after_state s } in
       subst (λ (texts : BackKey → Option (List ℕ)). BackHolds w.stage w n port terms f disk texts) (sym (back_texts_state d.keys (state_text s))) (written_holds s v _ placed h)
-  back_holds_at stage.Watch v page spare d fs e placed shows h = watch_holds v.state v _ refl placed.0 h
-  back_holds_at stage.Rest v page spare d fs e placed shows h = rest_holds (next_watch d.back) v spare d.keys h
-  back_holds_at stage.ReadState v page spare d fs e placed shows h = state_holds v spare d.keys fs e placed shows h
-  back_holds_at (stage.ReadKey k) v page spare d fs e placed shows h =
+  back_holds_at stage.Watch v page d fs e placed shows h = watch_holds v.state v _ refl placed.0 h
+  back_holds_at stage.Rest v page d fs e placed shows h = rest_holds (next_watch d.back) v d.keys h
+  back_holds_at stage.ReadState v page d fs e placed shows h = state_holds v d.keys fs e placed shows h
+  back_holds_at (stage.ReadKey k) v page d fs e placed shows h =
       let late = h.serving_after refl in
       let high : 3 ≤ state_number fs = subst (λ (m : ℕ). 3 ≤ m) e late.0 in
-      (key_holds k v spare d.keys placed.2 shows.order shows.fits (shows.said high late.1) h).0
-  back_holds_at stage.MapPage v page spare d fs e placed shows h = map_holds page v _ (nat_lt (length v.pages + 1) (length v.grefs)) h
-  back_holds_at stage.Bind v page spare d fs e placed shows h =
+      (key_holds k v d.keys placed.2 shows.order shows.fits (shows.said high late.1) h).0
+  back_holds_at stage.MapPage v page d fs e placed shows h = map_holds page v _ (nat_lt (length v.pages + 1) (length v.grefs)) h
+  back_holds_at stage.Bind v page d fs e placed shows h =
       record { own = h.own; offer = h.offer; disk = h.disk; serving_after = h.serving_after; halting_after = never; said = (h.said.0, tt); read = h.read }
-  back_holds_at (stage.PublishFact k) v page spare d fs e placed shows h = fact_holds k v d.keys h
-  back_holds_at stage.UnmapOthers v page spare d fs e placed shows h =
+  back_holds_at (stage.PublishFact k) v page d fs e placed shows h = fact_holds k v d.keys h
+  back_holds_at stage.UnmapOthers v page d fs e placed shows h =
       giving_holds v.pages v.bound v _ (record { own = h.own; offer = h.offer; same = h.disk; late = h.halting_after refl; said = h.said; serving = h.serving_after; read = h.read })
-  back_holds_at stage.UnmapPage v page spare d fs e placed shows h = unmap_holds v.pages v page spare d placed.1 h
-  back_holds_at stage.ClosePort v page spare d fs e placed shows h =
+  back_holds_at stage.UnmapPage v page d fs e placed shows h = unmap_holds v.pages v page d placed.1 h
+  back_holds_at stage.ClosePort v page d fs e placed shows h =
       last_holds v.state v.pages false v _ (record { own = h.own; offer = h.offer; same = h.disk; late = h.halting_after refl; said = h.said; serving = h.serving_after; read = h.read })
-  back_holds_at stage.Halted v page spare d fs e placed shows h = halted_holds (next_watch d.back) v spare d.keys h
+  back_holds_at stage.Halted v page d fs e placed shows h = halted_holds (next_watch d.back) v d.keys h

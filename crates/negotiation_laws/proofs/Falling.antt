@@ -29,7 +29,7 @@ use Rattle.xenbus_state.specs.FrontAsk as front_asks
 use Rattle.xenbus_state.specs.FrontAsk.{due, due_at, leaving, closing_stage}
 use Rattle.xenbus_state.specs.FrontStep as front_step
 use Rattle.xenbus_state.specs.FrontSound as front_sound
-use Rattle.negotiation_laws.specs.Negotiation.{Negotiation, front_path, front_state, back_path, back_state, handed, front_answered, front_done, front_woken}
+use Rattle.negotiation_laws.specs.Negotiation.{Negotiation, front_path, front_state, back_path, back_state, front_answered, front_done, front_woken}
 use Rattle.negotiation_laws.specs.Left.{front_rest_left, front_left, front_reading, back_left, back_reading, one_if, front_goes, left, goes}
 use Rattle.xenbus_state.specs.declared.offer.Features.{Features}
 use Rattle.xenbus_state.specs.declared.offer.DiskFacts.{DiskFacts}
@@ -126,20 +126,20 @@ IsProgram front.Closed = ⊥
 IsProgram (front.Broken word) = ⊥
 IsProgram s = Unit {0}
 
-front_falls : (s : FrontStage) (v : FrontView) (idle : Bool) (port : ℕ) (spare : List ℕ) (d : Directory) → IsProgram s → IsLow s → IsFrontWrite s
-    → front_sound.IsTimely s v.state → Falls s v.state (front_step.step_at s (front_step.at s v) idle (front_answered (front_asks.ask_at s v) port spare d))
-front_falls front.Start v idle port spare d program low writes timely = start_falls v timely
-front_falls (front.ReadFeature k) v idle port spare d program low writes timely = feature_falls k (count_read (handed spare (key_of d.keys (back_path k)))) v
-front_falls (front.RingWord word) v idle port spare d program low writes timely = word_falls word (word == 15) v refl low
-front_falls (front.Grant page) v idle port spare d program low writes timely = grant_falls page (nat_lt (page + 1) (pages_of v)) v low
-front_falls front.NewPort v idle port spare d program low writes timely = first_falls (ring_order v == 0) v port
-front_falls (front.Publish k) v idle port spare d program low writes timely = publish_falls k v low
-front_falls (front.ReadFact k) v idle port spare d program low writes timely = fact_falls k (fact_read k (handed spare (key_of d.keys (back_path k)))) v
-front_falls (front.WriteState s) v idle port spare d program low writes timely = written_falls s v writes
-front_falls (front.EndGrant page) v idle port spare d program low writes timely = end_falls page (nat_lt (page + 1) (pages_of v)) v low
-front_falls front.EndOtherGrants v idle port spare d program low writes timely = others_fall v.port v
-front_falls front.ClosePort v idle port spare d program low writes timely = record { less = omega arith; rests = refl }
-front_falls s v idle port spare d program low writes timely = absurd program
+front_falls : (s : FrontStage) (v : FrontView) (idle : Bool) (port : ℕ) (d : Directory) → IsProgram s → IsLow s → IsFrontWrite s
+    → front_sound.IsTimely s v.state → Falls s v.state (front_step.step_at s (front_step.at s v) idle (front_answered (front_asks.ask_at s v) port d))
+front_falls front.Start v idle port d program low writes timely = start_falls v timely
+front_falls (front.ReadFeature k) v idle port d program low writes timely = feature_falls k (count_read (key_of d.keys (back_path k))) v
+front_falls (front.RingWord word) v idle port d program low writes timely = word_falls word (word == 15) v refl low
+front_falls (front.Grant page) v idle port d program low writes timely = grant_falls page (nat_lt (page + 1) (pages_of v)) v low
+front_falls front.NewPort v idle port d program low writes timely = first_falls (ring_order v == 0) v port
+front_falls (front.Publish k) v idle port d program low writes timely = publish_falls k v low
+front_falls (front.ReadFact k) v idle port d program low writes timely = fact_falls k (fact_read k (key_of d.keys (back_path k))) v
+front_falls (front.WriteState s) v idle port d program low writes timely = written_falls s v writes
+front_falls (front.EndGrant page) v idle port d program low writes timely = end_falls page (nat_lt (page + 1) (pages_of v)) v low
+front_falls front.EndOtherGrants v idle port d program low writes timely = others_fall v.port v
+front_falls front.ClosePort v idle port d program low writes timely = record { less = omega arith; rests = refl }
+front_falls s v idle port d program low writes timely = absurd program
 
 -- what is due is no more than what is left at rest
 due_falls : (s : FrontStage) (v : FrontView) (idle : Bool) → IsFrontState v.state → front_sound.IsTimely s v.state → front_left (due_at s v idle) v.state ≤ front_left s v.state
@@ -257,29 +257,29 @@ front_fires (front_ask.SetKey k value) d s closing fs gone b q no_wait f g =
 front_fires a d s closing fs gone b q no_wait f g = omega arith
 
 -- the front waits
-rest_sum : (v : FrontView) (idle : Bool) (spare : List ℕ) (w : Watches) (A : Type 0) → Sees back_state w A
-    → let u = front_step.step_at front.Rest (front_step.at front.Rest v) idle (front_woken (next_watch w) spare) in
+rest_sum : (v : FrontView) (idle : Bool) (w : Watches) (A : Type 0) → Sees back_state w A
+    → let u = front_step.step_at front.Rest (front_step.at front.Rest v) idle (front_woken (next_watch w)) in
     one_if (has_pending w) + (3 * front_left u.stage u.state + front_reading u.stage + 2 * length (taken w).pending) ≤ 3 * front_rest_left v.state + 2 * length w.pending
-rest_sum v idle spare w A (inl e) =
-    subst (λ (x : Watches). let u = front_step.step_at front.Rest (front_step.at front.Rest v) idle (front_woken (next_watch x) spare) in one_if (has_pending x) + (3 * front_left u.stage u.state + front_reading u.stage + 2 * length (taken x).pending) ≤ 3 * front_rest_left v.state + 2 * length x.pending) (sym e) (omega arith)
-rest_sum v idle spare w A (inr (e, a)) =
-    subst (λ (x : Watches). let u = front_step.step_at front.Rest (front_step.at front.Rest v) idle (front_woken (next_watch x) spare) in one_if (has_pending x) + (3 * front_left u.stage u.state + front_reading u.stage + 2 * length (taken x).pending) ≤ 3 * front_rest_left v.state + 2 * length x.pending) (sym e) (omega arith)
+rest_sum v idle w A (inl e) =
+    subst (λ (x : Watches). let u = front_step.step_at front.Rest (front_step.at front.Rest v) idle (front_woken (next_watch x)) in one_if (has_pending x) + (3 * front_left u.stage u.state + front_reading u.stage + 2 * length (taken x).pending) ≤ 3 * front_rest_left v.state + 2 * length x.pending) (sym e) (omega arith)
+rest_sum v idle w A (inr (e, a)) =
+    subst (λ (x : Watches). let u = front_step.step_at front.Rest (front_step.at front.Rest v) idle (front_woken (next_watch x)) in one_if (has_pending x) + (3 * front_left u.stage u.state + front_reading u.stage + 2 * length (taken x).pending) ≤ 3 * front_rest_left v.state + 2 * length x.pending) (sym e) (omega arith)
 
-closed_sum : (v : FrontView) (idle : Bool) (spare : List ℕ) (w : Watches) (A : Type 0) → Sees back_state w A
-    → let u = front_step.step_at front.Closed (front_step.at front.Closed v) idle (front_woken (next_watch w) spare) in
+closed_sum : (v : FrontView) (idle : Bool) (w : Watches) (A : Type 0) → Sees back_state w A
+    → let u = front_step.step_at front.Closed (front_step.at front.Closed v) idle (front_woken (next_watch w)) in
     one_if (has_pending w) + (3 * front_left u.stage u.state + front_reading u.stage + 2 * length (taken w).pending) ≤ 0 + 2 * length w.pending
-closed_sum v idle spare w A (inl e) =
-    subst (λ (x : Watches). let u = front_step.step_at front.Closed (front_step.at front.Closed v) idle (front_woken (next_watch x) spare) in one_if (has_pending x) + (3 * front_left u.stage u.state + front_reading u.stage + 2 * length (taken x).pending) ≤ 0 + 2 * length x.pending) (sym e) (omega arith)
-closed_sum v idle spare w A (inr (e, a)) =
-    subst (λ (x : Watches). let u = front_step.step_at front.Closed (front_step.at front.Closed v) idle (front_woken (next_watch x) spare) in one_if (has_pending x) + (3 * front_left u.stage u.state + front_reading u.stage + 2 * length (taken x).pending) ≤ 0 + 2 * length x.pending) (sym e) (omega arith)
+closed_sum v idle w A (inl e) =
+    subst (λ (x : Watches). let u = front_step.step_at front.Closed (front_step.at front.Closed v) idle (front_woken (next_watch x)) in one_if (has_pending x) + (3 * front_left u.stage u.state + front_reading u.stage + 2 * length (taken x).pending) ≤ 0 + 2 * length x.pending) (sym e) (omega arith)
+closed_sum v idle w A (inr (e, a)) =
+    subst (λ (x : Watches). let u = front_step.step_at front.Closed (front_step.at front.Closed v) idle (front_woken (next_watch x)) in one_if (has_pending x) + (3 * front_left u.stage u.state + front_reading u.stage + 2 * length (taken x).pending) ≤ 0 + 2 * length x.pending) (sym e) (omega arith)
 
-broken_sum : (word : ℕ) (v : FrontView) (idle : Bool) (spare : List ℕ) (w : Watches) (A : Type 0) → Sees back_state w A
-    → let u = front_step.step_at (front.Broken word) (front_step.at (front.Broken word) v) idle (front_woken (next_watch w) spare) in
+broken_sum : (word : ℕ) (v : FrontView) (idle : Bool) (w : Watches) (A : Type 0) → Sees back_state w A
+    → let u = front_step.step_at (front.Broken word) (front_step.at (front.Broken word) v) idle (front_woken (next_watch w)) in
     one_if (has_pending w) + (3 * front_left u.stage u.state + front_reading u.stage + 2 * length (taken w).pending) ≤ 0 + 2 * length w.pending
-broken_sum word v idle spare w A (inl e) =
-    subst (λ (x : Watches). let u = front_step.step_at (front.Broken word) (front_step.at (front.Broken word) v) idle (front_woken (next_watch x) spare) in one_if (has_pending x) + (3 * front_left u.stage u.state + front_reading u.stage + 2 * length (taken x).pending) ≤ 0 + 2 * length x.pending) (sym e) (omega arith)
-broken_sum word v idle spare w A (inr (e, a)) =
-    subst (λ (x : Watches). let u = front_step.step_at (front.Broken word) (front_step.at (front.Broken word) v) idle (front_woken (next_watch x) spare) in one_if (has_pending x) + (3 * front_left u.stage u.state + front_reading u.stage + 2 * length (taken x).pending) ≤ 0 + 2 * length x.pending) (sym e) (omega arith)
+broken_sum word v idle w A (inl e) =
+    subst (λ (x : Watches). let u = front_step.step_at (front.Broken word) (front_step.at (front.Broken word) v) idle (front_woken (next_watch x)) in one_if (has_pending x) + (3 * front_left u.stage u.state + front_reading u.stage + 2 * length (taken x).pending) ≤ 0 + 2 * length x.pending) (sym e) (omega arith)
+broken_sum word v idle w A (inr (e, a)) =
+    subst (λ (x : Watches). let u = front_step.step_at (front.Broken word) (front_step.at (front.Broken word) v) idle (front_woken (next_watch x)) in one_if (has_pending x) + (3 * front_left u.stage u.state + front_reading u.stage + 2 * length (taken x).pending) ≤ 0 + 2 * length x.pending) (sym e) (omega arith)
 
 -- the back's state is read
 record Reads (own : BusState) (w : FrontView) : Type 0 where
@@ -314,44 +314,44 @@ read_sum : (less more most reads before here there other : ℕ) → less ≤ mor
 read_sum less more most reads before here there other a b c e = omega arith
 
 module _ (f : Features) (d : DiskFacts) (t : Negotiation) where
-  program_left : (s : FrontStage) (idle : Bool) (port : ℕ) (spare : List ℕ) (other : ℕ) → IsProgram s → (IsFrontWait (front_asks.ask_at s t.front) → ⊥)
+  program_left : (s : FrontStage) (idle : Bool) (port : ℕ) (other : ℕ) → IsProgram s → (IsFrontWait (front_asks.ask_at s t.front) → ⊥)
       → IsLow s → front_sound.IsTimely s t.front.state → IsFrontWrite s → front_left s t.front.state ≤ front_left t.front.stage t.front.state → Holds f d t
-      → let u = front_step.step_at s (front_step.at s t.front) idle (front_answered (front_asks.ask_at s t.front) port spare t.keys) in let k = front_done (front_asks.ask_at s t.front) t.keys in
+      → let u = front_step.step_at s (front_step.at s t.front) idle (front_answered (front_asks.ask_at s t.front) port t.keys) in let k = front_done (front_asks.ask_at s t.front) t.keys in
       one_if (front_goes (front_asks.ask_at s t.front) t.keys.front) + (3 * front_left u.stage u.state + front_reading u.stage + 2 * length k.front.pending + (other + 2 * length k.back.pending))
       ≤ 3 * front_left t.front.stage t.front.state + front_reading t.front.stage + 2 * length t.keys.front.pending + (other + 2 * length t.keys.back.pending)
-  program_left s idle port spare other program no_wait low timely writes begun h =
-      let falls = front_falls s t.front idle port spare t.keys program low writes timely in
+  program_left s idle port other program no_wait low timely writes begun h =
+      let falls = front_falls s t.front idle port t.keys program low writes timely in
       let fires = front_fires (front_asks.ask_at s t.front) t.keys t.front.stage t.front.closing t.front.state t.front.gone t.back.state t.back.stage no_wait h.front_sees h.back_sees in
       program_sum _ _ _ _ _ (front_reading t.front.stage) _ _ _ _ other (one_at_most (front_goes (front_asks.ask_at s t.front) t.keys.front)) falls.less begun falls.rests fires
 
   -- all stages together
-  Lowers : FrontStage → (idle : Bool) (port : ℕ) (spare : List ℕ) (other : ℕ) → Type 0
-  Lowers s idle port spare other =
-      let u = front_step.step_at s (front_step.at s t.front) idle (front_answered (front_asks.ask_at s t.front) port spare t.keys) in let k = front_done (front_asks.ask_at s t.front) t.keys in
+  Lowers : FrontStage → (idle : Bool) (port : ℕ) (other : ℕ) → Type 0
+  Lowers s idle port other =
+      let u = front_step.step_at s (front_step.at s t.front) idle (front_answered (front_asks.ask_at s t.front) port t.keys) in let k = front_done (front_asks.ask_at s t.front) t.keys in
       one_if (front_goes (front_asks.ask_at s t.front) t.keys.front) + (3 * front_left u.stage u.state + front_reading u.stage + 2 * length k.front.pending + (other + 2 * length k.back.pending))
       ≤ 3 * front_left t.front.stage t.front.state + front_reading t.front.stage + 2 * length t.keys.front.pending + (other + 2 * length t.keys.back.pending)
 
-  state_left : (idle : Bool) (port : ℕ) (spare : List ℕ) (other : ℕ) → front_rest_left t.front.state ≤ front_left t.front.stage t.front.state
-      → 1 ≤ front_reading t.front.stage → Holds f d t → Lowers front.ReadState idle port spare other
+  state_left : (idle : Bool) (port : ℕ) (other : ℕ) → front_rest_left t.front.state ≤ front_left t.front.stage t.front.state
+      → 1 ≤ front_reading t.front.stage → Holds f d t → Lowers front.ReadState idle port other
   unfolding Lowers
-  state_left idle port spare other begun reading h =
-      let reads = subst (λ (r : Option BusState). Reads t.front.state (front_step.acted (front_action t.front.state t.front.closing idle r) (front_step.at front.ReadState t.front))) (sym (state_shown spare (key_of t.keys.keys back_state) t.back.state h.states.back))
+  state_left idle port other begun reading h =
+      let reads = subst (λ (r : Option BusState). Reads t.front.state (front_step.acted (front_action t.front.state t.front.closing idle r) (front_step.at front.ReadState t.front))) (sym (state_shown (key_of t.keys.keys back_state) t.back.state h.states.back))
       (acted_reads (front_action t.front.state t.front.closing idle (Some t.back.state)) t.front idle t.back.state (front_acts_now f d t idle h)) in
       read_sum _ (front_rest_left t.front.state) (front_left t.front.stage t.front.state) _ (front_reading t.front.stage) (length t.keys.front.pending) (length t.keys.back.pending) other reads.less begun reads.rests reading
 
-  lowers_at : (s : FrontStage) (idle : Bool) (port : ℕ) (spare : List ℕ) (other : ℕ) → IsLow s → front_sound.IsTimely s t.front.state → IsFrontWrite s
+  lowers_at : (s : FrontStage) (idle : Bool) (port : ℕ) (other : ℕ) → IsLow s → front_sound.IsTimely s t.front.state → IsFrontWrite s
       → front_left s t.front.state ≤ front_left t.front.stage t.front.state → front_reading s ≤ front_reading t.front.stage
-      → FrontSees s t.front.closing t.front.state t.front.gone t.back.state t.keys.front → Holds f d t → Lowers s idle port spare other
+      → FrontSees s t.front.closing t.front.state t.front.gone t.back.state t.keys.front → Holds f d t → Lowers s idle port other
   unfolding Lowers
-  lowers_at front.Rest idle port spare other low timely writes begun reading sees h =
-      wait_sum _ (3 * front_rest_left t.front.state) (3 * front_left t.front.stage t.front.state) (front_reading t.front.stage) (length t.keys.front.pending) (length t.keys.back.pending) other (one_if (has_pending t.keys.front)) (rest_sum t.front idle spare t.keys.front (FrontHeard front.Rest t.front.closing t.front.state t.front.gone t.back.state) sees) (omega arith)
-  lowers_at front.ReadState idle port spare other low timely writes begun reading sees h = state_left idle port spare other begun reading h
-  lowers_at front.Closed idle port spare other low timely writes begun reading sees h =
-      wait_sum _ 0 (3 * front_left t.front.stage t.front.state) (front_reading t.front.stage) (length t.keys.front.pending) (length t.keys.back.pending) other (one_if (has_pending t.keys.front)) (closed_sum t.front idle spare t.keys.front (Unit {0}) sees) (omega arith)
-  lowers_at (front.Broken word) idle port spare other low timely writes begun reading sees h =
-      wait_sum _ 0 (3 * front_left t.front.stage t.front.state) (front_reading t.front.stage) (length t.keys.front.pending) (length t.keys.back.pending) other (one_if (has_pending t.keys.front)) (broken_sum word t.front idle spare t.keys.front (Unit {0}) sees) (omega arith)
-  lowers_at front.Start idle port spare other low timely writes begun reading sees h = program_left front.Start idle port spare other tt (λ w. w) low timely writes begun h
-  lowers_at s idle port spare other low timely writes begun reading sees h = program_left s idle port spare other tt (λ w. w) low timely writes begun h
+  lowers_at front.Rest idle port other low timely writes begun reading sees h =
+      wait_sum _ (3 * front_rest_left t.front.state) (3 * front_left t.front.stage t.front.state) (front_reading t.front.stage) (length t.keys.front.pending) (length t.keys.back.pending) other (one_if (has_pending t.keys.front)) (rest_sum t.front idle t.keys.front (FrontHeard front.Rest t.front.closing t.front.state t.front.gone t.back.state) sees) (omega arith)
+  lowers_at front.ReadState idle port other low timely writes begun reading sees h = state_left idle port other begun reading h
+  lowers_at front.Closed idle port other low timely writes begun reading sees h =
+      wait_sum _ 0 (3 * front_left t.front.stage t.front.state) (front_reading t.front.stage) (length t.keys.front.pending) (length t.keys.back.pending) other (one_if (has_pending t.keys.front)) (closed_sum t.front idle t.keys.front (Unit {0}) sees) (omega arith)
+  lowers_at (front.Broken word) idle port other low timely writes begun reading sees h =
+      wait_sum _ 0 (3 * front_left t.front.stage t.front.state) (front_reading t.front.stage) (length t.keys.front.pending) (length t.keys.back.pending) other (one_if (has_pending t.keys.front)) (broken_sum word t.front idle t.keys.front (Unit {0}) sees) (omega arith)
+  lowers_at front.Start idle port other low timely writes begun reading sees h = program_left front.Start idle port other tt (λ w. w) low timely writes begun h
+  lowers_at s idle port other low timely writes begun reading sees h = program_left s idle port other tt (λ w. w) low timely writes begun h
 
 due_reading : (s : FrontStage) (v : FrontView) (idle : Bool) → front_reading (due_at s v idle) ≤ front_reading s
 due_reading front.Rest v idle = by_test (v.closing && idle)
@@ -371,15 +371,15 @@ due_reading front.Rest v idle = by_test (v.closing && idle)
 due_reading s v idle = omega arith
 
 -- a move of the front
-pub front_move_left : (f : Features) (d : DiskFacts) (t : Negotiation) (idle : Bool) (port : ℕ) (spare : List ℕ) → Holds f d t
-    → one_if (goes (FrontMoves idle port spare) t) + left (front_moved idle port spare t) ≤ left t
+pub front_move_left : (f : Features) (d : DiskFacts) (t : Negotiation) (idle : Bool) (port : ℕ) → Holds f d t
+    → one_if (goes (FrontMoves idle port) t) + left (front_moved idle port t) ≤ left t
 unfolding Lowers
-front_move_left f d t idle port spare h =
+front_move_left f d t idle port h =
     let v = t.front in
     let s = due v idle in
     let texts = front_texts t.keys.keys in
     let own = due_holds (state_number t.back.state) f d v.stage v idle texts h.front in
-    lowers_at f d t s idle port spare (3 * back_left t.back.stage t.back.state (length t.back.pages) + back_reading t.back.stage)
+    lowers_at f d t s idle port (3 * back_left t.back.stage t.back.state (length t.back.pages) + back_reading t.back.stage)
     (due_low v.stage v idle texts h.front_sound.placed h.front.said (few_orders v h.front_sound.order))
     (due_timely v.stage v idle h.front_sound.timely)
     own.writes

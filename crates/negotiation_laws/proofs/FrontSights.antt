@@ -20,7 +20,7 @@ use Rattle.xenbus_state.specs.FrontView.{FrontView, ring_order, pages_of, terms_
 use Rattle.xenbus_state.specs.FrontAsk.{due_at, leaving, closing_stage, ask_at}
 use Rattle.xenbus_state.specs.FrontStep.{at, step_at, acted, feature_step, fact_step, written, after_published, after_grants}
 use Rattle.xenbus_state.specs.FrontSound.{IsTimely}
-use Rattle.negotiation_laws.specs.Negotiation.{front_path, back_path, front_state, back_state, handed, front_woken, front_answered, front_done}
+use Rattle.negotiation_laws.specs.Negotiation.{front_path, back_path, front_state, back_state, front_woken, front_answered, front_done}
 use Rattle.negotiation_laws.proofs.FrontActs.{ActsFor, states_differ}
 use Rattle.negotiation_laws.specs.Negotiation.{state_text}
 use Rattle.negotiation_laws.proofs.Shown.{state_shown}
@@ -143,51 +143,51 @@ module _ (b : BusState) where
   written_sees state.Reconfigured v w writes leaves_open h = absurd writes
 
   -- the front waits: its watch is taken, or it stays as it is
-  woken : (v : FrontView) (idle : Bool) (spare : List ℕ) (w : Watches) → Sees back_state w (RestHeard v.closing v.state v.gone b)
-      → Sight (step_at stage.Rest (at stage.Rest v) idle (front_woken (next_watch w) spare)) b (taken w)
-  woken v idle spare w (inl e) = subst (λ (u : Watches). Sight (step_at stage.Rest (at stage.Rest v) idle (front_woken (next_watch u) spare)) b (taken u)) (sym e) (inr (refl, tt))
-  woken v idle spare w (inr (e, heard)) =
-      subst (λ (u : Watches). Sight (step_at stage.Rest (at stage.Rest v) idle (front_woken (next_watch u) spare)) b (taken u)) (sym e) (inr (refl, heard))
+  woken : (v : FrontView) (idle : Bool) (w : Watches) → Sees back_state w (RestHeard v.closing v.state v.gone b)
+      → Sight (step_at stage.Rest (at stage.Rest v) idle (front_woken (next_watch w))) b (taken w)
+  woken v idle w (inl e) = subst (λ (u : Watches). Sight (step_at stage.Rest (at stage.Rest v) idle (front_woken (next_watch u))) b (taken u)) (sym e) (inr (refl, tt))
+  woken v idle w (inr (e, heard)) =
+      subst (λ (u : Watches). Sight (step_at stage.Rest (at stage.Rest v) idle (front_woken (next_watch u))) b (taken u)) (sym e) (inr (refl, heard))
 
-  closed_sees : (o : Option (List ℕ)) (v : FrontView) (idle : Bool) (spare : List ℕ) (w : Watches) → Sees back_state w (Unit {0})
-      → Sight (step_at stage.Closed (at stage.Closed v) idle (front_woken o spare)) b (taken w)
-  closed_sees None v idle spare w h = sees_taken back_state w (Unit {0}) h
-  closed_sees (Some path) v idle spare w h = sees_taken back_state w (Unit {0}) h
+  closed_sees : (o : Option (List ℕ)) (v : FrontView) (idle : Bool) (w : Watches) → Sees back_state w (Unit {0})
+      → Sight (step_at stage.Closed (at stage.Closed v) idle (front_woken o)) b (taken w)
+  closed_sees None v idle w h = sees_taken back_state w (Unit {0}) h
+  closed_sees (Some path) v idle w h = sees_taken back_state w (Unit {0}) h
 
-  broken_sees : (word : ℕ) (o : Option (List ℕ)) (v : FrontView) (idle : Bool) (spare : List ℕ) (w : Watches) → Sees back_state w (Unit {0})
-      → Sight (step_at (stage.Broken word) (at (stage.Broken word) v) idle (front_woken o spare)) b (taken w)
-  broken_sees word None v idle spare w h = sees_taken back_state w (Unit {0}) h
-  broken_sees word (Some path) v idle spare w h = sees_taken back_state w (Unit {0}) h
+  broken_sees : (word : ℕ) (o : Option (List ℕ)) (v : FrontView) (idle : Bool) (w : Watches) → Sees back_state w (Unit {0})
+      → Sight (step_at (stage.Broken word) (at (stage.Broken word) v) idle (front_woken o)) b (taken w)
+  broken_sees word None v idle w h = sees_taken back_state w (Unit {0}) h
+  broken_sees word (Some path) v idle w h = sees_taken back_state w (Unit {0}) h
 
-  state_sees : (v : FrontView) (idle : Bool) (spare : List ℕ) (o : Option (List ℕ)) (w : Watches) → o ≡ Some (state_text b)
+  state_sees : (v : FrontView) (idle : Bool) (o : Option (List ℕ)) (w : Watches) → o ≡ Some (state_text b)
       → ActsFor (front_action v.state v.closing idle (Some b)) v.state v.closing v.gone idle b → Sees back_state w (Unit {0})
-      → Sight (acted (front_action v.state v.closing idle (state_read (handed spare o))) (at stage.ReadState v)) b w
-  state_sees v idle spare o w shown acts h =
-      subst (λ (r : Option BusState). Sight (acted (front_action v.state v.closing idle r) (at stage.ReadState v)) b w) (sym (state_shown spare o b shown)) (acted_sees (front_action v.state v.closing idle (Some b)) v idle w acts h)
+      → Sight (acted (front_action v.state v.closing idle (state_read o)) (at stage.ReadState v)) b w
+  state_sees v idle o w shown acts h =
+      subst (λ (r : Option BusState). Sight (acted (front_action v.state v.closing idle r) (at stage.ReadState v)) b w) (sym (state_shown o b shown)) (acted_sees (front_action v.state v.closing idle (Some b)) v idle w acts h)
 
   -- each move of the front
-  pub front_sees_at : (s : FrontStage) (v : FrontView) (idle : Bool) (port : ℕ) (spare : List ℕ) (d : Directory)
+  pub front_sees_at : (s : FrontStage) (v : FrontView) (idle : Bool) (port : ℕ) (d : Directory)
       → key_of d.keys back_state ≡ Some (state_text b) → ActsFor (front_action v.state v.closing idle (Some b)) v.state v.closing v.gone idle b
       → IsFrontWrite s → (v.closing ≡ false → IsOpenAt s) → FrontSees s v.closing v.state v.gone b d.front
-      → Sight (step_at s (at s v) idle (front_answered (ask_at s v) port spare d)) b (front_done (ask_at s v) d).front
-  front_sees_at stage.Start v idle port spare d shown acts writes leaves_open h = inl (ap (λ (u : Watches). with_watch u back_state) h)
-  front_sees_at stage.Rest v idle port spare d shown acts writes leaves_open h = woken v idle spare d.front h
-  front_sees_at stage.ReadState v idle port spare d shown acts writes leaves_open h = state_sees v idle spare (key_of d.keys back_state) d.front shown acts h
-  front_sees_at (stage.ReadFeature k) v idle port spare d shown acts writes leaves_open h = feature_sees k (count_read (handed spare (key_of d.keys (back_path k)))) v d.front h
-  front_sees_at (stage.RingWord word) v idle port spare d shown acts writes leaves_open h = word_sees word (word == 15) v d.front h
-  front_sees_at (stage.Grant page) v idle port spare d shown acts writes leaves_open h = grant_sees page (nat_lt (page + 1) (pages_of v)) v d.front h
-  front_sees_at stage.NewPort v idle port spare d shown acts writes leaves_open h = h
-  front_sees_at (stage.Publish k) v idle port spare d shown acts writes leaves_open h =
+      → Sight (step_at s (at s v) idle (front_answered (ask_at s v) port d)) b (front_done (ask_at s v) d).front
+  front_sees_at stage.Start v idle port d shown acts writes leaves_open h = inl (ap (λ (u : Watches). with_watch u back_state) h)
+  front_sees_at stage.Rest v idle port d shown acts writes leaves_open h = woken v idle d.front h
+  front_sees_at stage.ReadState v idle port d shown acts writes leaves_open h = state_sees v idle (key_of d.keys back_state) d.front shown acts h
+  front_sees_at (stage.ReadFeature k) v idle port d shown acts writes leaves_open h = feature_sees k (count_read (key_of d.keys (back_path k))) v d.front h
+  front_sees_at (stage.RingWord word) v idle port d shown acts writes leaves_open h = word_sees word (word == 15) v d.front h
+  front_sees_at (stage.Grant page) v idle port d shown acts writes leaves_open h = grant_sees page (nat_lt (page + 1) (pages_of v)) v d.front h
+  front_sees_at stage.NewPort v idle port d shown acts writes leaves_open h = h
+  front_sees_at (stage.Publish k) v idle port d shown acts writes leaves_open h =
       publish_sees (next_published (ring_order v) k) v (fired d.front (front_path k)) (sees_kept back_state (front_path k) d.front (b ≡ state.InitWait) refl h)
-  front_sees_at (stage.ReadFact k) v idle port spare d shown acts writes leaves_open h = fact_sees k (fact_read k (handed spare (key_of d.keys (back_path k)))) v d.front h
-  front_sees_at (stage.WriteState s) v idle port spare d shown acts writes leaves_open h =
+  front_sees_at (stage.ReadFact k) v idle port d shown acts writes leaves_open h = fact_sees k (fact_read k (key_of d.keys (back_path k))) v d.front h
+  front_sees_at (stage.WriteState s) v idle port d shown acts writes leaves_open h =
       let w = written s (at (stage.WriteState s) v) in
       front_sees_kept front_state w.stage w.closing w.state w.gone b d.front refl (written_sees s v d.front writes leaves_open h)
-  front_sees_at (stage.EndGrant page) v idle port spare d shown acts writes leaves_open h = end_sees page (nat_lt (page + 1) (pages_of v)) v d.front h
-  front_sees_at stage.EndOtherGrants v idle port spare d shown acts writes leaves_open h = others_see v.port v d.front h
-  front_sees_at stage.ClosePort v idle port spare d shown acts writes leaves_open h = h
-  front_sees_at stage.Closed v idle port spare d shown acts writes leaves_open h = closed_sees (next_watch d.front) v idle spare d.front h
-  front_sees_at (stage.Broken word) v idle port spare d shown acts writes leaves_open h = broken_sees word (next_watch d.front) v idle spare d.front h
+  front_sees_at (stage.EndGrant page) v idle port d shown acts writes leaves_open h = end_sees page (nat_lt (page + 1) (pages_of v)) v d.front h
+  front_sees_at stage.EndOtherGrants v idle port d shown acts writes leaves_open h = others_see v.port v d.front h
+  front_sees_at stage.ClosePort v idle port d shown acts writes leaves_open h = h
+  front_sees_at stage.Closed v idle port d shown acts writes leaves_open h = closed_sees (next_watch d.front) v idle d.front h
+  front_sees_at (stage.Broken word) v idle port d shown acts writes leaves_open h = broken_sees word (next_watch d.front) v idle d.front h
 
 -- a front that has published keeps its port and its terms until it leaves
 pub record KeepsTerms (v w : FrontView) : Type 0 where
@@ -207,31 +207,31 @@ fact_keeps : (k : BackKey) (o : Option ℕ) (v : FrontView) → KeepsTerms v (fa
 fact_keeps k None v = record { port = refl; terms = refl }
 fact_keeps k (Some m) v = record { port = refl; terms = refl }
 
-woken_keeps : (s : FrontStage) (o : Option (List ℕ)) (v : FrontView) (idle : Bool) (spare : List ℕ) → KeepsTerms v (step_at s (at s v) idle (front_woken o spare))
-woken_keeps stage.Rest None v idle spare = record { port = refl; terms = refl }
-woken_keeps stage.Rest (Some path) v idle spare = record { port = refl; terms = refl }
-woken_keeps s None v idle spare = record { port = refl; terms = refl }
-woken_keeps s (Some path) v idle spare = record { port = refl; terms = refl }
+woken_keeps : (s : FrontStage) (o : Option (List ℕ)) (v : FrontView) (idle : Bool) → KeepsTerms v (step_at s (at s v) idle (front_woken o))
+woken_keeps stage.Rest None v idle = record { port = refl; terms = refl }
+woken_keeps stage.Rest (Some path) v idle = record { port = refl; terms = refl }
+woken_keeps s None v idle = record { port = refl; terms = refl }
+woken_keeps s (Some path) v idle = record { port = refl; terms = refl }
 
 early : (own : BusState) → own ≡ state.Initialising → 3 ≤ state_number own → ⊥
 early own e late = let low : state_number own ≡ 1 = rw e refl in omega arith
 
 -- at each move
-pub front_keeps_terms : (s : FrontStage) (v : FrontView) (idle : Bool) (port : ℕ) (spare : List ℕ) (d : Directory) (n : ℕ) → IsTimely s v.state
-    → 3 ≤ state_number v.state → stage_needs s ≤ n → n < 6 → KeepsTerms v (step_at s (at s v) idle (front_answered (ask_at s v) port spare d))
-front_keeps_terms stage.Start v idle port spare d n timely late after low = record { port = refl; terms = refl }
-front_keeps_terms stage.Rest v idle port spare d n timely late after low = woken_keeps stage.Rest (next_watch d.front) v idle spare
-front_keeps_terms stage.ReadState v idle port spare d n timely late after low =
-    acted_keeps (front_action v.state v.closing idle (state_read (handed spare (key_of d.keys back_state)))) v
-front_keeps_terms (stage.ReadFeature k) v idle port spare d n timely late after low = absurd (early v.state timely late)
-front_keeps_terms (stage.RingWord word) v idle port spare d n timely late after low = record { port = refl; terms = refl }
-front_keeps_terms (stage.Grant page) v idle port spare d n timely late after low = record { port = refl; terms = refl }
-front_keeps_terms stage.NewPort v idle port spare d n timely late after low = absurd (early v.state timely late)
-front_keeps_terms (stage.Publish k) v idle port spare d n timely late after low = record { port = refl; terms = refl }
-front_keeps_terms (stage.ReadFact k) v idle port spare d n timely late after low = fact_keeps k (fact_read k (handed spare (key_of d.keys (back_path k)))) v
-front_keeps_terms (stage.WriteState s) v idle port spare d n timely late after low = record { port = refl; terms = refl }
-front_keeps_terms (stage.EndGrant page) v idle port spare d n timely late after low = record { port = refl; terms = refl }
-front_keeps_terms stage.EndOtherGrants v idle port spare d n timely late after low = record { port = refl; terms = refl }
-front_keeps_terms stage.ClosePort v idle port spare d n timely late after low = absurd (omega arith)
-front_keeps_terms stage.Closed v idle port spare d n timely late after low = woken_keeps stage.Closed (next_watch d.front) v idle spare
-front_keeps_terms (stage.Broken word) v idle port spare d n timely late after low = woken_keeps (stage.Broken word) (next_watch d.front) v idle spare
+pub front_keeps_terms : (s : FrontStage) (v : FrontView) (idle : Bool) (port : ℕ) (d : Directory) (n : ℕ) → IsTimely s v.state
+    → 3 ≤ state_number v.state → stage_needs s ≤ n → n < 6 → KeepsTerms v (step_at s (at s v) idle (front_answered (ask_at s v) port d))
+front_keeps_terms stage.Start v idle port d n timely late after low = record { port = refl; terms = refl }
+front_keeps_terms stage.Rest v idle port d n timely late after low = woken_keeps stage.Rest (next_watch d.front) v idle
+front_keeps_terms stage.ReadState v idle port d n timely late after low =
+    acted_keeps (front_action v.state v.closing idle (state_read (key_of d.keys back_state))) v
+front_keeps_terms (stage.ReadFeature k) v idle port d n timely late after low = absurd (early v.state timely late)
+front_keeps_terms (stage.RingWord word) v idle port d n timely late after low = record { port = refl; terms = refl }
+front_keeps_terms (stage.Grant page) v idle port d n timely late after low = record { port = refl; terms = refl }
+front_keeps_terms stage.NewPort v idle port d n timely late after low = absurd (early v.state timely late)
+front_keeps_terms (stage.Publish k) v idle port d n timely late after low = record { port = refl; terms = refl }
+front_keeps_terms (stage.ReadFact k) v idle port d n timely late after low = fact_keeps k (fact_read k (key_of d.keys (back_path k))) v
+front_keeps_terms (stage.WriteState s) v idle port d n timely late after low = record { port = refl; terms = refl }
+front_keeps_terms (stage.EndGrant page) v idle port d n timely late after low = record { port = refl; terms = refl }
+front_keeps_terms stage.EndOtherGrants v idle port d n timely late after low = record { port = refl; terms = refl }
+front_keeps_terms stage.ClosePort v idle port d n timely late after low = absurd (omega arith)
+front_keeps_terms stage.Closed v idle port d n timely late after low = woken_keeps stage.Closed (next_watch d.front) v idle
+front_keeps_terms (stage.Broken word) v idle port d n timely late after low = woken_keeps (stage.Broken word) (next_watch d.front) v idle

@@ -28,7 +28,7 @@ use Rattle.xenbus_state.specs.FrontAsk.{due_at, leaving, closing_stage, ask_at}
 use Rattle.xenbus_state.specs.FrontStep.{at, step_at, acted, feature_step, fact_step, written, after_published, after_grants}
 use Rattle.xenbus_state.specs.FrontSound.{IsTimely}
 use Rattle.xenbus_state.proofs.Powers.{few_pages}
-use Rattle.negotiation_laws.specs.Negotiation.{front_path, back_path, back_state, state_text, handed, front_woken, front_answered, front_done}
+use Rattle.negotiation_laws.specs.Negotiation.{front_path, back_path, back_state, state_text, front_woken, front_answered, front_done}
 use Rattle.negotiation_laws.specs.Said.{front_texts, back_texts, FrontSays, IsRingSaid, AreTermsSaid, AreFeaturesSaid, AreFactsSaid}
 use Rattle.negotiation_laws.proofs.Keys.{front_texts_state, front_kept, front_said, no_order_kept, ring_kept}
 use Rattle.negotiation_laws.proofs.Shown.{state_shown, count_shown, flag_shown, is_there, is_one, sectors_shown, size_shown, info_shown, is_four}
@@ -137,13 +137,13 @@ module _ (n : ℕ) (f : Features) (disk : DiskFacts) where
       let high : 5 ≤ state_number v.state = closed (rw acts.0 (omega arith)) in
       goes stage.ReadState (stage.Broken word) v texts h tt six (λ o. absurd (let low = (h.leaves_open o).0 in omega arith)) h.said h.read
 
-  state_holds : (v : FrontView) (idle : Bool) (spare : List ℕ) (keys : List (List ℕ × List ℕ)) (b : BusState) → n ≡ state_number b
+  state_holds : (v : FrontView) (idle : Bool) (keys : List (List ℕ × List ℕ)) (b : BusState) → n ≡ state_number b
       → BackShows keys b v.state f disk → FrontHolds stage.ReadState v n f disk (front_texts keys)
-      → Stands (acted (front_action v.state v.closing idle (state_read (handed spare (key_of keys back_state)))) (at stage.ReadState v)) keys
-  state_holds v idle spare keys b e shows h =
+      → Stands (acted (front_action v.state v.closing idle (state_read (key_of keys back_state))) (at stage.ReadState v)) keys
+  state_holds v idle keys b e shows h =
       let after : state_needs v.state ≤ state_number b = subst (λ (m : ℕ). state_needs v.state ≤ m) e h.state_after in
       let acts = front_acts b v.state v.closing v.gone idle shows.honest h.own after shows.connected (λ o. (h.leaves_open o).0) in
-      subst (λ (r : Option BusState). Stands (acted (front_action v.state v.closing idle r) (at stage.ReadState v)) keys) (sym (state_shown spare (key_of keys back_state) b shows.state))
+      subst (λ (r : Option BusState). Stands (acted (front_action v.state v.closing idle r) (at stage.ReadState v)) keys) (sym (state_shown (key_of keys back_state) b shows.state))
       (acted_holds (front_action v.state v.closing idle (Some b)) v idle b (front_texts keys) e acts shows.closed h)
 
   -- a feature of the back is read
@@ -157,34 +157,34 @@ module _ (n : ℕ) (f : Features) (disk : DiskFacts) where
   features_end k v r texts h read =
       record { own = h.own; writes = tt; stage_after = h.stage_after; state_after = h.state_after; gone_after = h.gone_after; leaves_open = h.leaves_open; fits = h.fits; said = h.said; read = read }
 
-  pub feature_holds : (k : BackKey) (v : FrontView) (spare : List ℕ) (keys : List (List ℕ × List ℕ)) → f.indirect < 2 ^ 32 → f.order < 2 ^ 32
+  pub feature_holds : (k : BackKey) (v : FrontView) (keys : List (List ℕ × List ℕ)) → f.indirect < 2 ^ 32 → f.order < 2 ^ 32
       → AreFeaturesSaid (back_texts keys) f disk → FrontHolds (stage.ReadFeature k) v n f disk (front_texts keys)
-      → Stands (feature_step k (count_read (handed spare (key_of keys (back_path k)))) (at (stage.ReadFeature k) v)) keys
-  feature_holds k v spare keys indirect order says h = by_key k h
+      → Stands (feature_step k (count_read (key_of keys (back_path k))) (at (stage.ReadFeature k) v)) keys
+  feature_holds k v keys indirect order says h = by_key k h
     where
-      shown : (k : BackKey) (m : ℕ) → count_read (handed spare (key_of keys (back_path k))) ≡ Some m
+      shown : (k : BackKey) (m : ℕ) → count_read (key_of keys (back_path k)) ≡ Some m
           → Stands (feature_step k (Some m) (at (stage.ReadFeature k) v)) keys
-          → Stands (feature_step k (count_read (handed spare (key_of keys (back_path k)))) (at (stage.ReadFeature k) v)) keys
+          → Stands (feature_step k (count_read (key_of keys (back_path k))) (at (stage.ReadFeature k) v)) keys
       shown k m e h = subst (λ (r : Option ℕ). Stands (feature_step k r (at (stage.ReadFeature k) v)) keys) (sym e) h
 
       by_key : (k : BackKey) → FrontHolds (stage.ReadFeature k) v n f disk (front_texts keys)
-          → Stands (feature_step k (count_read (handed spare (key_of keys (back_path k)))) (at (stage.ReadFeature k) v)) keys
+          → Stands (feature_step k (count_read (key_of keys (back_path k))) (at (stage.ReadFeature k) v)) keys
       by_key back_key.FeatureBarrier h =
-          shown back_key.FeatureBarrier (flag_of f.barrier) (flag_shown spare _ f.barrier says.barrier) (feature_next back_key.FeatureBarrier back_key.FeatureFlushCache v _ _ h (is_there f.barrier))
+          shown back_key.FeatureBarrier (flag_of f.barrier) (flag_shown _ f.barrier says.barrier) (feature_next back_key.FeatureBarrier back_key.FeatureFlushCache v _ _ h (is_there f.barrier))
       by_key back_key.FeatureFlushCache h =
-          shown back_key.FeatureFlushCache (flag_of f.flush) (flag_shown spare _ f.flush says.flush) (feature_next back_key.FeatureFlushCache back_key.FeatureDiscard v _ _ h (h.read, is_there f.flush))
+          shown back_key.FeatureFlushCache (flag_of f.flush) (flag_shown _ f.flush says.flush) (feature_next back_key.FeatureFlushCache back_key.FeatureDiscard v _ _ h (h.read, is_there f.flush))
       by_key back_key.FeatureDiscard h =
-          shown back_key.FeatureDiscard (flag_of f.discard) (flag_shown spare _ f.discard says.discard) (feature_next back_key.FeatureDiscard back_key.FeaturePersistent v _ _ h (h.read.0, h.read.1, is_there f.discard))
+          shown back_key.FeatureDiscard (flag_of f.discard) (flag_shown _ f.discard says.discard) (feature_next back_key.FeatureDiscard back_key.FeaturePersistent v _ _ h (h.read.0, h.read.1, is_there f.discard))
       by_key back_key.FeaturePersistent h =
           let r = h.read in
-          shown back_key.FeaturePersistent (flag_of f.persistent) (flag_shown spare _ f.persistent says.persistent) (feature_next back_key.FeaturePersistent back_key.FeatureMaxIndirectSegments v _ _ h (r.0, r.1, r.2, is_one f.persistent))
+          shown back_key.FeaturePersistent (flag_of f.persistent) (flag_shown _ f.persistent says.persistent) (feature_next back_key.FeaturePersistent back_key.FeatureMaxIndirectSegments v _ _ h (r.0, r.1, r.2, is_one f.persistent))
       by_key back_key.FeatureMaxIndirectSegments h =
           let r = h.read in
-          shown back_key.FeatureMaxIndirectSegments f.indirect (count_shown spare _ f.indirect indirect says.indirect) (feature_next back_key.FeatureMaxIndirectSegments back_key.MaxRingPageOrder v _ _ h (r.0, r.1, r.2, r.3, refl))
+          shown back_key.FeatureMaxIndirectSegments f.indirect (count_shown _ f.indirect indirect says.indirect) (feature_next back_key.FeatureMaxIndirectSegments back_key.MaxRingPageOrder v _ _ h (r.0, r.1, r.2, r.3, refl))
       by_key back_key.MaxRingPageOrder h =
           let r = h.read in
           let all : with_feature v.features back_key.MaxRingPageOrder f.order ≡ f = λ i. record { barrier = r.0 i; flush = r.1 i; discard = r.2 i; persistent = r.3 i; indirect = r.4 i; order = f.order } in
-          shown back_key.MaxRingPageOrder f.order (count_shown spare _ f.order order says.order) (features_end back_key.MaxRingPageOrder v _ _ h all)
+          shown back_key.MaxRingPageOrder f.order (count_shown _ f.order order says.order) (features_end back_key.MaxRingPageOrder v _ _ h all)
       by_key k h = absurd h.read
 
   -- a fact of its disk is read
@@ -198,25 +198,25 @@ module _ (n : ℕ) (f : Features) (disk : DiskFacts) where
   facts_end k v e texts h read =
       record { own = h.own; writes = tt; stage_after = h.stage_after; state_after = h.state_after; gone_after = h.gone_after; leaves_open = h.leaves_open; fits = h.fits; said = h.said; read = (h.read.0, read) }
 
-  pub fact_holds : (k : BackKey) (v : FrontView) (spare : List ℕ) (keys : List (List ℕ × List ℕ)) → disk.sectors < 2 ^ 64
+  pub fact_holds : (k : BackKey) (v : FrontView) (keys : List (List ℕ × List ℕ)) → disk.sectors < 2 ^ 64
       → AreFactsSaid (back_texts keys) f disk → FrontHolds (stage.ReadFact k) v n f disk (front_texts keys)
-      → Stands (fact_step k (fact_read k (handed spare (key_of keys (back_path k)))) (at (stage.ReadFact k) v)) keys
-  fact_holds k v spare keys sectors says h = by_key k h
+      → Stands (fact_step k (fact_read k (key_of keys (back_path k))) (at (stage.ReadFact k) v)) keys
+  fact_holds k v keys sectors says h = by_key k h
     where
-      shown : (k : BackKey) (m : ℕ) → fact_read k (handed spare (key_of keys (back_path k))) ≡ Some m
+      shown : (k : BackKey) (m : ℕ) → fact_read k (key_of keys (back_path k)) ≡ Some m
           → Stands (fact_step k (Some m) (at (stage.ReadFact k) v)) keys
-          → Stands (fact_step k (fact_read k (handed spare (key_of keys (back_path k)))) (at (stage.ReadFact k) v)) keys
+          → Stands (fact_step k (fact_read k (key_of keys (back_path k))) (at (stage.ReadFact k) v)) keys
       shown k m e h = subst (λ (r : Option ℕ). Stands (fact_step k r (at (stage.ReadFact k) v)) keys) (sym e) h
 
       by_key : (k : BackKey) → FrontHolds (stage.ReadFact k) v n f disk (front_texts keys)
-          → Stands (fact_step k (fact_read k (handed spare (key_of keys (back_path k)))) (at (stage.ReadFact k) v)) keys
+          → Stands (fact_step k (fact_read k (key_of keys (back_path k))) (at (stage.ReadFact k) v)) keys
       by_key back_key.Sectors h =
-          shown back_key.Sectors disk.sectors (sectors_shown spare _ disk.sectors sectors says.sectors) (fact_next back_key.Sectors back_key.SectorSize v _ _ h refl)
-      by_key back_key.SectorSize h = shown back_key.SectorSize 512 (size_shown spare _ says.size) (fact_next back_key.SectorSize back_key.Info v _ _ h h.read.1)
+          shown back_key.Sectors disk.sectors (sectors_shown _ disk.sectors sectors says.sectors) (fact_next back_key.Sectors back_key.SectorSize v _ _ h refl)
+      by_key back_key.SectorSize h = shown back_key.SectorSize 512 (size_shown _ says.size) (fact_next back_key.SectorSize back_key.Info v _ _ h h.read.1)
       by_key back_key.Info h =
           let r = h.read in
           let all : with_fact v.disk back_key.Info (if disk.read_only then 4 else 0) ≡ disk = λ i. record { sectors = r.1 i; read_only = is_four disk.read_only i } in
-          shown back_key.Info (if disk.read_only then 4 else 0) (info_shown spare _ disk.read_only says.info) (facts_end back_key.Info v _ _ h all)
+          shown back_key.Info (if disk.read_only then 4 else 0) (info_shown _ disk.read_only says.info) (facts_end back_key.Info v _ _ h all)
       by_key k h = absurd h.read.1
 
   -- the ring is made
@@ -358,45 +358,45 @@ module _ (n : ℕ) (f : Features) (disk : DiskFacts) where
   }
 
   -- the front waits
-  rest_holds : (o : Option (List ℕ)) (v : FrontView) (idle : Bool) (spare : List ℕ) (keys : List (List ℕ × List ℕ))
-      → FrontHolds stage.Rest v n f disk (front_texts keys) → Stands (step_at stage.Rest (at stage.Rest v) idle (front_woken o spare)) keys
-  rest_holds None v idle spare keys h = goes stage.Rest stage.Rest v _ h tt h.stage_after (λ o. tt) h.said h.read
-  rest_holds (Some path) v idle spare keys h = goes stage.Rest stage.ReadState v _ h tt h.stage_after (λ o. tt) h.said h.read
+  rest_holds : (o : Option (List ℕ)) (v : FrontView) (idle : Bool) (keys : List (List ℕ × List ℕ))
+      → FrontHolds stage.Rest v n f disk (front_texts keys) → Stands (step_at stage.Rest (at stage.Rest v) idle (front_woken o)) keys
+  rest_holds None v idle keys h = goes stage.Rest stage.Rest v _ h tt h.stage_after (λ o. tt) h.said h.read
+  rest_holds (Some path) v idle keys h = goes stage.Rest stage.ReadState v _ h tt h.stage_after (λ o. tt) h.said h.read
 
-  closed_holds : (o : Option (List ℕ)) (v : FrontView) (idle : Bool) (spare : List ℕ) (keys : List (List ℕ × List ℕ))
-      → FrontHolds stage.Closed v n f disk (front_texts keys) → Stands (step_at stage.Closed (at stage.Closed v) idle (front_woken o spare)) keys
-  closed_holds None v idle spare keys h = goes stage.Closed stage.Closed v _ h tt h.stage_after (λ o. (h.leaves_open o).1) h.said h.read
-  closed_holds (Some path) v idle spare keys h = goes stage.Closed stage.Closed v _ h tt h.stage_after (λ o. (h.leaves_open o).1) h.said h.read
+  closed_holds : (o : Option (List ℕ)) (v : FrontView) (idle : Bool) (keys : List (List ℕ × List ℕ))
+      → FrontHolds stage.Closed v n f disk (front_texts keys) → Stands (step_at stage.Closed (at stage.Closed v) idle (front_woken o)) keys
+  closed_holds None v idle keys h = goes stage.Closed stage.Closed v _ h tt h.stage_after (λ o. (h.leaves_open o).1) h.said h.read
+  closed_holds (Some path) v idle keys h = goes stage.Closed stage.Closed v _ h tt h.stage_after (λ o. (h.leaves_open o).1) h.said h.read
 
-  broken_holds : (word : ℕ) (o : Option (List ℕ)) (v : FrontView) (idle : Bool) (spare : List ℕ) (keys : List (List ℕ × List ℕ))
+  broken_holds : (word : ℕ) (o : Option (List ℕ)) (v : FrontView) (idle : Bool) (keys : List (List ℕ × List ℕ))
       → FrontHolds (stage.Broken word) v n f disk (front_texts keys)
-      → Stands (step_at (stage.Broken word) (at (stage.Broken word) v) idle (front_woken o spare)) keys
-  broken_holds word None v idle spare keys h = goes (stage.Broken word) (stage.Broken word) v _ h tt h.stage_after (λ o. (h.leaves_open o).1) h.said h.read
-  broken_holds word (Some path) v idle spare keys h = goes (stage.Broken word) (stage.Broken word) v _ h tt h.stage_after (λ o. (h.leaves_open o).1) h.said h.read
+      → Stands (step_at (stage.Broken word) (at (stage.Broken word) v) idle (front_woken o)) keys
+  broken_holds word None v idle keys h = goes (stage.Broken word) (stage.Broken word) v _ h tt h.stage_after (λ o. (h.leaves_open o).1) h.said h.read
+  broken_holds word (Some path) v idle keys h = goes (stage.Broken word) (stage.Broken word) v _ h tt h.stage_after (λ o. (h.leaves_open o).1) h.said h.read
 
   -- each move of the front
-  pub front_holds_at : (s : FrontStage) (v : FrontView) (idle : Bool) (port : ℕ) (spare : List ℕ) (d : Directory) (b : BusState) → n ≡ state_number b
+  pub front_holds_at : (s : FrontStage) (v : FrontView) (idle : Bool) (port : ℕ) (d : Directory) (b : BusState) → n ≡ state_number b
       → IsTimely s v.state → port < 2 ^ 32 → ring_order v ≤ 4 → BackShows d.keys b v.state f disk → FrontHolds s v n f disk (front_texts d.keys)
-      → Stands (step_at s (at s v) idle (front_answered (ask_at s v) port spare d)) (front_done (ask_at s v) d).keys
-  front_holds_at stage.Start v idle port spare d b e timely fits few shows h = goes stage.Start stage.Rest v _ h tt (omega arith) (λ o. tt) (rw timely h.said) (rw timely tt)
-  front_holds_at stage.Rest v idle port spare d b e timely fits few shows h = rest_holds (next_watch d.front) v idle spare d.keys h
-  front_holds_at stage.ReadState v idle port spare d b e timely fits few shows h = state_holds v idle spare d.keys b e shows h
-  front_holds_at (stage.ReadFeature k) v idle port spare d b e timely fits few shows h =
+      → Stands (step_at s (at s v) idle (front_answered (ask_at s v) port d)) (front_done (ask_at s v) d).keys
+  front_holds_at stage.Start v idle port d b e timely fits few shows h = goes stage.Start stage.Rest v _ h tt (omega arith) (λ o. tt) (rw timely h.said) (rw timely tt)
+  front_holds_at stage.Rest v idle port d b e timely fits few shows h = rest_holds (next_watch d.front) v idle d.keys h
+  front_holds_at stage.ReadState v idle port d b e timely fits few shows h = state_holds v idle d.keys b e shows h
+  front_holds_at (stage.ReadFeature k) v idle port d b e timely fits few shows h =
       let two : 2 ≤ state_number b = subst (λ (m : ℕ). 2 ≤ m) e h.stage_after in
-      feature_holds k v spare d.keys shows.indirect shows.order (shows.features two) h
-  front_holds_at (stage.RingWord word) v idle port spare d b e timely fits few shows h = word_holds word v _ (word == 15) h
-  front_holds_at (stage.Grant page) v idle port spare d b e timely fits few shows h = grant_holds page v _ (nat_lt (page + 1) (pages_of v)) h
-  front_holds_at stage.NewPort v idle port spare d b e timely fits few shows h = port_holds port v _ fits h
-  front_holds_at (stage.Publish k) v idle port spare d b e timely fits few shows h = publish_holds k v d.keys few h
-  front_holds_at (stage.ReadFact k) v idle port spare d b e timely fits few shows h =
+      feature_holds k v d.keys shows.indirect shows.order (shows.features two) h
+  front_holds_at (stage.RingWord word) v idle port d b e timely fits few shows h = word_holds word v _ (word == 15) h
+  front_holds_at (stage.Grant page) v idle port d b e timely fits few shows h = grant_holds page v _ (nat_lt (page + 1) (pages_of v)) h
+  front_holds_at stage.NewPort v idle port d b e timely fits few shows h = port_holds port v _ fits h
+  front_holds_at (stage.Publish k) v idle port d b e timely fits few shows h = publish_holds k v d.keys few h
+  front_holds_at (stage.ReadFact k) v idle port d b e timely fits few shows h =
       let four : 4 ≤ state_number b = subst (λ (m : ℕ). 4 ≤ m) e h.stage_after in
       let low : state_number v.state < 5 = rw timely (omega arith) in
-      fact_holds k v spare d.keys shows.sectors (shows.facts four low) h
-  front_holds_at (stage.WriteState s) v idle port spare d b e timely fits few shows h =
+      fact_holds k v d.keys shows.sectors (shows.facts four low) h
+  front_holds_at (stage.WriteState s) v idle port d b e timely fits few shows h =
       let w = written s (at (stage.WriteState s) v) in
       subst (λ (texts : FrontKey → Option (List ℕ)). FrontHolds w.stage w n f disk texts) (sym (front_texts_state d.keys (state_text s))) (written_holds s v _ h)
-  front_holds_at (stage.EndGrant page) v idle port spare d b e timely fits few shows h = end_holds page v _ (nat_lt (page + 1) (pages_of v)) h
-  front_holds_at stage.EndOtherGrants v idle port spare d b e timely fits few shows h = others_hold v.port v _ h
-  front_holds_at stage.ClosePort v idle port spare d b e timely fits few shows h = port_closed v _ timely h
-  front_holds_at stage.Closed v idle port spare d b e timely fits few shows h = closed_holds (next_watch d.front) v idle spare d.keys h
-  front_holds_at (stage.Broken word) v idle port spare d b e timely fits few shows h = broken_holds word (next_watch d.front) v idle spare d.keys h
+  front_holds_at (stage.EndGrant page) v idle port d b e timely fits few shows h = end_holds page v _ (nat_lt (page + 1) (pages_of v)) h
+  front_holds_at stage.EndOtherGrants v idle port d b e timely fits few shows h = others_hold v.port v _ h
+  front_holds_at stage.ClosePort v idle port d b e timely fits few shows h = port_closed v _ timely h
+  front_holds_at stage.Closed v idle port d b e timely fits few shows h = closed_holds (next_watch d.front) v idle d.keys h
+  front_holds_at (stage.Broken word) v idle port d b e timely fits few shows h = broken_holds word (next_watch d.front) v idle d.keys h

@@ -37,7 +37,7 @@ use Rattle.xenbus_state.specs.FrontSound as front_sound
 use Rattle.xenbus_state.specs.BackView.{BackView, is_halting}
 use Rattle.xenbus_state.specs.BackAsk as back_asks
 use Rattle.xenbus_state.specs.BackSound.{IsPlaced, IsResting, IsMapped}
-use Rattle.negotiation_laws.specs.Negotiation.{Negotiation, back_path, back_state, handed, front_answered, front_woken}
+use Rattle.negotiation_laws.specs.Negotiation.{Negotiation, back_path, back_state, front_answered, front_woken}
 use Rattle.negotiation_laws.specs.Happening.{Happening, FrontMoves, BackMoves, FrontCloses, BackCloses, happened, after}
 use Rattle.negotiation_laws.specs.Within.{HavePorts}
 use Rattle.negotiation_laws.specs.Run.{NegotiationRun, now, begins}
@@ -175,12 +175,12 @@ others_grant : (port : Option ℕ) (v : FrontView) (held : List ℕ) → Grants 
 others_grant (Some port) v held = tt
 others_grant None v held = tt
 
-woken_grants : (s : FrontStage) (o : Option (List ℕ)) (v : FrontView) (idle : Bool) (spare : List ℕ) (held : List ℕ) → Grants s v held
-    → let w = front_step.step_at s (front_step.at s v) idle (front_woken o spare) in Grants w.stage w held
-woken_grants front.Rest None v idle spare held h = h
-woken_grants front.Rest (Some path) v idle spare held h = h
-woken_grants s None v idle spare held h = h
-woken_grants s (Some path) v idle spare held h = h
+woken_grants : (s : FrontStage) (o : Option (List ℕ)) (v : FrontView) (idle : Bool) (held : List ℕ) → Grants s v held
+    → let w = front_step.step_at s (front_step.at s v) idle (front_woken o) in Grants w.stage w held
+woken_grants front.Rest None v idle held h = h
+woken_grants front.Rest (Some path) v idle held h = h
+woken_grants s None v idle held h = h
+woken_grants s (Some path) v idle held h = h
 
 -- a port is made after the ring
 port_first : (own : BusState) (port : Option ℕ) (terms : FrontTerms) (texts : FrontKey → Option (List ℕ)) → SaidAt own port terms texts → own ≡ state.Initialising → IsSome port → ⊥
@@ -211,35 +211,35 @@ due_page front.Rest v idle h = by_test (v.closing && idle)
 due_page s v idle h = tt
 
 module _ (f : Features) (d : DiskFacts) (t : Negotiation) where
-  state_grants : (idle : Bool) (spare : List ℕ) (held : List ℕ) → Holds f d t → GrantedAt t.front.state t.front.port (pages_of t.front) held
-      → let w = front_step.acted (front_action t.front.state t.front.closing idle (state_read (handed spare (key_of t.keys.keys back_state)))) (front_step.at front.ReadState t.front) in Grants w.stage w held
-  state_grants idle spare held h g =
-      subst (λ (r : Option BusState). let w = front_step.acted (front_action t.front.state t.front.closing idle r) (front_step.at front.ReadState t.front) in Grants w.stage w held) (sym (state_shown spare (key_of t.keys.keys back_state) t.back.state h.states.back))
+  state_grants : (idle : Bool) (held : List ℕ) → Holds f d t → GrantedAt t.front.state t.front.port (pages_of t.front) held
+      → let w = front_step.acted (front_action t.front.state t.front.closing idle (state_read (key_of t.keys.keys back_state))) (front_step.at front.ReadState t.front) in Grants w.stage w held
+  state_grants idle held h g =
+      subst (λ (r : Option BusState). let w = front_step.acted (front_action t.front.state t.front.closing idle r) (front_step.at front.ReadState t.front) in Grants w.stage w held) (sym (state_shown (key_of t.keys.keys back_state) t.back.state h.states.back))
       (acted_grants (front_action t.front.state t.front.closing idle (Some t.back.state)) t.front idle t.back.state held (front_acts_now f d t idle h) g)
 
-  grants_at : (s : FrontStage) (idle : Bool) (port : ℕ) (spare : List ℕ) (held : List ℕ) → front_sound.IsTimely s t.front.state → IsNextPage s t.front
+  grants_at : (s : FrontStage) (idle : Bool) (port : ℕ) (held : List ℕ) → front_sound.IsTimely s t.front.state → IsNextPage s t.front
       → FrontHolds s t.front (state_number t.back.state) f d (front_texts t.keys.keys) → Holds f d t → Grants s t.front held
-      → let w = front_step.step_at s (front_step.at s t.front) idle (front_answered (front_asks.ask_at s t.front) port spare t.keys) in Grants w.stage w (granted_by (front_asks.ask_at s t.front) held)
-  grants_at front.Start idle port spare held timely page own h g = rw timely g
-  grants_at front.Rest idle port spare held timely page own h g = woken_grants front.Rest (next_watch t.keys.front) t.front idle spare held g
-  grants_at front.ReadState idle port spare held timely page own h g = state_grants idle spare held h g
-  grants_at (front.ReadFeature k) idle port spare held timely page own h g = feature_grants k (count_read (handed spare (key_of t.keys.keys (back_path k)))) t.front held g
-  grants_at (front.RingWord word) idle port spare held timely page own h g = word_grants word (word == 15) t.front held g
-  grants_at (front.Grant p) idle port spare held timely page own h g = grant_grants p t.front held page g
-  grants_at front.NewPort idle port spare held timely page own h g = g
-  grants_at (front.Publish k) idle port spare held timely page own h g = publish_grants (next_published (ring_order t.front) k) t.front held g
-  grants_at (front.ReadFact k) idle port spare held timely page own h g = fact_grants k (fact_read k (handed spare (key_of t.keys.keys (back_path k)))) t.front held g
-  grants_at (front.WriteState state.Closing) idle port spare held timely page own h g =
+      → let w = front_step.step_at s (front_step.at s t.front) idle (front_answered (front_asks.ask_at s t.front) port t.keys) in Grants w.stage w (granted_by (front_asks.ask_at s t.front) held)
+  grants_at front.Start idle port held timely page own h g = rw timely g
+  grants_at front.Rest idle port held timely page own h g = woken_grants front.Rest (next_watch t.keys.front) t.front idle held g
+  grants_at front.ReadState idle port held timely page own h g = state_grants idle held h g
+  grants_at (front.ReadFeature k) idle port held timely page own h g = feature_grants k (count_read (key_of t.keys.keys (back_path k))) t.front held g
+  grants_at (front.RingWord word) idle port held timely page own h g = word_grants word (word == 15) t.front held g
+  grants_at (front.Grant p) idle port held timely page own h g = grant_grants p t.front held page g
+  grants_at front.NewPort idle port held timely page own h g = g
+  grants_at (front.Publish k) idle port held timely page own h g = publish_grants (next_published (ring_order t.front) k) t.front held g
+  grants_at (front.ReadFact k) idle port held timely page own h g = fact_grants k (fact_read k (key_of t.keys.keys (back_path k))) t.front held g
+  grants_at (front.WriteState state.Closing) idle port held timely page own h g =
       written_grants state.Closing t.front held (port_first t.front.state t.front.port (terms_of t.front) (front_texts t.keys.keys) own.said) own.writes g
-  grants_at (front.WriteState state.Initialised) idle port spare held timely page own h g = g
-  grants_at (front.WriteState state.Connected) idle port spare held timely page own h g = g
-  grants_at (front.WriteState state.Closed) idle port spare held timely page own h g = tt
-  grants_at (front.WriteState s) idle port spare held timely page own h g = absurd own.writes
-  grants_at (front.EndGrant p) idle port spare held timely page own h g = end_grants p (nat_lt (p + 1) (pages_of t.front)) t.front (granted_by (front_ask.EndGrant p) held)
-  grants_at front.EndOtherGrants idle port spare held timely page own h g = others_grant t.front.port t.front held
-  grants_at front.ClosePort idle port spare held timely page own h g = tt
-  grants_at front.Closed idle port spare held timely page own h g = woken_grants front.Closed (next_watch t.keys.front) t.front idle spare held tt
-  grants_at (front.Broken word) idle port spare held timely page own h g = woken_grants (front.Broken word) (next_watch t.keys.front) t.front idle spare held tt
+  grants_at (front.WriteState state.Initialised) idle port held timely page own h g = g
+  grants_at (front.WriteState state.Connected) idle port held timely page own h g = g
+  grants_at (front.WriteState state.Closed) idle port held timely page own h g = tt
+  grants_at (front.WriteState s) idle port held timely page own h g = absurd own.writes
+  grants_at (front.EndGrant p) idle port held timely page own h g = end_grants p (nat_lt (p + 1) (pages_of t.front)) t.front (granted_by (front_ask.EndGrant p) held)
+  grants_at front.EndOtherGrants idle port held timely page own h g = others_grant t.front.port t.front held
+  grants_at front.ClosePort idle port held timely page own h g = tt
+  grants_at front.Closed idle port held timely page own h g = woken_grants front.Closed (next_watch t.keys.front) t.front idle held tt
+  grants_at (front.Broken word) idle port held timely page own h g = woken_grants (front.Broken word) (next_watch t.keys.front) t.front idle held tt
 
 closed_grants : (v : FrontView) (held : List ℕ) → Grants v.stage v held → Grants (closed v).stage (closed v) held
 closed_grants v held g = by_test (v.closing || is_broken v.stage)
@@ -250,11 +250,11 @@ closed_grants v held g = by_test (v.closing || is_broken v.stage)
 
 grants_once : (f : Features) (d : DiskFacts) (x : Happening) (t : Negotiation) (held : List ℕ) → Holds f d t → Grants t.front.stage t.front held
     → Grants (happened x t).front.stage (happened x t).front (granted_in x t held)
-grants_once f d (FrontMoves idle port spare) t held h g =
+grants_once f d (FrontMoves idle port) t held h g =
     let v = t.front in
     let own = due_holds (state_number t.back.state) f d v.stage v idle (front_texts t.keys.keys) h.front in
-    grants_at f d t (due v idle) idle port spare held (due_timely v.stage v idle h.front_sound.timely) (due_page v.stage v idle h.front_sound.placed) own h (due_grants v.stage v idle held g)
-grants_once f d (BackMoves page spare) t held h g = g
+    grants_at f d t (due v idle) idle port held (due_timely v.stage v idle h.front_sound.timely) (due_page v.stage v idle h.front_sound.placed) own h (due_grants v.stage v idle held g)
+grants_once f d (BackMoves page) t held h g = g
 grants_once f d FrontCloses t held h g = closed_grants t.front held g
 grants_once f d BackCloses t held h g = g
 

@@ -27,7 +27,7 @@ use Rattle.xenbus_state.specs.BackReading as reading
 use Rattle.xenbus_state.specs.BackStep as back_step
 use Rattle.xenbus_state.specs.BackSound.{IsPlaced, IsWriting}
 use Rattle.xenbus_state.proofs.BackKeeps.{says_where}
-use Rattle.negotiation_laws.specs.Negotiation.{Negotiation, front_path, front_state, handed, back_answered, back_woken, back_moved}
+use Rattle.negotiation_laws.specs.Negotiation.{Negotiation, front_path, front_state, back_answered, back_woken, back_moved}
 use Rattle.negotiation_laws.specs.Happening.{Happening, FrontMoves, BackMoves, FrontCloses, BackCloses, happened, after}
 use Rattle.negotiation_laws.specs.Within.{HavePorts}
 use Rattle.negotiation_laws.specs.Run.{NegotiationRun, now, begins}
@@ -59,12 +59,12 @@ written_serving state.Closing v w has = absurd (has_none v.pages v.bound w.1.pag
 written_serving state.Closed v w has = absurd (has_none v.pages v.bound w.1.pages w.1.bound has)
 written_serving s v w has = absurd w
 
-woken_serving : (s : BackStage) (o : Option (List ℕ)) (v : BackView) (spare : List ℕ) → (HasRing v.pages v.bound → serves s v.state ≡ true)
-    → IsServing (back_step.step_at s (back_step.at s v) (back_woken o spare))
-woken_serving back.Rest None v spare k has = k has
-woken_serving back.Rest (Some path) v spare k has = k has
-woken_serving s None v spare k has = k has
-woken_serving s (Some path) v spare k has = k has
+woken_serving : (s : BackStage) (o : Option (List ℕ)) (v : BackView) → (HasRing v.pages v.bound → serves s v.state ≡ true)
+    → IsServing (back_step.step_at s (back_step.at s v) (back_woken o))
+woken_serving back.Rest None v k has = k has
+woken_serving back.Rest (Some path) v k has = k has
+woken_serving s None v k has = k has
+woken_serving s (Some path) v k has = k has
 
 halted_serving : (own : BusState) → serves back.ReadState own ≡ true → serves back.UnmapOthers own ≡ true
 halted_serving state.Connected e = refl
@@ -91,52 +91,52 @@ giving_serving (page ∷ pages) bound own e has = e
 giving_serving [] true own e has = e
 giving_serving [] false own e has = absurd (has_none [] false refl refl has)
 
-unmap_serving : (pages : List Mapping) (v : BackView) (page : Mapping) (spare : List ℕ) (d : Directory) → 0 < length pages
+unmap_serving : (pages : List Mapping) (v : BackView) (page : Mapping) (d : Directory) → 0 < length pages
     → serves back.UnmapPage v.state ≡ true
-    → let u = record v { pages = pages; stage = back.UnmapPage } in IsServing (back_step.step_at back.UnmapPage u (back_answered (back_asks.ask_at back.UnmapPage u) page spare d))
-unmap_serving [] v page spare d some e has = absurd (omega arith)
-unmap_serving (first ∷ pages) v page spare d some e has = giving_serving pages v.bound v.state e has
+    → let u = record v { pages = pages; stage = back.UnmapPage } in IsServing (back_step.step_at back.UnmapPage u (back_answered (back_asks.ask_at back.UnmapPage u) page d))
+unmap_serving [] v page d some e has = absurd (omega arith)
+unmap_serving (first ∷ pages) v page d some e has = giving_serving pages v.bound v.state e has
 
 module _ (f : Features) (d : DiskFacts) (t : Negotiation) where
-  key_serving : (k : FrontKey) (spare : List ℕ) → IsPlaced (back.ReadKey k) t.back
+  key_serving : (k : FrontKey) → IsPlaced (back.ReadKey k) t.back
       → BackHolds (back.ReadKey k) t.back (state_number t.front.state) t.front.port (terms_of t.front) f d (back_texts t.keys.keys) → Holds f d t
-      → let w = back_step.kept_or_halted (reading.key_read k (handed spare (key_of t.keys.keys (front_path k))) (back_step.at (back.ReadKey k) t.back)) (back_step.at (back.ReadKey k) t.back) in serves w.stage w.state ≡ true
-  key_serving k spare placed held h =
+      → let w = back_step.kept_or_halted (reading.key_read k (key_of t.keys.keys (front_path k)) (back_step.at (back.ReadKey k) t.back)) (back_step.at (back.ReadKey k) t.back) in serves w.stage w.state ≡ true
+  key_serving k placed held h =
       let shows = front_shows f d t h in
       let late = held.serving_after refl in
-      (key_holds (state_number t.front.state) t.front.port (terms_of t.front) f d k t.back spare t.keys.keys placed.2 shows.order shows.fits (shows.said late.0 late.1) held).1
+      (key_holds (state_number t.front.state) t.front.port (terms_of t.front) f d k t.back t.keys.keys placed.2 shows.order shows.fits (shows.said late.0 late.1) held).1
 
-  serving_at : (s : BackStage) (page : Mapping) (spare : List ℕ) → IsPlaced s t.back
+  serving_at : (s : BackStage) (page : Mapping) → IsPlaced s t.back
       → BackHolds s t.back (state_number t.front.state) t.front.port (terms_of t.front) f d (back_texts t.keys.keys) → Holds f d t
       → (HasRing t.back.pages t.back.bound → serves s t.back.state ≡ true)
-      → IsServing (back_step.step_at s (back_step.at s t.back) (back_answered (back_asks.ask_at s t.back) page spare t.keys))
-  serving_at (back.Publish k) page spare placed held h e has = absurd (has_none t.back.pages t.back.bound placed.1.pages placed.1.bound has)
-  serving_at (back.WriteState s) page spare placed held h e has = written_serving s t.back placed has
-  serving_at back.Watch page spare placed held h e has = absurd (has_none t.back.pages t.back.bound placed.1.pages placed.1.bound has)
-  serving_at back.Rest page spare placed held h e has = woken_serving back.Rest (next_watch t.keys.back) t.back spare e has
-  serving_at back.ReadState page spare placed held h e has =
-      acted_serving (back_action t.back.state t.back.unplugged (state_read (handed spare (key_of t.keys.keys front_state)))) t.back e has
-  serving_at (back.ReadKey k) page spare placed held h e has = key_serving k spare placed held h
-  serving_at back.MapPage page spare placed held h e has = map_serving (nat_lt (length t.back.pages + 1) (length t.back.grefs)) t.back.state
-  serving_at back.Bind page spare placed held h e has = refl
-  serving_at (back.PublishFact k) page spare placed held h e has = fact_serving k t.back.state
-  serving_at back.UnmapOthers page spare placed held h e has = giving_serving t.back.pages t.back.bound t.back.state (e has) has
-  serving_at back.UnmapPage page spare placed held h e has = unmap_serving t.back.pages t.back page spare t.keys placed.1 (e (inl placed.1)) has
-  serving_at back.ClosePort page spare placed held h e has = absurd (has_none t.back.pages false placed.1 refl has)
-  serving_at back.Halted page spare placed held h e has = woken_serving back.Halted (next_watch t.keys.back) t.back spare e has
+      → IsServing (back_step.step_at s (back_step.at s t.back) (back_answered (back_asks.ask_at s t.back) page t.keys))
+  serving_at (back.Publish k) page placed held h e has = absurd (has_none t.back.pages t.back.bound placed.1.pages placed.1.bound has)
+  serving_at (back.WriteState s) page placed held h e has = written_serving s t.back placed has
+  serving_at back.Watch page placed held h e has = absurd (has_none t.back.pages t.back.bound placed.1.pages placed.1.bound has)
+  serving_at back.Rest page placed held h e has = woken_serving back.Rest (next_watch t.keys.back) t.back e has
+  serving_at back.ReadState page placed held h e has =
+      acted_serving (back_action t.back.state t.back.unplugged (state_read (key_of t.keys.keys front_state))) t.back e has
+  serving_at (back.ReadKey k) page placed held h e has = key_serving k placed held h
+  serving_at back.MapPage page placed held h e has = map_serving (nat_lt (length t.back.pages + 1) (length t.back.grefs)) t.back.state
+  serving_at back.Bind page placed held h e has = refl
+  serving_at (back.PublishFact k) page placed held h e has = fact_serving k t.back.state
+  serving_at back.UnmapOthers page placed held h e has = giving_serving t.back.pages t.back.bound t.back.state (e has) has
+  serving_at back.UnmapPage page placed held h e has = unmap_serving t.back.pages t.back page t.keys placed.1 (e (inl placed.1)) has
+  serving_at back.ClosePort page placed held h e has = absurd (has_none t.back.pages false placed.1 refl has)
+  serving_at back.Halted page placed held h e has = woken_serving back.Halted (next_watch t.keys.back) t.back e has
 
   saying_serving : (s : BackStage) (own : BusState) → back_asks.says_closing_at s own ≡ true → serves s state.Closing ≡ true
   saying_serving back.Rest state.Connected e = refl
   saying_serving back.ReadState state.Connected e = refl
   saying_serving s own e = absurd (cc)
 
-  back_move_serving : (page : Mapping) (spare : List ℕ) → Holds f d t → IsServing t.back → IsServing (back_moved page spare t).back
-  back_move_serving page spare h e = by_test (back_asks.says_closing t.back) refl
+  back_move_serving : (page : Mapping) → Holds f d t → IsServing t.back → IsServing (back_moved page t).back
+  back_move_serving page h e = by_test (back_asks.says_closing t.back) refl
     where
       by_test : (says : Bool) → back_asks.says_closing t.back ≡ says
-          → IsServing (if says then record t.back { state = state.Closing } else back_step.step_at t.back.stage t.back (back_answered (if says then back_ask.SetState state.Closing else back_asks.ask_at t.back.stage t.back) page spare t.keys))
+          → IsServing (if says then record t.back { state = state.Closing } else back_step.step_at t.back.stage t.back (back_answered (if says then back_ask.SetState state.Closing else back_asks.ask_at t.back.stage t.back) page t.keys))
       by_test true says has = saying_serving t.back.stage t.back.state (says_where t.back says)
-      by_test false says has = serving_at t.back.stage page spare h.back_sound.placed h.back h e has
+      by_test false says has = serving_at t.back.stage page h.back_sound.placed h.back h e has
 
 unplugged_serving : (v : BackView) → IsServing v → IsServing (unplugged v)
 unplugged_serving v e = by_test (is_halting v.stage)
@@ -146,8 +146,8 @@ unplugged_serving v e = by_test (is_halting v.stage)
     by_test false = e
 
 serving_once : (f : Features) (d : DiskFacts) (x : Happening) (t : Negotiation) → Holds f d t → IsServing t.back → IsServing (happened x t).back
-serving_once f d (FrontMoves idle port spare) t h e = e
-serving_once f d (BackMoves page spare) t h e = back_move_serving f d t page spare h e
+serving_once f d (FrontMoves idle port) t h e = e
+serving_once f d (BackMoves page) t h e = back_move_serving f d t page h e
 serving_once f d FrontCloses t h e = e
 serving_once f d BackCloses t h e = unplugged_serving t.back e
 

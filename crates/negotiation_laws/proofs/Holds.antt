@@ -68,23 +68,23 @@ pub record Holds (f : Features) (d : DiskFacts) (t : Negotiation) : Type 0 where
   pub back_sees : BackSees t.back.stage t.back.state t.front.state t.keys.back
 
 -- each answer is of the ask's kind
-front_woken_lawful : (o : Option (List ℕ)) (spare : List ℕ) → front_asks.IsAnswer front_ask.Wait (front_woken o spare)
-front_woken_lawful None spare = tt
-front_woken_lawful (Some path) spare = tt
+front_woken_lawful : (o : Option (List ℕ)) → front_asks.IsAnswer front_ask.Wait (front_woken o)
+front_woken_lawful None = tt
+front_woken_lawful (Some path) = tt
 
 -- so of the front
-pub front_lawful : (a : FrontBusAsk) (port : ℕ) (spare : List ℕ) (d : Directory) → front_asks.IsAnswer a (front_answered a port spare d)
-front_lawful front_ask.Wait port spare d = front_woken_lawful (next_watch d.front) spare
-front_lawful a port spare d = tt
+pub front_lawful : (a : FrontBusAsk) (port : ℕ) (d : Directory) → front_asks.IsAnswer a (front_answered a port d)
+front_lawful front_ask.Wait port d = front_woken_lawful (next_watch d.front)
+front_lawful a port d = tt
 
-back_woken_lawful : (o : Option (List ℕ)) (spare : List ℕ) → back_asks.IsAnswer back_ask.Wait (back_woken o spare)
-back_woken_lawful None spare = tt
-back_woken_lawful (Some path) spare = tt
+back_woken_lawful : (o : Option (List ℕ)) → back_asks.IsAnswer back_ask.Wait (back_woken o)
+back_woken_lawful None = tt
+back_woken_lawful (Some path) = tt
 
 -- so of the back
-pub back_lawful : (a : BackBusAsk) (page : Mapping) (spare : List ℕ) (d : Directory) → back_asks.IsAnswer a (back_answered a page spare d)
-back_lawful back_ask.Wait page spare d = back_woken_lawful (next_watch d.back) spare
-back_lawful a page spare d = tt
+pub back_lawful : (a : BackBusAsk) (page : Mapping) (d : Directory) → back_asks.IsAnswer a (back_answered a page d)
+back_lawful back_ask.Wait page d = back_woken_lawful (next_watch d.back)
+back_lawful a page d = tt
 
 -- the stage that is due suits the state
 due_closing_timely : (own : BusState) (v : FrontView) → state_number own < 6 → front_sound.IsTimely (closing_stage own v) own
@@ -183,22 +183,22 @@ front_holds_by s v n m f d texts more rises same h = record {
 }
 
 -- a move of the front
-pub front_move_holds : (f : Features) (d : DiskFacts) (t : Negotiation) (idle : Bool) (port : ℕ) (spare : List ℕ) → port < 2 ^ 32 → Holds f d t
-    → Holds f d (front_moved idle port spare t)
-front_move_holds f d t idle port spare fits h =
+pub front_move_holds : (f : Features) (d : DiskFacts) (t : Negotiation) (idle : Bool) (port : ℕ) → port < 2 ^ 32 → Holds f d t
+    → Holds f d (front_moved idle port t)
+front_move_holds f d t idle port fits h =
     let v = t.front in
     let s = due v idle in
     let a = front_asks.ask_of v idle in
-    let answer = front_answered a port spare t.keys in
+    let answer = front_answered a port t.keys in
     let w = front_step.step_of v idle answer in
     let n = state_number t.back.state in
-    let lawful = front_lawful a port spare t.keys in
+    let lawful = front_lawful a port t.keys in
     let timely = due_timely v.stage v idle h.front_sound.timely in
     let shows = back_shows f d t h in
     let begun = due_holds n f d v.stage v idle (front_texts t.keys.keys) h.front in
     let wrote : w.state ≡ own_after a v.state = state_after v idle answer lawful in
     let rises : state_number v.state ≤ state_number w.state = subst (λ (o : BusState). state_number v.state ≤ state_number o) (sym wrote) (front_own_rises a v.state (front_rises v idle h.front_sound)) in
-    let keeps : serves t.back.stage t.back.state ≡ true → (w.port ≡ v.port) × (terms_of w ≡ terms_of v) = λ e. (let kept = front_keeps_terms s v idle port spare t.keys n timely (h.back.serving_after e).0 begun.stage_after (serving_open t.back.stage t.back h.back_sound.placed e) in (kept.port, kept.terms)) in
+    let keeps : serves t.back.stage t.back.state ≡ true → (w.port ≡ v.port) × (terms_of w ≡ terms_of v) = λ e. (let kept = front_keeps_terms s v idle port t.keys n timely (h.back.serving_after e).0 begun.stage_after (serving_open t.back.stage t.back h.back_sound.placed e) in (kept.port, kept.terms)) in
     record {
       indirect = h.indirect;
       order = h.order;
@@ -209,11 +209,11 @@ front_move_holds f d t idle port spare fits h =
         front = subst (λ (o : BusState). key_of (front_done a t.keys).keys front_state ≡ Some (state_text o)) (sym wrote) (front_ask_own a t.keys v.state h.states.front);
         back = front_ask_state a t.keys ∙ h.states.back;
       };
-      front = front_holds_at n f d s v idle port spare t.keys t.back.state refl timely fits (few_orders v h.front_sound.order) shows begun;
+      front = front_holds_at n f d s v idle port t.keys t.back.state refl timely fits (few_orders v h.front_sound.order) shows begun;
       back =
           back_holds_by t.back.stage t.back (state_number v.state) (state_number w.state) v.port w.port (terms_of v) (terms_of w) f d _ _ rises keeps (front_ask_leaves a t.keys) h.back;
       front_sees =
-          front_sees_at t.back.state s v idle port spare t.keys shows.state (front_acts_now f d t idle h) begun.writes (λ o. (begun.leaves_open o).1) (due_sees t.back.state v.stage v idle t.keys.front h.front_sees);
+          front_sees_at t.back.state s v idle port t.keys shows.state (front_acts_now f d t idle h) begun.writes (λ o. (begun.leaves_open o).1) (due_sees t.back.state v.stage v idle t.keys.front h.front_sees);
       back_sees =
           subst (λ (o : BusState). BackSees t.back.stage t.back.state o (front_done a t.keys).back) (sym wrote) (front_ask_seen a t.keys t.back.stage t.back.state v.state h.back_sees);
     }
@@ -246,17 +246,17 @@ saying_sees back.ReadState state.Connected fs w e h = back_sees_kept back_state 
 saying_sees s own fs w e h = absurd (cc)
 
 -- a move of the back
-pub back_move_holds : (f : Features) (d : DiskFacts) (t : Negotiation) (page : Mapping) (spare : List ℕ) → Holds f d t → Holds f d (back_moved page spare t)
-back_move_holds f d t page spare h =
+pub back_move_holds : (f : Features) (d : DiskFacts) (t : Negotiation) (page : Mapping) → Holds f d t → Holds f d (back_moved page t)
+back_move_holds f d t page h =
     let v = t.back in
     let a = back_asks.ask_of v in
-    let answer = back_answered a page spare t.keys in
-    let sound = back_keeps v answer (back_lawful a page spare t.keys) h.back_sound in
+    let answer = back_answered a page t.keys in
+    let sound = back_keeps v answer (back_lawful a page t.keys) h.back_sound in
     by_test (back_asks.says_closing v) refl sound (back_rises v h.back_sound)
   where
     by_test : (says : Bool) → back_asks.says_closing t.back ≡ says
         → let a = (if says then back_ask.SetState state.Closing else back_asks.ask_at t.back.stage t.back) in
-        let w = (if says then record t.back { state = state.Closing } else back_step.step_at t.back.stage t.back (back_answered a page spare t.keys)) in
+        let w = (if says then record t.back { state = state.Closing } else back_step.step_at t.back.stage t.back (back_answered a page t.keys)) in
         back_sound.IsSound w → back_sound.Rises t.back.state a → Holds f d (record { front = t.front; back = w; keys = back_done a t.keys })
     by_test true e sound rises =
         let where_said = says_where t.back e in
@@ -280,8 +280,8 @@ back_move_holds f d t page spare h =
     by_test false e sound rises =
         let v = t.back in
         let a = back_asks.ask_at v.stage v in
-        let w = back_step.step_at v.stage v (back_answered a page spare t.keys) in
-        let wrote : w.state ≡ back_own a v.state = back_state_at v.stage v page spare t.keys in
+        let w = back_step.step_at v.stage v (back_answered a page t.keys) in
+        let wrote : w.state ≡ back_own a v.state = back_state_at v.stage v page t.keys in
         let later : state_number v.state ≤ state_number w.state = subst (λ (o : BusState). state_number v.state ≤ state_number o) (sym wrote) (back_own_rises a v.state rises) in
         let shows = front_shows f d t h in
         record {
@@ -295,10 +295,10 @@ back_move_holds f d t page spare h =
             back = subst (λ (o : BusState). key_of (back_done a t.keys).keys back_state ≡ Some (state_text o)) (sym wrote) (back_ask_own a t.keys v.state h.states.back);
           };
           front = front_holds_by t.front.stage t.front _ _ f d _ _ later (back_ask_leaves a t.keys) h.front;
-          back = back_holds_at (state_number t.front.state) t.front.port (terms_of t.front) f d v.stage v page spare t.keys t.front.state refl h.back_sound.placed shows h.back;
+          back = back_holds_at (state_number t.front.state) t.front.port (terms_of t.front) f d v.stage v page t.keys t.front.state refl h.back_sound.placed shows h.back;
           front_sees =
               subst (λ (o : BusState). FrontSees t.front.stage t.front.closing t.front.state t.front.gone o (back_done a t.keys).front) (sym wrote) (back_ask_seen a t.keys t.front.stage t.front.closing t.front.state t.front.gone v.state h.front_sees);
-          back_sees = back_sees_at t.front.state v.stage v page spare t.keys shows.state (acts_at f d t v.stage h.back_sound.placed refl h) h.back_sound.placed h.back_sees;
+          back_sees = back_sees_at t.front.state v.stage v page t.keys shows.state (acts_at f d t v.stage h.back_sound.placed refl h) h.back_sound.placed h.back_sees;
         }
 
 -- an end is asked to close
@@ -362,8 +362,8 @@ back_close_holds f d t h = by_test (is_halting t.back.stage) (back_turn_keeps Un
 
 -- whatever happens
 pub happening_holds : (f : Features) (d : DiskFacts) (x : Happening) (t : Negotiation) → HasPort x → Holds f d t → Holds f d (happened x t)
-happening_holds f d (FrontMoves idle port spare) t fits h = front_move_holds f d t idle port spare fits h
-happening_holds f d (BackMoves page spare) t fits h = back_move_holds f d t page spare h
+happening_holds f d (FrontMoves idle port) t fits h = front_move_holds f d t idle port fits h
+happening_holds f d (BackMoves page) t fits h = back_move_holds f d t page h
 happening_holds f d FrontCloses t fits h = front_close_holds f d t h
 happening_holds f d BackCloses t fits h = back_close_holds f d t h
 

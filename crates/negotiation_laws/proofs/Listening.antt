@@ -29,7 +29,7 @@ use Rattle.xenbus_state.specs.BackAsk as back_asks
 use Rattle.xenbus_state.specs.BackStep as back_step
 use Rattle.xenbus_state.specs.BackSound.{IsPlaced}
 use Rattle.xenbus_state.proofs.FrontRuns.{own_after, state_after}
-use Rattle.negotiation_laws.specs.Negotiation.{Negotiation, front_path, back_path, front_state, back_state, handed, front_answered, front_done, front_woken, front_moved, back_answered, back_done, back_woken, back_moved}
+use Rattle.negotiation_laws.specs.Negotiation.{Negotiation, front_path, back_path, front_state, back_state, front_answered, front_done, front_woken, front_moved, back_answered, back_done, back_woken, back_moved}
 use Rattle.negotiation_laws.specs.Happening.{Happening, FrontMoves, BackMoves, FrontCloses, BackCloses, happened, after}
 use Rattle.negotiation_laws.specs.Within.{HavePorts}
 use Rattle.negotiation_laws.specs.Run.{now, begins}
@@ -49,39 +49,39 @@ never e = absurd (true≢false (sym e))
 
 -- what the front has heard
 module _ (b : BusState) (last : Option BusState) where
-  woken_hears : (v : FrontView) (idle : Bool) (spare : List ℕ) (w : Watches) → Sees back_state w (last ≡ Some b)
-      → front_listens (front_step.step_at front.Rest (front_step.at front.Rest v) idle (front_woken (next_watch w) spare)).stage ≡ true
+  woken_hears : (v : FrontView) (idle : Bool) (w : Watches) → Sees back_state w (last ≡ Some b)
+      → front_listens (front_step.step_at front.Rest (front_step.at front.Rest v) idle (front_woken (next_watch w))).stage ≡ true
       → Sees back_state (taken w) (last ≡ Some b)
-  woken_hears v idle spare w (inl e) listens =
-      never (subst (λ (u : Watches). front_listens (front_step.step_at front.Rest (front_step.at front.Rest v) idle (front_woken (next_watch u) spare)).stage ≡ true) e listens)
-  woken_hears v idle spare w (inr (e, heard)) listens = inr (ap taken e, heard)
+  woken_hears v idle w (inl e) listens =
+      never (subst (λ (u : Watches). front_listens (front_step.step_at front.Rest (front_step.at front.Rest v) idle (front_woken (next_watch u))).stage ≡ true) e listens)
+  woken_hears v idle w (inr (e, heard)) listens = inr (ap taken e, heard)
 
-  ended_hears : (o : Option (List ℕ)) (v : FrontView) (idle : Bool) (spare : List ℕ) (w : Watches)
-      → front_listens (front_step.step_at front.Closed (front_step.at front.Closed v) idle (front_woken o spare)).stage ≡ true
+  ended_hears : (o : Option (List ℕ)) (v : FrontView) (idle : Bool) (w : Watches)
+      → front_listens (front_step.step_at front.Closed (front_step.at front.Closed v) idle (front_woken o)).stage ≡ true
       → Sees back_state w (last ≡ Some b)
-  ended_hears None v idle spare w listens = never listens
-  ended_hears (Some path) v idle spare w listens = never listens
+  ended_hears None v idle w listens = never listens
+  ended_hears (Some path) v idle w listens = never listens
 
-  broken_hears : (word : ℕ) (o : Option (List ℕ)) (v : FrontView) (idle : Bool) (spare : List ℕ) (w : Watches)
-      → front_listens (front_step.step_at (front.Broken word) (front_step.at (front.Broken word) v) idle (front_woken o spare)).stage ≡ true
+  broken_hears : (word : ℕ) (o : Option (List ℕ)) (v : FrontView) (idle : Bool) (w : Watches)
+      → front_listens (front_step.step_at (front.Broken word) (front_step.at (front.Broken word) v) idle (front_woken o)).stage ≡ true
       → Sees back_state w (last ≡ Some b)
-  broken_hears word None v idle spare w listens = never listens
-  broken_hears word (Some path) v idle spare w listens = never listens
+  broken_hears word None v idle w listens = never listens
+  broken_hears word (Some path) v idle w listens = never listens
 
-  front_hears_at : (s : FrontStage) (t : Negotiation) (idle : Bool) (port : ℕ) (spare : List ℕ)
-      → state_read (handed spare (key_of t.keys.keys back_state)) ≡ Some b → FrontSees s t.front.closing t.front.state t.front.gone b t.keys.front
+  front_hears_at : (s : FrontStage) (t : Negotiation) (idle : Bool) (port : ℕ)
+      → state_read (key_of t.keys.keys back_state) ≡ Some b → FrontSees s t.front.closing t.front.state t.front.gone b t.keys.front
       → (front_listens s ≡ true → Sees back_state t.keys.front (last ≡ Some b))
-      → front_listens (front_step.step_at s (front_step.at s t.front) idle (front_answered (front_asks.ask_at s t.front) port spare t.keys)).stage ≡ true
-      → Sees back_state (front_done (front_asks.ask_at s t.front) t.keys).front (front_heard_by (front_asks.ask_at s t.front) spare t last ≡ Some b)
-  front_hears_at front.Start t idle port spare shown sees h listens = inl (ap (λ (u : Watches). with_watch u back_state) sees)
-  front_hears_at front.Rest t idle port spare shown sees h listens = woken_hears t.front idle spare t.keys.front (h refl) listens
-  front_hears_at front.ReadState t idle port spare shown sees h listens =
-      sees_so back_state t.keys.front (Unit {0}) (state_read (handed spare (key_of t.keys.keys back_state)) ≡ Some b) (λ u. shown) sees
-  front_hears_at (front.Publish k) t idle port spare shown sees h listens = sees_kept back_state (front_path k) t.keys.front (last ≡ Some b) refl (h refl)
-  front_hears_at (front.WriteState s) t idle port spare shown sees h listens = sees_kept back_state front_state t.keys.front (last ≡ Some b) refl (h refl)
-  front_hears_at front.Closed t idle port spare shown sees h listens = ended_hears (next_watch t.keys.front) t.front idle spare (taken t.keys.front) listens
-  front_hears_at (front.Broken word) t idle port spare shown sees h listens = broken_hears word (next_watch t.keys.front) t.front idle spare (taken t.keys.front) listens
-  front_hears_at s t idle port spare shown sees h listens = h refl
+      → front_listens (front_step.step_at s (front_step.at s t.front) idle (front_answered (front_asks.ask_at s t.front) port t.keys)).stage ≡ true
+      → Sees back_state (front_done (front_asks.ask_at s t.front) t.keys).front (front_heard_by (front_asks.ask_at s t.front) t last ≡ Some b)
+  front_hears_at front.Start t idle port shown sees h listens = inl (ap (λ (u : Watches). with_watch u back_state) sees)
+  front_hears_at front.Rest t idle port shown sees h listens = woken_hears t.front idle t.keys.front (h refl) listens
+  front_hears_at front.ReadState t idle port shown sees h listens =
+      sees_so back_state t.keys.front (Unit {0}) (state_read (key_of t.keys.keys back_state) ≡ Some b) (λ u. shown) sees
+  front_hears_at (front.Publish k) t idle port shown sees h listens = sees_kept back_state (front_path k) t.keys.front (last ≡ Some b) refl (h refl)
+  front_hears_at (front.WriteState s) t idle port shown sees h listens = sees_kept back_state front_state t.keys.front (last ≡ Some b) refl (h refl)
+  front_hears_at front.Closed t idle port shown sees h listens = ended_hears (next_watch t.keys.front) t.front idle (taken t.keys.front) listens
+  front_hears_at (front.Broken word) t idle port shown sees h listens = broken_hears word (next_watch t.keys.front) t.front idle (taken t.keys.front) listens
+  front_hears_at s t idle port shown sees h listens = h refl
 
   due_hears : (s : FrontStage) (v : FrontView) (idle : Bool) (w : Watches) → (front_listens s ≡ true → Sees back_state w (last ≡ Some b))
       → front_listens (due_at s v idle) ≡ true → Sees back_state w (last ≡ Some b)
@@ -96,18 +96,18 @@ back_ask_heard (back_ask.SetKey k value) d b last h = sees_kept back_state (back
 back_ask_heard back_ask.Wait d b last h = h
 back_ask_heard a d b last h = h
 
-back_move_heard : (t : Negotiation) (page : Mapping) (spare : List ℕ) (last : Option BusState) → Sees back_state t.keys.front (last ≡ Some t.back.state)
-    → Sees back_state (back_moved page spare t).keys.front (last ≡ Some (back_moved page spare t).back.state)
-back_move_heard t page spare last h = by_test (back_asks.says_closing t.back)
+back_move_heard : (t : Negotiation) (page : Mapping) (last : Option BusState) → Sees back_state t.keys.front (last ≡ Some t.back.state)
+    → Sees back_state (back_moved page t).keys.front (last ≡ Some (back_moved page t).back.state)
+back_move_heard t page last h = by_test (back_asks.says_closing t.back)
   where
     by_test : (says : Bool)
         → let a = (if says then back_ask.SetState state.Closing else back_asks.ask_at t.back.stage t.back) in
-        let w = (if says then record t.back { state = state.Closing } else back_step.step_at t.back.stage t.back (back_answered a page spare t.keys)) in
+        let w = (if says then record t.back { state = state.Closing } else back_step.step_at t.back.stage t.back (back_answered a page t.keys)) in
         Sees back_state (back_done a t.keys).front (last ≡ Some w.state)
     by_test true = back_ask_heard (back_ask.SetState state.Closing) t.keys t.back.state last h
     by_test false =
         let a = back_asks.ask_at t.back.stage t.back in
-        subst (λ (s : BusState). Sees back_state (back_done a t.keys).front (last ≡ Some s)) (sym (back_state_at t.back.stage t.back page spare t.keys)) (back_ask_heard a t.keys t.back.state last h)
+        subst (λ (s : BusState). Sees back_state (back_done a t.keys).front (last ≡ Some s)) (sym (back_state_at t.back.stage t.back page t.keys)) (back_ask_heard a t.keys t.back.state last h)
 
 FrontHears : Negotiation → Option BusState → Type 0
 FrontHears t last = front_listens t.front.stage ≡ true → Sees back_state t.keys.front (last ≡ Some t.back.state)
@@ -132,10 +132,10 @@ unplugged_hears t last h = by_test (is_halting t.back.stage)
 front_hears_once : (f : Features) (d : DiskFacts) (x : Happening) (t : Negotiation) (last : Option BusState) → Holds f d t → FrontHears t last
     → FrontHears (happened x t) (front_heard_in x t last)
 unfolding FrontHears
-front_hears_once f d (FrontMoves idle port spare) t last h k =
+front_hears_once f d (FrontMoves idle port) t last h k =
     let s = due t.front idle in
-    front_hears_at t.back.state last s t idle port spare (state_shown spare (key_of t.keys.keys back_state) t.back.state h.states.back) (due_sees t.back.state t.front.stage t.front idle t.keys.front h.front_sees) (due_hears t.back.state last t.front.stage t.front idle t.keys.front k)
-front_hears_once f d (BackMoves page spare) t last h k = λ listens. back_move_heard t page spare last (k listens)
+    front_hears_at t.back.state last s t idle port (state_shown (key_of t.keys.keys back_state) t.back.state h.states.back) (due_sees t.back.state t.front.stage t.front idle t.keys.front h.front_sees) (due_hears t.back.state last t.front.stage t.front idle t.keys.front k)
+front_hears_once f d (BackMoves page) t last h k = λ listens. back_move_heard t page last (k listens)
 front_hears_once f d FrontCloses t last h k = closed_hears t last k
 front_hears_once f d BackCloses t last h k = unplugged_hears t last k
 
@@ -156,17 +156,17 @@ no_front_watch_lost r listens =
 
 -- what the back has heard
 module _ (fs : BusState) (last : Option BusState) where
-  back_woken_hears : (v : BackView) (spare : List ℕ) (w : Watches) → Sees front_state w (last ≡ Some fs)
-      → back_listens (back_step.step_at back.Rest (back_step.at back.Rest v) (back_woken (next_watch w) spare)).stage ≡ true
+  back_woken_hears : (v : BackView) (w : Watches) → Sees front_state w (last ≡ Some fs)
+      → back_listens (back_step.step_at back.Rest (back_step.at back.Rest v) (back_woken (next_watch w))).stage ≡ true
       → Sees front_state (taken w) (last ≡ Some fs)
-  back_woken_hears v spare w (inl e) listens =
-      never (subst (λ (u : Watches). back_listens (back_step.step_at back.Rest (back_step.at back.Rest v) (back_woken (next_watch u) spare)).stage ≡ true) e listens)
-  back_woken_hears v spare w (inr (e, heard)) listens = inr (ap taken e, heard)
+  back_woken_hears v w (inl e) listens =
+      never (subst (λ (u : Watches). back_listens (back_step.step_at back.Rest (back_step.at back.Rest v) (back_woken (next_watch u))).stage ≡ true) e listens)
+  back_woken_hears v w (inr (e, heard)) listens = inr (ap taken e, heard)
 
-  halted_hears : (o : Option (List ℕ)) (v : BackView) (spare : List ℕ) (w : Watches)
-      → back_listens (back_step.step_at back.Halted (back_step.at back.Halted v) (back_woken o spare)).stage ≡ true → Sees front_state w (last ≡ Some fs)
-  halted_hears None v spare w listens = never listens
-  halted_hears (Some path) v spare w listens = never listens
+  halted_hears : (o : Option (List ℕ)) (v : BackView) (w : Watches)
+      → back_listens (back_step.step_at back.Halted (back_step.at back.Halted v) (back_woken o)).stage ≡ true → Sees front_state w (last ≡ Some fs)
+  halted_hears None v w listens = never listens
+  halted_hears (Some path) v w listens = never listens
 
   offered_hears : (k : BackKey) (w : Watches) → back_listens (back_step.after_feature (next_feature k)) ≡ true → Sees front_state w (last ≡ Some fs)
   offered_hears back_key.FeatureBarrier w listens = never listens
@@ -177,25 +177,25 @@ module _ (fs : BusState) (last : Option BusState) where
   written_hears state.InitWait w h listens = never listens
   written_hears s w h listens = sees_kept front_state back_state w (last ≡ Some fs) refl (h refl)
 
-  unmap_hears : (pages : List Mapping) (t : Negotiation) (spare : List ℕ) → 0 < length pages → Sees front_state t.keys.back (last ≡ Some fs)
-      → Sees front_state (back_done (back_asks.unmap_ask pages) t.keys).back (back_heard_by (back_asks.unmap_ask pages) spare t last ≡ Some fs)
-  unmap_hears [] t spare some h = absurd (omega arith)
-  unmap_hears (page ∷ pages) t spare some h = h
+  unmap_hears : (pages : List Mapping) (t : Negotiation) → 0 < length pages → Sees front_state t.keys.back (last ≡ Some fs)
+      → Sees front_state (back_done (back_asks.unmap_ask pages) t.keys).back (back_heard_by (back_asks.unmap_ask pages) t last ≡ Some fs)
+  unmap_hears [] t some h = absurd (omega arith)
+  unmap_hears (page ∷ pages) t some h = h
 
-  back_hears_at : (s : BackStage) (t : Negotiation) (page : Mapping) (spare : List ℕ) → state_read (handed spare (key_of t.keys.keys front_state)) ≡ Some fs
+  back_hears_at : (s : BackStage) (t : Negotiation) (page : Mapping) → state_read (key_of t.keys.keys front_state) ≡ Some fs
       → IsPlaced s t.back → BackSees s t.back.state fs t.keys.back → (back_listens s ≡ true → Sees front_state t.keys.back (last ≡ Some fs))
-      → back_listens (back_step.step_at s (back_step.at s t.back) (back_answered (back_asks.ask_at s t.back) page spare t.keys)).stage ≡ true
-      → Sees front_state (back_done (back_asks.ask_at s t.back) t.keys).back (back_heard_by (back_asks.ask_at s t.back) spare t last ≡ Some fs)
-  back_hears_at (back.Publish k) t page spare shown placed sees h listens = offered_hears k (fired t.keys.back (back_path k)) listens
-  back_hears_at (back.WriteState s) t page spare shown placed sees h listens = written_hears s t.keys.back h listens
-  back_hears_at back.Watch t page spare shown placed sees h listens = inl (ap (λ (u : Watches). with_watch u front_state) sees)
-  back_hears_at back.Rest t page spare shown placed sees h listens = back_woken_hears t.back spare t.keys.back (h refl) listens
-  back_hears_at back.ReadState t page spare shown placed sees h listens =
-      sees_so front_state t.keys.back (Unit {0}) (state_read (handed spare (key_of t.keys.keys front_state)) ≡ Some fs) (λ u. shown) sees
-  back_hears_at (back.PublishFact k) t page spare shown placed sees h listens = sees_kept front_state (back_path k) t.keys.back (last ≡ Some fs) refl (h refl)
-  back_hears_at back.UnmapPage t page spare shown placed sees h listens = unmap_hears t.back.pages t spare placed.1 (h refl)
-  back_hears_at back.Halted t page spare shown placed sees h listens = halted_hears (next_watch t.keys.back) t.back spare (taken t.keys.back) listens
-  back_hears_at s t page spare shown placed sees h listens = h refl
+      → back_listens (back_step.step_at s (back_step.at s t.back) (back_answered (back_asks.ask_at s t.back) page t.keys)).stage ≡ true
+      → Sees front_state (back_done (back_asks.ask_at s t.back) t.keys).back (back_heard_by (back_asks.ask_at s t.back) t last ≡ Some fs)
+  back_hears_at (back.Publish k) t page shown placed sees h listens = offered_hears k (fired t.keys.back (back_path k)) listens
+  back_hears_at (back.WriteState s) t page shown placed sees h listens = written_hears s t.keys.back h listens
+  back_hears_at back.Watch t page shown placed sees h listens = inl (ap (λ (u : Watches). with_watch u front_state) sees)
+  back_hears_at back.Rest t page shown placed sees h listens = back_woken_hears t.back t.keys.back (h refl) listens
+  back_hears_at back.ReadState t page shown placed sees h listens =
+      sees_so front_state t.keys.back (Unit {0}) (state_read (key_of t.keys.keys front_state) ≡ Some fs) (λ u. shown) sees
+  back_hears_at (back.PublishFact k) t page shown placed sees h listens = sees_kept front_state (back_path k) t.keys.back (last ≡ Some fs) refl (h refl)
+  back_hears_at back.UnmapPage t page shown placed sees h listens = unmap_hears t.back.pages t placed.1 (h refl)
+  back_hears_at back.Halted t page shown placed sees h listens = halted_hears (next_watch t.keys.back) t.back (taken t.keys.back) listens
+  back_hears_at s t page shown placed sees h listens = h refl
 
 -- an ask of the front
 front_ask_heard : (a : FrontBusAsk) (d : Directory) (fs : BusState) (last : Option BusState) → Sees front_state d.back (last ≡ Some fs)
@@ -206,30 +206,30 @@ front_ask_heard (front_ask.SetKey k value) d fs last h = sees_kept front_state (
 front_ask_heard front_ask.Wait d fs last h = h
 front_ask_heard a d fs last h = h
 
-front_move_heard : (t : Negotiation) (idle : Bool) (port : ℕ) (spare : List ℕ) (last : Option BusState)
+front_move_heard : (t : Negotiation) (idle : Bool) (port : ℕ) (last : Option BusState)
     → Sees front_state t.keys.back (last ≡ Some t.front.state)
-    → Sees front_state (front_moved idle port spare t).keys.back (last ≡ Some (front_moved idle port spare t).front.state)
-front_move_heard t idle port spare last h =
+    → Sees front_state (front_moved idle port t).keys.back (last ≡ Some (front_moved idle port t).front.state)
+front_move_heard t idle port last h =
     let a = front_asks.ask_of t.front idle in
-    let wrote = state_after t.front idle (front_answered a port spare t.keys) (front_lawful a port spare t.keys) in
+    let wrote = state_after t.front idle (front_answered a port t.keys) (front_lawful a port t.keys) in
     subst (λ (s : BusState). Sees front_state (front_done a t.keys).back (last ≡ Some s)) (sym wrote) (front_ask_heard a t.keys t.front.state last h)
 
 BackHears : Negotiation → Option BusState → Type 0
 BackHears t last = back_listens t.back.stage ≡ true → Sees front_state t.keys.back (last ≡ Some t.front.state)
 
 -- a back that says that it closes hears as before
-back_move_hears : (f : Features) (d : DiskFacts) (t : Negotiation) (page : Mapping) (spare : List ℕ) (last : Option BusState) → Holds f d t → BackHears t last
-    → BackHears (back_moved page spare t) (back_heard_by (back_asks.ask_of t.back) spare t last)
+back_move_hears : (f : Features) (d : DiskFacts) (t : Negotiation) (page : Mapping) (last : Option BusState) → Holds f d t → BackHears t last
+    → BackHears (back_moved page t) (back_heard_by (back_asks.ask_of t.back) t last)
 unfolding BackHears
-back_move_hears f d t page spare last h k = by_test (back_asks.says_closing t.back)
+back_move_hears f d t page last h k = by_test (back_asks.says_closing t.back)
   where
     by_test : (says : Bool)
         → let a = (if says then back_ask.SetState state.Closing else back_asks.ask_at t.back.stage t.back) in
-        let w = (if says then record t.back { state = state.Closing } else back_step.step_at t.back.stage t.back (back_answered a page spare t.keys)) in
-        back_listens w.stage ≡ true → Sees front_state (back_done a t.keys).back (back_heard_by a spare t last ≡ Some t.front.state)
+        let w = (if says then record t.back { state = state.Closing } else back_step.step_at t.back.stage t.back (back_answered a page t.keys)) in
+        back_listens w.stage ≡ true → Sees front_state (back_done a t.keys).back (back_heard_by a t last ≡ Some t.front.state)
     by_test true = λ listens. sees_kept front_state back_state t.keys.back (last ≡ Some t.front.state) refl (k listens)
     by_test false =
-        back_hears_at t.front.state last t.back.stage t page spare (state_shown spare (key_of t.keys.keys front_state) t.front.state h.states.front) h.back_sound.placed h.back_sees k
+        back_hears_at t.front.state last t.back.stage t page (state_shown (key_of t.keys.keys front_state) t.front.state h.states.front) h.back_sound.placed h.back_sees k
 
 back_closed_hears : (t : Negotiation) (last : Option BusState) → BackHears t last → BackHears (record t { front = closed t.front }) last
 unfolding BackHears
@@ -251,8 +251,8 @@ back_unplugged_hears t last h = by_test (is_halting t.back.stage)
 back_hears_once : (f : Features) (d : DiskFacts) (x : Happening) (t : Negotiation) (last : Option BusState) → Holds f d t → BackHears t last
     → BackHears (happened x t) (back_heard_in x t last)
 unfolding BackHears
-back_hears_once f d (FrontMoves idle port spare) t last h k = λ listens. front_move_heard t idle port spare last (k listens)
-back_hears_once f d (BackMoves page spare) t last h k = back_move_hears f d t page spare last h k
+back_hears_once f d (FrontMoves idle port) t last h k = λ listens. front_move_heard t idle port last (k listens)
+back_hears_once f d (BackMoves page) t last h k = back_move_hears f d t page last h k
 back_hears_once f d FrontCloses t last h k = back_closed_hears t last k
 back_hears_once f d BackCloses t last h k = back_unplugged_hears t last k
 

@@ -3,7 +3,6 @@ use Rattle.std.proofs.Common.{◌⊎◌, inl, inr, ◌≡◌, ◌∙◌, ap, sym
 use Rattle.std.specs.Prelude.{Option, None, Some}
 use Rattle.std.specs.List.{list_any}
 use Rattle.std.specs.Option.{option_map}
-use Rattle.arrayvec.specs.ArrayString.{ArrayString}
 use Rattle.blk_base.specs.declared.parts.Mapping.{Mapping}
 use Rattle.key_directory.specs.Directory.{Directory, key_of}
 use Rattle.key_directory.specs.Watches.{next_watch}
@@ -38,7 +37,7 @@ use Rattle.xenbus_state.specs.BackReading as reading
 use Rattle.xenbus_state.specs.BackReading.{order_of, layout_read, with_order, with_gref, with_port, with_layout, with_persistent}
 use Rattle.xenbus_state.specs.BackStep as back_step
 use Rattle.xenbus_state.specs.BackSound.{IsPlaced}
-use Rattle.negotiation_laws.specs.Negotiation.{Negotiation, front_path, back_path, front_state, back_state, handed, front_answered, back_answered, back_woken, front_woken, back_done, front_moved, back_moved}
+use Rattle.negotiation_laws.specs.Negotiation.{Negotiation, front_path, back_path, front_state, back_state, front_answered, back_answered, back_woken, front_woken, back_done, front_moved, back_moved}
 use Rattle.negotiation_laws.specs.Happening.{Happening, FrontMoves, BackMoves, FrontCloses, BackCloses, happened, after, IsServed, AreServed}
 use Rattle.negotiation_laws.specs.Within.{HasPort, HavePorts}
 use Rattle.negotiation_laws.specs.Run.{now, begins}
@@ -69,31 +68,31 @@ fact_open : (k : BackKey) (o : Option ℕ) (v : FrontView) → (front_step.fact_
 fact_open k None v = refl
 fact_open k (Some m) v = refl
 
-woken_open : (s : FrontStage) (o : Option (List ℕ)) (v : FrontView) (idle : Bool) (spare : List ℕ)
-    → (front_step.step_at s (front_step.at s v) idle (front_woken o spare)).closing ≡ v.closing
-woken_open front.Rest None v idle spare = refl
-woken_open front.Rest (Some path) v idle spare = refl
-woken_open s None v idle spare = refl
-woken_open s (Some path) v idle spare = refl
+woken_open : (s : FrontStage) (o : Option (List ℕ)) (v : FrontView) (idle : Bool)
+    → (front_step.step_at s (front_step.at s v) idle (front_woken o)).closing ≡ v.closing
+woken_open front.Rest None v idle = refl
+woken_open front.Rest (Some path) v idle = refl
+woken_open s None v idle = refl
+woken_open s (Some path) v idle = refl
 
 module _ (f : Features) (d : DiskFacts) (t : Negotiation) where
-  state_open : (idle : Bool) (spare : List ℕ) → state_number t.back.state ≤ 4 → Holds f d t
-      → (front_step.acted (front_action t.front.state t.front.closing idle (state_read (handed spare (key_of t.keys.keys back_state)))) (front_step.at front.ReadState t.front)).closing ≡ t.front.closing
-  state_open idle spare low h =
-      subst (λ (r : Option BusState). (front_step.acted (front_action t.front.state t.front.closing idle r) (front_step.at front.ReadState t.front)).closing ≡ t.front.closing) (sym (state_shown spare (key_of t.keys.keys back_state) t.back.state h.states.back))
+  state_open : (idle : Bool) → state_number t.back.state ≤ 4 → Holds f d t
+      → (front_step.acted (front_action t.front.state t.front.closing idle (state_read (key_of t.keys.keys back_state))) (front_step.at front.ReadState t.front)).closing ≡ t.front.closing
+  state_open idle low h =
+      subst (λ (r : Option BusState). (front_step.acted (front_action t.front.state t.front.closing idle r) (front_step.at front.ReadState t.front)).closing ≡ t.front.closing) (sym (state_shown (key_of t.keys.keys back_state) t.back.state h.states.back))
       (acted_open (front_action t.front.state t.front.closing idle (Some t.back.state)) t.front idle t.back.state low (front_acts_now f d t idle h))
 
-  closing_at : (s : FrontStage) (idle : Bool) (port : ℕ) (spare : List ℕ) → state_number t.back.state ≤ 4 → Holds f d t
-      → (front_step.step_at s (front_step.at s t.front) idle (front_answered (front_asks.ask_at s t.front) port spare t.keys)).closing ≡ t.front.closing
-  closing_at front.Rest idle port spare low h = woken_open front.Rest (next_watch t.keys.front) t.front idle spare
-  closing_at front.ReadState idle port spare low h = state_open idle spare low h
-  closing_at (front.ReadFeature k) idle port spare low h =
-      feature_open k (count_read (handed spare (key_of t.keys.keys (back_path k)))) (front_step.at (front.ReadFeature k) t.front)
-  closing_at (front.ReadFact k) idle port spare low h = fact_open k (fact_read k (handed spare (key_of t.keys.keys (back_path k)))) (front_step.at (front.ReadFact k) t.front)
-  closing_at front.Closed idle port spare low h = woken_open front.Closed (next_watch t.keys.front) t.front idle spare
-  closing_at (front.Broken word) idle port spare low h = woken_open (front.Broken word) (next_watch t.keys.front) t.front idle spare
-  closing_at front.Start idle port spare low h = refl
-  closing_at s idle port spare low h = refl
+  closing_at : (s : FrontStage) (idle : Bool) (port : ℕ) → state_number t.back.state ≤ 4 → Holds f d t
+      → (front_step.step_at s (front_step.at s t.front) idle (front_answered (front_asks.ask_at s t.front) port t.keys)).closing ≡ t.front.closing
+  closing_at front.Rest idle port low h = woken_open front.Rest (next_watch t.keys.front) t.front idle
+  closing_at front.ReadState idle port low h = state_open idle low h
+  closing_at (front.ReadFeature k) idle port low h =
+      feature_open k (count_read (key_of t.keys.keys (back_path k))) (front_step.at (front.ReadFeature k) t.front)
+  closing_at (front.ReadFact k) idle port low h = fact_open k (fact_read k (key_of t.keys.keys (back_path k))) (front_step.at (front.ReadFact k) t.front)
+  closing_at front.Closed idle port low h = woken_open front.Closed (next_watch t.keys.front) t.front idle
+  closing_at (front.Broken word) idle port low h = woken_open (front.Broken word) (next_watch t.keys.front) t.front idle
+  closing_at front.Start idle port low h = refl
+  closing_at s idle port low h = refl
 
   -- the back is asked to close by a close alone
   acted_unasked : (act : BackAction) (v : BackView) → (back_step.acted act v).unplugged ≡ v.unplugged
@@ -111,39 +110,39 @@ module _ (f : Features) (d : DiskFacts) (t : Negotiation) where
   only_unasked true v = refl
   only_unasked false v = refl
 
-  key_unasked : (k : FrontKey) (text : Option ArrayString) (v : BackView) → (back_step.kept_or_halted (reading.key_read k text v) v).unplugged ≡ v.unplugged
+  key_unasked : (k : FrontKey) (text : Option (List ℕ)) (v : BackView) → (back_step.kept_or_halted (reading.key_read k text v) v).unplugged ≡ v.unplugged
   key_unasked front_key.RingPageOrder None v = refl
-  key_unasked front_key.RingPageOrder (Some text) v = kept_unasked (with_order v (front_key.RingRefOf 0)) (order_of (number_of text.bytes)) v (λ x. refl)
+  key_unasked front_key.RingPageOrder (Some text) v = kept_unasked (with_order v (front_key.RingRefOf 0)) (order_of (number_of text)) v (λ x. refl)
   key_unasked (front_key.RingRefOf page) None v = only_unasked (v.terms.order == 0) v
-  key_unasked (front_key.RingRefOf page) (Some text) v = kept_unasked (with_gref v (after_page v.terms.order page)) (number_of text.bytes) v (λ x. refl)
+  key_unasked (front_key.RingRefOf page) (Some text) v = kept_unasked (with_gref v (after_page v.terms.order page)) (number_of text) v (λ x. refl)
   key_unasked front_key.RingRef None v = refl
-  key_unasked front_key.RingRef (Some text) v = kept_unasked (with_gref v front_key.EventChannel) (number_of text.bytes) v (λ x. refl)
+  key_unasked front_key.RingRef (Some text) v = kept_unasked (with_gref v front_key.EventChannel) (number_of text) v (λ x. refl)
   key_unasked front_key.EventChannel None v = refl
-  key_unasked front_key.EventChannel (Some text) v = kept_unasked (with_port v) (number_of text.bytes) v (λ x. refl)
+  key_unasked front_key.EventChannel (Some text) v = kept_unasked (with_port v) (number_of text) v (λ x. refl)
   key_unasked front_key.Protocol text v = kept_unasked (with_layout v) (layout_read text) v (λ x. refl)
   key_unasked front_key.FeaturePersistent text v = kept_unasked (with_persistent v) (count_read text) v (λ x. refl)
 
-  back_woken_open : (s : BackStage) (o : Option (List ℕ)) (v : BackView) (spare : List ℕ) → (back_step.step_at s (back_step.at s v) (back_woken o spare)).unplugged ≡ v.unplugged
-  back_woken_open back.Rest None v spare = refl
-  back_woken_open back.Rest (Some path) v spare = refl
-  back_woken_open s None v spare = refl
-  back_woken_open s (Some path) v spare = refl
+  back_woken_open : (s : BackStage) (o : Option (List ℕ)) (v : BackView) → (back_step.step_at s (back_step.at s v) (back_woken o)).unplugged ≡ v.unplugged
+  back_woken_open back.Rest None v = refl
+  back_woken_open back.Rest (Some path) v = refl
+  back_woken_open s None v = refl
+  back_woken_open s (Some path) v = refl
 
-  unmap_open : (pages : List Mapping) (v : BackView) (page : Mapping) (spare : List ℕ) (k : Directory) → 0 < length pages
-      → let u = record v { pages = pages; stage = back.UnmapPage } in (back_step.step_at back.UnmapPage u (back_answered (back_asks.ask_at back.UnmapPage u) page spare k)).unplugged ≡ v.unplugged
-  unmap_open [] v page spare k some = absurd (omega arith)
-  unmap_open (first ∷ pages) v page spare k some = refl
+  unmap_open : (pages : List Mapping) (v : BackView) (page : Mapping) (k : Directory) → 0 < length pages
+      → let u = record v { pages = pages; stage = back.UnmapPage } in (back_step.step_at back.UnmapPage u (back_answered (back_asks.ask_at back.UnmapPage u) page k)).unplugged ≡ v.unplugged
+  unmap_open [] v page k some = absurd (omega arith)
+  unmap_open (first ∷ pages) v page k some = refl
 
-  unplugged_at : (s : BackStage) (page : Mapping) (spare : List ℕ) → IsPlaced s t.back
-      → (back_step.step_at s (back_step.at s t.back) (back_answered (back_asks.ask_at s t.back) page spare t.keys)).unplugged ≡ t.back.unplugged
-  unplugged_at back.Rest page spare placed = back_woken_open back.Rest (next_watch t.keys.back) t.back spare
-  unplugged_at back.ReadState page spare placed =
-      acted_unasked (back_action t.back.state t.back.unplugged (state_read (handed spare (key_of t.keys.keys front_state)))) (back_step.at back.ReadState t.back)
-  unplugged_at (back.ReadKey k) page spare placed = key_unasked k (handed spare (key_of t.keys.keys (front_path k))) (back_step.at (back.ReadKey k) t.back)
-  unplugged_at back.UnmapPage page spare placed = unmap_open t.back.pages t.back page spare t.keys placed.1
-  unplugged_at back.Halted page spare placed = back_woken_open back.Halted (next_watch t.keys.back) t.back spare
-  unplugged_at back.Watch page spare placed = refl
-  unplugged_at s page spare placed = refl
+  unplugged_at : (s : BackStage) (page : Mapping) → IsPlaced s t.back
+      → (back_step.step_at s (back_step.at s t.back) (back_answered (back_asks.ask_at s t.back) page t.keys)).unplugged ≡ t.back.unplugged
+  unplugged_at back.Rest page placed = back_woken_open back.Rest (next_watch t.keys.back) t.back
+  unplugged_at back.ReadState page placed =
+      acted_unasked (back_action t.back.state t.back.unplugged (state_read (key_of t.keys.keys front_state))) (back_step.at back.ReadState t.back)
+  unplugged_at (back.ReadKey k) page placed = key_unasked k (key_of t.keys.keys (front_path k)) (back_step.at (back.ReadKey k) t.back)
+  unplugged_at back.UnmapPage page placed = unmap_open t.back.pages t.back page t.keys placed.1
+  unplugged_at back.Halted page placed = back_woken_open back.Halted (next_watch t.keys.back) t.back
+  unplugged_at back.Watch page placed = refl
+  unplugged_at s page placed = refl
 
   -- and writes no state of a halt before the front has closed
   unmap_low : (pages : List Mapping) (own : BusState) → state_number own ≤ 4 → state_number (back_own (back_asks.unmap_ask pages) own) ≤ 4
@@ -161,34 +160,34 @@ module _ (f : Features) (d : DiskFacts) (t : Negotiation) where
   own_low back.Watch v n placed halting few low = low
   own_low s v n placed halting few low = low
 
-  front_move_open : (idle : Bool) (port : ℕ) (spare : List ℕ) → port < 2 ^ 32 → Holds f d t → IsOpen t → IsOpen (front_moved idle port spare t)
-  front_move_open idle port spare fits h o =
-      let still : (front_moved idle port spare t).front.closing ≡ false = closing_at (due t.front idle) idle port spare o.back_state h ∙ o.front in
-      let later = front_move_holds f d t idle port spare fits h in
+  front_move_open : (idle : Bool) (port : ℕ) → port < 2 ^ 32 → Holds f d t → IsOpen t → IsOpen (front_moved idle port t)
+  front_move_open idle port fits h o =
+      let still : (front_moved idle port t).front.closing ≡ false = closing_at (due t.front idle) idle port o.back_state h ∙ o.front in
+      let later = front_move_holds f d t idle port fits h in
       let low = (later.front.leaves_open still).0 in
       record { front = still; back = o.back; front_state = omega arith; back_state = o.back_state }
 
-  back_move_open : (page : Mapping) (spare : List ℕ) → Holds f d t → IsOpen t → IsOpen (back_moved page spare t)
-  back_move_open page spare h o = by_test (back_asks.says_closing t.back) refl
+  back_move_open : (page : Mapping) → Holds f d t → IsOpen t → IsOpen (back_moved page t)
+  back_move_open page h o = by_test (back_asks.says_closing t.back) refl
     where
       by_test : (says : Bool) → back_asks.says_closing t.back ≡ says
           → let a = (if says then back_ask.SetState state.Closing else back_asks.ask_at t.back.stage t.back) in
-          let w = (if says then record t.back { state = state.Closing } else back_step.step_at t.back.stage t.back (back_answered a page spare t.keys)) in
+          let w = (if says then record t.back { state = state.Closing } else back_step.step_at t.back.stage t.back (back_answered a page t.keys)) in
           IsOpen (record { front = t.front; back = w; keys = back_done a t.keys })
       by_test true e = absurd (true≢false (sym e ∙ ap (λ (u : Bool). u && back_asks.says_closing_at t.back.stage t.back.state) o.back))
       by_test false e =
-          let wrote = back_state_at t.back.stage t.back page spare t.keys in
+          let wrote = back_state_at t.back.stage t.back page t.keys in
           record {
             front = o.front;
-            back = unplugged_at t.back.stage page spare h.back_sound.placed ∙ o.back;
+            back = unplugged_at t.back.stage page h.back_sound.placed ∙ o.back;
             front_state = o.front_state;
             back_state =
                 subst (λ (s : BusState). state_number s ≤ 4) (sym wrote) (own_low t.back.stage t.back (state_number t.front.state) h.back_sound.placed h.back.halting_after o.front_state o.back_state);
           }
 
 open_once : (f : Features) (d : DiskFacts) (x : Happening) (t : Negotiation) → closes x ≡ false → HasPort x → Holds f d t → IsOpen t → IsOpen (happened x t)
-open_once f d (FrontMoves idle port spare) t e fits h o = front_move_open f d t idle port spare fits h o
-open_once f d (BackMoves page spare) t e fits h o = back_move_open f d t page spare h o
+open_once f d (FrontMoves idle port) t e fits h o = front_move_open f d t idle port fits h o
+open_once f d (BackMoves page) t e fits h o = back_move_open f d t page h o
 open_once f d FrontCloses t e fits h o = absurd (true≢false e)
 open_once f d BackCloses t e fits h o = absurd (true≢false e)
 
@@ -211,8 +210,8 @@ below_closing : (own : BusState) → state_number own ≤ 4 → own ≡ state.Cl
 below_closing own low e = let same : state_number own ≡ 5 = ap state_number e in omega arith
 
 open_served_once : (x : Happening) (t : Negotiation) → IsOpen t → IsServed x t
-open_served_once (FrontMoves idle port spare) t o = λ e. absurd (below_closing t.front.state o.front_state e)
-open_served_once (BackMoves page spare) t o = tt
+open_served_once (FrontMoves idle port) t o = λ e. absurd (below_closing t.front.state o.front_state e)
+open_served_once (BackMoves page) t o = tt
 open_served_once FrontCloses t o = tt
 open_served_once BackCloses t o = tt
 

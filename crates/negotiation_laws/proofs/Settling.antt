@@ -2,7 +2,6 @@
 use Rattle.std.proofs.Common.{◌≡◌, sym, subst, ℕ, ◌+◌, ◌-◌, ◌*◌, ◌^◌, ◌<◌, ◌≤◌, ◌==◌, ◌||◌, nat_lt, Bool, true, false, true≢false, List, [], ◌∷◌, ◌++◌, length, length-append, refl, arith, if◌then◌else◌, inl, inr}
 use Rattle.std.specs.Prelude.{Option, None, Some}
 use Rattle.std.specs.Option.{option_map}
-use Rattle.arrayvec.specs.ArrayString.{ArrayString}
 use Rattle.blk_base.specs.declared.parts.Mapping.{Mapping}
 use Rattle.key_directory.specs.Directory.{Directory, key_of}
 use Rattle.key_directory.specs.Watches.{Watches, next_watch, taken, has_pending}
@@ -37,7 +36,7 @@ use Rattle.xenbus_state.specs.BackStep as back_step
 use Rattle.xenbus_state.specs.BackSound.{IsPlaced, IsResting, IsWriting, IsReading}
 use Rattle.xenbus_state.proofs.BackKeeps.{says_where}
 use Rattle.xenbus_state.proofs.Powers.{few_pages}
-use Rattle.negotiation_laws.specs.Negotiation.{Negotiation, front_path, front_state, back_path, back_state, handed, back_answered, back_done, back_woken, back_moved}
+use Rattle.negotiation_laws.specs.Negotiation.{Negotiation, front_path, front_state, back_path, back_state, back_answered, back_done, back_woken, back_moved}
 use Rattle.negotiation_laws.specs.Happening.{Happening, FrontMoves, BackMoves, FrontCloses, BackCloses, happened, after}
 use Rattle.negotiation_laws.specs.Within.{HavePorts}
 use Rattle.negotiation_laws.specs.Run.{now, begins}
@@ -93,19 +92,19 @@ IsLow : FrontKey → Type 0
 IsLow (key.RingRefOf page) = page < 16
 IsLow k = Unit {0}
 
-key_falls : (k : FrontKey) (text : Option ArrayString) (v : BackView) → length v.pages ≡ 0 → IsLow k → Falls (read_left k) (back_step.kept_or_halted (reading.key_read k text v) v)
+key_falls : (k : FrontKey) (text : Option (List ℕ)) (v : BackView) → length v.pages ≡ 0 → IsLow k → Falls (read_left k) (back_step.kept_or_halted (reading.key_read k text v) v)
 unfolding IsLow
 key_falls key.RingPageOrder None v none low = record { less = omega arith; rests = refl }
 key_falls key.RingPageOrder (Some text) v none low =
-    read_falls (with_order v (key.RingRefOf 0)) (order_of (number_of text.bytes)) v 64 none (omega arith) (λ x. record { less = omega arith; rests = refl })
+    read_falls (with_order v (key.RingRefOf 0)) (order_of (number_of text)) v 64 none (omega arith) (λ x. record { less = omega arith; rests = refl })
 key_falls (key.RingRefOf page) None v none low = only_falls (v.terms.order == 0) page v none low
 key_falls (key.RingRefOf page) (Some text) v none low =
-    read_falls (with_gref v (after_page v.terms.order page)) (number_of text.bytes) v (read_left (key.RingRefOf page)) none (omega arith) (λ x. page_falls (nat_lt (page + 1) (2 ^ v.terms.order)) page x v low)
+    read_falls (with_gref v (after_page v.terms.order page)) (number_of text) v (read_left (key.RingRefOf page)) none (omega arith) (λ x. page_falls (nat_lt (page + 1) (2 ^ v.terms.order)) page x v low)
 key_falls key.RingRef None v none low = halted_falls v 47 none (omega arith)
 key_falls key.RingRef (Some text) v none low =
-    read_falls (with_gref v key.EventChannel) (number_of text.bytes) v 47 none (omega arith) (λ x. record { less = omega arith; rests = refl })
+    read_falls (with_gref v key.EventChannel) (number_of text) v 47 none (omega arith) (λ x. record { less = omega arith; rests = refl })
 key_falls key.EventChannel None v none low = halted_falls v 46 none (omega arith)
-key_falls key.EventChannel (Some text) v none low = read_falls (with_port v) (number_of text.bytes) v 46 none (omega arith) (λ x. record { less = omega arith; rests = refl })
+key_falls key.EventChannel (Some text) v none low = read_falls (with_port v) (number_of text) v 46 none (omega arith) (λ x. record { less = omega arith; rests = refl })
 key_falls key.Protocol text v none low = read_falls (with_layout v) (layout_read text) v 45 none (omega arith) (λ x. record { less = omega arith; rests = refl })
 key_falls key.FeaturePersistent text v none low = read_falls (with_persistent v) (count_read text) v 44 none (omega arith) (λ x. record { less = omega arith; rests = refl })
 
@@ -130,10 +129,10 @@ giving_falls (page ∷ pages) bound v most low = record { less = omega arith; re
 giving_falls [] true v most low = record { less = omega arith; rests = refl }
 giving_falls [] false v most low = (let last = last_low v.state in record { less = omega arith; rests = refl })
 
-unmap_falls : (pages : List Mapping) (v : BackView) (page : Mapping) (spare : List ℕ) (d : Directory) → 0 < length pages
-    → let u = record v { pages = pages; stage = back.UnmapPage } in Falls (3 + length pages) (back_step.step_at back.UnmapPage u (back_answered (back_asks.ask_at back.UnmapPage u) page spare d))
-unmap_falls [] v page spare d some = absurd (omega arith)
-unmap_falls (first ∷ pages) v page spare d some = giving_falls pages v.bound v (3 + length (first ∷ pages)) (omega arith)
+unmap_falls : (pages : List Mapping) (v : BackView) (page : Mapping) (d : Directory) → 0 < length pages
+    → let u = record v { pages = pages; stage = back.UnmapPage } in Falls (3 + length pages) (back_step.step_at back.UnmapPage u (back_answered (back_asks.ask_at back.UnmapPage u) page d))
+unmap_falls [] v page d some = absurd (omega arith)
+unmap_falls (first ∷ pages) v page d some = giving_falls pages v.bound v (3 + length (first ∷ pages)) (omega arith)
 
 watch_falls : (v : BackView) → v.state ≡ state.InitWait → Falls 65 (back_step.at back.Rest v)
 watch_falls v e = record { less = rw e (omega arith); rests = refl }
@@ -148,21 +147,21 @@ IsProgram back.ReadState = ⊥
 IsProgram back.Halted = ⊥
 IsProgram s = Unit {0}
 
-back_falls : (s : BackStage) (v : BackView) (page : Mapping) (spare : List ℕ) (d : Directory) → IsProgram s → v.terms.order ≤ 4 → IsPlaced s v
-    → Falls (back_left s v.state (length v.pages)) (back_step.step_at s (back_step.at s v) (back_answered (back_asks.ask_at s v) page spare d))
-back_falls (back.Publish k) v page spare d program few placed = offered_falls k v
-back_falls (back.WriteState s) v page spare d program few placed = written_falls s v placed
-back_falls back.Watch v page spare d program few placed = watch_falls v placed.0
-back_falls (back.ReadKey k) v page spare d program few placed =
-    key_falls k (handed spare (key_of d.keys (front_path k))) (back_step.at (back.ReadKey k) v) placed.1.pages (key_low k v few placed.2)
-back_falls back.MapPage v page spare d program few placed =
+back_falls : (s : BackStage) (v : BackView) (page : Mapping) (d : Directory) → IsProgram s → v.terms.order ≤ 4 → IsPlaced s v
+    → Falls (back_left s v.state (length v.pages)) (back_step.step_at s (back_step.at s v) (back_answered (back_asks.ask_at s v) page d))
+back_falls (back.Publish k) v page d program few placed = offered_falls k v
+back_falls (back.WriteState s) v page d program few placed = written_falls s v placed
+back_falls back.Watch v page d program few placed = watch_falls v placed.0
+back_falls (back.ReadKey k) v page d program few placed =
+    key_falls k (key_of d.keys (front_path k)) (back_step.at (back.ReadKey k) v) placed.1.pages (key_low k v few placed.2)
+back_falls back.MapPage v page d program few placed =
     (let high = few_pages v.terms.order few in let low = placed.3 in map_falls (nat_lt (length v.pages + 1) (length v.grefs)) page v (omega arith))
-back_falls back.Bind v page spare d program few placed = record { less = omega arith; rests = refl }
-back_falls (back.PublishFact k) v page spare d program few placed = fact_falls k v
-back_falls back.UnmapOthers v page spare d program few placed = giving_falls v.pages v.bound v (4 + length v.pages) (omega arith)
-back_falls back.UnmapPage v page spare d program few placed = unmap_falls v.pages v page spare d placed.1
-back_falls back.ClosePort v page spare d program few placed = close_falls v
-back_falls s v page spare d program few placed = absurd program
+back_falls back.Bind v page d program few placed = record { less = omega arith; rests = refl }
+back_falls (back.PublishFact k) v page d program few placed = fact_falls k v
+back_falls back.UnmapOthers v page d program few placed = giving_falls v.pages v.bound v (4 + length v.pages) (omega arith)
+back_falls back.UnmapPage v page d program few placed = unmap_falls v.pages v page d placed.1
+back_falls back.ClosePort v page d program few placed = close_falls v
+back_falls s v page d program few placed = absurd program
 
 -- an ask that isn't a wait fires one watch at most
 abbrev IsWait : BackBusAsk → Type 0
@@ -184,21 +183,21 @@ back_fires (back_ask.SetKey k value) d s closing fs gone b q no_wait f g =
 back_fires a d s closing fs gone b q no_wait f g = omega arith
 
 -- the back waits
-rest_sum : (v : BackView) (spare : List ℕ) (w : Watches) (A : Type 0) → Sees front_state w A
-    → let u = back_step.step_at back.Rest (back_step.at back.Rest v) (back_woken (next_watch w) spare) in
+rest_sum : (v : BackView) (w : Watches) (A : Type 0) → Sees front_state w A
+    → let u = back_step.step_at back.Rest (back_step.at back.Rest v) (back_woken (next_watch w)) in
     one_if (has_pending w) + (3 * back_left u.stage u.state (length u.pages) + back_reading u.stage + 2 * length (taken w).pending) ≤ 3 * back_rest_left v.state + 2 * length w.pending
-rest_sum v spare w A (inl e) =
-    subst (λ (x : Watches). let u = back_step.step_at back.Rest (back_step.at back.Rest v) (back_woken (next_watch x) spare) in one_if (has_pending x) + (3 * back_left u.stage u.state (length u.pages) + back_reading u.stage + 2 * length (taken x).pending) ≤ 3 * back_rest_left v.state + 2 * length x.pending) (sym e) (omega arith)
-rest_sum v spare w A (inr (e, a)) =
-    subst (λ (x : Watches). let u = back_step.step_at back.Rest (back_step.at back.Rest v) (back_woken (next_watch x) spare) in one_if (has_pending x) + (3 * back_left u.stage u.state (length u.pages) + back_reading u.stage + 2 * length (taken x).pending) ≤ 3 * back_rest_left v.state + 2 * length x.pending) (sym e) (omega arith)
+rest_sum v w A (inl e) =
+    subst (λ (x : Watches). let u = back_step.step_at back.Rest (back_step.at back.Rest v) (back_woken (next_watch x)) in one_if (has_pending x) + (3 * back_left u.stage u.state (length u.pages) + back_reading u.stage + 2 * length (taken x).pending) ≤ 3 * back_rest_left v.state + 2 * length x.pending) (sym e) (omega arith)
+rest_sum v w A (inr (e, a)) =
+    subst (λ (x : Watches). let u = back_step.step_at back.Rest (back_step.at back.Rest v) (back_woken (next_watch x)) in one_if (has_pending x) + (3 * back_left u.stage u.state (length u.pages) + back_reading u.stage + 2 * length (taken x).pending) ≤ 3 * back_rest_left v.state + 2 * length x.pending) (sym e) (omega arith)
 
-halted_sum : (v : BackView) (spare : List ℕ) (w : Watches) (A : Type 0) → Sees front_state w A
-    → let u = back_step.step_at back.Halted (back_step.at back.Halted v) (back_woken (next_watch w) spare) in
+halted_sum : (v : BackView) (w : Watches) (A : Type 0) → Sees front_state w A
+    → let u = back_step.step_at back.Halted (back_step.at back.Halted v) (back_woken (next_watch w)) in
     one_if (has_pending w) + (3 * back_left u.stage u.state (length u.pages) + back_reading u.stage + 2 * length (taken w).pending) ≤ 0 + 2 * length w.pending
-halted_sum v spare w A (inl e) =
-    subst (λ (x : Watches). let u = back_step.step_at back.Halted (back_step.at back.Halted v) (back_woken (next_watch x) spare) in one_if (has_pending x) + (3 * back_left u.stage u.state (length u.pages) + back_reading u.stage + 2 * length (taken x).pending) ≤ 0 + 2 * length x.pending) (sym e) (omega arith)
-halted_sum v spare w A (inr (e, a)) =
-    subst (λ (x : Watches). let u = back_step.step_at back.Halted (back_step.at back.Halted v) (back_woken (next_watch x) spare) in one_if (has_pending x) + (3 * back_left u.stage u.state (length u.pages) + back_reading u.stage + 2 * length (taken x).pending) ≤ 0 + 2 * length x.pending) (sym e) (omega arith)
+halted_sum v w A (inl e) =
+    subst (λ (x : Watches). let u = back_step.step_at back.Halted (back_step.at back.Halted v) (back_woken (next_watch x)) in one_if (has_pending x) + (3 * back_left u.stage u.state (length u.pages) + back_reading u.stage + 2 * length (taken x).pending) ≤ 0 + 2 * length x.pending) (sym e) (omega arith)
+halted_sum v w A (inr (e, a)) =
+    subst (λ (x : Watches). let u = back_step.step_at back.Halted (back_step.at back.Halted v) (back_woken (next_watch x)) in one_if (has_pending x) + (3 * back_left u.stage u.state (length u.pages) + back_reading u.stage + 2 * length (taken x).pending) ≤ 0 + 2 * length x.pending) (sym e) (omega arith)
 
 -- the front's state is read
 record Reads (own : BusState) (w : BackView) : Type 0 where
@@ -230,17 +229,17 @@ read_sum : (less more reads here there other : ℕ) → less ≤ more → reads 
 read_sum less more reads here there other a b = omega arith
 
 module _ (f : Features) (d : DiskFacts) (t : Negotiation) where
-  Lowers : BackStage → (page : Mapping) (spare : List ℕ) (other : ℕ) → Type 0
-  Lowers s page spare other =
-      let u = back_step.step_at s (back_step.at s t.back) (back_answered (back_asks.ask_at s t.back) page spare t.keys) in let k = back_done (back_asks.ask_at s t.back) t.keys in
+  Lowers : BackStage → (page : Mapping) (other : ℕ) → Type 0
+  Lowers s page other =
+      let u = back_step.step_at s (back_step.at s t.back) (back_answered (back_asks.ask_at s t.back) page t.keys) in let k = back_done (back_asks.ask_at s t.back) t.keys in
       one_if (back_goes (back_asks.ask_at s t.back) t.keys.back) + (other + 2 * length k.front.pending + (3 * back_left u.stage u.state (length u.pages) + back_reading u.stage + 2 * length k.back.pending))
       ≤ other + 2 * length t.keys.front.pending + (3 * back_left s t.back.state (length t.back.pages) + back_reading s + 2 * length t.keys.back.pending)
 
-  program_left : (s : BackStage) (page : Mapping) (spare : List ℕ) (other : ℕ) → IsProgram s → (IsWait (back_asks.ask_at s t.back) → ⊥) → IsPlaced s t.back
-      → Holds f d t → Lowers s page spare other
+  program_left : (s : BackStage) (page : Mapping) (other : ℕ) → IsProgram s → (IsWait (back_asks.ask_at s t.back) → ⊥) → IsPlaced s t.back
+      → Holds f d t → Lowers s page other
   unfolding Lowers
-  program_left s page spare other program no_wait placed h =
-      let falls = back_falls s t.back page spare t.keys program h.back_sound.order placed in
+  program_left s page other program no_wait placed h =
+      let falls = back_falls s t.back page t.keys program h.back_sound.order placed in
       let fires = back_fires (back_asks.ask_at s t.back) t.keys t.front.stage t.front.closing t.front.state t.front.gone t.back.state t.back.stage no_wait h.front_sees h.back_sees in
       program_sum _ _ _ _ (back_reading s) _ _ _ _ other (one_at_most (back_goes (back_asks.ask_at s t.back) t.keys.back)) falls.less (subst (λ (m : ℕ). m ≤ back_reading s) (sym falls.rests) (omega arith)) fires
 
@@ -248,20 +247,20 @@ module _ (f : Features) (d : DiskFacts) (t : Negotiation) where
   unmaps [] some w = omega arith
   unmaps (page ∷ pages) some w = w
 
-  lowers_at : (s : BackStage) (page : Mapping) (spare : List ℕ) (other : ℕ) → t.back.stage ≡ s → IsPlaced s t.back
-      → BackSees s t.back.state t.front.state t.keys.back → Holds f d t → Lowers s page spare other
+  lowers_at : (s : BackStage) (page : Mapping) (other : ℕ) → t.back.stage ≡ s → IsPlaced s t.back
+      → BackSees s t.back.state t.front.state t.keys.back → Holds f d t → Lowers s page other
   unfolding Lowers
-  lowers_at back.Rest page spare other e placed sees h =
-      wait_sum _ (3 * back_rest_left t.back.state) (length t.keys.front.pending) (length t.keys.back.pending) other (one_if (has_pending t.keys.back)) (rest_sum t.back spare t.keys.back (SettledBack t.back.state t.front.state) sees)
-  lowers_at back.Halted page spare other e placed sees h =
-      wait_sum _ 0 (length t.keys.front.pending) (length t.keys.back.pending) other (one_if (has_pending t.keys.back)) (halted_sum t.back spare t.keys.back (Unit {0}) sees)
-  lowers_at back.ReadState page spare other e placed sees h =
-      let reads = subst (λ (r : Option BusState). Reads t.back.state (back_step.acted (back_action t.back.state t.back.unplugged r) (back_step.at back.ReadState t.back))) (sym (state_shown spare (key_of t.keys.keys front_state) t.front.state h.states.front))
+  lowers_at back.Rest page other e placed sees h =
+      wait_sum _ (3 * back_rest_left t.back.state) (length t.keys.front.pending) (length t.keys.back.pending) other (one_if (has_pending t.keys.back)) (rest_sum t.back t.keys.back (SettledBack t.back.state t.front.state) sees)
+  lowers_at back.Halted page other e placed sees h =
+      wait_sum _ 0 (length t.keys.front.pending) (length t.keys.back.pending) other (one_if (has_pending t.keys.back)) (halted_sum t.back t.keys.back (Unit {0}) sees)
+  lowers_at back.ReadState page other e placed sees h =
+      let reads = subst (λ (r : Option BusState). Reads t.back.state (back_step.acted (back_action t.back.state t.back.unplugged r) (back_step.at back.ReadState t.back))) (sym (state_shown (key_of t.keys.keys front_state) t.front.state h.states.front))
       (acted_reads (back_action t.back.state t.back.unplugged (Some t.front.state)) t.back t.front.state h.back_sound.order placed (acts_at f d t back.ReadState placed e h)) in
       read_sum _ (back_rest_left t.back.state) _ (length t.keys.front.pending) (length t.keys.back.pending) other reads.less reads.rests
-  lowers_at back.UnmapPage page spare other e placed sees h = program_left back.UnmapPage page spare other tt (unmaps t.back.pages placed.1) placed h
-  lowers_at back.Watch page spare other e placed sees h = program_left back.Watch page spare other tt (λ w. w) placed h
-  lowers_at s page spare other e placed sees h = program_left s page spare other tt (λ w. w) placed h
+  lowers_at back.UnmapPage page other e placed sees h = program_left back.UnmapPage page other tt (unmaps t.back.pages placed.1) placed h
+  lowers_at back.Watch page other e placed sees h = program_left back.Watch page other tt (λ w. w) placed h
+  lowers_at s page other e placed sees h = program_left s page other tt (λ w. w) placed h
 
   -- the back says that it closes
   says_falls : (s : BackStage) (own : BusState) (pages : ℕ) → back_asks.says_closing_at s own ≡ true → back_left s state.Closing pages < back_left s own pages
@@ -270,20 +269,20 @@ module _ (f : Features) (d : DiskFacts) (t : Negotiation) where
   says_falls s own pages e = absurd (cc)
 
 -- a move of the back
-pub back_move_left : (f : Features) (d : DiskFacts) (t : Negotiation) (page : Mapping) (spare : List ℕ) → Holds f d t
-    → one_if (goes (BackMoves page spare) t) + left (back_moved page spare t) ≤ left t
+pub back_move_left : (f : Features) (d : DiskFacts) (t : Negotiation) (page : Mapping) → Holds f d t
+    → one_if (goes (BackMoves page) t) + left (back_moved page t) ≤ left t
 unfolding Lowers
-back_move_left f d t page spare h = by_test (back_asks.says_closing t.back) refl
+back_move_left f d t page h = by_test (back_asks.says_closing t.back) refl
   where
     by_test : (says : Bool) → back_asks.says_closing t.back ≡ says
         → let a = (if says then back_ask.SetState state.Closing else back_asks.ask_at t.back.stage t.back) in
-        let w = (if says then record t.back { state = state.Closing } else back_step.step_at t.back.stage t.back (back_answered a page spare t.keys)) in
+        let w = (if says then record t.back { state = state.Closing } else back_step.step_at t.back.stage t.back (back_answered a page t.keys)) in
         one_if (back_goes a t.keys.back) + left (record { front = t.front; back = w; keys = back_done a t.keys }) ≤ left t
     by_test true e =
         let falls = says_falls f d t t.back.stage t.back.state (length t.back.pages) (says_where t.back e) in
         let fires = back_fires (back_ask.SetState state.Closing) t.keys t.front.stage t.front.closing t.front.state t.front.gone t.back.state t.back.stage (λ w. w) h.front_sees h.back_sees in
         program_sum 1 _ _ (back_reading t.back.stage) (back_reading t.back.stage) _ _ _ _ (3 * front_left t.front.stage t.front.state + front_reading t.front.stage) (omega arith) falls (omega arith) fires
-    by_test false e = lowers_at f d t t.back.stage page spare (3 * front_left t.front.stage t.front.state + front_reading t.front.stage) refl h.back_sound.placed h.back_sees h
+    by_test false e = lowers_at f d t t.back.stage page (3 * front_left t.front.stage t.front.state + front_reading t.front.stage) refl h.back_sound.placed h.back_sees h
 
 -- a close lowers nothing
 front_close_left : (t : Negotiation) → 0 + left (record t { front = closed t.front }) ≤ left t
@@ -301,8 +300,8 @@ back_close_left t = by_test (is_halting t.back.stage)
     by_test false = omega arith
 
 lowers_once : (f : Features) (d : DiskFacts) (x : Happening) (t : Negotiation) → Holds f d t → one_if (goes x t) + left (happened x t) ≤ left t
-lowers_once f d (FrontMoves idle port spare) t h = front_move_left f d t idle port spare h
-lowers_once f d (BackMoves page spare) t h = back_move_left f d t page spare h
+lowers_once f d (FrontMoves idle port) t h = front_move_left f d t idle port h
+lowers_once f d (BackMoves page) t h = back_move_left f d t page h
 lowers_once f d FrontCloses t h = front_close_left t
 lowers_once f d BackCloses t h = back_close_left t
 
@@ -336,7 +335,7 @@ back_still back_ask.Watch w e = absurd (true≢false e)
 back_still a w e = absurd (true≢false e)
 
 pub rests_where_nothing_goes : RestsWhereNothingGoes
-rests_where_nothing_goes n idle port page spare e g =
+rests_where_nothing_goes n idle port page e g =
     let here = front_still (front_asks.ask_of n.front idle) n.keys.front e in
     let there = back_still (back_asks.ask_of n.back) n.keys.back g in
     record { front_waits = here.0; back_waits = there.0; front_taken = here.1; back_taken = there.1 }

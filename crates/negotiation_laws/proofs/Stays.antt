@@ -36,7 +36,7 @@ use Rattle.xenbus_state.specs.BackSound as back_sound
 use Rattle.xenbus_state.proofs.FrontKeeps.{front_rises}
 use Rattle.xenbus_state.proofs.FrontRuns.{own_after, state_after}
 use Rattle.xenbus_state.proofs.BackTurns.{back_rises}
-use Rattle.negotiation_laws.specs.Negotiation.{Negotiation, back_path, front_state, back_state, state_text, handed, front_woken, back_woken, front_answered, front_done, back_answered, back_done, front_moved, back_moved}
+use Rattle.negotiation_laws.specs.Negotiation.{Negotiation, back_path, front_state, back_state, state_text, front_woken, back_woken, front_answered, front_done, back_answered, back_done, front_moved, back_moved}
 use Rattle.negotiation_laws.specs.Happening.{Happening, FrontMoves, BackMoves, FrontCloses, BackCloses, happened, after}
 use Rattle.negotiation_laws.specs.Within.{HavePorts}
 use Rattle.negotiation_laws.specs.Said.{front_texts, back_texts, AreFactsSaid}
@@ -66,23 +66,23 @@ fact_stays : (k : BackKey) (o : Option ℕ) (v : FrontView) → v.state ≡ stat
 fact_stays k None v own = record { features = λ e. refl; disk = λ e. refl }
 fact_stays k (Some m) v own = record { features = λ e. refl; disk = λ e. absurd (early v.state state.Initialised 4 own (omega arith) e) }
 
-woken_stays : (s : FrontStage) (o : Option (List ℕ)) (v : FrontView) (idle : Bool) (spare : List ℕ) → ReadStays v (step_at s (at s v) idle (front_woken o spare))
-woken_stays front.Rest None v idle spare = record { features = λ e. refl; disk = λ e. refl }
-woken_stays front.Rest (Some path) v idle spare = record { features = λ e. refl; disk = λ e. refl }
-woken_stays s None v idle spare = record { features = λ e. refl; disk = λ e. refl }
-woken_stays s (Some path) v idle spare = record { features = λ e. refl; disk = λ e. refl }
+woken_stays : (s : FrontStage) (o : Option (List ℕ)) (v : FrontView) (idle : Bool) → ReadStays v (step_at s (at s v) idle (front_woken o))
+woken_stays front.Rest None v idle = record { features = λ e. refl; disk = λ e. refl }
+woken_stays front.Rest (Some path) v idle = record { features = λ e. refl; disk = λ e. refl }
+woken_stays s None v idle = record { features = λ e. refl; disk = λ e. refl }
+woken_stays s (Some path) v idle = record { features = λ e. refl; disk = λ e. refl }
 
-read_stays_at : (s : FrontStage) (v : FrontView) (idle : Bool) (port : ℕ) (spare : List ℕ) (d : Directory) → front_sound.IsTimely s v.state
-    → ReadStays v (step_at s (at s v) idle (front_answered (ask_at s v) port spare d))
-read_stays_at front.Rest v idle port spare d timely = woken_stays front.Rest (next_watch d.front) v idle spare
-read_stays_at front.ReadState v idle port spare d timely = acted_stays (front_action v.state v.closing idle (state_read (handed spare (key_of d.keys back_state)))) v
-read_stays_at (front.ReadFeature k) v idle port spare d timely =
+read_stays_at : (s : FrontStage) (v : FrontView) (idle : Bool) (port : ℕ) (d : Directory) → front_sound.IsTimely s v.state
+    → ReadStays v (step_at s (at s v) idle (front_answered (ask_at s v) port d))
+read_stays_at front.Rest v idle port d timely = woken_stays front.Rest (next_watch d.front) v idle
+read_stays_at front.ReadState v idle port d timely = acted_stays (front_action v.state v.closing idle (state_read (key_of d.keys back_state))) v
+read_stays_at (front.ReadFeature k) v idle port d timely =
     record { features = λ e. absurd (early v.state state.Initialising 3 timely (omega arith) e); disk = λ e. absurd (early v.state state.Initialising 4 timely (omega arith) e) }
-read_stays_at (front.ReadFact k) v idle port spare d timely = fact_stays k (fact_read k (handed spare (key_of d.keys (back_path k)))) v timely
-read_stays_at front.Closed v idle port spare d timely = woken_stays front.Closed (next_watch d.front) v idle spare
-read_stays_at (front.Broken word) v idle port spare d timely = woken_stays (front.Broken word) (next_watch d.front) v idle spare
-read_stays_at front.Start v idle port spare d timely = record { features = λ e. refl; disk = λ e. refl }
-read_stays_at s v idle port spare d timely = record { features = λ e. refl; disk = λ e. refl }
+read_stays_at (front.ReadFact k) v idle port d timely = fact_stays k (fact_read k (key_of d.keys (back_path k))) v timely
+read_stays_at front.Closed v idle port d timely = woken_stays front.Closed (next_watch d.front) v idle
+read_stays_at (front.Broken word) v idle port d timely = woken_stays (front.Broken word) (next_watch d.front) v idle
+read_stays_at front.Start v idle port d timely = record { features = λ e. refl; disk = λ e. refl }
+read_stays_at s v idle port d timely = record { features = λ e. refl; disk = λ e. refl }
 
 -- what the front has said
 said_stays_at : (s : FrontStage) (v : FrontView) (d : Directory) → front_sound.IsTimely s v.state → 3 ≤ state_number v.state
@@ -102,27 +102,27 @@ back_acted_stays back_act.Nothing v = record { terms = λ e. refl; grefs = λ e.
 back_acted_stays back_act.Connect v = record { terms = λ e. refl; grefs = λ e. refl }
 back_acted_stays (back_act.Halt reason) v = record { terms = λ e. refl; grefs = λ e. refl }
 
-back_woken_stays : (s : BackStage) (o : Option (List ℕ)) (v : BackView) (spare : List ℕ) → TermsStay v (back_step.step_at s (back_step.at s v) (back_woken o spare))
-back_woken_stays back.Rest None v spare = record { terms = λ e. refl; grefs = λ e. refl }
-back_woken_stays back.Rest (Some path) v spare = record { terms = λ e. refl; grefs = λ e. refl }
-back_woken_stays s None v spare = record { terms = λ e. refl; grefs = λ e. refl }
-back_woken_stays s (Some path) v spare = record { terms = λ e. refl; grefs = λ e. refl }
+back_woken_stays : (s : BackStage) (o : Option (List ℕ)) (v : BackView) → TermsStay v (back_step.step_at s (back_step.at s v) (back_woken o))
+back_woken_stays back.Rest None v = record { terms = λ e. refl; grefs = λ e. refl }
+back_woken_stays back.Rest (Some path) v = record { terms = λ e. refl; grefs = λ e. refl }
+back_woken_stays s None v = record { terms = λ e. refl; grefs = λ e. refl }
+back_woken_stays s (Some path) v = record { terms = λ e. refl; grefs = λ e. refl }
 
-unmap_stays : (pages : List Mapping) (v : BackView) (page : Mapping) (spare : List ℕ) (d : Directory) → 0 < length pages
-    → let u = record v { pages = pages; stage = back.UnmapPage } in TermsStay v (back_step.step_at back.UnmapPage u (back_answered (back_asks.ask_at back.UnmapPage u) page spare d))
-unmap_stays [] v page spare d some = absurd (omega arith)
-unmap_stays (first ∷ pages) v page spare d some = record { terms = λ e. refl; grefs = λ e. refl }
+unmap_stays : (pages : List Mapping) (v : BackView) (page : Mapping) (d : Directory) → 0 < length pages
+    → let u = record v { pages = pages; stage = back.UnmapPage } in TermsStay v (back_step.step_at back.UnmapPage u (back_answered (back_asks.ask_at back.UnmapPage u) page d))
+unmap_stays [] v page d some = absurd (omega arith)
+unmap_stays (first ∷ pages) v page d some = record { terms = λ e. refl; grefs = λ e. refl }
 
-terms_stay_at : (s : BackStage) (v : BackView) (page : Mapping) (spare : List ℕ) (d : Directory) → back_sound.IsPlaced s v
-    → TermsStay v (back_step.step_at s (back_step.at s v) (back_answered (back_asks.ask_at s v) page spare d))
-terms_stay_at back.Rest v page spare d placed = back_woken_stays back.Rest (next_watch d.back) v spare
-terms_stay_at back.ReadState v page spare d placed = back_acted_stays (back_action v.state v.unplugged (state_read (handed spare (key_of d.keys front_state)))) v
-terms_stay_at (back.ReadKey k) v page spare d placed =
+terms_stay_at : (s : BackStage) (v : BackView) (page : Mapping) (d : Directory) → back_sound.IsPlaced s v
+    → TermsStay v (back_step.step_at s (back_step.at s v) (back_answered (back_asks.ask_at s v) page d))
+terms_stay_at back.Rest v page d placed = back_woken_stays back.Rest (next_watch d.back) v
+terms_stay_at back.ReadState v page d placed = back_acted_stays (back_action v.state v.unplugged (state_read (key_of d.keys front_state))) v
+terms_stay_at (back.ReadKey k) v page d placed =
     record { terms = λ e. absurd (early v.state state.InitWait 4 placed.0 (omega arith) e); grefs = λ e. absurd (early v.state state.InitWait 4 placed.0 (omega arith) e) }
-terms_stay_at back.UnmapPage v page spare d placed = unmap_stays v.pages v page spare d placed.1
-terms_stay_at back.Halted v page spare d placed = back_woken_stays back.Halted (next_watch d.back) v spare
-terms_stay_at back.Watch v page spare d placed = record { terms = λ e. refl; grefs = λ e. refl }
-terms_stay_at s v page spare d placed = record { terms = λ e. refl; grefs = λ e. refl }
+terms_stay_at back.UnmapPage v page d placed = unmap_stays v.pages v page d placed.1
+terms_stay_at back.Halted v page d placed = back_woken_stays back.Halted (next_watch d.back) v
+terms_stay_at back.Watch v page d placed = record { terms = λ e. refl; grefs = λ e. refl }
+terms_stay_at s v page d placed = record { terms = λ e. refl; grefs = λ e. refl }
 
 -- what the back has said of its disk
 facts_kept : (f : Features) (d : DiskFacts) (k : BackKey) (keys : List (List ℕ × List ℕ)) → AreFactsSaid (back_texts keys) f d
@@ -177,16 +177,16 @@ module _ (f : Features) (d : DiskFacts) where
     facts = λ e. k.facts (h.facts e);
   }
 
-  front_move_stays : (t : Negotiation) (idle : Bool) (port : ℕ) (spare : List ℕ) → Holds f d t → Stays f d t (front_moved idle port spare t)
-  front_move_stays t idle port spare h =
+  front_move_stays : (t : Negotiation) (idle : Bool) (port : ℕ) → Holds f d t → Stays f d t (front_moved idle port t)
+  front_move_stays t idle port h =
       let v = t.front in
       let s = due v idle in
       let a = front_asks.ask_of v idle in
-      let answer = front_answered a port spare t.keys in
+      let answer = front_answered a port t.keys in
       let w = front_step.step_of v idle answer in
       let timely = due_timely v.stage v idle h.front_sound.timely in
-      let wrote : w.state ≡ own_after a v.state = state_after v idle answer (front_lawful a port spare t.keys) in
-      let reads = read_stays_at s v idle port spare t.keys timely in
+      let wrote : w.state ≡ own_after a v.state = state_after v idle answer (front_lawful a port t.keys) in
+      let reads = read_stays_at s v idle port t.keys timely in
       record {
         front_rises = subst (λ (o : BusState). state_number v.state ≤ state_number o) (sym wrote) (front_own_rises a v.state (front_rises v idle h.front_sound));
         back_rises = omega arith;
@@ -198,12 +198,12 @@ module _ (f : Features) (d : DiskFacts) where
         facts = λ e. subst (λ (g : BackKey → Option (List ℕ)). AreFactsSaid g f d) (sym (front_ask_leaves a t.keys)) e;
       }
 
-  back_move_stays : (t : Negotiation) (page : Mapping) (spare : List ℕ) → Holds f d t → Stays f d t (back_moved page spare t)
-  back_move_stays t page spare h = by_test (back_asks.says_closing t.back) (back_rises t.back h.back_sound)
+  back_move_stays : (t : Negotiation) (page : Mapping) → Holds f d t → Stays f d t (back_moved page t)
+  back_move_stays t page h = by_test (back_asks.says_closing t.back) (back_rises t.back h.back_sound)
     where
       by_test : (says : Bool)
           → let a = (if says then back_ask.SetState state.Closing else back_asks.ask_at t.back.stage t.back) in
-          let w = (if says then record t.back { state = state.Closing } else back_step.step_at t.back.stage t.back (back_answered a page spare t.keys)) in
+          let w = (if says then record t.back { state = state.Closing } else back_step.step_at t.back.stage t.back (back_answered a page t.keys)) in
           back_sound.Rises t.back.state a → Stays f d t (record { front = t.front; back = w; keys = back_done a t.keys })
       by_test true rises = record {
         front_rises = omega arith;
@@ -218,9 +218,9 @@ module _ (f : Features) (d : DiskFacts) where
       by_test false rises =
           let v = t.back in
           let a = back_asks.ask_at v.stage v in
-          let w = back_step.step_at v.stage v (back_answered a page spare t.keys) in
-          let wrote : w.state ≡ back_own a v.state = back_state_at v.stage v page spare t.keys in
-          let reads = terms_stay_at v.stage v page spare t.keys h.back_sound.placed in
+          let w = back_step.step_at v.stage v (back_answered a page t.keys) in
+          let wrote : w.state ≡ back_own a v.state = back_state_at v.stage v page t.keys in
+          let reads = terms_stay_at v.stage v page t.keys h.back_sound.placed in
           record {
             front_rises = omega arith;
             back_rises = subst (λ (o : BusState). state_number v.state ≤ state_number o) (sym wrote) (back_own_rises a v.state rises);
@@ -249,8 +249,8 @@ module _ (f : Features) (d : DiskFacts) where
           record { front_rises = omega arith; back_rises = omega arith; features = λ e. refl; disk = λ e. refl; said = λ e. refl; terms = λ e. refl; grefs = λ e. refl; facts = λ h. h }
 
   stays_once : (x : Happening) (t : Negotiation) → Holds f d t → Stays f d t (happened x t)
-  stays_once (FrontMoves idle port spare) t h = front_move_stays t idle port spare h
-  stays_once (BackMoves page spare) t h = back_move_stays t page spare h
+  stays_once (FrontMoves idle port) t h = front_move_stays t idle port h
+  stays_once (BackMoves page) t h = back_move_stays t page h
   stays_once FrontCloses t h = front_close_stays t
   stays_once BackCloses t h = back_close_stays t
 

@@ -38,7 +38,7 @@ use Rattle.xenbus_state.specs.BackReading as reading
 use Rattle.xenbus_state.specs.BackStep as back_step
 use Rattle.xenbus_state.specs.BackSound.{IsPlaced}
 use Rattle.xenbus_state.proofs.Early.{resting_early}
-use Rattle.negotiation_laws.specs.Negotiation.{Negotiation, front_path, back_path, front_state, back_state, handed, front_answered, back_answered, front_woken}
+use Rattle.negotiation_laws.specs.Negotiation.{Negotiation, front_path, back_path, front_state, back_state, front_answered, back_answered, front_woken}
 use Rattle.negotiation_laws.specs.Happening.{Happening, FrontMoves, BackMoves, FrontCloses, BackCloses, IsServed, AreServed, happened, after}
 use Rattle.negotiation_laws.specs.Within.{HavePorts}
 use Rattle.negotiation_laws.specs.Run.{now, begins}
@@ -83,12 +83,12 @@ acted_halts back_act.Connect v fs reason low acts e = absurd (some_other reason 
 acted_halts (back_act.Halt why) v fs reason low acts e = record { late = acts.0; before = low; same = some_same why reason e ∙ acts.1 }
 
 module _ (f : Features) (d : DiskFacts) (t : Negotiation) where
-  state_halts : (spare : List ℕ) (reason : BackHalt) → state_number t.back.state < 6
+  state_halts : (reason : BackHalt) → state_number t.back.state < 6
       → back_acts.ActsFor (back_action t.back.state t.back.unplugged (Some t.front.state)) t.back.state t.front.state t.back.unplugged → Holds f d t
-      → back_step.action_halt (back_action t.back.state t.back.unplugged (state_read (handed spare (key_of t.keys.keys front_state)))) ≡ Some reason
+      → back_step.action_halt (back_action t.back.state t.back.unplugged (state_read (key_of t.keys.keys front_state))) ≡ Some reason
       → HaltsGone t.back t.front.state reason
-  state_halts spare reason low acts h e =
-      let read = subst (λ (r : Option BusState). back_step.action_halt (back_action t.back.state t.back.unplugged r) ≡ Some reason) (state_shown spare (key_of t.keys.keys front_state) t.front.state (front_shows f d t h).state) e in
+  state_halts reason low acts h e =
+      let read = subst (λ (r : Option BusState). back_step.action_halt (back_action t.back.state t.back.unplugged r) ≡ Some reason) (state_shown (key_of t.keys.keys front_state) t.front.state (front_shows f d t h).state) e in
       acted_halts (back_action t.back.state t.back.unplugged (Some t.front.state)) t.back t.front.state reason low acts read
 
   key_halts : (k : FrontKey) (reason : BackHalt) (o : Option BackView) (u : BackView) (n : ℕ) → u.state ≡ state.InitWait
@@ -97,28 +97,28 @@ module _ (f : Features) (d : DiskFacts) (t : Negotiation) where
   key_halts k reason None u n own goes e = absurd (true≢false (sym (subst (λ (s : BusState). serves back.UnmapOthers s ≡ true) own goes)))
   key_halts k reason (Some w) u n own goes e = absurd (some_other reason e)
 
-  halts_at : (s : BackStage) (page : Mapping) (spare : List ℕ) (reason : BackHalt) → t.back.stage ≡ s → IsPlaced s t.back
+  halts_at : (s : BackStage) (page : Mapping) (reason : BackHalt) → t.back.stage ≡ s → IsPlaced s t.back
       → BackHolds s t.back (state_number t.front.state) t.front.port (terms_of t.front) f d (back_texts t.keys.keys) → Holds f d t
-      → back_step.halt_at s (back_step.at s t.back) (back_answered (back_asks.ask_at s t.back) page spare t.keys) ≡ Some reason → HaltsGone t.back t.front.state reason
-  halts_at back.ReadState page spare reason same placed held h e =
-      state_halts spare reason (resting_early t.back.state t.back placed) (acts_at f d t back.ReadState placed same h) h e
-  halts_at (back.ReadKey k) page spare reason same placed held h e =
+      → back_step.halt_at s (back_step.at s t.back) (back_answered (back_asks.ask_at s t.back) page t.keys) ≡ Some reason → HaltsGone t.back t.front.state reason
+  halts_at back.ReadState page reason same placed held h e =
+      state_halts reason (resting_early t.back.state t.back placed) (acts_at f d t back.ReadState placed same h) h e
+  halts_at (back.ReadKey k) page reason same placed held h e =
       let shows = front_shows f d t h in
       let late = held.serving_after refl in
-      let goes = key_holds (state_number t.front.state) t.front.port (terms_of t.front) f d k t.back spare t.keys.keys placed.2 shows.order shows.fits (shows.said late.0 late.1) held in
-      key_halts k reason (reading.key_read k (handed spare (key_of t.keys.keys (front_path k))) (back_step.at (back.ReadKey k) t.back)) (back_step.at (back.ReadKey k) t.back) (state_number t.front.state) placed.0 goes.1 e
-  halts_at back.Watch page spare reason same placed held h e = absurd (some_other reason e)
-  halts_at s page spare reason same placed held h e = absurd (some_other reason e)
+      let goes = key_holds (state_number t.front.state) t.front.port (terms_of t.front) f d k t.back t.keys.keys placed.2 shows.order shows.fits (shows.said late.0 late.1) held in
+      key_halts k reason (reading.key_read k (key_of t.keys.keys (front_path k)) (back_step.at (back.ReadKey k) t.back)) (back_step.at (back.ReadKey k) t.back) (state_number t.front.state) placed.0 goes.1 e
+  halts_at back.Watch page reason same placed held h e = absurd (some_other reason e)
+  halts_at s page reason same placed held h e = absurd (some_other reason e)
 
-  halts_now : (page : Mapping) (spare : List ℕ) (reason : BackHalt) → Holds f d t
-      → back_step.halt_of t.back (back_answered (back_asks.ask_of t.back) page spare t.keys) ≡ Some reason → HaltsGone t.back t.front.state reason
-  halts_now page spare reason h = by_test (back_asks.says_closing t.back)
+  halts_now : (page : Mapping) (reason : BackHalt) → Holds f d t
+      → back_step.halt_of t.back (back_answered (back_asks.ask_of t.back) page t.keys) ≡ Some reason → HaltsGone t.back t.front.state reason
+  halts_now page reason h = by_test (back_asks.says_closing t.back)
     where
       by_test : (says : Bool)
-          → (if says then None else back_step.halt_at t.back.stage t.back (back_answered (if says then back_ask.SetState state.Closing else back_asks.ask_at t.back.stage t.back) page spare t.keys)) ≡ Some reason
+          → (if says then None else back_step.halt_at t.back.stage t.back (back_answered (if says then back_ask.SetState state.Closing else back_asks.ask_at t.back.stage t.back) page t.keys)) ≡ Some reason
           → HaltsGone t.back t.front.state reason
       by_test true e = absurd (some_other reason e)
-      by_test false e = halts_at t.back.stage page spare reason refl h.back_sound.placed h.back h e
+      by_test false e = halts_at t.back.stage page reason refl h.back_sound.placed h.back h e
 
   -- a front that is gone is seen closed only by a back that is closed
   front_closing : Holds f d t → 5 ≤ state_number t.front.state → state_number t.back.state < 6 → t.front.state ≡ state.Closing
@@ -133,10 +133,10 @@ module _ (f : Features) (d : DiskFacts) (t : Negotiation) where
       by_state s own late after = absurd own
 
 pub halts_as_gone : BackHaltsAsTheFrontIsGone
-halts_as_gone r page spare reason e =
+halts_as_gone r page reason e =
     let h = run_holds r in
     let t = now r in
-    let gone = halts_now r.offer r.facts t page spare reason h e in
+    let gone = halts_now r.offer r.facts t page reason h e in
     let closing = front_closing r.offer r.facts t h gone.late gone.before in
     (closing, subst (λ (s : BusState). reason ≡ gone_halt t.back.unplugged s) closing gone.same)
 
@@ -199,33 +199,33 @@ module _ (f : Features) (d : DiskFacts) (t : Negotiation) where
     breaks : Breaks t.front idle t.back.state
     early : state_number t.front.state < 6
 
-  state_breaks : (idle : Bool) (spare : List ℕ) (word : ℕ) → state_number t.front.state < 6 → Holds f d t
-      → front_step.action_news (front_action t.front.state t.front.closing idle (state_read (handed spare (key_of t.keys.keys back_state)))) t.front.closing ≡ Some (news.Broken word)
+  state_breaks : (idle : Bool) (word : ℕ) → state_number t.front.state < 6 → Holds f d t
+      → front_step.action_news (front_action t.front.state t.front.closing idle (state_read (key_of t.keys.keys back_state))) t.front.closing ≡ Some (news.Broken word)
       → BreaksSo idle word
-  state_breaks idle spare word low h e =
-      let read = subst (λ (r : Option BusState). front_step.action_news (front_action t.front.state t.front.closing idle r) t.front.closing ≡ Some (news.Broken word)) (state_shown spare (key_of t.keys.keys back_state) t.back.state h.states.back) e in
+  state_breaks idle word low h e =
+      let read = subst (λ (r : Option BusState). front_step.action_news (front_action t.front.state t.front.closing idle r) t.front.closing ≡ Some (news.Broken word)) (state_shown (key_of t.keys.keys back_state) t.back.state h.states.back) e in
       let so = acted_breaks (front_action t.front.state t.front.closing idle (Some t.back.state)) t.front idle t.back.state word (front_acts_now f d t idle h) read in
       record { six = so.0; breaks = so.1; early = low }
 
-  breaks_at : (s : FrontStage) (idle : Bool) (port : ℕ) (spare : List ℕ) (word : ℕ) → front_sound.IsTimely s t.front.state
+  breaks_at : (s : FrontStage) (idle : Bool) (port : ℕ) (word : ℕ) → front_sound.IsTimely s t.front.state
       → FrontHolds s t.front (state_number t.back.state) f d (front_texts t.keys.keys) → Holds f d t
-      → front_step.news_at s (front_step.at s t.front) idle (front_answered (front_asks.ask_at s t.front) port spare t.keys) ≡ Some (news.Broken word) → BreaksSo idle word
-  breaks_at front.ReadState idle port spare word timely held h e = state_breaks idle spare word timely h e
-  breaks_at (front.ReadFeature k) idle port spare word timely held h e =
+      → front_step.news_at s (front_step.at s t.front) idle (front_answered (front_asks.ask_at s t.front) port t.keys) ≡ Some (news.Broken word) → BreaksSo idle word
+  breaks_at front.ReadState idle port word timely held h e = state_breaks idle word timely h e
+  breaks_at (front.ReadFeature k) idle port word timely held h e =
       let shows = back_shows f d t h in
-      absurd (feature_breaks k (count_read (handed spare (key_of t.keys.keys (back_path k)))) word timely h (feature_holds (state_number t.back.state) f d k t.front spare t.keys.keys shows.indirect shows.order (shows.features held.stage_after) held) e)
-  breaks_at (front.ReadFact k) idle port spare word timely held h e =
+      absurd (feature_breaks k (count_read (key_of t.keys.keys (back_path k))) word timely h (feature_holds (state_number t.back.state) f d k t.front t.keys.keys shows.indirect shows.order (shows.features held.stage_after) held) e)
+  breaks_at (front.ReadFact k) idle port word timely held h e =
       let shows = back_shows f d t h in
-      absurd (fact_breaks k (fact_read k (handed spare (key_of t.keys.keys (back_path k)))) word timely h (fact_holds (state_number t.back.state) f d k t.front spare t.keys.keys shows.sectors (shows.facts held.stage_after (rw timely (omega arith))) held) e)
-  breaks_at (front.WriteState s) idle port spare word timely held h e = absurd (untold (front_step.written_news s) word (written_quiet s) e)
-  breaks_at front.Start idle port spare word timely held h e = absurd (untold None word refl e)
-  breaks_at s idle port spare word timely held h e = absurd (untold None word refl e)
+      absurd (fact_breaks k (fact_read k (key_of t.keys.keys (back_path k))) word timely h (fact_holds (state_number t.back.state) f d k t.front t.keys.keys shows.sectors (shows.facts held.stage_after (rw timely (omega arith))) held) e)
+  breaks_at (front.WriteState s) idle port word timely held h e = absurd (untold (front_step.written_news s) word (written_quiet s) e)
+  breaks_at front.Start idle port word timely held h e = absurd (untold None word refl e)
+  breaks_at s idle port word timely held h e = absurd (untold None word refl e)
 
-  breaks_now : (idle : Bool) (port : ℕ) (spare : List ℕ) (word : ℕ) → Holds f d t
-      → front_step.news_of t.front idle (front_answered (front_asks.ask_of t.front idle) port spare t.keys) ≡ Some (news.Broken word) → BreaksSo idle word
-  breaks_now idle port spare word h e =
+  breaks_now : (idle : Bool) (port : ℕ) (word : ℕ) → Holds f d t
+      → front_step.news_of t.front idle (front_answered (front_asks.ask_of t.front idle) port t.keys) ≡ Some (news.Broken word) → BreaksSo idle word
+  breaks_now idle port word h e =
       let s = due t.front idle in
-      breaks_at s idle port spare word (due_timely t.front.stage t.front idle h.front_sound.timely) (due_holds (state_number t.back.state) f d t.front.stage t.front idle (front_texts t.keys.keys) h.front) h e
+      breaks_at s idle port word (due_timely t.front.stage t.front idle h.front_sound.timely) (due_holds (state_number t.back.state) f d t.front.stage t.front idle (front_texts t.keys.keys) h.front) h e
 
   -- the front's own state then
   closing_then : (idle : Bool) → Breaks t.front idle t.back.state → state_number t.front.state < 6 → Holds f d t → t.front.state ≡ state.Closing
@@ -234,9 +234,9 @@ module _ (f : Features) (d : DiskFacts) (t : Negotiation) where
       is_closing t.front.state h.front.own ((back_shows f d t h).closed six) low
 
 pub breaks_only_unserved : FrontBreaksOnlyUnserved
-breaks_only_unserved r idle port spare word e =
+breaks_only_unserved r idle port word e =
     let h = run_holds r in
-    let so = breaks_now r.offer r.facts (now r) idle port spare word h e in
+    let so = breaks_now r.offer r.facts (now r) idle port word h e in
     (so.six, so.breaks.busy, closing_then r.offer r.facts (now r) idle so.breaks so.early h, so.breaks.gone)
 
 -- a front that is served is never broken
@@ -279,12 +279,12 @@ others_unbroken : (port : Option ℕ) → is_broken (front_step.after_grants por
 others_unbroken (Some port) = refl
 others_unbroken None = refl
 
-woken_unbroken : (s : FrontStage) (o : Option (List ℕ)) (v : FrontView) (idle : Bool) (spare : List ℕ) → is_broken s ≡ false
-    → is_broken (front_step.step_at s (front_step.at s v) idle (front_woken o spare)).stage ≡ false
-woken_unbroken front.Rest None v idle spare e = refl
-woken_unbroken front.Rest (Some path) v idle spare e = refl
-woken_unbroken s None v idle spare e = e
-woken_unbroken s (Some path) v idle spare e = e
+woken_unbroken : (s : FrontStage) (o : Option (List ℕ)) (v : FrontView) (idle : Bool) → is_broken s ≡ false
+    → is_broken (front_step.step_at s (front_step.at s v) idle (front_woken o)).stage ≡ false
+woken_unbroken front.Rest None v idle e = refl
+woken_unbroken front.Rest (Some path) v idle e = refl
+woken_unbroken s None v idle e = e
+woken_unbroken s (Some path) v idle e = e
 
 module _ (f : Features) (d : DiskFacts) (t : Negotiation) where
   read_unbroken : (k : BackKey) (o : Option ℕ) → t.front.state ≡ state.Initialising → Holds f d t
@@ -299,37 +299,37 @@ module _ (f : Features) (d : DiskFacts) (t : Negotiation) where
   known_unbroken k None own h stands = absurd (unread f d t state.Initialised tt (omega arith) stands.stage_after h own)
   known_unbroken k (Some m) own h stands = fact_unbroken k m (front_step.at (front.ReadFact k) t.front)
 
-  state_unbroken : (idle : Bool) (spare : List ℕ) → state_number t.front.state < 6 → (t.front.state ≡ state.Closing → idle ≡ true) → Holds f d t
-      → is_broken (front_step.acted (front_action t.front.state t.front.closing idle (state_read (handed spare (key_of t.keys.keys back_state)))) (front_step.at front.ReadState t.front)).stage ≡ false
-  state_unbroken idle spare low served h =
+  state_unbroken : (idle : Bool) → state_number t.front.state < 6 → (t.front.state ≡ state.Closing → idle ≡ true) → Holds f d t
+      → is_broken (front_step.acted (front_action t.front.state t.front.closing idle (state_read (key_of t.keys.keys back_state))) (front_step.at front.ReadState t.front)).stage ≡ false
+  state_unbroken idle low served h =
       let never : Breaks t.front idle t.back.state → ⊥ = λ b. true≢false (sym (served (closing_then f d t idle b low h)) ∙ b.busy) in
-      subst (λ (r : Option BusState). is_broken (front_step.acted (front_action t.front.state t.front.closing idle r) (front_step.at front.ReadState t.front)).stage ≡ false) (sym (state_shown spare (key_of t.keys.keys back_state) t.back.state h.states.back))
+      subst (λ (r : Option BusState). is_broken (front_step.acted (front_action t.front.state t.front.closing idle r) (front_step.at front.ReadState t.front)).stage ≡ false) (sym (state_shown (key_of t.keys.keys back_state) t.back.state h.states.back))
       (acted_unbroken (front_action t.front.state t.front.closing idle (Some t.back.state)) t.front idle t.back.state (front_acts_now f d t idle h) never)
 
-  unbroken_at : (s : FrontStage) (idle : Bool) (port : ℕ) (spare : List ℕ) → front_sound.IsTimely s t.front.state
+  unbroken_at : (s : FrontStage) (idle : Bool) (port : ℕ) → front_sound.IsTimely s t.front.state
       → FrontHolds s t.front (state_number t.back.state) f d (front_texts t.keys.keys) → (t.front.state ≡ state.Closing → idle ≡ true) → is_broken s ≡ false
       → Holds f d t
-      → is_broken (front_step.step_at s (front_step.at s t.front) idle (front_answered (front_asks.ask_at s t.front) port spare t.keys)).stage ≡ false
-  unbroken_at front.Start idle port spare timely held served e h = refl
-  unbroken_at front.Rest idle port spare timely held served e h = woken_unbroken front.Rest (next_watch t.keys.front) t.front idle spare refl
-  unbroken_at front.ReadState idle port spare timely held served e h = state_unbroken idle spare timely served h
-  unbroken_at (front.ReadFeature k) idle port spare timely held served e h =
+      → is_broken (front_step.step_at s (front_step.at s t.front) idle (front_answered (front_asks.ask_at s t.front) port t.keys)).stage ≡ false
+  unbroken_at front.Start idle port timely held served e h = refl
+  unbroken_at front.Rest idle port timely held served e h = woken_unbroken front.Rest (next_watch t.keys.front) t.front idle refl
+  unbroken_at front.ReadState idle port timely held served e h = state_unbroken idle timely served h
+  unbroken_at (front.ReadFeature k) idle port timely held served e h =
       let shows = back_shows f d t h in
-      read_unbroken k (count_read (handed spare (key_of t.keys.keys (back_path k)))) timely h (feature_holds (state_number t.back.state) f d k t.front spare t.keys.keys shows.indirect shows.order (shows.features held.stage_after) held)
-  unbroken_at (front.RingWord word) idle port spare timely held served e h = choice_unbroken (word == 15) (front.Grant 0) (front.RingWord (word + 1)) refl refl
-  unbroken_at (front.Grant page) idle port spare timely held served e h = choice_unbroken (nat_lt (page + 1) (pages_of t.front)) (front.Grant (page + 1)) front.NewPort refl refl
-  unbroken_at front.NewPort idle port spare timely held served e h = refl
-  unbroken_at (front.Publish k) idle port spare timely held served e h = published_unbroken (next_published (ring_order t.front) k)
-  unbroken_at (front.ReadFact k) idle port spare timely held served e h =
+      read_unbroken k (count_read (key_of t.keys.keys (back_path k))) timely h (feature_holds (state_number t.back.state) f d k t.front t.keys.keys shows.indirect shows.order (shows.features held.stage_after) held)
+  unbroken_at (front.RingWord word) idle port timely held served e h = choice_unbroken (word == 15) (front.Grant 0) (front.RingWord (word + 1)) refl refl
+  unbroken_at (front.Grant page) idle port timely held served e h = choice_unbroken (nat_lt (page + 1) (pages_of t.front)) (front.Grant (page + 1)) front.NewPort refl refl
+  unbroken_at front.NewPort idle port timely held served e h = refl
+  unbroken_at (front.Publish k) idle port timely held served e h = published_unbroken (next_published (ring_order t.front) k)
+  unbroken_at (front.ReadFact k) idle port timely held served e h =
       let shows = back_shows f d t h in
-      known_unbroken k (fact_read k (handed spare (key_of t.keys.keys (back_path k)))) timely h (fact_holds (state_number t.back.state) f d k t.front spare t.keys.keys shows.sectors (shows.facts held.stage_after (rw timely (omega arith))) held)
-  unbroken_at (front.WriteState s) idle port spare timely held served e h = written_unbroken s
-  unbroken_at (front.EndGrant page) idle port spare timely held served e h =
+      known_unbroken k (fact_read k (key_of t.keys.keys (back_path k))) timely h (fact_holds (state_number t.back.state) f d k t.front t.keys.keys shows.sectors (shows.facts held.stage_after (rw timely (omega arith))) held)
+  unbroken_at (front.WriteState s) idle port timely held served e h = written_unbroken s
+  unbroken_at (front.EndGrant page) idle port timely held served e h =
       choice_unbroken (nat_lt (page + 1) (pages_of t.front)) (front.EndGrant (page + 1)) front.EndOtherGrants refl refl
-  unbroken_at front.EndOtherGrants idle port spare timely held served e h = others_unbroken t.front.port
-  unbroken_at front.ClosePort idle port spare timely held served e h = refl
-  unbroken_at front.Closed idle port spare timely held served e h = woken_unbroken front.Closed (next_watch t.keys.front) t.front idle spare refl
-  unbroken_at (front.Broken word) idle port spare timely held served e h = absurd (true≢false e)
+  unbroken_at front.EndOtherGrants idle port timely held served e h = others_unbroken t.front.port
+  unbroken_at front.ClosePort idle port timely held served e h = refl
+  unbroken_at front.Closed idle port timely held served e h = woken_unbroken front.Closed (next_watch t.keys.front) t.front idle refl
+  unbroken_at (front.Broken word) idle port timely held served e h = absurd (true≢false e)
 
 due_unbroken : (s : FrontStage) (v : FrontView) (idle : Bool) → is_broken s ≡ false → is_broken (due_at s v idle) ≡ false
 due_unbroken front.Rest v idle e = choice_unbroken (v.closing && idle) (closing_stage v.state v) front.Rest (closes v.state) refl
@@ -353,11 +353,11 @@ closed_unbroken v e = by_test (v.closing || is_broken v.stage)
 
 unbroken_once : (f : Features) (d : DiskFacts) (x : Happening) (t : Negotiation) → IsServed x t → is_broken t.front.stage ≡ false → Holds f d t
     → is_broken (happened x t).front.stage ≡ false
-unbroken_once f d (FrontMoves idle port spare) t served e h =
+unbroken_once f d (FrontMoves idle port) t served e h =
     let s = due t.front idle in
     let held = due_holds (state_number t.back.state) f d t.front.stage t.front idle (front_texts t.keys.keys) h.front in
-    unbroken_at f d t s idle port spare (due_timely t.front.stage t.front idle h.front_sound.timely) held served (due_unbroken t.front.stage t.front idle e) h
-unbroken_once f d (BackMoves page spare) t served e h = e
+    unbroken_at f d t s idle port (due_timely t.front.stage t.front idle h.front_sound.timely) held served (due_unbroken t.front.stage t.front idle e) h
+unbroken_once f d (BackMoves page) t served e h = e
 unbroken_once f d FrontCloses t served e h = closed_unbroken t.front e
 unbroken_once f d BackCloses t served e h = e
 

@@ -15,7 +15,7 @@ granted_by a held = held
 
 -- a happening
 abbrev pub granted_in : Happening → Negotiation → List ℕ → List ℕ
-granted_in (FrontMoves idle port spare) n held = granted_by (ask_of n.front idle) held
+granted_in (FrontMoves idle port) n held = granted_by (ask_of n.front idle) held
 granted_in h n held = held
 
 -- after these happenings, where these were granted before

@@ -7,17 +7,16 @@ use Rattle.xenbus_state.specs.BackView as back
 use Rattle.negotiation_laws.specs.Negotiation.{Negotiation, front_moved, back_moved}
 
 -- A move of the front while it is idle or not, with the port that it is given if it asks for one; of the back, with the mapping that it is given.
--- The spare room of a text that is read says nothing.
 pub data Happening : Type 0 where
-  FrontMoves : (idle : Bool) (port : ℕ) (spare : List ℕ) → Happening
-  BackMoves : (page : Mapping) (spare : List ℕ) → Happening
+  FrontMoves : (idle : Bool) (port : ℕ) → Happening
+  BackMoves : (page : Mapping) → Happening
   FrontCloses : Happening
   BackCloses : Happening
 
 -- what a happening makes of the negotiation
 abbrev pub happened : Happening → Negotiation → Negotiation
-happened (FrontMoves idle port spare) n = front_moved idle port spare n
-happened (BackMoves page spare) n = back_moved page spare n
+happened (FrontMoves idle port) n = front_moved idle port n
+happened (BackMoves page) n = back_moved page n
 happened FrontCloses n = record n { front = front.closed n.front }
 happened BackCloses n = record n { back = back.unplugged n.back }
 
@@ -28,7 +27,7 @@ after (h ∷ happenings) n = after happenings (happened h n)
 
 -- a front that has written Closing has no unfinished request
 abbrev pub IsServed : Happening → Negotiation → Type 0
-IsServed (FrontMoves idle port spare) n = n.front.state ≡ state.Closing → idle ≡ true
+IsServed (FrontMoves idle port) n = n.front.state ≡ state.Closing → idle ≡ true
 IsServed h n = Unit {0}
 
 -- at each of these happenings

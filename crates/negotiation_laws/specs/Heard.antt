@@ -1,5 +1,5 @@
 -- What each end read last of the other's state, told from its asks.
-use Rattle.std.specs.Prelude.{ℕ, Bool, true, false, List, [], ◌∷◌, Option}
+use Rattle.std.specs.Prelude.{Bool, true, false, List, [], ◌∷◌, Option}
 use Rattle.xenbus_state.specs.States.{state_read}
 use Rattle.xenbus_state.specs.declared.state.BusState.{BusState}
 use Rattle.xenbus_state.specs.declared.state.BusState.TheVariants as state
@@ -34,13 +34,13 @@ back_listens back.Halted = false
 back_listens s = true
 
 -- what the front read last, after its ask
-abbrev pub front_heard_by : FrontBusAsk → (spare : List ℕ) → Negotiation → Option BusState → Option BusState
-front_heard_by front_ask.GetState spare n last = state_read (key_read n.keys spare back_state)
-front_heard_by a spare n last = last
+abbrev pub front_heard_by : FrontBusAsk → Negotiation → Option BusState → Option BusState
+front_heard_by front_ask.GetState n last = state_read (key_read n.keys back_state)
+front_heard_by a n last = last
 
 -- after a happening
 abbrev pub front_heard_in : Happening → Negotiation → Option BusState → Option BusState
-front_heard_in (FrontMoves idle port spare) n last = front_heard_by (front_asks.ask_of n.front idle) spare n last
+front_heard_in (FrontMoves idle port) n last = front_heard_by (front_asks.ask_of n.front idle) n last
 front_heard_in h n last = last
 
 -- after these happenings, where it had read this before
@@ -49,13 +49,13 @@ front_heard [] n last = last
 front_heard (h ∷ happenings) n last = front_heard happenings (happened h n) (front_heard_in h n last)
 
 -- what the back read last
-abbrev pub back_heard_by : BackBusAsk → (spare : List ℕ) → Negotiation → Option BusState → Option BusState
-back_heard_by back_ask.GetState spare n last = state_read (key_read n.keys spare front_state)
-back_heard_by a spare n last = last
+abbrev pub back_heard_by : BackBusAsk → Negotiation → Option BusState → Option BusState
+back_heard_by back_ask.GetState n last = state_read (key_read n.keys front_state)
+back_heard_by a n last = last
 
 -- after a happening
 abbrev pub back_heard_in : Happening → Negotiation → Option BusState → Option BusState
-back_heard_in (BackMoves page spare) n last = back_heard_by (back_asks.ask_of n.back) spare n last
+back_heard_in (BackMoves page) n last = back_heard_by (back_asks.ask_of n.back) n last
 back_heard_in h n last = last
 
 -- after these happenings, where it had read this before

@@ -124,15 +124,15 @@ gone_halt false s = halt.Gone s
 -- the back halts only as the front has written Closing, and for that reason
 abbrev pub BackHaltsAsTheFrontIsGone : Type 0
 BackHaltsAsTheFrontIsGone =
-    (r : NegotiationRun) (page : Mapping) (spare : List ℕ) (reason : BackHalt) → let n = now r in
-    halt_of n.back (back_answered (back.ask_of n.back) page spare n.keys) ≡ Some reason
+    (r : NegotiationRun) (page : Mapping) (reason : BackHalt) → let n = now r in
+    halt_of n.back (back_answered (back.ask_of n.back) page n.keys) ≡ Some reason
     → (n.front.state ≡ state.Closing) × (reason ≡ gone_halt n.back.unplugged state.Closing)
 
 -- the front is broken only by a closed back, after it has written Closing itself, while it has unfinished requests
 abbrev pub FrontBreaksOnlyUnserved : Type 0
 FrontBreaksOnlyUnserved =
-    (r : NegotiationRun) (idle : Bool) (port : ℕ) (spare : List ℕ) (word : ℕ) → let n = now r in
-    news_of n.front idle (front_answered (front.ask_of n.front idle) port spare n.keys) ≡ Some (news.Broken word)
+    (r : NegotiationRun) (idle : Bool) (port : ℕ) (word : ℕ) → let n = now r in
+    news_of n.front idle (front_answered (front.ask_of n.front idle) port n.keys) ≡ Some (news.Broken word)
     → (word ≡ 6) × (idle ≡ false) × (n.front.state ≡ state.Closing) × (n.back.state ≡ state.Closed)
 
 -- so never where it has none then
@@ -257,8 +257,8 @@ SettlingIsBounded = (r : NegotiationRun) → moves_in r.happenings (begins r) �
 -- where neither end has such a move they are at rest
 abbrev pub RestsWhereNothingGoes : Type 0
 RestsWhereNothingGoes =
-    (n : Negotiation) (idle : Bool) (port : ℕ) (page : Mapping) (spare : List ℕ)
-    → goes (FrontMoves idle port spare) n ≡ false → goes (BackMoves page spare) n ≡ false → IsAtRest idle n
+    (n : Negotiation) (idle : Bool) (port : ℕ) (page : Mapping)
+    → goes (FrontMoves idle port) n ≡ false → goes (BackMoves page) n ≡ false → IsAtRest idle n
 
 -- where nobody was asked to close, both ends are connected at rest
 abbrev pub ConnectedAtRest : Type 0

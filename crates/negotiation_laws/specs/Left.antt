@@ -153,8 +153,8 @@ back_goes a w = true
 
 -- a happening that is such a move
 abbrev pub goes : Happening → Negotiation → Bool
-goes (FrontMoves idle port spare) n = front_goes (front_asks.ask_of n.front idle) n.keys.front
-goes (BackMoves page spare) n = back_goes (back_asks.ask_of n.back) n.keys.back
+goes (FrontMoves idle port) n = front_goes (front_asks.ask_of n.front idle) n.keys.front
+goes (BackMoves page) n = back_goes (back_asks.ask_of n.back) n.keys.back
 goes h n = false
 
 -- how many of these moves didn't wait in vain

@@ -1,6 +1,5 @@
 -- Both ends of a negotiation and the directory between them (`io/xenbus.h`), and what a move of an end makes of them.
 use Rattle.std.specs.Prelude.{ℕ, Bool, false, List, Option, Some, None, codes, decimal}
-use Rattle.arrayvec.specs.ArrayString.{ArrayString}
 use Rattle.blk_base.specs.declared.parts.End.TheVariants.{Front, Back}
 use Rattle.blk_base.specs.declared.parts.Mapping.{Mapping}
 use Rattle.blk_base.specs.declared.ask.FrontAnswer.{FrontAnswer}
@@ -57,14 +56,9 @@ back_state = path_under Back (codes "state")
 abbrev pub state_text : BusState → List ℕ
 state_text s = decimal (state_number s)
 
--- a text as it is handed over, with the unused room after it
-abbrev pub handed : List ℕ → Option (List ℕ) → Option ArrayString
-handed spare None = None
-handed spare (Some text) = Some (record { bytes = text; spare = spare })
-
--- what the directory has at a path, as it is handed over
-abbrev pub key_read : Directory → List ℕ → List ℕ → Option ArrayString
-key_read d spare path = handed spare (key_of d.keys path)
+-- what the directory has at a path
+abbrev pub key_read : Directory → List ℕ → Option (List ℕ)
+key_read d path = key_of d.keys path
 
 -- A front at the beginning of an epoch: of its first, or after a suspend. It may be closing, and has the features and the disk of the epoch before.
 abbrev pub new_epoch : FrontView → FrontView
@@ -75,22 +69,22 @@ abbrev pub start_of : FrontView → Features → DiskFacts → Negotiation
 start_of v features disk = record { front = new_epoch v; back = back.start_of features disk; keys = fresh_directory (codes "1") }
 
 -- An end that waits takes its oldest watch that fired; where none has, nothing happens.
-abbrev pub front_woken : Option (List ℕ) → List ℕ → FrontAnswer
-front_woken None spare = front_answer.Event
-front_woken (Some path) spare = front_answer.Watched (record { bytes = path; spare = spare })
+abbrev pub front_woken : Option (List ℕ) → FrontAnswer
+front_woken None = front_answer.Event
+front_woken (Some path) = front_answer.Watched path
 
 -- so the back
-abbrev pub back_woken : Option (List ℕ) → List ℕ → BackAnswer
-back_woken None spare = back_answer.Event
-back_woken (Some path) spare = back_answer.Watched (record { bytes = path; spare = spare })
+abbrev pub back_woken : Option (List ℕ) → BackAnswer
+back_woken None = back_answer.Event
+back_woken (Some path) = back_answer.Watched path
 
 -- What the front is answered: by the directory, and with this port where it makes one.
-abbrev pub front_answered : FrontBusAsk → (port : ℕ) (spare : List ℕ) → Directory → FrontAnswer
-front_answered front_ask.Wait port spare d = front_woken (next_watch d.front) spare
-front_answered front_ask.GetState port spare d = front_answer.Key (key_read d spare back_state)
-front_answered (front_ask.GetKey key) port spare d = front_answer.Key (key_read d spare (back_path key))
-front_answered front_ask.NewPort port spare d = front_answer.Port port
-front_answered ask port spare d = front_answer.Done
+abbrev pub front_answered : FrontBusAsk → (port : ℕ) → Directory → FrontAnswer
+front_answered front_ask.Wait port d = front_woken (next_watch d.front)
+front_answered front_ask.GetState port d = front_answer.Key (key_read d back_state)
+front_answered (front_ask.GetKey key) port d = front_answer.Key (key_read d (back_path key))
+front_answered front_ask.NewPort port d = front_answer.Port port
+front_answered ask port d = front_answer.Done
 
 -- What its ask makes of the directory.
 abbrev pub front_done : FrontBusAsk → Directory → Directory
@@ -101,12 +95,12 @@ front_done (front_ask.SetKey key value) d = written d (front_path key) (text_of 
 front_done ask d = d
 
 -- What the back is answered: by the directory, and with this mapping where it maps a page. No map and no port is refused.
-abbrev pub back_answered : BackBusAsk → (page : Mapping) (spare : List ℕ) → Directory → BackAnswer
-back_answered back_ask.Wait page spare d = back_woken (next_watch d.back) spare
-back_answered back_ask.GetState page spare d = back_answer.Key (key_read d spare front_state)
-back_answered (back_ask.GetKey key) page spare d = back_answer.Key (key_read d spare (front_path key))
-back_answered (back_ask.Map gref) page spare d = back_answer.Mapped page
-back_answered ask page spare d = back_answer.Done
+abbrev pub back_answered : BackBusAsk → (page : Mapping) → Directory → BackAnswer
+back_answered back_ask.Wait page d = back_woken (next_watch d.back)
+back_answered back_ask.GetState page d = back_answer.Key (key_read d front_state)
+back_answered (back_ask.GetKey key) page d = back_answer.Key (key_read d (front_path key))
+back_answered (back_ask.Map gref) page d = back_answer.Mapped page
+back_answered ask page d = back_answer.Done
 
 -- what its ask makes of the directory
 abbrev pub back_done : BackBusAsk → Directory → Directory
@@ -117,17 +111,17 @@ back_done (back_ask.SetKey key value) d = written d (back_path key) (text_of val
 back_done ask d = d
 
 -- a move of the front, while it is idle or not
-abbrev pub front_moved : (idle : Bool) (port : ℕ) (spare : List ℕ) → Negotiation → Negotiation
-front_moved idle port spare n = record {
-  front = front_step.step_of n.front idle (front_answered (front_asks.ask_of n.front idle) port spare n.keys);
+abbrev pub front_moved : (idle : Bool) (port : ℕ) → Negotiation → Negotiation
+front_moved idle port n = record {
+  front = front_step.step_of n.front idle (front_answered (front_asks.ask_of n.front idle) port n.keys);
   back = n.back;
   keys = front_done (front_asks.ask_of n.front idle) n.keys;
 }
 
 -- a move of the back
-abbrev pub back_moved : (page : Mapping) (spare : List ℕ) → Negotiation → Negotiation
-back_moved page spare n = record {
+abbrev pub back_moved : (page : Mapping) → Negotiation → Negotiation
+back_moved page n = record {
   front = n.front;
-  back = back_step.step_of n.back (back_answered (back_asks.ask_of n.back) page spare n.keys);
+  back = back_step.step_of n.back (back_answered (back_asks.ask_of n.back) page n.keys);
   keys = back_done (back_asks.ask_of n.back) n.keys;
 }

@@ -14,7 +14,7 @@ pub record IsWithin (front : FrontView) (features : Features) (disk : DiskFacts)
 
 -- a port that the front is given
 abbrev pub HasPort : Happening → Type 0
-HasPort (FrontMoves idle port spare) = port < 2 ^ 32
+HasPort (FrontMoves idle port) = port < 2 ^ 32
 HasPort h = Unit {0}
 
 -- in each of these happenings

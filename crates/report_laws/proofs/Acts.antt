@@ -1,6 +1,6 @@
 -- An act's move is a line of the grammar without text, and leaves memory words of 32 bits, where what was asked has the widths.
 use Rattle.std.proofs.Common.{◌≡◌, ℕ, ◌+◌, ◌^◌, ◌<◌, ◌≤◌, ◌==◌, Bool, true, false, List, [], ◌∷◌, refl, subst, arith}
-use Rattle.std.specs.Prelude.{All, Some, Result, Ok, Err, nat_lt}
+use Rattle.std.specs.Prelude.{All, Some, None, Result, Ok, Err, nat_lt}
 use Rattle.std.specs.List.{AllByRecursion}
 use Rattle.std.proofs.lemmas.Option.{none-some, same_Some}
 use Rattle.std.proofs.lemmas.List.Elements.{recursion_from_All, All-contains}
@@ -25,52 +25,54 @@ use Rattle.grant_table.specs.Table.{GrantTable, IsLive, entry_word0, entry_word1
 use Rattle.grant_table.specs.Sound.{IsGrantable}
 use Rattle.event_channel.specs.declared.channels.PortState.{PortState}
 use Rattle.event_channel.specs.declared.channels.PortState.TheVariants as port
-use Rattle.event_channel.specs.Channels.{state_of, is_pending}
+use Rattle.event_channel.specs.Channels.{state_of}
 use Rattle.schedule_text.specs.declared.line.Line.TheVariants as lines
-use Rattle.schedule_text.specs.Plain.{plain_move}
 use Rattle.schedule_text.specs.Range.{IsInRange, MoveHasWidths, MoverHasWidths, BackHasWidths, is_move_allowed, is_mover_allowed, is_back_allowed}
 use Rattle.hypervisor.specs.Hypervisor.{Hypervisor}
-use Rattle.hypervisor.specs.Act.{FrontAct, BackAct, Outcome, Gave, Took, Failed, front_act, back_act, mover_of, job_number, map_act, bind_act, wait_act, read_act, disk_act}
+use Rattle.hypervisor.specs.Act.{FrontAct, BackAct, Outcome, Gave, Took, Failed, front_act, back_act, mover_of, job_number, map_act, bind_act, wait_act, read_act, disk_act, watch_next}
 use Rattle.blk_front.specs.Ask.{StaysInMemory}
 use Rattle.back_jobs.specs.Hands.{Names}
 use Rattle.split_model.specs.Safe.{AreHeld}
-use Rattle.split_model.proofs.SafeActs.{of_front, of_back, front_test, back_test}
+use Rattle.split_model.proofs.SafeActs.{of_front, of_back}
+use Rattle.split_model.proofs.Unkeyed.{front_takes, back_takes}
 use Rattle.move_laws.proofs.Entries.{Found, found, frame_found, IsGranted, granted}
 use Rattle.report_laws.proofs.Words.{AreWords, word_fits, write_fits, exchange_fits, map_fits, unmap_fits}
 
 pub record ActFits (shown : Move) (pages : List ℕ) : Type 0 where
   pub line : IsInRange (lines.Move shown)
-  pub bare : plain_move shown ≡ shown
   pub words : AreWords pages
 
-act_fits : (shown : Move) (pages : List ℕ) → MoveHasWidths shown → is_move_allowed shown ≡ true → plain_move shown ≡ shown → AreWords pages → ActFits shown pages
-act_fits shown pages widths allowed bare words = record { line = record { widths = widths; allowed = allowed }; bare = bare; words = words }
+act_fits : (shown : Move) (pages : List ℕ) → MoveHasWidths shown → is_move_allowed shown ≡ true → AreWords pages → ActFits shown pages
+act_fits shown pages widths allowed words = record { line = record { widths = widths; allowed = allowed }; words = words }
 
--- the values that the front asks to write have 32 bits, and so has the number of a port that it makes
+-- the values that the front asks to write have 32 bits, and so has the number of a port that it makes; it asks for no key yet
 abbrev pub FrontFits : Hypervisor → FrontAsk → Type 0
 FrontFits h (front_ask.Write frame word value) = value < 2 ^ 32
 FrontFits h (front_ask.Cas frame word old new) = (old < 2 ^ 32) × (new < 2 ^ 32)
 FrontFits h front_ask.NewPort = h.channels.made + 1 < 2 ^ 32
+FrontFits h (front_ask.GetKey path) = ⊥
+FrontFits h (front_ask.SetKey path text) = ⊥
+FrontFits h (front_ask.Watch path) = ⊥
 FrontFits h ask = Unit {0}
 
 abbrev FrontActFits : FrontAct → Type 0
 FrontActFits a = ActFits a.shown a.under.pages
 
-pub front_act_fits : (h : Hypervisor) (ask : FrontAsk) (a : FrontAct) → AreWords h.pages → StaysInMemory ask → FrontFits h ask → front_act h ask ≡ Some a → ActFits a.shown a.under.pages
-front_act_fits h front_ask.Wait a words within fits e = front_test FrontActFits (is_pending h.channels end.Front) _ a (act_fits (moves.Event mover.Front) h.pages tt refl refl words) e
-front_act_fits h front_ask.Fence a words within fits e = of_front FrontActFits _ a (act_fits (moves.Fence mover.Front) h.pages tt refl refl words) e
-front_act_fits h (front_ask.Read frame word) a words within fits e =
-    of_front FrontActFits _ a (act_fits (moves.FrontRead frame word (word_of h.pages frame word)) h.pages (omega (arith, within.0), omega (arith, within.1), word_fits h.pages frame word words) refl refl words) e
-front_act_fits h (front_ask.Write frame word value) a words within fits e =
-    of_front FrontActFits _ a (act_fits (moves.FrontWrite frame word value) _ (omega (arith, within.0), omega (arith, within.1), fits) refl refl (write_fits h.pages frame word value words fits)) e
-front_act_fits h (front_ask.Cas frame word old new) a words within fits e =
-    of_front FrontActFits _ a (act_fits (moves.FrontCas frame word old new (word_of h.pages frame word)) _ (omega (arith, within.0), omega (arith, within.1), fits.0, fits.1, word_fits h.pages frame word words) refl refl (exchange_fits h.pages frame word old new words fits.1)) e
-front_act_fits h front_ask.NewPort a words within fits e = of_front FrontActFits _ a (act_fits (moves.FrontPort (h.channels.made + 1)) h.pages fits refl refl words) e
-front_act_fits h front_ask.Send a words within fits e = of_front FrontActFits _ a (act_fits (moves.Send mover.Front) h.pages tt refl refl words) e
-front_act_fits h front_ask.ClosePort a words within fits e = of_front FrontActFits _ a (act_fits (moves.ClosePort mover.Front) h.pages tt refl refl words) e
-front_act_fits h (front_ask.GetKey path) a words within fits e = absurd (none-some a e)
-front_act_fits h (front_ask.SetKey path text) a words within fits e = absurd (none-some a e)
-front_act_fits h (front_ask.Watch path) a words within fits e = absurd (none-some a e)
+pub front_act_fits : (h : Hypervisor) (ask : FrontAsk) (a : FrontAct) → AreWords h.pages → StaysInMemory ask → FrontFits h ask → watch_next h end.Front ≡ None → front_act h ask ≡ Some a → ActFits a.shown a.under.pages
+front_act_fits h front_ask.Wait a words within fits none e = front_takes FrontActFits h a none (act_fits (moves.Event mover.Front) h.pages tt refl words) e
+front_act_fits h front_ask.Fence a words within fits none e = of_front FrontActFits _ a (act_fits (moves.Fence mover.Front) h.pages tt refl words) e
+front_act_fits h (front_ask.Read frame word) a words within fits none e =
+    of_front FrontActFits _ a (act_fits (moves.FrontRead frame word (word_of h.pages frame word)) h.pages (omega (arith, within.0), omega (arith, within.1), word_fits h.pages frame word words) refl words) e
+front_act_fits h (front_ask.Write frame word value) a words within fits none e =
+    of_front FrontActFits _ a (act_fits (moves.FrontWrite frame word value) _ (omega (arith, within.0), omega (arith, within.1), fits) refl (write_fits h.pages frame word value words fits)) e
+front_act_fits h (front_ask.Cas frame word old new) a words within fits none e =
+    of_front FrontActFits _ a (act_fits (moves.FrontCas frame word old new (word_of h.pages frame word)) _ (omega (arith, within.0), omega (arith, within.1), fits.0, fits.1, word_fits h.pages frame word words) refl (exchange_fits h.pages frame word old new words fits.1)) e
+front_act_fits h front_ask.NewPort a words within fits none e = of_front FrontActFits _ a (act_fits (moves.FrontPort (h.channels.made + 1)) h.pages fits refl words) e
+front_act_fits h front_ask.Send a words within fits none e = of_front FrontActFits _ a (act_fits (moves.Send mover.Front) h.pages tt refl words) e
+front_act_fits h front_ask.ClosePort a words within fits none e = of_front FrontActFits _ a (act_fits (moves.ClosePort mover.Front) h.pages tt refl words) e
+front_act_fits h (front_ask.GetKey path) a words within fits none e = absurd fits
+front_act_fits h (front_ask.SetKey path text) a words within fits none e = absurd fits
+front_act_fits h (front_ask.Watch path) a words within fits none e = absurd fits
 
 -- the back or a job of a number of 64 bits, above 0
 pub record IsMover (who : BackMover) : Type 0 where
@@ -89,7 +91,7 @@ mover_allowed (back_mover.Job k) h = h
 abbrev pub IsCaller : BackMover → Type 0
 IsCaller who = (job_number who < 2 ^ 64) × (nat_lt 0 (job_number who) ≡ true)
 
--- the values that the back or a job asks to write have 32 bits, and so have references and ports; sectors have 64
+-- the values that the back or a job asks to write have 32 bits, and so have references and ports; sectors have 64; neither asks for a key yet
 abbrev pub BackFits : BackMover → BackAsk → Type 0
 BackFits who (back_ask.Write m word value) = value < 2 ^ 32
 BackFits who (back_ask.Map gref mode) = gref < 2 ^ 32
@@ -98,6 +100,9 @@ BackFits who (back_ask.DiskRead sector) = (sector < 2 ^ 64) × IsCaller who
 BackFits who (back_ask.DiskWrite sector words) = (sector < 2 ^ 64) × IsCaller who
 BackFits who back_ask.Flush = IsCaller who
 BackFits who (back_ask.Trim sector count) = (sector < 2 ^ 64) × (count < 2 ^ 64) × IsCaller who
+BackFits who (back_ask.GetKey path) = ⊥
+BackFits who (back_ask.SetKey path text) = ⊥
+BackFits who (back_ask.Watch path) = ⊥
 BackFits who ask = Unit {0}
 
 -- what holds of each live mapping holds of the one of a number
@@ -135,17 +140,16 @@ map_act_fits : (h : Hypervisor) (who : BackMover) (gref : ℕ) (mode : Mode) (ve
 map_act_fits h who gref mode (Ok frame) words is fits few e =
     let g : IsGranted gref frame = granted gref (entry_word0 h.pages gref) (entry_word1 h.pages gref) mode frame e in
     let high : frame ≤ 1023 = g.high in
-    act_fits (moves.Map who gref mode (h.grants.made + 1) frame) _ (is.widths, fits, few, omega arith) is.allowed refl (map_fits h.pages gref mode words)
-map_act_fits h who gref mode (Err refusal) words is fits few e = act_fits (moves.MapRefused who gref mode (status_of refusal)) h.pages (refusal_fits who gref mode refusal is.widths fits) is.allowed refl words
+    act_fits (moves.Map who gref mode (h.grants.made + 1) frame) _ (is.widths, fits, few, omega arith) is.allowed (map_fits h.pages gref mode words)
+map_act_fits h who gref mode (Err refusal) words is fits few e = act_fits (moves.MapRefused who gref mode (status_of refusal)) h.pages (refusal_fits who gref mode refusal is.widths fits) is.allowed words
 
 bind_act_fits : (h : Hypervisor) (p : ℕ) (state : PortState) → AreWords h.pages → p < 2 ^ 32 → BackActFits (bind_act h p state)
-bind_act_fits h p port.Unbound words fits = act_fits (moves.Bind p) h.pages fits refl refl words
-bind_act_fits h p port.Closed words fits = act_fits (moves.BindRefused p) h.pages fits refl refl words
-bind_act_fits h p port.Bound words fits = act_fits (moves.BindRefused p) h.pages fits refl refl words
+bind_act_fits h p port.Unbound words fits = act_fits (moves.Bind p) h.pages fits refl words
+bind_act_fits h p port.Closed words fits = act_fits (moves.BindRefused p) h.pages fits refl words
+bind_act_fits h p port.Bound words fits = act_fits (moves.BindRefused p) h.pages fits refl words
 
-wait_act_fits : (h : Hypervisor) (who : BackMover) (a : BackAct) → AreWords h.pages → wait_act h who ≡ Some a → BackActFits a
-wait_act_fits h back_mover.Back a words e = back_test BackActFits (is_pending h.channels end.Back) _ a (act_fits (moves.Event mover.Back) h.pages tt refl refl words) e
-wait_act_fits h (back_mover.Job k) a words e = absurd (none-some a e)
+wait_act_fits : (h : Hypervisor) (who : BackMover) (a : BackAct) → AreWords h.pages → watch_next h end.Back ≡ None → wait_act h who ≡ Some a → BackActFits a
+wait_act_fits h who a words none e = back_takes BackActFits h who a none (act_fits (moves.Event mover.Back) h.pages tt refl words) e
 
 read_act_fits : (h : Hypervisor) (shown : Move) (o : Outcome) (a : BackAct) → ActFits shown h.pages → read_act h shown o ≡ Some a → BackActFits a
 read_act_fits h shown (Gave words) a fits e = of_back BackActFits _ a fits e
@@ -157,31 +161,31 @@ disk_act_fits h shown Took a fits e = of_back BackActFits _ a fits e
 disk_act_fits h shown Failed a fits e = of_back BackActFits _ a fits e
 disk_act_fits h shown (Gave words) a fits e = absurd (none-some a e)
 
-pub back_act_fits : (h : Hypervisor) (who : BackMover) (ask : BackAsk) (o : Outcome) (a : BackAct) (hands : List Mapping) → AreWords h.pages → All IsGrantable h.grants.live → AreHeld h.grants hands → h.grants.made + 1 < 2 ^ 64 → IsMover who → Names hands ask → BackFits who ask → back_act h who ask o ≡ Some a → ActFits a.shown a.under.pages
-back_act_fits h who back_ask.Wait o a hands words grantable held few is names fits e = wait_act_fits h who a words e
-back_act_fits h who back_ask.Fence o a hands words grantable held few is names fits e = of_back BackActFits _ a (act_fits (moves.Fence (mover_of who)) h.pages (mover_widths who is.widths) (mover_allowed who is.allowed) refl words) e
-back_act_fits h who (back_ask.Read m word) o a hands words grantable held few is names fits e =
+pub back_act_fits : (h : Hypervisor) (who : BackMover) (ask : BackAsk) (o : Outcome) (a : BackAct) (hands : List Mapping) → AreWords h.pages → All IsGrantable h.grants.live → AreHeld h.grants hands → h.grants.made + 1 < 2 ^ 64 → IsMover who → Names hands ask → BackFits who ask → watch_next h end.Back ≡ None → back_act h who ask o ≡ Some a → ActFits a.shown a.under.pages
+back_act_fits h who back_ask.Wait o a hands words grantable held few is names fits none e = wait_act_fits h who a words none e
+back_act_fits h who back_ask.Fence o a hands words grantable held few is names fits none e = of_back BackActFits _ a (act_fits (moves.Fence (mover_of who)) h.pages (mover_widths who is.widths) (mover_allowed who is.allowed) words) e
+back_act_fits h who (back_ask.Read m word) o a hands words grantable held few is names fits none e =
     let well = held_well h.grants hands m grantable held (All-contains (IsLive h.grants) hands m held.live names.0) in
     let number = well.number in
     let frame = well.frame in
-    of_back BackActFits _ a (act_fits (moves.Read who m.number (frame_of h.grants m) word (word_of h.pages (frame_of h.grants m) word)) h.pages (is.widths, omega arith, omega arith, omega (arith, names.1), word_fits h.pages (frame_of h.grants m) word words) is.allowed refl words) e
-back_act_fits h who (back_ask.Write m word value) o a hands words grantable held few is names fits e =
+    of_back BackActFits _ a (act_fits (moves.Read who m.number (frame_of h.grants m) word (word_of h.pages (frame_of h.grants m) word)) h.pages (is.widths, omega arith, omega arith, omega (arith, names.1), word_fits h.pages (frame_of h.grants m) word words) is.allowed words) e
+back_act_fits h who (back_ask.Write m word value) o a hands words grantable held few is names fits none e =
     let well = held_well h.grants hands m grantable held (All-contains (IsLive h.grants) hands m held.live names.0) in
     let number = well.number in
     let frame = well.frame in
-    of_back BackActFits _ a (act_fits (moves.Write who m.number (frame_of h.grants m) word value) _ (is.widths, omega arith, omega arith, omega (arith, names.2), fits) is.allowed refl (write_fits h.pages (frame_of h.grants m) word value words fits)) e
-back_act_fits h who (back_ask.Map gref mode) o a hands words grantable held few is names fits e = of_back BackActFits _ a (map_act_fits h who gref mode (verdict_at h.pages gref mode) words is fits few refl) e
-back_act_fits h who (back_ask.Unmap m) o a hands words grantable held few is names fits e =
+    of_back BackActFits _ a (act_fits (moves.Write who m.number (frame_of h.grants m) word value) _ (is.widths, omega arith, omega arith, omega (arith, names.2), fits) is.allowed (write_fits h.pages (frame_of h.grants m) word value words fits)) e
+back_act_fits h who (back_ask.Map gref mode) o a hands words grantable held few is names fits none e = of_back BackActFits _ a (map_act_fits h who gref mode (verdict_at h.pages gref mode) words is fits few refl) e
+back_act_fits h who (back_ask.Unmap m) o a hands words grantable held few is names fits none e =
     let well = held_well h.grants hands m grantable held (All-contains (IsLive h.grants) hands m held.live names) in
     let number = well.number in
-    of_back BackActFits _ a (act_fits (moves.Unmap who m.number) _ (is.widths, omega arith) is.allowed refl (unmap_fits h.grants h.pages m words)) e
-back_act_fits h who (back_ask.Bind p) o a hands words grantable held few is names fits e = of_back BackActFits _ a (bind_act_fits h p (state_of h.channels p) words fits) e
-back_act_fits h who back_ask.Send o a hands words grantable held few is names fits e = of_back BackActFits _ a (act_fits (moves.Send (mover_of who)) h.pages (mover_widths who is.widths) (mover_allowed who is.allowed) refl words) e
-back_act_fits h who back_ask.ClosePort o a hands words grantable held few is names fits e = of_back BackActFits _ a (act_fits (moves.ClosePort (mover_of who)) h.pages (mover_widths who is.widths) (mover_allowed who is.allowed) refl words) e
-back_act_fits h who (back_ask.GetKey path) o a hands words grantable held few is names fits e = absurd (none-some a e)
-back_act_fits h who (back_ask.SetKey path text) o a hands words grantable held few is names fits e = absurd (none-some a e)
-back_act_fits h who (back_ask.Watch path) o a hands words grantable held few is names fits e = absurd (none-some a e)
-back_act_fits h who (back_ask.DiskRead sector) o a hands words grantable held few is names fits e = read_act_fits h (moves.DiskRead (job_number who) sector) o a (act_fits (moves.DiskRead (job_number who) sector) h.pages (fits.1.0, fits.0) fits.1.1 refl words) e
-back_act_fits h who (back_ask.DiskWrite sector sector_words) o a hands words grantable held few is names fits e = disk_act_fits h (moves.DiskWrite (job_number who) sector) o a (act_fits (moves.DiskWrite (job_number who) sector) h.pages (fits.1.0, fits.0) fits.1.1 refl words) e
-back_act_fits h who back_ask.Flush o a hands words grantable held few is names fits e = disk_act_fits h (moves.DiskFlush (job_number who)) o a (act_fits (moves.DiskFlush (job_number who)) h.pages fits.0 fits.1 refl words) e
-back_act_fits h who (back_ask.Trim sector count) o a hands words grantable held few is names fits e = disk_act_fits h (moves.DiskTrim (job_number who) sector count) o a (act_fits (moves.DiskTrim (job_number who) sector count) h.pages (fits.2.0, fits.0, fits.1) fits.2.1 refl words) e
+    of_back BackActFits _ a (act_fits (moves.Unmap who m.number) _ (is.widths, omega arith) is.allowed (unmap_fits h.grants h.pages m words)) e
+back_act_fits h who (back_ask.Bind p) o a hands words grantable held few is names fits none e = of_back BackActFits _ a (bind_act_fits h p (state_of h.channels p) words fits) e
+back_act_fits h who back_ask.Send o a hands words grantable held few is names fits none e = of_back BackActFits _ a (act_fits (moves.Send (mover_of who)) h.pages (mover_widths who is.widths) (mover_allowed who is.allowed) words) e
+back_act_fits h who back_ask.ClosePort o a hands words grantable held few is names fits none e = of_back BackActFits _ a (act_fits (moves.ClosePort (mover_of who)) h.pages (mover_widths who is.widths) (mover_allowed who is.allowed) words) e
+back_act_fits h who (back_ask.GetKey path) o a hands words grantable held few is names fits none e = absurd fits
+back_act_fits h who (back_ask.SetKey path text) o a hands words grantable held few is names fits none e = absurd fits
+back_act_fits h who (back_ask.Watch path) o a hands words grantable held few is names fits none e = absurd fits
+back_act_fits h who (back_ask.DiskRead sector) o a hands words grantable held few is names fits none e = read_act_fits h (moves.DiskRead (job_number who) sector) o a (act_fits (moves.DiskRead (job_number who) sector) h.pages (fits.1.0, fits.0) fits.1.1 words) e
+back_act_fits h who (back_ask.DiskWrite sector sector_words) o a hands words grantable held few is names fits none e = disk_act_fits h (moves.DiskWrite (job_number who) sector) o a (act_fits (moves.DiskWrite (job_number who) sector) h.pages (fits.1.0, fits.0) fits.1.1 words) e
+back_act_fits h who back_ask.Flush o a hands words grantable held few is names fits none e = disk_act_fits h (moves.DiskFlush (job_number who)) o a (act_fits (moves.DiskFlush (job_number who)) h.pages fits.0 fits.1 words) e
+back_act_fits h who (back_ask.Trim sector count) o a hands words grantable held few is names fits none e = disk_act_fits h (moves.DiskTrim (job_number who) sector count) o a (act_fits (moves.DiskTrim (job_number who) sector count) h.pages (fits.2.0, fits.0, fits.1) fits.2.1 words) e

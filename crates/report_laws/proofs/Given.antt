@@ -5,7 +5,6 @@ use Rattle.std.specs.List.{AllByRecursion}
 use Rattle.std.proofs.lemmas.Option.{none-some}
 use Rattle.line_text.specs.Sector.{IsSector}
 use Rattle.blk_base.specs.declared.config.Job.{Job}
-use Rattle.blk_base.specs.declared.parts.End.TheVariants as end
 use Rattle.blk_base.specs.declared.ask.BackAsk.{BackAsk}
 use Rattle.blk_base.specs.declared.ask.BackAsk.TheVariants as ask
 use Rattle.blk_base.specs.declared.ask.BackAnswer.{BackAnswer}
@@ -20,9 +19,9 @@ use Rattle.grant_table.specs.declared.entry.MapRefusal.{MapRefusal}
 use Rattle.grant_table.specs.Table.{verdict_at}
 use Rattle.event_channel.specs.declared.channels.PortState.{PortState}
 use Rattle.event_channel.specs.declared.channels.PortState.TheVariants as port
-use Rattle.event_channel.specs.Channels.{state_of, is_pending}
+use Rattle.event_channel.specs.Channels.{state_of}
 use Rattle.hypervisor.specs.Hypervisor.{Hypervisor}
-use Rattle.hypervisor.specs.Act.{FrontAct, BackAct, Outcome, Gave, Took, Failed, IsGiven, back_act, map_act, bind_act, wait_act, read_act, disk_act}
+use Rattle.hypervisor.specs.Act.{FrontAct, BackAct, Outcome, Gave, Took, Failed, IsGiven, back_act, map_act, bind_act, read_act, disk_act, outcome_told}
 use Rattle.blk_front.specs.declared.told.Told.{Told}
 use Rattle.blk_front.specs.declared.told.Told.TheVariants as front_told
 use Rattle.blk_front.specs.declared.told.Refusal.{Refusal}
@@ -39,7 +38,7 @@ use Rattle.split_model.specs.World.{World, is_quiet}
 use Rattle.split_model.specs.Shown.{front_lines, back_lines, halt_lines}
 use Rattle.split_model.proofs.Overwriting.{dump_lines_are}
 use Rattle.split_model.specs.Happening.{Happening, FrontMoves, BackMoves, JobMoves, Submits, Notifies, Pokes, Dumps, Looks, Settles, lines_at, front_shows, back_shows, job_shows, front_turn, back_turn, job_turn, submit_line}
-use Rattle.split_model.proofs.SafeActs.{of_back, back_test}
+use Rattle.split_model.proofs.SafeActs.{of_back, back_keys, back_wait}
 use Rattle.machine_pipeline.specs.Allowed.{IsServed}
 use Rattle.report_laws.proofs.Lines.{both_all}
 
@@ -59,9 +58,10 @@ GivesSector a = Unit {0}
 abbrev ActGives : BackAct → Type 0
 ActGives a = GivesSector a.answer
 
-wait_gives : (h : Hypervisor) (who : BackMover) (a : BackAct) → wait_act h who ≡ Some a → ActGives a
-wait_gives h back_mover.Back a e = back_test ActGives (is_pending h.channels end.Back) _ a tt e
-wait_gives h (back_mover.Job k) a e = absurd (none-some a e)
+-- an answer with which the disk took a call or was not called gives none
+took_gives : (a : BackAnswer) → outcome_told a ≡ Took → GivesSector a
+took_gives (answers.Sector words) took = absurd (cc)
+took_gives a took = tt
 
 map_gives : (h : Hypervisor) (who : BackMover) (gref : ℕ) (mode : Mode) (verdict : Result ℕ MapRefusal) → ActGives (map_act h who gref mode verdict)
 map_gives h who gref mode (Ok frame) = tt
@@ -83,7 +83,7 @@ disk_gives h shown Failed a e = of_back ActGives _ a tt e
 disk_gives h shown (Gave words) a e = absurd (none-some a e)
 
 act_gives : (h : Hypervisor) (who : BackMover) (x : BackAsk) (o : Outcome) (a : BackAct) → IsGiven o → back_act h who x o ≡ Some a → ActGives a
-act_gives h who ask.Wait o a given e = wait_gives h who a e
+act_gives h who ask.Wait o a given e = back_wait ActGives h who a tt (λ path. tt) e
 act_gives h who ask.Fence o a given e = of_back ActGives _ a tt e
 act_gives h who (ask.Read m word) o a given e = of_back ActGives _ a tt e
 act_gives h who (ask.Write m word value) o a given e = of_back ActGives _ a tt e
@@ -92,9 +92,9 @@ act_gives h who (ask.Unmap m) o a given e = of_back ActGives _ a tt e
 act_gives h who (ask.Bind p) o a given e = of_back ActGives _ a (bind_gives h p (state_of h.channels p)) e
 act_gives h who ask.Send o a given e = of_back ActGives _ a tt e
 act_gives h who ask.ClosePort o a given e = of_back ActGives _ a tt e
-act_gives h who (ask.GetKey path) o a given e = absurd (none-some a e)
-act_gives h who (ask.SetKey path text) o a given e = absurd (none-some a e)
-act_gives h who (ask.Watch path) o a given e = absurd (none-some a e)
+act_gives h who (ask.GetKey path) o a given e = back_keys ActGives h who (ask.GetKey path) o a tt (λ x is. took_gives x.answer is.took) e
+act_gives h who (ask.SetKey path text) o a given e = back_keys ActGives h who (ask.SetKey path text) o a tt (λ x is. took_gives x.answer is.took) e
+act_gives h who (ask.Watch path) o a given e = back_keys ActGives h who (ask.Watch path) o a tt (λ x is. took_gives x.answer is.took) e
 act_gives h who (ask.DiskRead sector) o a given e = read_gives h _ o a given e
 act_gives h who (ask.DiskWrite sector words) o a given e = disk_gives h _ o a e
 act_gives h who ask.Flush o a given e = disk_gives h _ o a e

@@ -1,7 +1,6 @@
 -- Whatever happens, each line is one of the grammar, with no text in it.
-use Rattle.std.proofs.Common.{◌≡◌, ℕ, ◌+◌, ◌^◌, ◌<◌, ◌≤◌, ◌⊎◌, inl, inr, Bool, true, false, if◌then◌else◌, List, [], ◌∷◌, ◌++◌, length, map, refl, sym, ap, ◌∙◌, subst, arith}
+use Rattle.std.proofs.Common.{◌≡◌, ℕ, ◌+◌, ◌^◌, ◌<◌, ◌≤◌, ◌⊎◌, inl, inr, Bool, true, false, if◌then◌else◌, List, [], ◌∷◌, ◌++◌, length, refl, sym, ap, ◌∙◌, subst, arith}
 use Rattle.std.specs.Prelude.{Option, Some, None, Result, Ok, Err, slice_get}
-use Rattle.std.specs.List.{AllByRecursion}
 use Rattle.std.proofs.lemmas.Option.{none-some, slice_get_within}
 use Rattle.std.proofs.lemmas.List.{append-nil}
 use Rattle.std.proofs.lemmas.List.Elements.{All-from_recursion}
@@ -13,7 +12,6 @@ use Rattle.schedule_text.specs.declared.line.Detail.{Detail}
 use Rattle.schedule_text.specs.declared.line.Detail.TheVariants.{Lines, Moves}
 use Rattle.schedule_text.specs.declared.line.Line.{Line}
 use Rattle.schedule_text.specs.declared.line.Line.TheVariants as lines
-use Rattle.schedule_text.specs.Plain.{plain}
 use Rattle.schedule_text.specs.Range.{IsInRange, JobHasWidths, AreOptions}
 use Rattle.schedule_text.specs.Recorder.{recorded}
 use Rattle.plain_disk.specs.Request.{places_of}
@@ -42,6 +40,7 @@ use Rattle.split_model.specs.Happening.{Happening, FrontMoves, BackMoves, JobMov
 use Rattle.schedule_text.specs.Recorder.{kept_of}
 use Rattle.split_model.specs.Report.{report_of, ended_report_of}
 use Rattle.split_model.proofs.SafeActs.{made_front}
+use Rattle.split_model.proofs.Unkeyed.{IsUnkeyed, unkeyed_happens, no_front_watch, no_back_watch}
 use Rattle.move_laws.specs.Permitted.{IsPermitted, ArePermitted}
 use Rattle.move_laws.proofs.Always.{always_within}
 use Rattle.move_laws.proofs.Runs.{FollowsTo, follows_happens, follows_begin}
@@ -57,7 +56,7 @@ use Rattle.report_laws.specs.Grammar.{IsInGrammar}
 use Rattle.report_laws.proofs.Words.{AreWords, word_fits, fresh_words}
 use Rattle.xen_pages.specs.Pages.{word_of}
 use Rattle.report_laws.proofs.Acts.{ActFits, front_act_fits, back_act_fits}
-use Rattle.report_laws.proofs.Told.{IsGood, AreGood, AreFit, good, both_good, AreFew, shown_fit, front_lines_good, back_lines_good}
+use Rattle.report_laws.proofs.Told.{AreGood, AreFit, good, both_good, AreFew, shown_fit, front_lines_good, back_lines_good}
 use Rattle.split_model.proofs.Overwriting.{ring_lines_are}
 use Rattle.report_laws.proofs.Given.{ShowSectors, shows_sectors}
 use Rattle.report_laws.proofs.Noted.{AreNoted, AreShort, none_noted, step_shows, noted_after}
@@ -130,14 +129,15 @@ record IsWell (config : Options) (before : List Line) (w : World) : Type 0 where
   follows : FollowsTo before w
   words : AreWords w.under.pages
   few : FewMaps w.under.grants.made w.back
+  unkeyed : IsUnkeyed w.under
 
 record ShowsGood (ls : List Line) (w : World) : Type 0 where
   good_lines : AreGood ls
   words : AreWords w.under.pages
   few : FewMaps w.under.grants.made w.back
 
-move_good : (shown : Move) (pages : List ℕ) → ActFits shown pages → IsGood (lines.Move shown)
-move_good shown pages fits = record { in_range = fits.line; bare = ap (λ (m : Move). lines.Move m) fits.bare }
+move_good : (shown : Move) (pages : List ℕ) → ActFits shown pages → IsInRange (lines.Move shown)
+move_good shown pages fits = fits.line
 
 -- what a happening shows of requests is fit
 went_fit : {asked : Option Job} {call : (before after : List (List ℕ)) → Type 0} {said : List Line} {v : World} (config : Options) (w : World) (g : Flow) (d : Pipeline) → Stands config w g d → AreNoted d.requests → ShowSectors said → HasGone asked call config said v d → AreFit said
@@ -158,7 +158,7 @@ front_good : (config : Options) (before : List Line) (w : World) (act : Option F
 front_good config before w None plain is within e shows gone = record { good_lines = tt; words = is.words; few = is.few }
 front_good config before w (Some a) plain is within e shows gone =
     let v : front.View = front_step.step_of w.front a.answer in
-    let fits : ActFits a.shown a.under.pages = front_act_fits w.under (front_ask.ask_of w.front) a is.words within (front_asks config w is.flow is.pipeline plain is.stands) e in
+    let fits : ActFits a.shown a.under.pages = front_act_fits w.under (front_ask.ask_of w.front) a is.words within (front_asks config w is.flow is.pipeline plain is.stands) (no_front_watch w.under is.unkeyed) e in
     let tells = front_tells w.front.stage w.front a.answer is.stands.safe.front_told refl in
     record {
       good_lines = (
@@ -180,7 +180,7 @@ back_good config before w None is within e shows gone = record { good_lines = tt
 back_good config before w (Some a) is within e shows gone =
     let b : back.View = back_step.step_of w.back a.answer in
     let fits : ActFits a.shown a.under.pages = back_act_fits w.under back_mover.Back (back_ask.ask_of w.back) Took a (hands_of w.back) is.words is.follows.tells.grantable is.stands.safe.held
-    (few_made config w is.flow is.pipeline is.stands is.few) (record { widths = tt; allowed = refl }) within (back_asks config w is.flow is.pipeline is.stands) e in
+    (few_made config w is.flow is.pipeline is.stands is.few) (record { widths = tt; allowed = refl }) within (back_asks config w is.flow is.pipeline is.stands) (no_back_watch w.under is.unkeyed) e in
     let none : back_lines b.told a.answer ++ halt_lines w.back.halted b.halted ≡ back_lines b.told a.answer =
     ap (λ (ls : List Line). back_lines b.told a.answer ++ ls) (unhalted w.back.halted b.halted is.stands.holds.unhalted gone.stands.holds.unhalted) ∙ append-nil (back_lines b.told a.answer) in
     record {
@@ -201,7 +201,7 @@ job_good config before w number o (Some a) is within e shows gone = by_asks (job
     by_asks (inl none) = absurd (none-some a (sym none ∙ e))
     by_asks (inr asks) =
         let fits : ActFits a.shown a.under.pages = back_act_fits w.under (back_mover.Job number) (back_step.job_ask_of w.back number) o a (hands_of w.back) is.words is.follows.tells.grantable is.stands.safe.held
-        (few_made config w is.flow is.pipeline is.stands is.few) asks.mover within asks.fits e in
+        (few_made config w is.flow is.pipeline is.stands is.few) asks.mover within asks.fits (no_back_watch w.under is.unkeyed) e in
         record {
           good_lines = (move_good a.shown a.under.pages fits, back_lines_good b.told a.answer (went_fit config w is.flow is.pipeline is.stands is.noted shows gone).1);
           words = fits.words;
@@ -210,11 +210,11 @@ job_good config before w number o (Some a) is within e shows gone = by_asks (job
 
 -- a submission
 submit_good : (job : Job) (r : Result ℕ Refusal) → AreFit (submit_line job r ∷ []) → AreGood (submit_line job r ∷ [])
-submit_good job (Err r) fit = (good (lines.Refuse (refusal_word r)) tt refl refl, tt)
+submit_good job (Err r) fit = (good (lines.Refuse (refusal_word r)) tt refl, tt)
 submit_good job (Ok number) fit = fit
 
-look_good : (quiet : Bool) (other : Line) → IsGood other → AreGood ((if quiet then lines.Quiet else other) ∷ [])
-look_good true other h = (good lines.Quiet tt refl refl, tt)
+look_good : (quiet : Bool) (other : Line) → IsInRange other → AreGood ((if quiet then lines.Quiet else other) ∷ [])
+look_good true other h = (good lines.Quiet tt refl, tt)
 look_good false other h = (h, tt)
 
 one_good : (config : Options) (before : List Line) (w : World) (h : Happening) → IsPlain config → (is : IsWell config before w) → IsServed w h → IsPermitted w h → ShowSectors (lines_at w h) → HasGone (submitted_at h) (CallAt w h) config (lines_at w h) (happens w h) is.pipeline → ShowsGood (lines_at w h) (happens w h)
@@ -225,12 +225,12 @@ one_good config before w (Submission job) plain is may within shows gone = recor
 one_good config before w (Notifies at) plain is may within shows gone = record { good_lines = tt; words = is.words; few = is.few }
 one_good config before w (Pokes frame word value) plain is may within shows gone = absurd may
 one_good config before w Dumps plain is may within shows gone = record {
-  good_lines = ring_lines_are IsGood w.under.pages 0 1024 (omega arith) (λ word below. good (lines.Word 2 word (word_of w.under.pages 2 word)) (omega arith, omega arith, word_fits w.under.pages 2 word is.words) refl refl);
+  good_lines = ring_lines_are IsInRange w.under.pages 0 1024 (omega arith) (λ word below. good (lines.Word 2 word (word_of w.under.pages 2 word)) (omega arith, omega arith, word_fits w.under.pages 2 word is.words) refl);
   words = is.words;
   few = is.few;
 }
-one_good config before w Looks plain is may within shows gone = record { good_lines = look_good (is_quiet w) lines.Busy (good lines.Busy tt refl refl); words = is.words; few = is.few }
-one_good config before w Settles plain is may within shows gone = record { good_lines = look_good (is_quiet w) lines.Unsettled (good lines.Unsettled tt refl refl); words = is.words; few = is.few }
+one_good config before w Looks plain is may within shows gone = record { good_lines = look_good (is_quiet w) lines.Busy (good lines.Busy tt refl); words = is.words; few = is.few }
+one_good config before w Settles plain is may within shows gone = record { good_lines = look_good (is_quiet w) lines.Unsettled (good lines.Unsettled tt refl); words = is.words; few = is.few }
 
 all_good : (config : Options) (hs : List Happening) (before : List Line) (w : World) → IsPlain config → IsWell config before w → AreServed hs w → ArePermitted hs w → AreGood (lines_of hs w)
 all_good config [] before w plain is may within = tt
@@ -246,6 +246,7 @@ all_good config (h ∷ hs) before w plain is may within =
       follows = follows_happens w h before is.stands.safe within.0 is.follows;
       words = shows.words;
       few = shows.few;
+      unkeyed = unkeyed_happens w h is.unkeyed;
     } in
     both_good (lines_at w h) (lines_of hs (happens w h)) shows.good_lines (all_good config hs (before ++ lines_at w h) (happens w h) plain next may.1 within.1)
 
@@ -258,11 +259,12 @@ start_well config detail plain = record {
   follows = follows_begin config detail;
   words = fresh_words 1114112;
   few = omega arith;
+  unkeyed = refl;
 }
 
 -- a recorder keeps them so
-one_kept : (detail : Detail) (line : Line) → IsGood line → AreGood (recorded detail line)
-one_kept detail (lines.Begin config other) h = (good (lines.Begin config detail) h.in_range.widths refl refl, tt)
+one_kept : (detail : Detail) (line : Line) → IsInRange line → AreGood (recorded detail line)
+one_kept detail (lines.Begin config other) h = (good (lines.Begin config detail) h.widths refl, tt)
 one_kept Lines (lines.Move move) h = tt
 one_kept Moves (lines.Move move) h = (h, tt)
 one_kept detail line h = (h, tt)
@@ -271,20 +273,12 @@ good_kept : (detail : Detail) (ls : List Line) → AreGood ls → AreGood (kept_
 good_kept detail [] all = tt
 good_kept detail (line ∷ ls) all = both_good (recorded detail line) (kept_of detail ls) (one_kept detail line all.0) (good_kept detail ls all.1)
 
-good_ranges : (ls : List Line) → AreGood ls → AllByRecursion IsInRange ls
-good_ranges [] all = tt
-good_ranges (line ∷ ls) all = (all.0.in_range, good_ranges ls all.1)
-
-good_bare : (ls : List Line) → AreGood ls → map plain ls ≡ ls
-good_bare [] all = refl
-good_bare (line ∷ ls) all = let here = all.0.bare in let rest = good_bare ls all.1 in cc
-
 good_grammar : (ls : List Line) → AreGood ls → IsInGrammar ls
-good_grammar ls all = given_back ls (All-from_recursion IsInRange ls (good_ranges ls all)) (good_bare ls all)
+good_grammar ls all = given_back ls (All-from_recursion IsInRange ls all)
 
 report_good : (config : Options) (detail : Detail) (history : List Happening) → AreOptions config → IsPlain config → AreServed history (start_of config) → AreGood (report_of config detail history)
 report_good config detail history options plain may =
-    (good (lines.Begin config detail) options refl refl, all_good config history (lines.Begin config detail ∷ []) (start_of config) plain (start_well config detail plain) may (always_within config history))
+    (good (lines.Begin config detail) options refl, all_good config history (lines.Begin config detail ∷ []) (start_of config) plain (start_well config detail plain) may (always_within config history))
 
 pub report_grammar : (config : Options) (detail : Detail) (history : List Happening) → IsPlain config → AreServed history (start_of config) → AreOptions config → IsInGrammar (kept_of detail (report_of config detail history))
 report_grammar config detail history plain may options = good_grammar (kept_of detail (report_of config detail history)) (good_kept detail (report_of config detail history) (report_good config detail history options plain may))
@@ -292,4 +286,4 @@ report_grammar config detail history plain may options = good_grammar (kept_of d
 pub ended_grammar : (config : Options) (detail : Detail) (history : List Happening) → IsPlain config → AreServed history (start_of config) → AreOptions config → IsInGrammar (kept_of detail (ended_report_of config detail history))
 ended_grammar config detail history plain may options =
     good_grammar (kept_of detail (ended_report_of config detail history))
-    (good_kept detail (ended_report_of config detail history) (both_good (report_of config detail history) (lines.End ∷ []) (report_good config detail history options plain may) (good lines.End tt refl refl, tt)))
+    (good_kept detail (ended_report_of config detail history) (both_good (report_of config detail history) (lines.End ∷ []) (report_good config detail history options plain may) (good lines.End tt refl, tt)))

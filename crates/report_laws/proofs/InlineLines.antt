@@ -75,7 +75,7 @@ inline_halt : (halt : Halt) → HaltHasWidths halt → is_halt_allowed halt ≡ 
 inline_halt (halts.Overrun p r) h e = rw (small p h.0, small r h.1) refl
 inline_halt (halts.Gone s) h e = rw (small s h) refl
 inline_halt (halts.Unplugged s) h e = rw (small s h) refl
-inline_halt (halts.BadKey name) h e = rw (inline_name name.bytes e) refl
+inline_halt (halts.BadKey name) h e = rw (inline_name name e) refl
 inline_halt (halts.BadOrder s) h e = rw (small s h) refl
 inline_halt (halts.BadPort p) h e = rw (small p h) refl
 inline_halt (halts.MapRefused g s) h e = rw (small g h.0, inline_signed s h.1) refl
@@ -110,22 +110,22 @@ inline_move (moves.Send who) h e = inline_mover who _ h refl
 inline_move (moves.ClosePort who) h e = inline_mover who _ h refl
 inline_move (moves.Event who) h e = inline_mover who _ h refl
 inline_move (moves.Watch who path) h e =
-    let t = both_true (is_mover_allowed who) (is_key_path path.bytes) e in
-    inline_mover who _ h (rw (inline_path path.bytes t.1) refl)
+    let t = both_true (is_mover_allowed who) (is_key_path path) e in
+    inline_mover who _ h (rw (inline_path path t.1) refl)
 inline_move (moves.Watched who path) h e =
-    let t = both_true (is_mover_allowed who) (is_key_path path.bytes) e in
-    inline_mover who _ h (rw (inline_path path.bytes t.1) refl)
+    let t = both_true (is_mover_allowed who) (is_key_path path) e in
+    inline_mover who _ h (rw (inline_path path t.1) refl)
 inline_move (moves.GetKey who path None) h e =
-    let t = both_true (is_mover_allowed who) (is_key_path path.bytes) e in
-    inline_mover who _ h (rw (inline_path path.bytes t.1) refl)
+    let t = both_true (is_mover_allowed who) (is_key_path path) e in
+    inline_mover who _ h (rw (inline_path path t.1) refl)
 inline_move (moves.GetKey who path (Some text)) h e =
-    let t = both_true (is_mover_allowed who && is_key_path path.bytes) (is_key_text text.bytes) e in
-    let u = both_true (is_mover_allowed who) (is_key_path path.bytes) t.0 in
-    inline_mover who _ h (rw (inline_path path.bytes u.1, inline_text text.bytes t.1) refl)
+    let t = both_true (is_mover_allowed who && is_key_path path) (is_key_text text) e in
+    let u = both_true (is_mover_allowed who) (is_key_path path) t.0 in
+    inline_mover who _ h (rw (inline_path path u.1, inline_text text t.1) refl)
 inline_move (moves.SetKey who path text) h e =
-    let t = both_true (is_mover_allowed who && is_key_path path.bytes) (is_key_text text.bytes) e in
-    let u = both_true (is_mover_allowed who) (is_key_path path.bytes) t.0 in
-    inline_mover who _ h (rw (inline_path path.bytes u.1, inline_text text.bytes t.1) refl)
+    let t = both_true (is_mover_allowed who && is_key_path path) (is_key_text text) e in
+    let u = both_true (is_mover_allowed who) (is_key_path path) t.0 in
+    inline_mover who _ h (rw (inline_path path u.1, inline_text text t.1) refl)
 
 inline_line : (line : Line) → IsInRange line → AreInline (words_of line)
 inline_line (lines.Begin config detail) h = rw (inline_abi config.abi, small config.order (omega (arith, h.widths.0)), small config.persistent (omega (arith, h.widths.1)), small config.indirect (omega (arith, h.widths.2)), small config.start h.widths.3, inline_access config.read_only, inline_decimal config.sectors h.widths.4, inline_detail detail) refl
@@ -147,8 +147,8 @@ inline_line lines.Epoch h = refl
 inline_line (lines.Halt halt) h = inline_halt halt h.widths h.allowed
 inline_line (lines.Poke f w v) h = rw (small f h.widths.0, small w h.widths.1, small v h.widths.2) refl
 inline_line (lines.Key name text) h =
-    let t = both_true (is_key_name name.bytes) (is_key_text text.bytes) h.allowed in
-    rw (inline_name name.bytes t.0, inline_text text.bytes t.1) refl
+    let t = both_true (is_key_name name) (is_key_text text) h.allowed in
+    rw (inline_name name t.0, inline_text text t.1) refl
 inline_line lines.Quiet h = refl
 inline_line lines.Busy h = refl
 inline_line lines.Unsettled h = refl

@@ -3,7 +3,6 @@ use Rattle.std.proofs.Common.{◌≡◌, ℕ, ◌+◌, ◌-◌, ◌^◌, ◌<◌
 use Rattle.std.specs.Prelude.{Option, Some, None, Result, Ok, Err, slice_get, slice_set}
 use Rattle.std.proofs.lemmas.Option.{none-some}
 use Rattle.blk_base.specs.Options.{Options}
-use Rattle.blk_base.specs.declared.parts.End.TheVariants as end
 use Rattle.blk_base.specs.declared.parts.Mapping.{Mapping}
 use Rattle.blk_base.specs.declared.parts.Mode.{Mode}
 use Rattle.blk_base.specs.declared.parts.Mode.TheVariants.{ReadWrite}
@@ -14,15 +13,15 @@ use Rattle.blk_base.specs.declared.ask.BackAnswer.TheVariants as answer
 use Rattle.blk_base.specs.declared.moves.BackMover.{BackMover}
 use Rattle.blk_base.specs.declared.moves.BackMover.TheVariants.{Back, Job}
 use Rattle.grant_table.specs.declared.entry.MapRefusal.{MapRefusal}
-use Rattle.grant_table.specs.Table.{verdict_at}
+use Rattle.grant_table.specs.Table.{GrantTable, verdict_at}
 use Rattle.event_channel.specs.declared.channels.PortState.{PortState}
 use Rattle.event_channel.specs.declared.channels.PortState.TheVariants as port
-use Rattle.event_channel.specs.Channels.{state_of, is_pending}
+use Rattle.event_channel.specs.Channels.{state_of}
 use Rattle.ring_words.specs.Ring.{requests_of}
 use Rattle.blk_layout.specs.declared.segment.Segment.{Segment}
 use Rattle.pipeline_laws.specs.Pipeline.{Pipeline}
 use Rattle.hypervisor.specs.Hypervisor.{Hypervisor}
-use Rattle.hypervisor.specs.Act.{BackAct, Outcome, Took, back_act, map_act, bind_act, wait_act}
+use Rattle.hypervisor.specs.Act.{BackAct, Outcome, Took, back_act, map_act, bind_act}
 use Rattle.back_jobs.specs.declared.stage.Stage.{Stage as JobStage}
 use Rattle.back_jobs.specs.declared.stage.Stage.TheVariants as job
 use Rattle.back_jobs.specs.Task as task
@@ -36,7 +35,7 @@ use Rattle.blk_back.specs.Ask.{ask_at, loop_ask, next_reply}
 use Rattle.blk_back.specs.Step.{step_at, step_of, job_ask_of, job_step}
 use Rattle.split_model.specs.World.{World}
 use Rattle.split_model.specs.Happening.{back_turn, job_turn}
-use Rattle.split_model.proofs.SafeActs.{of_back, back_test, of_read, of_disk}
+use Rattle.split_model.proofs.SafeActs.{of_back, of_read, of_disk, back_keys, back_wait, back_key_grants}
 use Rattle.machine_pipeline.proofs.Flow.{Flow}
 use Rattle.machine_pipeline.proofs.Holds.{Stands, IsWork}
 use Rattle.machine_pipeline.proofs.Lists.{all_at, found_at, sum_set}
@@ -56,12 +55,8 @@ bind_unmade h p port.Unbound = refl
 bind_unmade h p port.Closed = refl
 bind_unmade h p port.Bound = refl
 
-wait_unmade : (h : Hypervisor) (who : BackMover) (a : BackAct) → wait_act h who ≡ Some a → MakesNone h a
-wait_unmade h Back a e = back_test (MakesNone h) (is_pending h.channels end.Back) _ a refl e
-wait_unmade h (Job k) a e = absurd (none-some a e)
-
 unmade : (h : Hypervisor) (who : BackMover) (x : BackAsk) (o : Outcome) (a : BackAct) → is_map x ≡ false → back_act h who x o ≡ Some a → MakesNone h a
-unmade h who ask.Wait o a free e = wait_unmade h who a e
+unmade h who ask.Wait o a free e = back_wait (MakesNone h) h who a refl (λ path. refl) e
 unmade h who ask.Fence o a free e = of_back (MakesNone h) _ a refl e
 unmade h who (ask.Read m word) o a free e = of_back (MakesNone h) _ a refl e
 unmade h who (ask.Write m word value) o a free e = of_back (MakesNone h) _ a refl e
@@ -70,9 +65,9 @@ unmade h who (ask.Unmap m) o a free e = of_back (MakesNone h) _ a refl e
 unmade h who (ask.Bind p) o a free e = of_back (MakesNone h) _ a (bind_unmade h p (state_of h.channels p)) e
 unmade h who ask.Send o a free e = of_back (MakesNone h) _ a refl e
 unmade h who ask.ClosePort o a free e = of_back (MakesNone h) _ a refl e
-unmade h who (ask.GetKey path) o a free e = absurd (none-some a e)
-unmade h who (ask.SetKey path text) o a free e = absurd (none-some a e)
-unmade h who (ask.Watch path) o a free e = absurd (none-some a e)
+unmade h who (ask.GetKey path) o a free e = back_keys (MakesNone h) h who (ask.GetKey path) o a tt (λ x is. ap (λ (t : GrantTable). t.made) (back_key_grants h x is)) e
+unmade h who (ask.SetKey path text) o a free e = back_keys (MakesNone h) h who (ask.SetKey path text) o a tt (λ x is. ap (λ (t : GrantTable). t.made) (back_key_grants h x is)) e
+unmade h who (ask.Watch path) o a free e = back_keys (MakesNone h) h who (ask.Watch path) o a tt (λ x is. ap (λ (t : GrantTable). t.made) (back_key_grants h x is)) e
 unmade h who (ask.DiskRead sector) o a free e = of_read (MakesNone h) h _ o a (λ x same. ap (λ (u : Hypervisor). u.grants.made) same) e
 unmade h who (ask.DiskWrite sector words) o a free e = of_disk (MakesNone h) h _ o a (λ x same. ap (λ (u : Hypervisor). u.grants.made) same) e
 unmade h who ask.Flush o a free e = of_disk (MakesNone h) h _ o a (λ x same. ap (λ (u : Hypervisor). u.grants.made) same) e

@@ -1,17 +1,14 @@
 -- The text of lines of the grammar gives back exactly these lines.
-use Rattle.std.proofs.Common.{◌≡◌, ℕ, true, List, [], ◌∷◌, ◌++◌, map, refl, ap, sym, ◌∙◌, append_assoc, true≢false}
+use Rattle.std.proofs.Common.{◌≡◌, ℕ, true, List, [], ◌∷◌, ◌++◌, refl, ap, sym, ◌∙◌, append_assoc, true≢false}
 use Rattle.std.specs.Prelude.{nat_lt}
 use Rattle.std.specs.List.{AllByRecursion}
 use Rattle.std.proofs.lemmas.List.Elements.{All-from_recursion, recursion_from_All}
 use Rattle.line_text.proofs.Both.{both_true}
-use Rattle.line_text.specs.Words.{words_in}
 use Rattle.schedule_text.specs.declared.line.Line.{Line}
 use Rattle.schedule_text.specs.Line.{text_of}
-use Rattle.schedule_text.specs.Plain.{plain}
 use Rattle.schedule_text.specs.Range.{IsInRange}
-use Rattle.schedule_text.specs.Reading.{line_at}
 use Rattle.schedule_text.specs.Recorder.{report_text}
-use Rattle.schedule_text.proofs.Spelling.{says_line}
+use Rattle.schedule_text.proofs.Spelling.{one_line}
 use Rattle.report_laws.specs.Grammar.{AreInGrammar, IsInGrammar}
 use Rattle.report_laws.proofs.Inline.{is_inline}
 use Rattle.report_laws.proofs.InlineLines.{inline_of}
@@ -43,33 +40,22 @@ some_bytes (c ∷ a) x e = absurd cc
 cut : (line : Line) (report : List Line) → report_text (line ∷ report) ≡ text_of line ++ 10 ∷ report_text report
 cut line report = append_assoc (text_of line) (10 ∷ []) (report_text report)
 
-one_line : (a b : Line) → IsInRange a → IsInRange b → text_of a ≡ text_of b → plain a ≡ plain b
-one_line a b h k e = sym (says_line a h) ∙ (ap (λ (text : List ℕ). line_at (words_in text)) e ∙ says_line b k)
-
-same_lines : (a b : List Line) → AllByRecursion IsInRange a → AllByRecursion IsInRange b → report_text a ≡ report_text b → map plain a ≡ map plain b
+same_lines : (a b : List Line) → AllByRecursion IsInRange a → AllByRecursion IsInRange b → report_text a ≡ report_text b → a ≡ b
 same_lines [] [] h k e = refl
 same_lines [] (b ∷ bs) h k e = absurd (some_bytes (text_of b) (report_text bs) (sym (cut b bs) ∙ sym e))
 same_lines (a ∷ more) [] h k e = absurd (some_bytes (text_of a) (report_text more) (sym (cut a more) ∙ e))
 same_lines (a ∷ rest) (b ∷ bs) h k e =
     let both = split (text_of a) (text_of b) (report_text rest) (report_text bs) (inline_of a h.0) (inline_of b k.0) (sym (cut a rest) ∙ (e ∙ cut b bs)) in
-    let heads : plain a ≡ plain b = one_line a b h.0 k.0 both.first in
-    let tails : map plain rest ≡ map plain bs = same_lines rest bs h.1 k.1 both.rest in
+    let heads : a ≡ b = one_line a b (text_of b) (record { in_range = h.0; text = both.first }) (record { in_range = k.0; text = refl }) in
+    let tails : rest ≡ bs = same_lines rest bs h.1 k.1 both.rest in
     cc
 
-pub same_text : (report other : List Line) → AreInGrammar report → AreInGrammar other → report_text other ≡ report_text report → map plain other ≡ map plain report
+pub same_text : (report other : List Line) → AreInGrammar report → AreInGrammar other → report_text other ≡ report_text report → other ≡ report
 same_text report other all others e = same_lines other report (recursion_from_All IsInRange other others) (recursion_from_All IsInRange report all) e
 
--- lines with nothing unused behind their texts
-pub given_back : (report : List Line) → AreInGrammar report → map plain report ≡ report → IsInGrammar report
-given_back report all bare = record { lines = all; exact = λ other others e. same_text report other all others e ∙ bare }
-
-bare_first : (a b : List Line) → map plain (a ++ b) ≡ a ++ b → map plain a ≡ a
-bare_first [] b e = refl
-bare_first (line ∷ a) b e =
-    let heads : plain line ≡ line = cc in
-    let tails : map plain (a ++ b) ≡ a ++ b = cc in
-    let rest = bare_first a b tails in
-    cc
+-- the text of lines of the grammar gives them back
+pub given_back : (report : List Line) → AreInGrammar report → IsInGrammar report
+given_back report all = record { lines = all; exact = λ other others e. same_text report other all others e }
 
 first_lines : (a b : List Line) → AllByRecursion IsInRange (a ++ b) → AllByRecursion IsInRange a
 first_lines [] b all = tt
@@ -79,4 +65,3 @@ first_lines (line ∷ a) b all = (all.0, first_lines a b all.1)
 pub grammar_before : (report more : List Line) → IsInGrammar (report ++ more) → IsInGrammar report
 grammar_before report more h =
     given_back report (All-from_recursion IsInRange report (first_lines report more (recursion_from_All IsInRange (report ++ more) h.lines)))
-    (bare_first report more (h.exact (report ++ more) h.lines refl))

@@ -8,7 +8,6 @@ use Rattle.blk_base.specs.declared.ask.BackAnswer.{BackAnswer}
 use Rattle.blk_base.specs.declared.ask.BackAnswer.TheVariants as answers
 use Rattle.schedule_text.specs.declared.line.Line.{Line}
 use Rattle.schedule_text.specs.declared.line.Line.TheVariants as lines
-use Rattle.schedule_text.specs.Plain.{plain}
 use Rattle.schedule_text.specs.Range.{IsInRange, HasWidths, is_allowed, JobHasWidths}
 use Rattle.plain_disk.specs.Request.{places_of}
 use Rattle.blk_front.specs.declared.told.Told.{Told}
@@ -24,16 +23,12 @@ use Rattle.machine_pipeline.specs.Step.{Does, IsAllowedStep, shown_of}
 use Rattle.report_laws.proofs.Given.{ShowSectors}
 use Rattle.report_laws.proofs.Noted.{AreNoted, AreShort, TellsWord, step_shows}
 
--- a line of the grammar, with nothing unused behind its texts
-pub record IsGood (line : Line) : Type 0 where
-  pub in_range : IsInRange line
-  pub bare : plain line ≡ line
-
+-- lines of the grammar
 abbrev pub AreGood : List Line → Type 0
-AreGood ls = AllByRecursion IsGood ls
+AreGood ls = AllByRecursion IsInRange ls
 
-pub good : (line : Line) → HasWidths line → is_allowed line ≡ true → plain line ≡ line → IsGood line
-good line widths allowed bare = record { in_range = record { widths = widths; allowed = allowed }; bare = bare }
+pub good : (line : Line) → HasWidths line → is_allowed line ≡ true → IsInRange line
+good line widths allowed = record { widths = widths; allowed = allowed }
 
 pub both_good : (a b : List Line) → AreGood a → AreGood b → AreGood (a ++ b)
 both_good [] b p q = q
@@ -47,13 +42,13 @@ pub record AreFew (asked : List Asked) : Type 0 where
 
 -- of the lines that tell of a request, each is a line of the grammar
 abbrev pub IsFit : Line → Type 0
-IsFit (lines.Submit id job) = IsGood (lines.Submit id job)
-IsFit (lines.Effect id index) = IsGood (lines.Effect id index)
-IsFit (lines.EffectRead id index words) = IsGood (lines.EffectRead id index words)
-IsFit (lines.Fault id index) = IsGood (lines.Fault id index)
-IsFit (lines.Reply id status) = IsGood (lines.Reply id status)
-IsFit (lines.Answer id status) = IsGood (lines.Answer id status)
-IsFit (lines.Data id index words) = IsGood (lines.Data id index words)
+IsFit (lines.Submit id job) = IsInRange (lines.Submit id job)
+IsFit (lines.Effect id index) = IsInRange (lines.Effect id index)
+IsFit (lines.EffectRead id index words) = IsInRange (lines.EffectRead id index words)
+IsFit (lines.Fault id index) = IsInRange (lines.Fault id index)
+IsFit (lines.Reply id status) = IsInRange (lines.Reply id status)
+IsFit (lines.Answer id status) = IsInRange (lines.Answer id status)
+IsFit (lines.Data id index words) = IsInRange (lines.Data id index words)
 IsFit line = Unit {0}
 
 abbrev pub AreFit : List Line → Type 0
@@ -80,21 +75,21 @@ move_fit d k x move all shows at may = by_move move shows at may
     short = all.short k x at.here
 
     by_move : (move : Move) → ShowSectors (move_lines k move) → IsAt d k x (station_before x.job move) → May d k x move → AreFit (move_lines k move)
-    by_move (Fills index) shows here may = (good (lines.Effect (k + 1) index) (small, omega (arith, may.1, short)) refl refl, tt)
-    by_move (Reads index words) shows here may = (good (lines.EffectRead (k + 1) index words) (small, omega (arith, may.1, short), shows.0) refl refl, tt)
+    by_move (Fills index) shows here may = (good (lines.Effect (k + 1) index) (small, omega (arith, may.1, short)) refl, tt)
+    by_move (Reads index words) shows here may = (good (lines.EffectRead (k + 1) index words) (small, omega (arith, may.1, short), shows.0) refl, tt)
     by_move Flushes shows here may = (tt, tt)
     by_move Trims shows here may = (tt, tt)
-    by_move (Fails index) shows here may = (good (lines.Fault (k + 1) index) (small, omega (arith, may.0, short)) refl refl, tt)
-    by_move (Replies status) shows here may = (good (lines.Reply (k + 1) status) small refl refl, tt)
-    by_move (Answers status) shows here may = (good (lines.Answer (k + 1) status) small refl refl, tt)
+    by_move (Fails index) shows here may = (good (lines.Fault (k + 1) index) (small, omega (arith, may.0, short)) refl, tt)
+    by_move (Replies status) shows here may = (good (lines.Reply (k + 1) status) small refl, tt)
+    by_move (Answers status) shows here may = (good (lines.Answer (k + 1) status) small refl, tt)
     by_move (Tells index words) shows here may =
         let its = all.noted k x here.here in
         let few : index < 2 ^ 32 = subst TellsWord here.there its.told in
-        (good (lines.Data (k + 1) index words) (small, few, its.words index words may) refl refl, tt)
+        (good (lines.Data (k + 1) index words) (small, few, its.words index words may) refl, tt)
     by_move move shows here may = tt
 
 step_fit : (d : Pipeline) (s : Step) → AreFew d.requests → ShowSectors (step_lines d s) → ((job : Job) → s ≡ Submits job → JobHasWidths job) → IsAllowed d s → AreFit (step_lines d s)
-step_fit d (Submits job) all shows asked may = (good (lines.Submit (length d.requests + 1) job) (let few = all.few in omega arith, asked job refl) refl refl, tt)
+step_fit d (Submits job) all shows asked may = (good (lines.Submit (length d.requests + 1) job) (let few = all.few in omega arith, asked job refl) refl, tt)
 step_fit d (Refuses job refusal) all shows asked may = (tt, tt)
 step_fit d (Moves k x move) all shows asked may = move_fit d k x move all shows may.0 may.1
 step_fit d Connects all shows asked may = (tt, tt)
@@ -123,7 +118,7 @@ shown_fit asked call said d step all shows widths does = subst AreFit (sym does.
 
 pub front_lines_good : (t : Option Told) → ((word : ℕ) → t ≡ Some (front_told.Broken word) → ⊥) → AreFit (front_lines t) → AreGood (front_lines t)
 front_lines_good None whole fit = tt
-front_lines_good (Some front_told.Ready) whole fit = (good lines.Ready tt refl refl, tt)
+front_lines_good (Some front_told.Ready) whole fit = (good lines.Ready tt refl, tt)
 front_lines_good (Some (front_told.Answer id status)) whole fit = fit
 front_lines_good (Some (front_told.Sector id index words)) whole fit = fit
 front_lines_good (Some (front_told.Broken word)) whole fit = absurd (whole word refl)

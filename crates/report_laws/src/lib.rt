@@ -7,7 +7,7 @@
 //! gives 128 words of 32 bits. What obeys a rule obeys it up to each of its lines.
 #![tactic(auto)]
 
-ghost use Rattle.std.specs.Prelude.{◌≡◌, ℕ, ◌≤◌, ◌^◌, List, [], ◌∷◌, ◌++◌, map, Contains};
+ghost use Rattle.std.specs.Prelude.{◌≡◌, ℕ, ◌≤◌, ◌^◌, List, [], ◌∷◌, ◌++◌, Contains};
 ghost use Rattle.blk_base.specs.Options.{Options};
 ghost use Rattle.blk_base.specs.declared.operation.Status.{Status};
 ghost use Rattle.blk_base.specs.declared.moves.Move.{Move};
@@ -15,7 +15,6 @@ ghost use Rattle.schedule_text.specs.declared.line.Detail.{Detail};
 ghost use Rattle.schedule_text.specs.declared.line.Detail.TheVariants.{Lines, Moves};
 ghost use Rattle.schedule_text.specs.declared.line.Line.{Line};
 ghost use Rattle.schedule_text.specs.declared.line.Line.TheVariants.{Quiet, Answer};
-ghost use Rattle.schedule_text.specs.Plain.{plain};
 ghost use Rattle.schedule_text.specs.Range.{AreOptions};
 ghost use Rattle.schedule_text.specs.Recorder.{report_text};
 ghost use Rattle.split_model.specs.Happening.{Happening, lines_at};
@@ -63,11 +62,9 @@ pub fn every_report_is_in_the_grammar()
     ensures before { (first more : List Line) → IsInGrammar (first ++ more) → IsInGrammar first }
 {}
 
-/// Two lists of lines of the grammar that have one text are the same, but for what lies unused
-/// behind a line's texts.
+/// Two lists of lines of the grammar that have one text are the same.
 pub fn one_text_has_one_reading()
-    ensures { (one other : List Line) → AreInGrammar one → AreInGrammar other → report_text one ≡ report_text other
-        → map plain one ≡ map plain other }
+    ensures { (one other : List Line) → AreInGrammar one → AreInGrammar other → report_text one ≡ report_text other → one ≡ other }
 {}
 
 /// The rules refuse a second `begin`, a move where none is shown, `quiet` before `ready`, `quiet`

@@ -2,7 +2,6 @@
 use Rattle.std.specs.Prelude.{ℕ, ◌-◌, Bool, false, not, ◌&&◌, ◌==◌, nat_lt, nat_le, if◌then◌else◌, List, fold, codes, take, length, slice_index, Option, Some, None}
 use Rattle.std.specs.List.{list_all}
 use Rattle.std.specs.Str.{bytes_eq}
-use Rattle.arrayvec.specs.ArrayString.{ArrayString}
 use Rattle.blk_base.specs.Options.{Options}
 use Rattle.blk_base.specs.declared.moves.Mover.TheVariants as mover
 use Rattle.blk_base.specs.declared.moves.Move.TheVariants as moves
@@ -35,10 +34,10 @@ is_offer digits = not (list_all (λ (d : ℕ). d == 48) digits)
 -- the back set a key of a feature (`io/blkif.h`: feature-barrier, feature-flush-cache, feature-discard, feature-max-indirect-segments)
 abbrev pub serving_after : Serving → Line → Serving
 serving_after s (lines.Move (moves.SetKey mover.Back path text)) =
-    if bytes_eq path.bytes (codes "/local/domain/0/backend/vbd/1/51712/feature-barrier") then serving (is_offer text.bytes) s.flush s.discard s.indirect
-    else (if bytes_eq path.bytes (codes "/local/domain/0/backend/vbd/1/51712/feature-flush-cache") then serving s.barrier (is_offer text.bytes) s.discard s.indirect
-    else (if bytes_eq path.bytes (codes "/local/domain/0/backend/vbd/1/51712/feature-discard") then serving s.barrier s.flush (is_offer text.bytes) s.indirect
-    else (if bytes_eq path.bytes (codes "/local/domain/0/backend/vbd/1/51712/feature-max-indirect-segments") then serving s.barrier s.flush s.discard (is_offer text.bytes)
+    if bytes_eq path (codes "/local/domain/0/backend/vbd/1/51712/feature-barrier") then serving (is_offer text) s.flush s.discard s.indirect
+    else (if bytes_eq path (codes "/local/domain/0/backend/vbd/1/51712/feature-flush-cache") then serving s.barrier (is_offer text) s.discard s.indirect
+    else (if bytes_eq path (codes "/local/domain/0/backend/vbd/1/51712/feature-discard") then serving s.barrier s.flush (is_offer text) s.indirect
+    else (if bytes_eq path (codes "/local/domain/0/backend/vbd/1/51712/feature-max-indirect-segments") then serving s.barrier s.flush s.discard (is_offer text)
     else s)))
 serving_after s line = s
 
@@ -60,14 +59,14 @@ kept_by offered asked = record { offered = offered; asked = asked }
 abbrev pub is_one : List ℕ → Bool
 is_one digits = nat_lt 0 (length digits) && nat_le (length digits) 10 && list_all (λ (d : ℕ). d == 48) (take (length digits - 1) digits) && (slice_index digits (length digits - 1) == 49)
 
-abbrev pub says_one : Option ArrayString → Bool
+abbrev pub says_one : Option (List ℕ) → Bool
 says_one None = false
-says_one (Some text) = is_one text.bytes
+says_one (Some text) = is_one text
 
 -- the back set its key `feature-persistent`, and read the front's (`io/blkif.h`)
 abbrev pub keeping_after : Keeping → Line → Keeping
-keeping_after s (lines.Move (moves.SetKey mover.Back path text)) = if bytes_eq path.bytes (codes "/local/domain/0/backend/vbd/1/51712/feature-persistent") then kept_by (is_one text.bytes) s.asked else s
-keeping_after s (lines.Move (moves.GetKey mover.Back path text)) = if bytes_eq path.bytes (codes "/local/domain/1/device/vbd/51712/feature-persistent") then kept_by s.offered (says_one text) else s
+keeping_after s (lines.Move (moves.SetKey mover.Back path text)) = if bytes_eq path (codes "/local/domain/0/backend/vbd/1/51712/feature-persistent") then kept_by (is_one text) s.asked else s
+keeping_after s (lines.Move (moves.GetKey mover.Back path text)) = if bytes_eq path (codes "/local/domain/1/device/vbd/51712/feature-persistent") then kept_by s.offered (says_one text) else s
 keeping_after s line = s
 
 abbrev pub is_kept : Keeping → Bool

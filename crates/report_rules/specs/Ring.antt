@@ -2,7 +2,6 @@
 use Rattle.std.specs.Prelude.{ℕ, ◌+◌, ◌*◌, Bool, ◌&&◌, ◌==◌, if◌then◌else◌, List, [], ◌∷◌, length, fold, slice_get, codes, Option, Some, None, is_some, unwrap_or}
 use Rattle.std.specs.List.{filter_map}
 use Rattle.std.specs.Str.{bytes_eq}
-use Rattle.arrayvec.specs.ArrayString.{ArrayString}
 use Rattle.ring_words.specs.Shape.{Shape}
 use Rattle.blk_base.specs.declared.operation.Abi.{Abi}
 use Rattle.blk_base.specs.declared.operation.Abi.TheVariants.{X64, X32}
@@ -89,15 +88,15 @@ word_in (Some page) word = Some (1024 * page + word)
 abbrev pub ring_word : List Line → ℕ → ℕ → Option ℕ
 ring_word before number word = word_in (page_from 0 number (ring_pages before)) word
 
-abbrev pub is_protocol : ArrayString → Bool
-is_protocol path = bytes_eq path.bytes (codes "/local/domain/1/device/vbd/51712/protocol")
+abbrev pub is_protocol : List ℕ → Bool
+is_protocol path = bytes_eq path (codes "/local/domain/1/device/vbd/51712/protocol")
 
 -- the layout that the front's key `protocol` names (`io/blkif.h`, XEN_IO_PROTO_ABI_*): x86_64 where there is no such key
-abbrev pub abi_named : Option ArrayString → Option Abi
+abbrev pub abi_named : Option (List ℕ) → Option Abi
 abi_named None = Some X64
 abi_named (Some text) =
-    if bytes_eq text.bytes (codes "x86_64-abi") then Some X64
-    else (if bytes_eq text.bytes (codes "x86_32-abi") then Some X32
+    if bytes_eq text (codes "x86_64-abi") then Some X64
+    else (if bytes_eq text (codes "x86_32-abi") then Some X32
     else None)
 
 abbrev pub abi_after : Option Abi → Line → Option Abi

@@ -70,7 +70,7 @@ pub fn serving_after(s: Serving, line: &Line) -> Serving
 fn serving_by(s: Serving, path: &Path, text: &Text) -> Serving
     ensures { result ≡ serving_after s (lines.Move (moves.SetKey mover.Back path.now text.now)) }
 {
-    let offer = is_offer(text.as_bytes());
+    let offer = is_offer(text.as_str().as_bytes());
     let key = path.as_str();
     if key == "/local/domain/0/backend/vbd/1/51712/feature-barrier" {
         Serving {
@@ -117,7 +117,7 @@ fn says_one(text: &Option<Text>) -> bool
 {
     match text {
         None => false,
-        Some(text) => is_one(text.as_bytes()),
+        Some(text) => is_one(text.as_str().as_bytes()),
     }
 }
 
@@ -129,7 +129,7 @@ pub fn keeping_after(s: Keeping, line: &Line) -> Keeping
         Line::Move(Move::SetKey(Mover::Back, path, text))
             if path.as_str() == "/local/domain/0/backend/vbd/1/51712/feature-persistent" => {
             Keeping {
-                offered: is_one(text.as_bytes()),
+                offered: is_one(text.as_str().as_bytes()),
                 asked: s.asked,
             }
         }

@@ -37,8 +37,8 @@ use Rattle.blk_back.specs.View.{View}
 use Rattle.blk_back.specs.Ask.{next_reply}
 use Rattle.blk_back.specs.Step.{at, overrun, looked, loop_step, fetched, fetch_step, next_number, replied, step_at}
 use Rattle.split_model.specs.Shown.{front_lines, back_lines, halt_lines}
-use Rattle.split_model.proofs.SafeActs.{of_front, of_back, front_test, back_test}
-use Rattle.split_model.proofs.SafeAnswers.{IsBacks}
+use Rattle.split_model.proofs.SafeActs.{of_front, of_back, front_wait, back_wait}
+use Rattle.split_model.proofs.SafeAnswers.{IsBacks, AsksNoKey}
 use Rattle.ring_laws.proofs.Shows.{Sight}
 use Rattle.ring_laws.proofs.Knows.{Serves, KnowsAt}
 use Rattle.ring_laws.proofs.Bystanders.{IsBystander, AreBystanders}
@@ -134,7 +134,7 @@ bind_by h p port.Closed = record { plain = refl; unstepped = refl }
 bind_by h p port.Bound = record { plain = refl; unstepped = refl }
 
 pub back_by : (h : Hypervisor) (a' : BackAsk) (o : Outcome) (a : BackAct) → IsBacks a' → back_act h back.Back a' o ≡ Some a → BackBy a
-back_by h ask.Wait o a own e = back_test BackBy (is_pending h.channels end.Back) _ a (record { plain = refl; unstepped = refl }) e
+back_by h ask.Wait o a own e = back_wait BackBy h back.Back a (record { plain = refl; unstepped = refl }) (λ path. record { plain = refl; unstepped = refl }) e
 back_by h ask.Fence o a own e = of_back BackBy _ a (record { plain = refl; unstepped = refl }) e
 back_by h (ask.Read m word) o a own e = of_back BackBy _ a (record { plain = refl; unstepped = refl }) e
 back_by h (ask.Write m word value) o a own e = of_back BackBy _ a (record { plain = refl; unstepped = refl }) e
@@ -165,18 +165,18 @@ told_by (Some (told.Fault id index)) a old new is = absurd is
 abbrev FrontBy : FrontAct → Type 0
 FrontBy a = IsBystander (lines.Move a.shown)
 
-pub front_by : (h : Hypervisor) (a' : FrontAsk) (a : FrontAct) → front_act h a' ≡ Some a → FrontBy a
-front_by h front_ask.Wait a e = front_test FrontBy (is_pending h.channels end.Front) _ a (record { plain = refl; unstepped = refl }) e
-front_by h front_ask.Fence a e = of_front FrontBy _ a (record { plain = refl; unstepped = refl }) e
-front_by h (front_ask.Read frame word) a e = of_front FrontBy _ a (record { plain = refl; unstepped = refl }) e
-front_by h (front_ask.Write frame word value) a e = of_front FrontBy _ a (record { plain = refl; unstepped = refl }) e
-front_by h (front_ask.Cas frame word old new) a e = of_front FrontBy _ a (record { plain = refl; unstepped = refl }) e
-front_by h front_ask.NewPort a e = of_front FrontBy _ a (record { plain = refl; unstepped = refl }) e
-front_by h front_ask.Send a e = of_front FrontBy _ a (record { plain = refl; unstepped = refl }) e
-front_by h front_ask.ClosePort a e = of_front FrontBy _ a (record { plain = refl; unstepped = refl }) e
-front_by h (front_ask.GetKey path) a e = absurd (none-some a e)
-front_by h (front_ask.SetKey path text) a e = absurd (none-some a e)
-front_by h (front_ask.Watch path) a e = absurd (none-some a e)
+pub front_by : (h : Hypervisor) (a' : FrontAsk) (a : FrontAct) → AsksNoKey a' → front_act h a' ≡ Some a → FrontBy a
+front_by h front_ask.Wait a own e = front_wait FrontBy h a (record { plain = refl; unstepped = refl }) (λ path. record { plain = refl; unstepped = refl }) e
+front_by h front_ask.Fence a own e = of_front FrontBy _ a (record { plain = refl; unstepped = refl }) e
+front_by h (front_ask.Read frame word) a own e = of_front FrontBy _ a (record { plain = refl; unstepped = refl }) e
+front_by h (front_ask.Write frame word value) a own e = of_front FrontBy _ a (record { plain = refl; unstepped = refl }) e
+front_by h (front_ask.Cas frame word old new) a own e = of_front FrontBy _ a (record { plain = refl; unstepped = refl }) e
+front_by h front_ask.NewPort a own e = of_front FrontBy _ a (record { plain = refl; unstepped = refl }) e
+front_by h front_ask.Send a own e = of_front FrontBy _ a (record { plain = refl; unstepped = refl }) e
+front_by h front_ask.ClosePort a own e = of_front FrontBy _ a (record { plain = refl; unstepped = refl }) e
+front_by h (front_ask.GetKey path) a own e = absurd own
+front_by h (front_ask.SetKey path text) a own e = absurd own
+front_by h (front_ask.Watch path) a own e = absurd own
 
 pub front_told_by : (t : Option Told) → AreBystanders (front_lines t)
 front_told_by None = tt

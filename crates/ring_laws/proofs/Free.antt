@@ -33,8 +33,8 @@ use Rattle.blk_back.specs.declared.told.BackTold.TheVariants as back_told
 use Rattle.blk_back.specs.View.{View}
 use Rattle.split_model.specs.Shown.{front_lines, back_lines, effect_line}
 use Rattle.split_model.specs.Happening.{submit_line}
-use Rattle.split_model.proofs.SafeActs.{of_front, of_back, front_test}
-use Rattle.split_model.proofs.SafeAnswers.{IsJobs}
+use Rattle.split_model.proofs.SafeActs.{of_front, of_back, front_wait}
+use Rattle.split_model.proofs.SafeAnswers.{IsJobs, AsksNoKey}
 use Rattle.ring_laws.proofs.Sight.{is_other, other_epoch, other_touch, untouched_produced, untouched_word}
 use Rattle.ring_laws.proofs.Shows.{shows_other}
 use Rattle.ring_laws.proofs.ObeysRing.{is_overrun, ring_more, shows_none, foreign_stretch}
@@ -78,18 +78,18 @@ busy over line running o f p = record { other = o; foreign = f; idle = λ e. abs
 abbrev FrontFree : Bool → FrontAct → Type 0
 FrontFree over a = IsFree over (lines.Move a.shown)
 
-pub front_free : (over : Bool) (h : Hypervisor) (ask : FrontAsk) (a : FrontAct) → front_act h ask ≡ Some a → FrontFree over a
-front_free over h front_ask.Wait a e = front_test (FrontFree over) (is_pending h.channels end.Front) _ a (free over _ refl refl refl refl) e
-front_free over h front_ask.Fence a e = of_front (FrontFree over) _ a (free over _ refl refl refl refl) e
-front_free over h (front_ask.Read frame word) a e = of_front (FrontFree over) _ a (free over _ refl refl refl refl) e
-front_free over h (front_ask.Write frame word value) a e = of_front (FrontFree over) _ a (free over _ refl refl refl refl) e
-front_free over h (front_ask.Cas frame word old new) a e = of_front (FrontFree over) _ a (free over _ refl refl refl refl) e
-front_free over h front_ask.NewPort a e = of_front (FrontFree over) _ a (free over _ refl refl refl refl) e
-front_free over h front_ask.Send a e = of_front (FrontFree over) _ a (free over _ refl refl refl refl) e
-front_free over h front_ask.ClosePort a e = of_front (FrontFree over) _ a (free over _ refl refl refl refl) e
-front_free over h (front_ask.GetKey path) a e = absurd (none-some a e)
-front_free over h (front_ask.SetKey path text) a e = absurd (none-some a e)
-front_free over h (front_ask.Watch path) a e = absurd (none-some a e)
+pub front_free : (over : Bool) (h : Hypervisor) (ask : FrontAsk) (a : FrontAct) → AsksNoKey ask → front_act h ask ≡ Some a → FrontFree over a
+front_free over h front_ask.Wait a own e = front_wait (FrontFree over) h a (free over _ refl refl refl refl) (λ path. free over _ refl refl refl refl) e
+front_free over h front_ask.Fence a own e = of_front (FrontFree over) _ a (free over _ refl refl refl refl) e
+front_free over h (front_ask.Read frame word) a own e = of_front (FrontFree over) _ a (free over _ refl refl refl refl) e
+front_free over h (front_ask.Write frame word value) a own e = of_front (FrontFree over) _ a (free over _ refl refl refl refl) e
+front_free over h (front_ask.Cas frame word old new) a own e = of_front (FrontFree over) _ a (free over _ refl refl refl refl) e
+front_free over h front_ask.NewPort a own e = of_front (FrontFree over) _ a (free over _ refl refl refl refl) e
+front_free over h front_ask.Send a own e = of_front (FrontFree over) _ a (free over _ refl refl refl refl) e
+front_free over h front_ask.ClosePort a own e = of_front (FrontFree over) _ a (free over _ refl refl refl refl) e
+front_free over h (front_ask.GetKey path) a own e = absurd own
+front_free over h (front_ask.SetKey path text) a own e = absurd own
+front_free over h (front_ask.Watch path) a own e = absurd own
 
 abbrev JobFree : Bool → BackAct → Type 0
 JobFree over a = IsFree over (lines.Move a.shown)

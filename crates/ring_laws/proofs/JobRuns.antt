@@ -31,7 +31,7 @@ use Rattle.split_model.specs.Happening.{Happening, FrontMoves, BackMoves, JobMov
 use Rattle.split_model.specs.Safe.{IsSafe}
 use Rattle.split_model.proofs.Safe.{safe_start, safe_happens}
 use Rattle.split_model.specs.Shown.{back_lines, halt_lines}
-use Rattle.split_model.proofs.SafeAnswers.{backs_of, jobs_of}
+use Rattle.split_model.proofs.SafeAnswers.{backs_of, jobs_of, fronts_no_key}
 use Rattle.split_model.specs.Report.{report_of, ended_report_of}
 use Rattle.move_laws.specs.Permitted.{IsPermitted}
 use Rattle.move_laws.proofs.Always.{always_within}
@@ -76,7 +76,7 @@ front_tells : (config : Options) (w : World) (before : List Line) (act : Option 
 front_tells config w before None f t e = no_lines config before w.back t
 front_tells config w before (Some a) f t e =
     let g : front.View = front_step.step_of w.front a.answer in
-    aside config config.start before (front_shows w (Some a)) w.back f.follows (front_free (is_some w.back.halted) w.under (front_ask.ask_of w.front) a e, free_front (is_some w.back.halted) g.told) (front_by w.under (front_ask.ask_of w.front) a e, front_told_by g.told) t
+    aside config config.start before (front_shows w (Some a)) w.back f.follows (front_free (is_some w.back.halted) w.under (front_ask.ask_of w.front) a (fronts_no_key w.front) e, free_front (is_some w.back.halted) g.told) (front_by w.under (front_ask.ask_of w.front) a (fronts_no_key w.front) e, front_told_by g.told) t
 
 front_after_tells : (config : Options) (w : World) (before : List Line) (act : Option FrontAct) → Tells config before w.back → (let n : World = front_after w act in Tells config before n.back)
 front_after_tells config w before None t = t
@@ -146,7 +146,7 @@ front_fetches config w before None e are = no_fetch config before are
 front_fetches config w before (Some a) e are =
     let g : front.View = front_step.step_of w.front a.answer in
     let over : Bool = is_some w.back.halted in
-    others_fetched config before (front_shows w (Some a)) (others_of over (front_shows w (Some a)) (front_free over w.under (front_ask.ask_of w.front) a e, free_front over g.told)) are
+    others_fetched config before (front_shows w (Some a)) (others_of over (front_shows w (Some a)) (front_free over w.under (front_ask.ask_of w.front) a (fronts_no_key w.front) e, free_front over g.told)) are
 
 back_fetches : (config : Options) (w : World) (before : List Line) (act : Option BackAct) → back_turn w Took ≡ act → Stand config before w → AreFetched config (before ++ back_shows w act)
 back_fetches config w before None e s = no_fetch config before s.fetched

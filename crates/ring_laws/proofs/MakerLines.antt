@@ -13,6 +13,9 @@ use Rattle.blk_base.specs.declared.ask.BackAsk.TheVariants as ask
 use Rattle.blk_base.specs.declared.ask.BackAnswer.{BackAnswer}
 use Rattle.blk_base.specs.declared.ask.BackAnswer.TheVariants as answers
 use Rattle.blk_base.specs.declared.moves.BackMover.TheVariants as back
+use Rattle.blk_base.specs.declared.moves.Mover.{Mover}
+use Rattle.blk_base.specs.declared.moves.Mover.TheVariants as mover
+use Rattle.blk_base.specs.declared.moves.Move.{Move}
 use Rattle.blk_base.specs.declared.moves.Move.TheVariants as moves
 use Rattle.grant_table.specs.declared.entry.MapRefusal.{MapRefusal}
 use Rattle.grant_table.specs.Table.{verdict_at}
@@ -39,7 +42,7 @@ use Rattle.blk_back.specs.View.{View, slot_word}
 use Rattle.blk_back.specs.Ask.{ask_at, loop_ask, next_reply}
 use Rattle.split_model.specs.Happening.{submit_line}
 use Rattle.split_model.specs.Shown.{front_lines, back_lines, halt_lines, effect_line}
-use Rattle.split_model.proofs.SafeActs.{of_front, of_back, front_test, back_test}
+use Rattle.split_model.proofs.SafeActs.{of_front, of_back, IsKeyMove, front_keys, back_keys, front_wait, back_wait}
 use Rattle.split_model.proofs.SafeAnswers.{IsBacks}
 use Rattle.move_laws.proofs.Still.{IsStill, IsPlain, ArePlain, plain_front, plain_back, plain_halt, plain_submit, plain_quiet, plain_busy, plain_unsettled}
 use Rattle.ring_laws.proofs.Shows.{Sight}
@@ -131,8 +134,15 @@ settle_calm false = calm lines.Unsettled plain_unsettled (λ before. record { un
 abbrev FrontCalm : FrontAct → Type 0
 FrontCalm a = IsCalm (lines.Move a.shown)
 
+key_calm : (who : Mover) (shown : Move) → IsKeyMove who shown → IsCalm (lines.Move shown)
+key_calm who (moves.Watch m path) is = record { quiet = record { same_epoch = refl; none_gone = λ n. refl; none_made = λ k. refl }; free = λ before. record { unmap = tt; touch = tt } }
+key_calm who (moves.Watched m path) is = record { quiet = record { same_epoch = refl; none_gone = λ n. refl; none_made = λ k. refl }; free = λ before. record { unmap = tt; touch = tt } }
+key_calm who (moves.GetKey m path text) is = record { quiet = record { same_epoch = refl; none_gone = λ n. refl; none_made = λ k. refl }; free = λ before. record { unmap = tt; touch = tt } }
+key_calm who (moves.SetKey m path text) is = record { quiet = record { same_epoch = refl; none_gone = λ n. refl; none_made = λ k. refl }; free = λ before. record { unmap = tt; touch = tt } }
+key_calm who shown is = absurd is
+
 front_calm : (h : Hypervisor) (a' : FrontAsk) (a : FrontAct) → front_act h a' ≡ Some a → FrontCalm a
-front_calm h front_ask.Wait a e = front_test FrontCalm (is_pending h.channels end.Front) _ a (record { quiet = record { same_epoch = refl; none_gone = λ n. refl; none_made = λ k. refl }; free = λ before. record { unmap = tt; touch = tt } }) e
+front_calm h front_ask.Wait a e = front_wait FrontCalm h a (record { quiet = record { same_epoch = refl; none_gone = λ n. refl; none_made = λ k. refl }; free = λ before. record { unmap = tt; touch = tt } }) (λ path. record { quiet = record { same_epoch = refl; none_gone = λ n. refl; none_made = λ k. refl }; free = λ before. record { unmap = tt; touch = tt } }) e
 front_calm h front_ask.Fence a e = of_front FrontCalm _ a (record { quiet = record { same_epoch = refl; none_gone = λ n. refl; none_made = λ k. refl }; free = λ before. record { unmap = tt; touch = tt } }) e
 front_calm h (front_ask.Read frame word) a e = of_front FrontCalm _ a (record { quiet = record { same_epoch = refl; none_gone = λ n. refl; none_made = λ k. refl }; free = λ before. record { unmap = tt; touch = tt } }) e
 front_calm h (front_ask.Write frame word value) a e = of_front FrontCalm _ a (record { quiet = record { same_epoch = refl; none_gone = λ n. refl; none_made = λ k. refl }; free = λ before. record { unmap = tt; touch = tt } }) e
@@ -140,9 +150,9 @@ front_calm h (front_ask.Cas frame word old new) a e = of_front FrontCalm _ a (re
 front_calm h front_ask.NewPort a e = of_front FrontCalm _ a (record { quiet = record { same_epoch = refl; none_gone = λ n. refl; none_made = λ k. refl }; free = λ before. record { unmap = tt; touch = tt } }) e
 front_calm h front_ask.Send a e = of_front FrontCalm _ a (record { quiet = record { same_epoch = refl; none_gone = λ n. refl; none_made = λ k. refl }; free = λ before. record { unmap = tt; touch = tt } }) e
 front_calm h front_ask.ClosePort a e = of_front FrontCalm _ a (record { quiet = record { same_epoch = refl; none_gone = λ n. refl; none_made = λ k. refl }; free = λ before. record { unmap = tt; touch = tt } }) e
-front_calm h (front_ask.GetKey path) a e = absurd (none-some a e)
-front_calm h (front_ask.SetKey path text) a e = absurd (none-some a e)
-front_calm h (front_ask.Watch path) a e = absurd (none-some a e)
+front_calm h (front_ask.GetKey path) a e = front_keys FrontCalm h (front_ask.GetKey path) a tt (λ x is. key_calm mover.Front x.shown is.shown) e
+front_calm h (front_ask.SetKey path text) a e = front_keys FrontCalm h (front_ask.SetKey path text) a tt (λ x is. key_calm mover.Front x.shown is.shown) e
+front_calm h (front_ask.Watch path) a e = front_keys FrontCalm h (front_ask.Watch path) a tt (λ x is. key_calm mover.Front x.shown is.shown) e
 
 pub front_lines_calm : (h : Hypervisor) (a' : FrontAsk) (a : FrontAct) (t : Option Told) → front_act h a' ≡ Some a → AreCalm (lines.Move a.shown ∷ front_lines t)
 front_lines_calm h a' a t e = (front_calm h a' a e, all_calm (front_lines t) (plain_front t) (front_open t))
@@ -169,7 +179,7 @@ bind_does h p port.Closed = does _ _ (record { quiet = record { same_epoch = ref
 bind_does h p port.Bound = does _ _ (record { quiet = record { same_epoch = refl; none_gone = λ n. refl; none_made = λ k. refl }; free = λ before. record { unmap = tt; touch = tt } })
 
 pub back_does : (h : Hypervisor) (a' : BackAsk) (o : Outcome) (a : BackAct) → IsBacks a' → back_act h back.Back a' o ≡ Some a → Does a' a
-back_does h ask.Wait o a own e = back_test (Does ask.Wait) (is_pending h.channels end.Back) _ a (does _ _ (record { quiet = record { same_epoch = refl; none_gone = λ n. refl; none_made = λ k. refl }; free = λ before. record { unmap = tt; touch = tt } })) e
+back_does h ask.Wait o a own e = back_wait (Does ask.Wait) h back.Back a (does _ _ (record { quiet = record { same_epoch = refl; none_gone = λ n. refl; none_made = λ k. refl }; free = λ before. record { unmap = tt; touch = tt } })) (λ path. does _ _ (record { quiet = record { same_epoch = refl; none_gone = λ n. refl; none_made = λ k. refl }; free = λ before. record { unmap = tt; touch = tt } })) e
 back_does h ask.Fence o a own e = of_back (Does ask.Fence) _ a (does _ _ (record { quiet = record { same_epoch = refl; none_gone = λ n. refl; none_made = λ k. refl }; free = λ before. record { unmap = tt; touch = tt } })) e
 back_does h (ask.Read m word) o a own e = of_back (Does (ask.Read m word)) _ a (does _ _ (record { quiet = record { same_epoch = refl; none_gone = λ n. refl; none_made = λ k. refl }; free = λ before. record { unmap = tt; touch = tt } })) e
 back_does h (ask.Write m word value) o a own e = of_back (Does (ask.Write m word value)) _ a (does _ _ (record { quiet = record { same_epoch = refl; none_gone = λ n. refl; none_made = λ k. refl }; free = λ before. record { unmap = tt; touch = tt } })) e
@@ -178,9 +188,9 @@ back_does h (ask.Unmap m) o a own e = of_back (Does (ask.Unmap m)) _ a (record {
 back_does h (ask.Bind p) o a own e = of_back (Does (ask.Bind p)) _ a (bind_does h p (state_of h.channels p)) e
 back_does h ask.Send o a own e = of_back (Does ask.Send) _ a (does _ _ (record { quiet = record { same_epoch = refl; none_gone = λ n. refl; none_made = λ k. refl }; free = λ before. record { unmap = tt; touch = tt } })) e
 back_does h ask.ClosePort o a own e = of_back (Does ask.ClosePort) _ a (does _ _ (record { quiet = record { same_epoch = refl; none_gone = λ n. refl; none_made = λ k. refl }; free = λ before. record { unmap = tt; touch = tt } })) e
-back_does h (ask.GetKey path) o a own e = absurd own
-back_does h (ask.SetKey path text) o a own e = absurd own
-back_does h (ask.Watch path) o a own e = absurd own
+back_does h (ask.GetKey path) o a own e = back_keys (Does (ask.GetKey path)) h back.Back (ask.GetKey path) o a tt (λ x is. does _ _ (key_calm mover.Back x.shown is.shown)) e
+back_does h (ask.SetKey path text) o a own e = back_keys (Does (ask.SetKey path text)) h back.Back (ask.SetKey path text) o a tt (λ x is. does _ _ (key_calm mover.Back x.shown is.shown)) e
+back_does h (ask.Watch path) o a own e = back_keys (Does (ask.Watch path)) h back.Back (ask.Watch path) o a tt (λ x is. does _ _ (key_calm mover.Back x.shown is.shown)) e
 back_does h (ask.DiskRead sector) o a own e = absurd own
 back_does h (ask.DiskWrite sector words) o a own e = absurd own
 back_does h ask.Flush o a own e = absurd own

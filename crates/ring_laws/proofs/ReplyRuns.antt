@@ -31,7 +31,7 @@ use Rattle.split_model.specs.Happening.{Happening, FrontMoves, BackMoves, JobMov
 use Rattle.split_model.specs.Report.{report_of, ended_report_of}
 use Rattle.move_laws.specs.Permitted.{IsPermitted}
 use Rattle.move_laws.proofs.Always.{always_within}
-use Rattle.split_model.proofs.SafeAnswers.{backs_of, jobs_of}
+use Rattle.split_model.proofs.SafeAnswers.{backs_of, jobs_of, fronts_no_key}
 use Rattle.back_jobs.specs.Jobs.{mapping_at}
 use Rattle.ring_laws.proofs.Shows.{Sight}
 use Rattle.ring_laws.proofs.Knows.{KnowsAt, Knows, Follows}
@@ -107,8 +107,8 @@ front_replies : (config : Options) (w : World) (before : List Line) (act : Optio
 front_replies config w before None s e r = no_lines config before w.back r
 front_replies config w before (Some a) s e r =
     let g : front.View = front_step.step_of w.front a.answer in
-    others_free config w before (front_shows w (Some a)) (front_else w.under (front_ask.ask_of w.front) a g.told e) (front_by w.under (front_ask.ask_of w.front) a e, front_told_by g.told)
-    (front_free (is_some w.back.halted) w.under (front_ask.ask_of w.front) a e, free_front (is_some w.back.halted) g.told) s r
+    others_free config w before (front_shows w (Some a)) (front_else w.under (front_ask.ask_of w.front) a g.told (fronts_no_key w.front) e) (front_by w.under (front_ask.ask_of w.front) a (fronts_no_key w.front) e, front_told_by g.told)
+    (front_free (is_some w.back.halted) w.under (front_ask.ask_of w.front) a (fronts_no_key w.front) e, free_front (is_some w.back.halted) g.told) s r
 
 front_after_replies : (config : Options) (w : World) (before : List Line) (act : Option FrontAct) → Replies config before w.back → (let n : World = front_after w act in Replies config before n.back)
 front_after_replies config w before None r = r

@@ -16,7 +16,7 @@ use Rattle.blk_back.specs.View as back
 use Rattle.blk_back.specs.Step as back_step
 use Rattle.split_model.specs.World.{World, start_of, is_quiet}
 use Rattle.split_model.specs.Happening.{Happening, FrontMoves, BackMoves, JobMoves, Submits, Notifies, Pokes, Dumps, Looks, Settles, poke_lines, ring_lines, happens, lines_at, after, lines_of, front_after, front_shows, back_after, back_shows, job_after, job_shows, front_turn, back_turn, job_turn}
-use Rattle.split_model.proofs.SafeAnswers.{jobs_of}
+use Rattle.split_model.proofs.SafeAnswers.{jobs_of, fronts_no_key}
 use Rattle.split_model.specs.Report.{report_of, ended_report_of}
 use Rattle.ring_laws.proofs.ObeysRing.{ring_none, ring_more, foreign_stretch}
 use Rattle.ring_laws.proofs.Knows.{Follows}
@@ -39,7 +39,7 @@ no_lines start before w f = subst (λ (ls : List Line). FollowsTo start ls w) (s
 front_follows : (start : ℕ) (w : World) (before : List Line) (act : Option FrontAct) → FollowsTo start before w → front_turn w ≡ act → FollowsTo start (before ++ front_shows w act) (front_after w act)
 front_follows start w before None f e = no_lines start before w f
 front_follows start w before (Some a) f e = record {
-  follows = follow_all start [] _ before w.back (front_free (is_some w.back.halted) w.under (front_ask.ask_of w.front) a e, free_front (is_some w.back.halted) _) f.follows;
+  follows = follow_all start [] _ before w.back (front_free (is_some w.back.halted) w.under (front_ask.ask_of w.front) a (fronts_no_key w.front) e, free_front (is_some w.back.halted) _) f.follows;
   told = f.told;
 }
 

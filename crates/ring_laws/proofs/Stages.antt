@@ -24,7 +24,7 @@ use Rattle.blk_back.specs.declared.stage.Stage.TheVariants as stage
 use Rattle.blk_back.specs.View.{View, slot_word}
 use Rattle.blk_back.specs.Ask.{ask_at, loop_ask, next_reply, response_word}
 use Rattle.blk_back.specs.Step.{at, give_up, replied, loop_step}
-use Rattle.split_model.proofs.SafeActs.{of_back, back_test}
+use Rattle.split_model.proofs.SafeActs.{of_back, back_wait}
 use Rattle.ring_laws.proofs.Shows.{Sight, Shows, shows_other}
 use Rattle.ring_laws.proofs.Touches.{shows_replied}
 use Rattle.ring_laws.proofs.ObeysRing.{ObeysRing, ring_more, shows_none, foreign_stretch, word_inside}
@@ -39,7 +39,7 @@ Loops start values before r v a = BackGoes start values before v (loop_step v r 
 
 idle_goes : (before : List Line) (h : Hypervisor) (v : View) (o : Outcome) (a : BackAct) (x : Sight) (asleep none : Bool) → (requests_of v.ring v.seen == 0) ≡ none → Serves 0 x v.ring v.page v.seen v.halted v.entry v.fetched → Knows x v → Shows before x → ObeysRing before x.start (is_some v.halted) → v.told ≡ None
     → back_act h back.Back (if asleep then ask.Wait else (if none then ask.Read v.page 0 else ask.Read v.page (slot_word v.ring.cons 0))) o ≡ Some a → Loops x.start x.values before None v a
-idle_goes before h v o a x true none t s kept shows stands told e = back_test (Loops x.start x.values before None v) (is_pending h.channels end.Back) _ a (serve_other before v _ _ (moves.Event mover.Back) x s shows stands refl told refl kept) e
+idle_goes before h v o a x true none t s kept shows stands told e = back_wait (Loops x.start x.values before None v) h back.Back a (serve_other before v _ _ (moves.Event mover.Back) x s shows stands refl told refl kept) (λ path. serve_other before v _ _ (moves.Watched mover.Back path) x s shows stands refl told refl kept) e
 idle_goes before h v o a x false true t s kept shows stands told e = of_back (Loops x.start x.values before None v) _ a (look_goes before v (frame_of h.grants v.page) _ _ x t s shows stands told) e
 idle_goes before h v o a x false false t s kept shows stands told e = of_back (Loops x.start x.values before None v) _ a (word_goes before v (frame_of h.grants v.page) _ _ x t s shows stands told) e
 
@@ -95,4 +95,4 @@ back_goes before h (stage.GiveUp m) v o a x k kept shows stands told e = of_back
 back_goes before h stage.UnmapRing v o a x k kept shows stands told e = of_back (Goes x.start x.values before stage.UnmapRing v) _ a (over_other before v _ _ (moves.Unmap back.Back v.page.number) x k shows stands refl refl told refl k) e
 back_goes before h stage.ClosePort v o a x k kept shows stands told e = of_back (Goes x.start x.values before stage.ClosePort v) _ a (over_other before v _ _ (moves.ClosePort mover.Back) x k shows stands refl refl told refl k) e
 back_goes before h stage.UnmapUnbound v o a x k kept shows stands told e = of_back (Goes x.start x.values before stage.UnmapUnbound v) _ a (over_other before v _ _ (moves.Unmap back.Back v.page.number) x k shows stands refl refl told refl k) e
-back_goes before h stage.Halted v o a x k kept shows stands told e = back_test (Goes x.start x.values before stage.Halted v) (is_pending h.channels end.Back) _ a (over_other before v v _ (moves.Event mover.Back) x k shows stands refl refl told refl kept) e
+back_goes before h stage.Halted v o a x k kept shows stands told e = back_wait (Goes x.start x.values before stage.Halted v) h back.Back a (over_other before v v _ (moves.Event mover.Back) x k shows stands refl refl told refl kept) (λ path. over_other before v v _ (moves.Watched mover.Back path) x k shows stands refl refl told refl kept) e

@@ -33,7 +33,7 @@ use Rattle.blk_back.specs.View.{View, slot_word}
 use Rattle.blk_back.specs.Ask.{ask_at, ask_of, loop_ask, next_reply, response_word}
 use Rattle.blk_back.specs.Step.{at, giving_up, give_up, overrun, looked, loop_word, loop_step, fetched, fetch_step, replied, step_at, step_of}
 use Rattle.split_model.specs.Shown.{back_lines, halt_lines, halt_line}
-use Rattle.split_model.proofs.SafeActs.{of_back, back_test}
+use Rattle.split_model.proofs.SafeActs.{of_back, back_wait}
 use Rattle.ring_laws.proofs.Sight.{is_other}
 use Rattle.ring_laws.proofs.Shows.{Sight, Shows, IsOnPages}
 use Rattle.ring_laws.proofs.Touches.{IsPage, read_on, write_on}
@@ -146,9 +146,13 @@ fetch_writes before answered n v answer frame place word w told =
 wait_writes : (before : List Line) (answered : List Answered) (s : Stage) (old new : View) (answer : BackAnswer) → Writes before s answered → under_way s ≡ [] → new.told ≡ None → under_way new.stage ≡ under_way s → MoveWrites before answered s old answer (moves.Event mover.Back) new
 wait_writes before answered s old new answer w none told same = quiet before answered s old answer (moves.Event mover.Back) new w none (own_passes (lines.Move (moves.Event mover.Back)) refl refl) told (same ∙ none)
 
+-- and so where it takes a watch
+watch_writes : (before : List Line) (answered : List Answered) (s : Stage) (old new : View) (answer : BackAnswer) (path : List ℕ) → Writes before s answered → under_way s ≡ [] → new.told ≡ None → under_way new.stage ≡ under_way s → MoveWrites before answered s old answer (moves.Watched mover.Back path) new
+watch_writes before answered s old new answer path w none told same = quiet before answered s old answer (moves.Watched mover.Back path) new w none (own_passes (lines.Move (moves.Watched mover.Back path)) refl refl) told (same ∙ none)
+
 idle_writes : (before : List Line) (h : Hypervisor) (v : View) (o : Outcome) (a : BackAct) (answered : List Answered) (asleep none : Bool) → under_way v.stage ≡ [] → v.told ≡ None → Writes before stage.Loop answered
     → back_act h back.Back (if asleep then ask.Wait else (if none then ask.Read v.page 0 else ask.Read v.page (slot_word v.ring.cons 0))) o ≡ Some a → Loops before answered None v a
-idle_writes before h v o a answered true none same told w e = back_test (Loops before answered None v) (is_pending h.channels end.Back) _ a (wait_writes before answered stage.Loop v (record v { asleep = false }) answers.Event w refl told same) e
+idle_writes before h v o a answered true none same told w e = back_wait (Loops before answered None v) h back.Back a (wait_writes before answered stage.Loop v (record v { asleep = false }) answers.Event w refl told same) (λ path. watch_writes before answered stage.Loop v (record v { asleep = false }) (answers.Watched path) path w refl told same) e
 idle_writes before h v o a answered false true same told w e = of_back (Loops before answered None v) _ a (loop_word_writes before answered v _ (frame_of h.grants v.page) 0 _ w told) e
 idle_writes before h v o a answered false false same told w e = of_back (Loops before answered None v) _ a (loop_word_writes before answered v _ (frame_of h.grants v.page) (slot_word v.ring.cons 0) _ w told) e
 
@@ -222,7 +226,7 @@ writes_at before h (stage.GiveUp m) v o a x answered k n shows same told w job s
 writes_at before h stage.UnmapRing v o a x answered k n shows same told w job small e = of_back (BackWrites before stage.UnmapRing answered k v) _ a (quiet before answered stage.UnmapRing v _ (moves.Unmap back.Back v.page.number) _ w refl (own_passes (lines.Move (moves.Unmap back.Back v.page.number)) refl refl) told refl) e
 writes_at before h stage.ClosePort v o a x answered k n shows same told w job small e = of_back (BackWrites before stage.ClosePort answered k v) _ a (quiet before answered stage.ClosePort v _ (moves.ClosePort mover.Back) _ w refl (own_passes (lines.Move (moves.ClosePort mover.Back)) refl refl) told refl) e
 writes_at before h stage.UnmapUnbound v o a x answered k n shows same told w job small e = of_back (BackWrites before stage.UnmapUnbound answered k v) _ a (quiet before answered stage.UnmapUnbound v _ (moves.Unmap back.Back v.page.number) _ w refl (own_passes (lines.Move (moves.Unmap back.Back v.page.number)) refl refl) told refl) e
-writes_at before h stage.Halted v o a x answered k n shows same told w job small e = back_test (BackWrites before stage.Halted answered k v) (is_pending h.channels end.Back) _ a (wait_writes before answered stage.Halted v v _ w refl told same) e
+writes_at before h stage.Halted v o a x answered k n shows same told w job small e = back_wait (BackWrites before stage.Halted answered k v) h back.Back a (wait_writes before answered stage.Halted v v _ w refl told same) (λ path. watch_writes before answered stage.Halted v v _ path w refl told same) e
 
 -- a move of the back, where a job is due the response that it writes
 pub back_writes : (before : List Line) (h : Hypervisor) (v : View) (o : Outcome) (a : BackAct) (x : Sight) (answered : List Answered) (k : ℕ) → KnowsAt v.stage x v.ring v.page v.seen v.halted v.entry v.fetched → Shows before x → v.told ≡ None → Writes before v.stage answered

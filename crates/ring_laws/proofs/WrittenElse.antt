@@ -21,7 +21,7 @@ use Rattle.blk_back.specs.declared.told.BackTold.TheVariants as back_told
 use Rattle.blk_back.specs.Step.{told_effect}
 use Rattle.split_model.specs.Happening.{submit_line}
 use Rattle.split_model.specs.Shown.{front_lines, back_lines, effect_line}
-use Rattle.split_model.proofs.SafeAnswers.{IsJobs}
+use Rattle.split_model.proofs.SafeAnswers.{IsJobs, AsksNoKey}
 use Rattle.ring_laws.proofs.Free.{IsFree, front_free, job_free, free_front, free_told, free_submit, free_look, free_settle}
 use Rattle.ring_laws.proofs.Due.{Answered, Writes}
 use Rattle.ring_laws.proofs.Written.{Passes, AllPass, passes_other, writes_all}
@@ -48,8 +48,8 @@ told_else (Some (front_told.Sector id index words)) = (free_else false (lines.Da
 told_else (Some (front_told.Broken word)) = (free_else false (lines.Broken word) (free_front false (Some (front_told.Broken word))).0 refl, tt)
 
 -- what the front does and tells
-pub front_else : (h : Hypervisor) (ask : FrontAsk) (a : FrontAct) (t : Option Told) → front_act h ask ≡ Some a → AreElse (lines.Move a.shown ∷ front_lines t)
-front_else h ask a t e = (free_else false (lines.Move a.shown) (front_free false h ask a e) refl, told_else t)
+pub front_else : (h : Hypervisor) (ask : FrontAsk) (a : FrontAct) (t : Option Told) → AsksNoKey ask → front_act h ask ≡ Some a → AreElse (lines.Move a.shown ∷ front_lines t)
+front_else h ask a t own e = (free_else false (lines.Move a.shown) (front_free false h ask a own e) refl, told_else t)
 
 effect_else : (id index : ℕ) (a : BackAnswer) → IsFree false (effect_line id index a) → IsElse (effect_line id index a)
 effect_else id index (answers.Sector words) f = free_else false (lines.EffectRead id index words) f refl

@@ -1,6 +1,5 @@
 -- The laws of the machine, of what a recorder keeps of a history's report.
 use Rattle.std.proofs.Common.{◌≡◌, ℕ, ◌^◌, ◌<◌, inl, inr, Bool, true, false, length, List, [], ◌∷◌, ◌++◌, Option, Some, None, refl, ap, sym, ◌∙◌, subst, arith, append_assoc, append-nil, length-append}
-use Rattle.std.specs.Prelude.{map}
 use Rattle.std.proofs.lemmas.List.Elements.{All-nil, filter_map-append}
 use Rattle.blk_base.specs.Options.{Options}
 use Rattle.blk_io.specs.Disk.{DiskSeen, HasLength}
@@ -42,7 +41,6 @@ use Rattle.disk_laws.proofs.Before.{HasRunSoFar, whole_report, ended_report, beg
 use Rattle.pipeline_laws.specs.Effects.{IsOfADisk}
 use Rattle.disk_laws.proofs.Reports.{reports_answered, ended_answered, reports_unbroken, ended_unbroken, reports_states, ended_states}
 use Rattle.schedule_text.specs.Range.{AreOptions, IsInRange}
-use Rattle.schedule_text.specs.Plain.{plain}
 use Rattle.schedule_text.specs.Line.{text_of}
 use Rattle.plain_disk.specs.Disk.{disk_of}
 use Rattle.blk_base.specs.declared.config.Job.{Job}
@@ -395,7 +393,7 @@ begun_lawful config detail history before said rest h all run =
     }
 
 -- no lines
-none_read_otherwise : (other : List Line) → report_text other ≡ [] → map plain other ≡ []
+none_read_otherwise : (other : List Line) → report_text other ≡ [] → other ≡ []
 none_read_otherwise [] e = refl
 none_read_otherwise (line ∷ other) e =
     let long : length (report_text (line ∷ other)) ≡ 0 = ap length e in

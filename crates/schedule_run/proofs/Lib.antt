@@ -1,3 +1,4 @@
+pub mod Asked
 pub mod Attached
 pub mod Within
 pub mod Lines

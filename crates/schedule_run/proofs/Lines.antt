@@ -111,7 +111,7 @@ event_long (events.Notify end) = omega (arith, two_words (codes "notify") (end_w
 event_long events.Suspend = omega arith
 event_long (events.Close end) = omega (arith, two_words (codes "close") (end_word end))
 event_long (events.Poke f w v) = omega arith
-event_long (events.Key name text) = omega (arith, three_words (codes "key") name.bytes text.bytes)
+event_long (events.Key name text) = omega (arith, three_words (codes "key") name text)
 event_long events.Dump = omega arith
 
 line_long : (line : List ℕ) (read : Option Event) → IsLineOf line read → 4 * length (option_to_list read) ≤ length line

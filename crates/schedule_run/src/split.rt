@@ -17,11 +17,11 @@ use crate::showing::{follow_back, follow_job, follow_told, show_back, show_front
 use blk_back::Back;
 use blk_base::{
     BackAnswer, BackAsk, BackMover, Config, End, Endpoint, FrontAnswer, FrontAsk, Job, Mapping,
-    OutOfMemory, SectorWords,
+    OutOfMemory,
 };
 use blk_front::Front;
 use blk_io::SectorDisk;
-use hypervisor::Hypervisor;
+use hypervisor::{Hypervisor, Room};
 use schedule_text::{Line, RecordStop, Recorder};
 use std::alloc::Global;
 use std::marker::Model;
@@ -35,8 +35,8 @@ pub struct Split {
     front: Front,
     back: Back,
     under: Hypervisor,
-    // where a sector that is read from the disk lies until it is told
-    room: SectorWords,
+    // where what an answer lends lies until it is told
+    room: Room,
 }
 
 impl Model for Split {
@@ -59,7 +59,7 @@ impl Split {
             front: Front::new(alloc, config)?,
             back: Back::new(alloc, config)?,
             under: Hypervisor::new(alloc)?,
-            room: [0; 128],
+            room: Room::new(),
         })
     }
 
@@ -123,7 +123,10 @@ impl Split {
         ensures { FrontGoes result self.old self.new (R.seen recorder.old) (R.seen recorder.new) }
     {
         let ask = self.front.ask();
-        let Some(answer) = self.under.front(&ask) else {
+        let Ok(answer) = self.under.front(&ask, &mut self.room) else {
+            return Err(RecordStop::OutOfMemory);
+        };
+        let Some(answer) = answer else {
             return Ok(());
         };
         let shown = show_front(recorder, &ask, &answer);
@@ -144,7 +147,7 @@ impl Split {
             (moment self.old (D.seen disk.old) (R.seen recorder.old))
             (moment self.new (D.seen disk.new) (R.seen recorder.new)) }
     {
-        if self.back.waits() && !self.under.pending(End::Back) {
+        if self.back.waits() && !self.under.has_to_take(End::Back) {
             return Ok(());
         }
         self.back_acts(disk, recorder)
@@ -164,7 +167,10 @@ impl Split {
     {
         let ask = self.back.ask();
         let before = self.back.halted();
-        let Some(answer) = self.under.back(BackMover::Back, &ask, disk, &mut self.room) else {
+        let Ok(answer) = self.under.back(BackMover::Back, &ask, disk, &mut self.room) else {
+            return Err(RecordStop::OutOfMemory);
+        };
+        let Some(answer) = answer else {
             return Ok(());
         };
         let shown = show_back(recorder, &self.under, BackMover::Back, &ask, &answer);
@@ -269,7 +275,10 @@ impl Split {
     {
         let who = BackMover::Job(number);
         let ask = self.back.job_ask(number);
-        let Some(answer) = self.under.back(who, &ask, disk, &mut self.room) else {
+        let Ok(answer) = self.under.back(who, &ask, disk, &mut self.room) else {
+            return Err(RecordStop::OutOfMemory);
+        };
+        let Some(answer) = answer else {
             return Ok(());
         };
         let shown = show_back(recorder, &self.under, who, &ask, &answer);
@@ -301,14 +310,14 @@ impl Split {
         }
     }
 
-    /// Whether both ends wait, no job is held and no event is pending.
+    /// Whether both ends wait, no job is held, and neither an event nor a watch is pending.
     #[inline(always)]
     pub fn is_quiet(&self) -> bool
         ensures { result ≡ is_quiet self.now }
     {
         self.front.idle()
             && self.back.idle()
-            && !self.under.pending(End::Front)
-            && !self.under.pending(End::Back)
+            && !self.under.has_to_take(End::Front)
+            && !self.under.has_to_take(End::Back)
     }
 }

@@ -12,6 +12,7 @@ use crate::{Machine, RunStop, a_run_begins, can_carry_out, run};
 use blk_base::{Abi, Config, End, Job, SectorCount};
 use blk_io::{FailsAt, MemorySink, MemorySource, SectorDisk};
 use image_disk::{FailsAtCalls, ListedCalls, MemoryDisk};
+use line_text::LineText;
 use schedule_text::{Detail, Event, Line, LineList, LineSink, RecordStop, Recorder};
 use std::alloc::Global;
 use std::test::Fail;
@@ -148,6 +149,7 @@ fn report_from<D: SectorDisk + Drop>(
     let mut recorder = LineSink {
         sink: &mut sink,
         detail,
+        room: LineText::new(),
     };
     run(
         alloc,

@@ -34,9 +34,8 @@ use Rattle.schedule_text.specs.declared.line.Halt.TheVariants as halts
 use Rattle.schedule_text.specs.declared.line.Line.{Line}
 use Rattle.schedule_text.specs.declared.line.Line.TheVariants as lines
 use Rattle.schedule_text.specs.Line.{words_of, abi_word, access_word, detail_word, status_word, refusal_word, job_words, halt_words, mover_words, back_words, mode_word, move_words}
-use Rattle.schedule_text.specs.Plain.{plain, plain_halt, plain_move}
 use Rattle.schedule_text.specs.Range.{IsInRange, IsCount, JobHasWidths, HaltHasWidths, MoverHasWidths, BackHasWidths, MoveHasWidths, AreOptions, is_halt_allowed, is_move_allowed, is_mover_allowed}
-use Rattle.schedule_text.specs.Reading.{line_at, small_of, move_by, status_at, detail_at, refusal_at, mode_at, bare_text}
+use Rattle.schedule_text.specs.Reading.{line_at, small_of, move_by, status_at, detail_at, refusal_at, mode_at}
 
 abi_again : (abi : Abi) → cond (bytes_eq (abi_word abi) (codes "64")) X64 X32 ≡ abi
 abi_again X64 = refl
@@ -76,12 +75,12 @@ bounded n most le small = rw (small_again n (omega arith)) (omega arith)
 pub count_again : (c : ℕ) → IsCount c → max (number_of (decimal c) % 2 ^ 32) 1 ≡ c
 count_again c is = rw (small_again c is.1) (omega arith)
 
-halt_line_again : (halt : Halt) → HaltHasWidths halt → is_halt_allowed halt ≡ true → line_at (codes "halt" ∷ halt_words halt) ≡ lines.Halt (plain_halt halt)
+halt_line_again : (halt : Halt) → HaltHasWidths halt → is_halt_allowed halt ≡ true → line_at (codes "halt" ∷ halt_words halt) ≡ lines.Halt halt
 unfolding line_at
 halt_line_again (halts.Overrun p r) h e = rw (small_again p h.0, small_again r h.1) refl
 halt_line_again (halts.Gone s) h e = rw (small_again s h) refl
 halt_line_again (halts.Unplugged s) h e = rw (small_again s h) refl
-halt_line_again (halts.BadKey name) h e = rw (name_again name.bytes e).again refl
+halt_line_again (halts.BadKey name) h e = rw (name_again name e).again refl
 halt_line_again (halts.BadOrder s) h e = rw (small_again s h) refl
 halt_line_again (halts.BadPort p) h e = rw (small_again p h) refl
 halt_line_again (halts.MapRefused g s) h e = rw (small_again g h.0, signed_again s h.1) refl
@@ -131,27 +130,27 @@ event_by mover.Front = refl
 event_by mover.Back = refl
 event_by (mover.Job k) = refl
 
-watch_by : (who : Mover) (p : List ℕ) → move_by who (codes "watch" ∷ p ∷ []) ≡ moves.Watch who (bare_text (text_in 80 p))
+watch_by : (who : Mover) (p : List ℕ) → move_by who (codes "watch" ∷ p ∷ []) ≡ moves.Watch who (text_in 80 p)
 watch_by mover.Front p = refl
 watch_by mover.Back p = refl
 watch_by (mover.Job k) p = refl
 
-watched_by : (who : Mover) (p : List ℕ) → move_by who (codes "watched" ∷ p ∷ []) ≡ moves.Watched who (bare_text (text_in 80 p))
+watched_by : (who : Mover) (p : List ℕ) → move_by who (codes "watched" ∷ p ∷ []) ≡ moves.Watched who (text_in 80 p)
 watched_by mover.Front p = refl
 watched_by mover.Back p = refl
 watched_by (mover.Job k) p = refl
 
-get_none_by : (who : Mover) (p : List ℕ) → move_by who (codes "getkey" ∷ p ∷ []) ≡ moves.GetKey who (bare_text (text_in 80 p)) None
+get_none_by : (who : Mover) (p : List ℕ) → move_by who (codes "getkey" ∷ p ∷ []) ≡ moves.GetKey who (text_in 80 p) None
 get_none_by mover.Front p = refl
 get_none_by mover.Back p = refl
 get_none_by (mover.Job k) p = refl
 
-get_some_by : (who : Mover) (p t : List ℕ) → move_by who (codes "getkey" ∷ p ∷ (61 ∷ t) ∷ []) ≡ moves.GetKey who (bare_text (text_in 80 p)) (Some (bare_text (text_in 64 t)))
+get_some_by : (who : Mover) (p t : List ℕ) → move_by who (codes "getkey" ∷ p ∷ (61 ∷ t) ∷ []) ≡ moves.GetKey who (text_in 80 p) (Some (text_in 64 t))
 get_some_by mover.Front p t = refl
 get_some_by mover.Back p t = refl
 get_some_by (mover.Job k) p t = refl
 
-set_by : (who : Mover) (p t : List ℕ) → move_by who (codes "setkey" ∷ p ∷ (61 ∷ t) ∷ []) ≡ moves.SetKey who (bare_text (text_in 80 p)) (bare_text (text_in 64 t))
+set_by : (who : Mover) (p t : List ℕ) → move_by who (codes "setkey" ∷ p ∷ (61 ∷ t) ∷ []) ≡ moves.SetKey who (text_in 80 p) (text_in 64 t)
 set_by mover.Front p t = refl
 set_by mover.Back p t = refl
 set_by (mover.Job k) p t = refl
@@ -181,7 +180,7 @@ unfolding as_mover
 unmap_by back_mover.Back h = refl
 unmap_by (back_mover.Job k) h = refl
 
-move_again : (m : Move) → MoveHasWidths m → is_move_allowed m ≡ true → line_at (codes "m" ∷ move_words m) ≡ lines.Move (plain_move m)
+move_again : (m : Move) → MoveHasWidths m → is_move_allowed m ≡ true → line_at (codes "m" ∷ move_words m) ≡ lines.Move m
 unfolding line_at
 move_again (moves.FrontRead f w v) h e = rw (small_again f h.0, small_again w h.1, hex_again v h.2) refl
 move_again (moves.FrontWrite f w v) h e = rw (small_again f h.0, small_again w h.1, hex_again v h.2) refl
@@ -203,22 +202,22 @@ move_again (moves.Send who) h e = by_mover who _ _ h ∙ ap lines.Move (send_by 
 move_again (moves.ClosePort who) h e = by_mover who _ _ h ∙ ap lines.Move (close_by who)
 move_again (moves.Event who) h e = by_mover who _ _ h ∙ ap lines.Move (event_by who)
 move_again (moves.Watch who path) h e =
-    let t = both_true (is_mover_allowed who) (is_key_path path.bytes) e in
-    by_mover who _ _ h ∙ rw (watch_by who path.bytes, (path_again path.bytes t.1).again) refl
+    let t = both_true (is_mover_allowed who) (is_key_path path) e in
+    by_mover who _ _ h ∙ rw (watch_by who path, (path_again path t.1).again) refl
 move_again (moves.Watched who path) h e =
-    let t = both_true (is_mover_allowed who) (is_key_path path.bytes) e in
-    by_mover who _ _ h ∙ rw (watched_by who path.bytes, (path_again path.bytes t.1).again) refl
+    let t = both_true (is_mover_allowed who) (is_key_path path) e in
+    by_mover who _ _ h ∙ rw (watched_by who path, (path_again path t.1).again) refl
 move_again (moves.GetKey who path None) h e =
-    let t = both_true (is_mover_allowed who) (is_key_path path.bytes) e in
-    by_mover who _ _ h ∙ rw (get_none_by who path.bytes, (path_again path.bytes t.1).again) refl
+    let t = both_true (is_mover_allowed who) (is_key_path path) e in
+    by_mover who _ _ h ∙ rw (get_none_by who path, (path_again path t.1).again) refl
 move_again (moves.GetKey who path (Some text)) h e =
-    let t = both_true (is_mover_allowed who && is_key_path path.bytes) (is_key_text text.bytes) e in
-    let u = both_true (is_mover_allowed who) (is_key_path path.bytes) t.0 in
-    by_mover who _ _ h ∙ rw (get_some_by who path.bytes text.bytes, (path_again path.bytes u.1).again, (key_text_again text.bytes t.1).again) refl
+    let t = both_true (is_mover_allowed who && is_key_path path) (is_key_text text) e in
+    let u = both_true (is_mover_allowed who) (is_key_path path) t.0 in
+    by_mover who _ _ h ∙ rw (get_some_by who path text, (path_again path u.1).again, (key_text_again text t.1).again) refl
 move_again (moves.SetKey who path text) h e =
-    let t = both_true (is_mover_allowed who && is_key_path path.bytes) (is_key_text text.bytes) e in
-    let u = both_true (is_mover_allowed who) (is_key_path path.bytes) t.0 in
-    by_mover who _ _ h ∙ rw (set_by who path.bytes text.bytes, (path_again path.bytes u.1).again, (key_text_again text.bytes t.1).again) refl
+    let t = both_true (is_mover_allowed who && is_key_path path) (is_key_text text) e in
+    let u = both_true (is_mover_allowed who) (is_key_path path) t.0 in
+    by_mover who _ _ h ∙ rw (set_by who path text, (path_again path u.1).again, (key_text_again text t.1).again) refl
 
 -- ---- lines
 
@@ -235,7 +234,7 @@ sector_line id index words a b is =
     (rw (after.0, after.1, number_again id a, small_again index b, sector_again words is) refl, rw (after.0, number_again id a, small_again index b, sector_again words is) refl)
 
 -- the words of a line of the grammar say that line
-pub line_again : (line : Line) → IsInRange line → line_at (words_of line) ≡ plain line
+pub line_again : (line : Line) → IsInRange line → line_at (words_of line) ≡ line
 unfolding line_at
 line_again (lines.Begin config detail) h = begin_again config detail h.widths
 line_again lines.Ready h = refl
@@ -256,8 +255,8 @@ line_again lines.Epoch h = refl
 line_again (lines.Halt halt) h = halt_line_again halt h.widths h.allowed
 line_again (lines.Poke f w v) h = rw (small_again f h.widths.0, small_again w h.widths.1, small_again v h.widths.2) refl
 line_again (lines.Key name text) h =
-    let t = both_true (is_key_name name.bytes) (is_key_text text.bytes) h.allowed in
-    rw ((name_again name.bytes t.0).again, (key_text_again text.bytes t.1).again) refl
+    let t = both_true (is_key_name name) (is_key_text text) h.allowed in
+    rw ((name_again name t.0).again, (key_text_again text t.1).again) refl
 line_again lines.Quiet h = refl
 line_again lines.Busy h = refl
 line_again lines.Unsettled h = refl

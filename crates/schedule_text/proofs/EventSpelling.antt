@@ -15,7 +15,7 @@ use Rattle.schedule_text.specs.declared.event.Event.{Event}
 use Rattle.schedule_text.specs.declared.event.Event.TheVariants as events
 use Rattle.schedule_text.specs.Line.{job_words}
 use Rattle.schedule_text.specs.Range.{JobHasWidths}
-use Rattle.schedule_text.specs.Event.{event_words, event_text, end_word, EventHasWidths, is_event_allowed, plain_event, IsEventOf}
+use Rattle.schedule_text.specs.Event.{event_words, event_text, end_word, EventHasWidths, is_event_allowed, IsEventOf}
 use Rattle.schedule_text.specs.EventReading.{event_at, end_at}
 use Rattle.schedule_text.proofs.Again.{count_again}
 use Rattle.schedule_text.proofs.Solid.{solid_job}
@@ -36,7 +36,7 @@ submit_again (jobs.Barrier s c t) h = rw (number_again s h.0, count_again c h.1,
 submit_again jobs.Flush h = refl
 submit_again (jobs.Discard s c) h = rw (number_again s h.0, count_again c h.1) refl
 
-event_again : (event : Event) → EventHasWidths event → is_event_allowed event ≡ true → event_at (event_words event) ≡ plain_event event
+event_again : (event : Event) → EventHasWidths event → is_event_allowed event ≡ true → event_at (event_words event) ≡ event
 unfolding event_at
 event_again (events.Submit job) h e = submit_again job h
 event_again (events.Front n) h e = rw (small_again n h) refl
@@ -50,8 +50,8 @@ event_again events.Suspend h e = refl
 event_again (events.Close end) h e = rw (end_again end) refl
 event_again (events.Poke f w v) h e = rw (small_again f h.0, small_again w h.1, small_again v h.2) refl
 event_again (events.Key name text) h e =
-    let t = both_true (is_key_name name.bytes) (is_key_text text.bytes) e in
-    rw ((name_again name.bytes t.0).again, (key_text_again text.bytes t.1).again) refl
+    let t = both_true (is_key_name name) (is_key_text text) e in
+    rw ((name_again name t.0).again, (key_text_again text t.1).again) refl
 event_again events.Dump h e = refl
 
 small : (n : ℕ) → n < 2 ^ 32 → is_solid (decimal n) ≡ true
@@ -70,8 +70,8 @@ solid_event events.Suspend h e = refl
 solid_event (events.Close end) h e = rw (solid_end end) refl
 solid_event (events.Poke f w v) h e = rw (small f h.0, small w h.1, small v h.2) refl
 solid_event (events.Key name text) h e =
-    let t = both_true (is_key_name name.bytes) (is_key_text text.bytes) e in
-    rw (solid name.bytes (name_again name.bytes t.0).no_space, solid text.bytes (key_text_again text.bytes t.1).no_space) refl
+    let t = both_true (is_key_name name) (is_key_text text) e in
+    rw (solid name (name_again name t.0).no_space, solid text (key_text_again text t.1).no_space) refl
 solid_event events.Dump h e = refl
 
 some_words : (event : Event) → event_words event ≡ [] → ⊥
@@ -82,26 +82,8 @@ again_if : (words : List (List ℕ)) → (words ≡ [] → ⊥) → list_all is_
 again_if [] some e = absurd (some refl)
 again_if (w ∷ ws) some e = solid_again w ws e
 
-plain_text : (event : Event) → event_text (plain_event event) ≡ event_text event
-plain_text (events.Key name text) = refl
-plain_text event = refl
-
-plain_allowed : (event : Event) → is_event_allowed (plain_event event) ≡ is_event_allowed event
-plain_allowed (events.Key name text) = refl
-plain_allowed event = refl
-
--- a text of the grammar is read as its event, which is allowed, and has that text
-pub record IsEventRead (read event : Event) (bytes : List ℕ) : Type 0 where
-  pub same : plain_event read ≡ plain_event event
-  pub allowed : is_event_allowed read ≡ true
-  pub text : event_text read ≡ bytes
-
-pub is_event_read : (read event : Event) (bytes : List ℕ) → plain_event read ≡ event_at (words_in bytes) → IsEventOf event bytes → IsEventRead read event bytes
-is_event_read read event bytes says is =
+-- what a text of the grammar says
+pub says_event : (event : Event) (bytes : List ℕ) → IsEventOf event bytes → event_at (words_in bytes) ≡ event
+says_event event bytes is =
     let again : words_in (event_text event) ≡ event_words event = again_if (event_words event) (some_words event) (solid_event event is.widths is.allowed) in
-    let same : plain_event read ≡ plain_event event = says ∙ ap (λ (b : List ℕ). event_at (words_in b)) (sym is.text) ∙ ap event_at again ∙ event_again event is.widths is.allowed in
-    record {
-      same = same;
-      allowed = sym (plain_allowed read) ∙ ap is_event_allowed same ∙ plain_allowed event ∙ is.allowed;
-      text = sym (plain_text read) ∙ ap event_text same ∙ plain_text event ∙ is.text;
-    }
+    ap (λ (b : List ℕ). event_at (words_in b)) (sym is.text) ∙ ap event_at again ∙ event_again event is.widths is.allowed

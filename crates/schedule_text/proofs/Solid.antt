@@ -81,7 +81,7 @@ solid_halt : (halt : Halt) → HaltHasWidths halt → is_halt_allowed halt ≡ t
 solid_halt (halts.Overrun p r) h e = rw (small p h.0, small r h.1) refl
 solid_halt (halts.Gone s) h e = rw (small s h) refl
 solid_halt (halts.Unplugged s) h e = rw (small s h) refl
-solid_halt (halts.BadKey name) h e = rw (solid name.bytes (name_again name.bytes e).no_space) refl
+solid_halt (halts.BadKey name) h e = rw (solid name (name_again name e).no_space) refl
 solid_halt (halts.BadOrder s) h e = rw (small s h) refl
 solid_halt (halts.BadPort p) h e = rw (small p h) refl
 solid_halt (halts.MapRefused g s) h e = rw (small g h.0, solid_signed s h.1) refl
@@ -122,22 +122,22 @@ solid_move (moves.Send who) h e = solid_mover who _ h refl
 solid_move (moves.ClosePort who) h e = solid_mover who _ h refl
 solid_move (moves.Event who) h e = solid_mover who _ h refl
 solid_move (moves.Watch who path) h e =
-    let t = both_true (is_mover_allowed who) (is_key_path path.bytes) e in
-    solid_mover who _ h (rw (solid_path path.bytes t.1) refl)
+    let t = both_true (is_mover_allowed who) (is_key_path path) e in
+    solid_mover who _ h (rw (solid_path path t.1) refl)
 solid_move (moves.Watched who path) h e =
-    let t = both_true (is_mover_allowed who) (is_key_path path.bytes) e in
-    solid_mover who _ h (rw (solid_path path.bytes t.1) refl)
+    let t = both_true (is_mover_allowed who) (is_key_path path) e in
+    solid_mover who _ h (rw (solid_path path t.1) refl)
 solid_move (moves.GetKey who path None) h e =
-    let t = both_true (is_mover_allowed who) (is_key_path path.bytes) e in
-    solid_mover who _ h (rw (solid_path path.bytes t.1) refl)
+    let t = both_true (is_mover_allowed who) (is_key_path path) e in
+    solid_mover who _ h (rw (solid_path path t.1) refl)
 solid_move (moves.GetKey who path (Some text)) h e =
-    let t = both_true (is_mover_allowed who && is_key_path path.bytes) (is_key_text text.bytes) e in
-    let u = both_true (is_mover_allowed who) (is_key_path path.bytes) t.0 in
-    solid_mover who _ h (rw (solid_path path.bytes u.1, solid_text text.bytes t.1) refl)
+    let t = both_true (is_mover_allowed who && is_key_path path) (is_key_text text) e in
+    let u = both_true (is_mover_allowed who) (is_key_path path) t.0 in
+    solid_mover who _ h (rw (solid_path path u.1, solid_text text t.1) refl)
 solid_move (moves.SetKey who path text) h e =
-    let t = both_true (is_mover_allowed who && is_key_path path.bytes) (is_key_text text.bytes) e in
-    let u = both_true (is_mover_allowed who) (is_key_path path.bytes) t.0 in
-    solid_mover who _ h (rw (solid_path path.bytes u.1, solid_text text.bytes t.1) refl)
+    let t = both_true (is_mover_allowed who && is_key_path path) (is_key_text text) e in
+    let u = both_true (is_mover_allowed who) (is_key_path path) t.0 in
+    solid_mover who _ h (rw (solid_path path u.1, solid_text text t.1) refl)
 
 solid_line : (line : Line) → IsInRange line → AreSolid (words_of line)
 solid_line (lines.Begin config detail) h = rw (solid_abi config.abi, small config.order (omega (arith, h.widths.0)), small config.persistent (omega (arith, h.widths.1)), small config.indirect (omega (arith, h.widths.2)), small config.start h.widths.3, solid_access config.read_only, solid_decimal config.sectors h.widths.4, solid_detail detail) refl
@@ -159,8 +159,8 @@ solid_line lines.Epoch h = refl
 solid_line (lines.Halt halt) h = solid_halt halt h.widths h.allowed
 solid_line (lines.Poke f w v) h = rw (small f h.widths.0, small w h.widths.1, small v h.widths.2) refl
 solid_line (lines.Key name text) h =
-    let t = both_true (is_key_name name.bytes) (is_key_text text.bytes) h.allowed in
-    rw (solid name.bytes (name_again name.bytes t.0).no_space, solid_text text.bytes t.1) refl
+    let t = both_true (is_key_name name) (is_key_text text) h.allowed in
+    rw (solid name (name_again name t.0).no_space, solid_text text t.1) refl
 solid_line lines.Quiet h = refl
 solid_line lines.Busy h = refl
 solid_line lines.Unsettled h = refl

@@ -7,7 +7,6 @@ use Rattle.blk_base.specs.declared.parts.End.TheVariants as ends
 use Rattle.schedule_text.specs.declared.event.Event.{Event}
 use Rattle.schedule_text.specs.declared.event.Event.TheVariants as events
 use Rattle.schedule_text.specs.Line.{job_words}
-use Rattle.schedule_text.specs.Plain.{bare}
 use Rattle.schedule_text.specs.Range.{JobHasWidths, IsWord}
 
 abbrev pub end_word : End → List ℕ
@@ -27,7 +26,7 @@ event_words (events.Notify end) = codes "notify" ∷ end_word end ∷ []
 event_words events.Suspend = codes "suspend" ∷ []
 event_words (events.Close end) = codes "close" ∷ end_word end ∷ []
 event_words (events.Poke frame word value) = codes "poke" ∷ decimal frame ∷ decimal word ∷ decimal value ∷ []
-event_words (events.Key name text) = codes "key" ∷ name.bytes ∷ text.bytes ∷ []
+event_words (events.Key name text) = codes "key" ∷ name ∷ text ∷ []
 event_words events.Dump = codes "dump" ∷ []
 
 -- the text of a schedule's line
@@ -67,7 +66,7 @@ is_event_allowed (events.Notify end) = true
 is_event_allowed events.Suspend = true
 is_event_allowed (events.Close end) = true
 is_event_allowed (events.Poke frame word value) = nat_lt frame 1024 && nat_lt word 1024
-is_event_allowed (events.Key name text) = is_key_name name.bytes && is_key_text text.bytes
+is_event_allowed (events.Key name text) = is_key_name name && is_key_text text
 is_event_allowed events.Dump = true
 
 -- a schedule's line of the grammar, and its text
@@ -75,11 +74,6 @@ pub record IsEventOf (event : Event) (bytes : List ℕ) : Type 0 where
   pub widths : EventHasWidths event
   pub allowed : is_event_allowed event ≡ true
   pub text : event_text event ≡ bytes
-
--- an event without what lies unused behind its texts
-abbrev pub plain_event : Event → Event
-plain_event (events.Key name text) = events.Key (bare name) (bare text)
-plain_event event = event
 
 -- a line that asks for nothing: an empty one, or a comment of at most 128 bytes, which begins with `#`
 abbrev pub IsSilent : List ℕ → Type 0
@@ -90,8 +84,3 @@ IsSilent (b ∷ bs) = (b ≡ 35) × (length (b ∷ bs) ≤ 128)
 abbrev pub IsReadOf : Option Event → List ℕ → Type 0
 IsReadOf None bytes = IsSilent bytes
 IsReadOf (Some event) bytes = IsEventOf event bytes
-
--- an event that says the same was read
-abbrev pub IsSame : Event → Option Event → Type 0
-IsSame event None = ⊥
-IsSame event (Some read) = plain_event read ≡ plain_event event

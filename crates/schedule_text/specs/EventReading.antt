@@ -8,7 +8,7 @@ use Rattle.blk_base.specs.declared.parts.End.{End}
 use Rattle.blk_base.specs.declared.parts.End.TheVariants as ends
 use Rattle.schedule_text.specs.declared.event.Event.{Event}
 use Rattle.schedule_text.specs.declared.event.Event.TheVariants as events
-use Rattle.schedule_text.specs.Reading.{word0, word1, word2, small_of, bare_text, job_at}
+use Rattle.schedule_text.specs.Reading.{word0, word1, word2, small_of, job_at}
 
 abbrev pub end_at : List ℕ → End
 end_at word = if bytes_eq word (codes "front") then ends.Front else ends.Back
@@ -22,7 +22,7 @@ other_event_at name ws =
     if bytes_eq name (codes "suspend") then events.Suspend else
     if bytes_eq name (codes "close") then events.Close (end_at (word0 ws)) else
     if bytes_eq name (codes "poke") then events.Poke (small_of (word0 ws)) (small_of (word1 ws)) (small_of (word2 ws)) else
-    if bytes_eq name (codes "key") then events.Key (bare_text (text_in 32 (word0 ws))) (bare_text (text_in 64 (word1 ws))) else
+    if bytes_eq name (codes "key") then events.Key (text_in 32 (word0 ws)) (text_in 64 (word1 ws)) else
     events.Dump
 
 unfoldable pub event_at : List (List ℕ) → Event

@@ -1,7 +1,6 @@
 pub mod Line
 pub mod Recorder
 pub mod Recorders
-pub mod Plain
 pub mod Reading
 pub mod Range
 pub mod Parts

@@ -4,7 +4,6 @@ use Rattle.arrayvec.specs.ArrayString.{ArrayString, array_string_len}
 use Rattle.line_text.specs.Words.{spaced}
 use Rattle.schedule_text.specs.declared.line.Line.{Line}
 use Rattle.schedule_text.specs.Line.{text_of}
-use Rattle.schedule_text.specs.Plain.{plain}
 use Rattle.schedule_text.specs.Range.{HasWidths}
 
 -- these words were added to the text, each after a space, and it has that many bytes at most
@@ -17,7 +16,7 @@ pub record IsWritten (line : Line) (text : ArrayString) : Type 0 where
   pub written : text.bytes ≡ text_of line
   pub short : array_string_len text < 1000
 
--- what was read is this line, but for what lies unused in its texts, and its numbers have their widths
+-- what was read is this line, and its numbers have their widths
 pub record IsReadAs (said : Line) (line : Line) : Type 0 where
-  pub says : plain line ≡ said
+  pub says : line ≡ said
   pub widths : HasWidths line

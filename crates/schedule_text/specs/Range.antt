@@ -140,18 +140,18 @@ is_move_allowed (moves.Fence who) = is_mover_allowed who
 is_move_allowed (moves.Send who) = is_mover_allowed who
 is_move_allowed (moves.ClosePort who) = is_mover_allowed who
 is_move_allowed (moves.Event who) = is_mover_allowed who
-is_move_allowed (moves.Watch who path) = is_mover_allowed who && is_key_path path.bytes
-is_move_allowed (moves.Watched who path) = is_mover_allowed who && is_key_path path.bytes
-is_move_allowed (moves.GetKey who path None) = is_mover_allowed who && is_key_path path.bytes
-is_move_allowed (moves.GetKey who path (Some text)) = is_mover_allowed who && is_key_path path.bytes && is_key_text text.bytes
-is_move_allowed (moves.SetKey who path text) = is_mover_allowed who && is_key_path path.bytes && is_key_text text.bytes
+is_move_allowed (moves.Watch who path) = is_mover_allowed who && is_key_path path
+is_move_allowed (moves.Watched who path) = is_mover_allowed who && is_key_path path
+is_move_allowed (moves.GetKey who path None) = is_mover_allowed who && is_key_path path
+is_move_allowed (moves.GetKey who path (Some text)) = is_mover_allowed who && is_key_path path && is_key_text text
+is_move_allowed (moves.SetKey who path text) = is_mover_allowed who && is_key_path path && is_key_text text
 
 -- the name of a key that halts the back
 abbrev pub is_halt_allowed : Halt → Bool
 is_halt_allowed (halts.Overrun produced replied) = true
 is_halt_allowed (halts.Gone state) = true
 is_halt_allowed (halts.Unplugged state) = true
-is_halt_allowed (halts.BadKey name) = is_key_name name.bytes
+is_halt_allowed (halts.BadKey name) = is_key_name name
 is_halt_allowed (halts.BadOrder state) = true
 is_halt_allowed (halts.BadPort port) = true
 is_halt_allowed (halts.MapRefused gref status) = true
@@ -176,7 +176,7 @@ is_allowed (lines.Data id index words) = true
 is_allowed lines.Epoch = true
 is_allowed (lines.Halt halt) = is_halt_allowed halt
 is_allowed (lines.Poke frame word value) = nat_lt frame 1024 && nat_lt word 1024
-is_allowed (lines.Key name text) = is_key_name name.bytes && is_key_text text.bytes
+is_allowed (lines.Key name text) = is_key_name name && is_key_text text
 is_allowed lines.Quiet = true
 is_allowed lines.Busy = true
 is_allowed lines.Unsettled = true

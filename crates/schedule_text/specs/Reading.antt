@@ -2,7 +2,6 @@
 -- they are that line's is seen by writing it again.
 use Rattle.std.specs.Prelude.{ℕ, ◌%◌, ◌^◌, List, [], ◌∷◌, ◌==◌, min, max, codes, drop, length, Option, Some, None, if◌then◌else◌}
 use Rattle.std.specs.Str.{bytes_eq}
-use Rattle.arrayvec.specs.ArrayString.{ArrayString}
 use Rattle.line_text.specs.Words.{first_of, later}
 use Rattle.line_text.specs.Numbers.{number_of, hex_of, signed_of}
 use Rattle.line_text.specs.Sector.{sector_of}
@@ -59,10 +58,6 @@ word7 ws = first_of (later (later (later (later (later (later (later ws)))))))
 abbrev pub small_of : List ℕ → ℕ
 small_of word = number_of word % 2 ^ 32
 
--- a text with nothing behind it
-abbrev pub bare_text : List ℕ → ArrayString
-bare_text bytes = record { bytes = bytes; spare = [] }
-
 abbrev pub status_at : List ℕ → Status
 status_at word =
     if bytes_eq word (codes "ok") then Okay else
@@ -99,7 +94,7 @@ halt_at ws =
     if bytes_eq (word0 ws) (codes "overrun") then halts.Overrun (small_of (word1 ws)) (small_of (word2 ws)) else
     if bytes_eq (word0 ws) (codes "gone") then halts.Gone (small_of (word1 ws)) else
     if bytes_eq (word0 ws) (codes "unplugged") then halts.Unplugged (small_of (word1 ws)) else
-    if bytes_eq (word0 ws) (codes "badkey") then halts.BadKey (bare_text (text_in 32 (word1 ws))) else
+    if bytes_eq (word0 ws) (codes "badkey") then halts.BadKey (text_in 32 (word1 ws)) else
     if bytes_eq (word0 ws) (codes "badorder") then halts.BadOrder (small_of (word1 ws)) else
     if bytes_eq (word0 ws) (codes "badport") then halts.BadPort (small_of (word1 ws)) else
     halts.MapRefused (small_of (word1 ws)) (signed_of (word2 ws))
@@ -128,9 +123,9 @@ after_mover ws =
     if bytes_eq (word0 ws) (codes "back") then later ws else later (later ws)
 
 -- the text behind an equals sign, where there is one
-abbrev pub found_at : List ℕ → Option ArrayString
+abbrev pub found_at : List ℕ → Option (List ℕ)
 found_at [] = None
-found_at (b ∷ bs) = Some (bare_text (text_in 64 bs))
+found_at (b ∷ bs) = Some (text_in 64 bs)
 
 -- what either end does
 abbrev pub act_at : Mover → List ℕ → List (List ℕ) → Move
@@ -139,10 +134,10 @@ act_at who name ws =
     if bytes_eq name (codes "send") then moves.Send who else
     if bytes_eq name (codes "closeport") then moves.ClosePort who else
     if bytes_eq name (codes "event") then moves.Event who else
-    if bytes_eq name (codes "watch") then moves.Watch who (bare_text (text_in 80 (word0 ws))) else
-    if bytes_eq name (codes "watched") then moves.Watched who (bare_text (text_in 80 (word0 ws))) else
-    if bytes_eq name (codes "getkey") then moves.GetKey who (bare_text (text_in 80 (word0 ws))) (found_at (word1 ws)) else
-    moves.SetKey who (bare_text (text_in 80 (word0 ws))) (bare_text (text_in 64 (drop 1 (word1 ws))))
+    if bytes_eq name (codes "watch") then moves.Watch who (text_in 80 (word0 ws)) else
+    if bytes_eq name (codes "watched") then moves.Watched who (text_in 80 (word0 ws)) else
+    if bytes_eq name (codes "getkey") then moves.GetKey who (text_in 80 (word0 ws)) (found_at (word1 ws)) else
+    moves.SetKey who (text_in 80 (word0 ws)) (text_in 64 (drop 1 (word1 ws)))
 
 -- what the front does
 abbrev pub front_at : List (List ℕ) → Move
@@ -204,7 +199,7 @@ other_at name ws =
     if bytes_eq name (codes "refuse") then lines.Refuse (refusal_at (word0 ws)) else
     if bytes_eq name (codes "halt") then lines.Halt (halt_at ws) else
     if bytes_eq name (codes "poke") then lines.Poke (small_of (word0 ws)) (small_of (word1 ws)) (small_of (word2 ws)) else
-    if bytes_eq name (codes "key") then lines.Key (bare_text (text_in 32 (word0 ws))) (bare_text (text_in 64 (word1 ws))) else
+    if bytes_eq name (codes "key") then lines.Key (text_in 32 (word0 ws)) (text_in 64 (word1 ws)) else
     lines.Word (small_of (word0 ws)) (small_of (word1 ws)) (hex_of (word2 ws))
 
 -- an effect, with what was read where that is told

@@ -3,8 +3,7 @@ ghost use Rattle.std.specs.Prelude.{◌≡◌, ◌↔◌, IsTrue, IfOk, IsOkAnd,
 ghost use Rattle.schedule_text.specs.Range.{IsTextOf};
 ghost use Rattle.schedule_text.specs.declared.line.Line.{Line};
 ghost use Rattle.schedule_text.specs.declared.event.Event.{Event};
-ghost use Rattle.schedule_text.specs.Event.{IsEventOf, IsReadOf, IsSilent, IsSame};
-ghost use Rattle.schedule_text.specs.Plain.{plain};
+ghost use Rattle.schedule_text.specs.Event.{IsEventOf, IsReadOf, IsSilent};
 
 use crate::event::{BadLine, Event};
 use crate::line::Line;
@@ -21,7 +20,7 @@ pub fn read_line(bytes: &[u8]) -> Result<Line, BadLine>
     // What is read is a line of the grammar that has this text.
     ensures found { IfOk result (λ line. IsTextOf line bytes.now) }
     // Each line that has this text is read, and no other one has it.
-    ensures only { (line : Line) → IsTextOf line bytes.now → IsOkAnd result (λ read. plain read ≡ plain line) }
+    ensures only { (line : Line) → IsTextOf line bytes.now → result ≡ Ok line }
 {
     let mut line = Line::End;
     let mut text = LineText::new();
@@ -38,7 +37,7 @@ pub fn read_line_into(bytes: &[u8], line: &mut Line, text: &mut LineText) -> Res
     // What is read is a line of the grammar that has this text.
     ensures found { OnOk result (IsTextOf line.new bytes.now) }
     // Each line that has this text is read, and no other one has it.
-    ensures only { (said : Line) → IsTextOf said bytes.now → IsOkAnd result (λ _. plain line.new ≡ plain said) }
+    ensures only { (said : Line) → IsTextOf said bytes.now → IsOkAnd result (λ _. line.new ≡ said) }
 {
     if read_access(bytes, line) {
         return Ok(());
@@ -64,7 +63,7 @@ pub fn read_event(bytes: &[u8]) -> Result<Option<Event>, BadLine>
     // A silent line is read as no event.
     ensures silent { IsSilent bytes.now → result ≡ Ok None }
     // Each event that has this text is read, and no other one has it.
-    ensures only { (event : Event) → IsEventOf event bytes.now → IsOkAnd result (IsSame event) }
+    ensures only { (event : Event) → IsEventOf event bytes.now → result ≡ Ok (Some event) }
 {
     match bytes {
         [] => Ok(None),
@@ -76,7 +75,7 @@ pub fn read_event(bytes: &[u8]) -> Result<Option<Event>, BadLine>
 /// The event of a line that isn't silent.
 fn spoken(bytes: &[u8]) -> Result<Option<Event>, BadLine>
     ensures found { IfOk result (λ read. IfSome read (λ event. IsEventOf event bytes.now) × IsSome read) }
-    ensures only { (event : Event) → IsEventOf event bytes.now → IsOkAnd result (IsSame event) }
+    ensures only { (event : Event) → IsEventOf event bytes.now → result ≡ Ok (Some event) }
 {
     let event = event_of(bytes);
     if !is_event_allowed(&event) {

@@ -1,9 +1,8 @@
 // What a line of a report says.
-use arrayvec::ArrayString;
-use blk_base::{Config, Job, Move, SectorWords, Status, Text};
+use blk_base::{Config, Job, Move, SectorWords, ShortText, Status, Text};
 
 /// The name of a key, 1 to 32 bytes from `a` to `z`, `0` to `9` and `-`.
-pub type KeyName = ArrayString<32>;
+pub type KeyName = ShortText<32>;
 
 /// Whether a report has a line for each move.
 #[derive(Clone, Copy, Debug, PartialEq, Eq)]

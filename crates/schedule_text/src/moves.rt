@@ -256,7 +256,7 @@ fn put_act(text: &mut LineText, who: Mover, name: &str)
 fn put_path(text: &mut LineText, who: Mover, name: &str, path: &Path)
     requires room { array_string_len text.old ≤ 200 }
     requires short { length name.now ≤ 20 }
-    ensures { AddsWords (mover_words who ++ name.now ∷ path.now.bytes ∷ []) 350 text.old text.new }
+    ensures { AddsWords (mover_words who ++ name.now ∷ path.now ∷ []) 350 text.old text.new }
 {
     put_act(text, who, name);
     put(text, path.as_str());
@@ -276,7 +276,7 @@ fn put_found(text: &mut LineText, who: Mover, path: &Path, found: &Option<Text>)
 /// Adds a key's text behind an equals sign.
 fn put_value(text: &mut LineText, value: &Text)
     requires { array_string_len text.old ≤ 400 }
-    ensures { AddsWords ((61 ∷ value.now.bytes) ∷ []) 500 text.old text.new }
+    ensures { AddsWords ((61 ∷ value.now) ∷ []) 500 text.old text.new }
 {
     put(text, "=");
     text.push_str(value.as_str());

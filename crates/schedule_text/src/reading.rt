@@ -2,7 +2,6 @@
 // line; `read_line` sees by writing it again whether they are that line's.
 ghost use Rattle.std.specs.Prelude.{◌≡◌};
 ghost use Rattle.line_text.specs.Words.{first_of, later, words_in};
-ghost use Rattle.schedule_text.specs.Plain.{plain_halt};
 ghost use Rattle.schedule_text.specs.Parts.{IsReadAs};
 ghost use Rattle.schedule_text.specs.Range.{HaltHasWidths, JobHasWidths, AreOptions, IsCount};
 ghost use Rattle.schedule_text.specs.Reading.{line_at, word_line_at, request_at, other_at, effect_at, data_at, halt_at, job_at, count_of, options_at, status_at, detail_at, refusal_at};
@@ -261,7 +260,7 @@ pub fn job(words: &mut Words) -> Job
 
 /// Why the back halted.
 fn halt(words: &mut Words) -> Halt
-    ensures says { plain_halt result ≡ halt_at words.old }
+    ensures says { result ≡ halt_at words.old }
     ensures widths { HaltHasWidths result }
 {
     let name = words.next();

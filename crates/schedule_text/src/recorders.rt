@@ -95,11 +95,13 @@ fn kept(detail: Detail, line: &Line) -> Option<Line>
     }
 }
 
-/// A recorder that writes each line, with its line feed, to a sink by one call.
+/// A recorder that writes each line, with its line feed, to a sink by one call. Each line is made in
+/// the same room.
 #[derive(Drop)]
 pub struct LineSink<'a, S> {
     pub sink: &'a mut S,
     pub detail: Detail,
+    pub room: LineText,
 }
 
 impl<'a, S: Sink> Recorder for LineSink<'a, S> {
@@ -109,12 +111,17 @@ impl<'a, S: Sink> Recorder for LineSink<'a, S> {
 
     fn add(&mut self, line: &Line) -> Result<(), RecordStop> {
         match line {
-            Line::Begin { config, .. } => write_begin(self.sink, config, self.detail),
+            Line::Begin { config, .. } => write_begin(
+                self.sink,
+                &mut self.room,
+                config,
+                self.detail,
+            ),
             Line::Move(_) => match self.detail {
                 Detail::Lines => Ok(()),
-                Detail::Moves => write(self.sink, line),
+                Detail::Moves => write(self.sink, &mut self.room, line),
             },
-            _ => write(self.sink, line),
+            _ => write(self.sink, &mut self.room, line),
         }
     }
 
@@ -122,7 +129,7 @@ impl<'a, S: Sink> Recorder for LineSink<'a, S> {
     fn add_move<M: Shown>(&mut self, made: &M) -> Result<(), RecordStop> {
         match self.detail {
             Detail::Lines => Ok(()),
-            Detail::Moves => write_move(self.sink, made),
+            Detail::Moves => write_move(self.sink, &mut self.room, made),
         }
     }
 
@@ -133,12 +140,11 @@ impl<'a, S: Sink> Recorder for LineSink<'a, S> {
 
 // Writes a line and its line feed.
 #[inline(never)]
-fn write<S: Sink>(sink: &mut S, line: &Line) -> Result<(), RecordStop>
+fn write<S: Sink>(sink: &mut S, text: &mut LineText, line: &Line) -> Result<(), RecordStop>
     ensures { WritesLine line.now result (S.seen sink.old) (S.seen sink.new) }
 {
-    let mut text = LineText::new();
-    write_line(line, &mut text);
-    send(sink, &mut text)
+    write_line(line, text);
+    send(sink, text)
 }
 
 // Writes a line's text and its line feed.
@@ -155,22 +161,31 @@ fn send<S: Sink>(sink: &mut S, text: &mut LineText) -> Result<(), RecordStop>
 
 // Makes the line of a move, and writes it.
 #[inline(never)]
-fn write_move<S: Sink, M: Shown>(sink: &mut S, made: &M) -> Result<(), RecordStop>
+fn write_move<S: Sink, M: Shown>(
+    sink: &mut S,
+    text: &mut LineText,
+    made: &M,
+) -> Result<(), RecordStop>
     requires { M.may made.now }
     ensures { WritesLine (Line.Move (M.shown made.now)) result (S.seen sink.old) (S.seen sink.new) }
 {
-    let mut text = LineText::new();
-    write_shown(&mut text, &made.shown());
-    send(sink, &mut text)
+    write_shown(text, &made.shown());
+    send(sink, text)
 }
 
 // A begin line says the word of the recorder that writes it.
 #[inline(never)]
-fn write_begin<S: Sink>(sink: &mut S, config: &Config, detail: Detail) -> Result<(), RecordStop>
+fn write_begin<S: Sink>(
+    sink: &mut S,
+    text: &mut LineText,
+    config: &Config,
+    detail: Detail,
+) -> Result<(), RecordStop>
     ensures { WritesLine (Line.Begin config.now detail) result (S.seen sink.old) (S.seen sink.new) }
 {
     write(
         sink,
+        text,
         &Line::Begin {
             config: *config,
             detail,

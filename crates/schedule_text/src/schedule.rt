@@ -1,7 +1,7 @@
 // A line of a schedule, written and read.
 ghost use Rattle.std.specs.Prelude.{◌≡◌, ◌≤◌, ◌∷◌, [], ◌++◌, length};
 ghost use Rattle.line_text.specs.Words.{spaced, words_in};
-ghost use Rattle.schedule_text.specs.Event.{event_text, EventHasWidths, is_event_allowed, is_number, end_word, plain_event};
+ghost use Rattle.schedule_text.specs.Event.{event_text, EventHasWidths, is_event_allowed, is_number, end_word};
 ghost use Rattle.schedule_text.specs.EventReading.{event_at, other_event_at, end_at};
 
 use crate::event::Event;
@@ -60,7 +60,7 @@ fn end_text(end: End) -> &'static str
 /// The event that words say. Any words are read as some event.
 #[tactic(auto, unfolding(crate::specs::EventReading::event_at))]
 pub fn event_of(bytes: &[u8]) -> Event
-    ensures says { plain_event result ≡ event_at (words_in bytes.now) }
+    ensures says { result ≡ event_at (words_in bytes.now) }
     ensures widths { EventHasWidths result }
 {
     let mut words = Words::new(bytes);
@@ -84,7 +84,7 @@ pub fn event_of(bytes: &[u8]) -> Event
 
 /// An event that is no move's.
 fn other_event(name: &[u8], words: &mut Words) -> Event
-    ensures says { plain_event result ≡ other_event_at name.now words.old }
+    ensures says { result ≡ other_event_at name.now words.old }
     ensures widths { EventHasWidths result }
 {
     if is(name, "settle") {

@@ -262,6 +262,7 @@ fn two_lines<S: Sink>(out: &mut S) -> Result<(), RecordStop>
     let mut recorder = LineSink {
         sink: out,
         detail: Detail::Lines,
+        room: LineText::new(),
     };
     recorder.add(&Line::Quiet)?;
     recorder.add(&Line::End)?;
@@ -297,6 +298,7 @@ fn a_move_has_a_line_where_the_recorder_keeps_moves(rt: HostRuntime) -> Result<(
         let mut recorder = LineSink {
             sink: &mut sink,
             detail,
+            room: LineText::new(),
         };
         recorder.add_move(&Port(7))?;
     }

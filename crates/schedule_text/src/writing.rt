@@ -163,7 +163,7 @@ pub fn write_poke(text: &mut LineText, frame: u32, word: u32, value: u32)
 
 /// A key that is overwritten from outside, as a schedule and a report have it.
 pub fn write_key(text: &mut LineText, name: &KeyName, value: &Text)
-    ensures bytes { text.new.bytes ≡ codes "key" ++ spaced (name.now.bytes ∷ value.now.bytes ∷ []) }
+    ensures bytes { text.new.bytes ≡ codes "key" ++ spaced (name.now ∷ value.now ∷ []) }
     ensures len { array_string_len text.new ≤ 200 }
 {
     begin(text, "key");

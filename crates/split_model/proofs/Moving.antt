@@ -1,28 +1,32 @@
 -- What a move makes happen, by what its calls say.
-use Rattle.std.proofs.Common.{◌≡◌, true, ℕ, ◌+◌, ◌<◌, ◌≤◌, ◌^◌, length, List, [], ◌∷◌, ◌++◌, Option, Some, None, Result, Ok, refl, ap, sym, ◌∙◌, subst, arith}
+use Rattle.std.proofs.Common.{◌≡◌, Bool, true, false, true≢false, not, ◌||◌, if◌then◌else◌, ℕ, ◌+◌, ◌<◌, ◌≤◌, ◌^◌, length, List, [], ◌∷◌, ◌++◌, Option, Some, None, Result, Ok, refl, ap, sym, ◌∙◌, subst, arith}
 use Rattle.std.proofs.lemmas.List.{append-nil}
 use Rattle.std.proofs.lemmas.Option.{none-some, same_Some}
 use Rattle.blk_base.specs.declared.config.Job.{Job}
 use Rattle.blk_base.specs.declared.ask.FrontAnswer.{FrontAnswer}
 use Rattle.blk_base.specs.declared.ask.BackAnswer.{BackAnswer}
 use Rattle.blk_base.specs.declared.ask.FrontAsk.{FrontAsk}
+use Rattle.blk_base.specs.declared.ask.FrontAsk.TheVariants as front_ask
 use Rattle.blk_base.specs.declared.ask.BackAsk.{BackAsk}
 use Rattle.blk_base.specs.declared.ask.BackAsk.TheVariants as back_ask
+use Rattle.blk_base.specs.declared.parts.End.TheVariants as end
 use Rattle.blk_base.specs.declared.moves.BackMover.{BackMover}
 use Rattle.blk_base.specs.declared.moves.BackMover.TheVariants.{Back, Job as JobOf}
 use Rattle.blk_base.specs.declared.moves.Move.{Move as Shown}
 use Rattle.schedule_text.specs.declared.line.Line.{Line}
 use Rattle.schedule_text.specs.declared.line.Line.TheVariants.{Move, Poke}
 use Rattle.xen_pages.specs.Pages.{with_word}
+use Rattle.event_channel.specs.Channels.{is_pending}
+use Rattle.key_directory.specs.Watches.{is_empty_list, first_of}
 use Rattle.blk_io.specs.Disk.{DiskSeen}
 use Rattle.schedule_text.specs.declared.recorder.RecordStop.{RecordStop}
 use Rattle.schedule_text.specs.Recorder.{RecorderSeen, Gained, Adds}
 use Rattle.schedule_text.proofs.Adding.{gained_none}
 use Rattle.grant_table.specs.Table.{GrantTable}
 use Rattle.hypervisor.specs.Hypervisor.{Hypervisor}
-use Rattle.hypervisor.specs.Act.{FrontAct, BackAct, Outcome, Took, front_act, front_seen, front_under, back_act, back_seen, back_under, outcome_told, with_pages}
+use Rattle.hypervisor.specs.Act.{FrontAct, BackAct, Outcome, Took, has_to_take, back_watched, front_act, front_seen, front_under, back_act, back_seen, back_under, outcome_told, with_pages}
 use Rattle.hypervisor.specs.Disk.{DiskDoes}
-use Rattle.hypervisor.specs.May.{FrontMay, BackMay}
+use Rattle.hypervisor.specs.May.{FrontMay, BackMay, FrontTakesMemory, BackTakesMemory}
 use Rattle.blk_front.specs.declared.told.Told.{Told as FrontTold}
 use Rattle.blk_front.specs.declared.told.Refusal.{Refusal}
 use Rattle.blk_front.specs.Submit.{submit_of}
@@ -48,9 +52,9 @@ use Rattle.split_model.specs.Safe.{IsSafe}
 use Rattle.split_model.proofs.Keeping.{no_call}
 use Rattle.split_model.proofs.Running.{goes_one}
 use Rattle.split_model.proofs.Safe.{safe_happens, front_may, back_may, job_may}
-use Rattle.split_model.proofs.SafeActs.{made_front, made_back}
+use Rattle.split_model.proofs.SafeActs.{made_front, made_back, back_event}
 use Rattle.split_model.proofs.SafeFront.{sectors_front, submit_kept}
-use Rattle.split_model.proofs.SafeAnswers.{IsBacks, backs_of, front_answered, back_answered, job_answered}
+use Rattle.split_model.proofs.SafeAnswers.{AsksNoKey, fronts_no_key, IsBacks, backs_of, IsJobs, jobs_of, front_answered, back_answered, job_answered}
 
 -- one thing happened to the machine, and its lines were given to the recorder
 goes_here : (kind so_far : List Happening → Type 0) (n : ℕ) (h : Happening) (w v : World) (a b : DiskSeen) (r s : RecorderSeen) (result : Result (Unit {0}) RecordStop) → kind (h ∷ []) → so_far (h ∷ []) → v ≡ happens w h → v.under.grants.made ≤ w.under.grants.made + n → v.front.sectors ≡ w.front.sectors → DiskGoes w h a b → Adds (lines_at w h) result r s → Goes kind so_far n result (moment w a r) (moment v b s)
@@ -247,12 +251,25 @@ back_rests w u c c' r e under does =
     rests.0 (back_made w Back (back_ends.ask_of w.back) Took u under) refl (no_disk w.back Took c c' does).1
     (subst (λ (l : List Line). Gained l r r) (sym rests.1) (gained_none r))
 
--- a back that waits moves nothing where no event is pending
+-- a back that has no move moves nothing
 pub back_waits : (w : World) (c : DiskSeen) (r : RecorderSeen) → back_turn w Took ≡ None → Goes (Is (BackMoves ∷ [])) (Is (BackMoves ∷ [])) 1 (Ok tt) (moment w c r) (moment w c r)
 back_waits w c r e =
     let rests = back_rests_at w (back_turn w Took) w.under e (sym (ap (back_under w.under) e)) in
     goes_here (Is (BackMoves ∷ [])) (Is (BackMoves ∷ [])) 1 BackMoves w w c c r r (Ok tt) refl refl rests.0 (omega arith) refl refl
     (subst (λ (l : List Line). Gained l r r) (sym rests.1) (gained_none r))
+
+asleep_at : (h : Hypervisor) (pending : Bool) (watches : List (List ℕ)) → (pending || not (is_empty_list watches)) ≡ false → (if pending then Some (back_event h) else back_watched h (first_of watches)) ≡ None
+asleep_at h true watches e = absurd (true≢false e)
+asleep_at h false [] e = refl
+asleep_at h false (path ∷ watches) e = absurd (true≢false e)
+
+waits_at : (h : Hypervisor) (ask : BackAsk) → back_ends.is_wait ask ≡ true → has_to_take h end.Back ≡ false → back_act h Back ask Took ≡ None
+waits_at h back_ask.Wait waits none = asleep_at h (is_pending h.channels end.Back) h.keys.back.pending none
+waits_at h ask waits none = absurd (true≢false (sym waits))
+
+-- a back that waits has no move where neither an event nor a watch is pending
+pub back_asleep : (w : World) → back_ends.is_waiting w.back ≡ true → has_to_take w.under end.Back ≡ false → back_turn w Took ≡ None
+back_asleep w waits none = waits_at w.under (back_ends.ask_of w.back) waits none
 
 -- the job has no move
 pub job_rests : (w : World) (k : ℕ) (u : Hypervisor) (c c' : DiskSeen) (r : RecorderSeen) → None ≡ back_seen (job_turn w k Took) → u ≡ back_under w.under (job_turn w k Took) → DiskDoes (back_step.job_ask_of w.back k) Took c c' → Goes (IsJobMove k) (IsJobMove k) 1 (Ok tt) (moment w c r) (moment (record { front = w.front; back = w.back; under = u }) c' r)
@@ -323,6 +340,31 @@ job_goes_as w k ask seen x b u told c r s result asked given e under does still 
 -- what was asked may be carried out
 pub front_asked_may : (w : World) (ask : FrontAsk) → IsSafe w → ask ≡ front_ends.ask_of w.front → front_ends.StaysInMemory ask → FrontMay w.under ask
 front_asked_may w ask safe same within = subst (FrontMay w.under) (sym same) (front_may w safe (subst front_ends.StaysInMemory same within))
+
+-- what takes memory is asked by nobody yet, so that no move lacks it
+front_needs : (ask : FrontAsk) → AsksNoKey ask → FrontTakesMemory ask → ⊥
+front_needs (front_ask.SetKey path text) own takes = own
+front_needs (front_ask.Watch path) own takes = own
+front_needs ask own takes = takes
+
+pub front_needs_none : (w : World) (ask : FrontAsk) → ask ≡ front_ends.ask_of w.front → FrontTakesMemory ask → ⊥
+front_needs_none w ask same takes = front_needs (front_ends.ask_of w.front) (fronts_no_key w.front) (subst FrontTakesMemory same takes)
+
+back_needs : (ask : BackAsk) → IsBacks ask → BackTakesMemory ask → ⊥
+back_needs (back_ask.SetKey path text) own takes = own
+back_needs (back_ask.Watch path) own takes = own
+back_needs ask own takes = takes
+
+pub back_needs_none : (w : World) (ask : BackAsk) → ask ≡ back_ends.ask_of w.back → BackTakesMemory ask → ⊥
+back_needs_none w ask same takes = back_needs (back_ends.ask_of w.back) (backs_of w.back) (subst BackTakesMemory same takes)
+
+job_needs : (ask : BackAsk) → IsJobs ask → BackTakesMemory ask → ⊥
+job_needs (back_ask.SetKey path text) own takes = own
+job_needs (back_ask.Watch path) own takes = own
+job_needs ask own takes = takes
+
+pub job_needs_none : (w : World) (k : ℕ) (ask : BackAsk) → ask ≡ back_step.job_ask_of w.back k → BackTakesMemory ask → ⊥
+job_needs_none w k ask same takes = job_needs (back_step.job_ask_of w.back k) (jobs_of w.back k) (subst BackTakesMemory same takes)
 
 one_left : (w v : World) → w ≡ v → v.under.grants.made + 1 < 2 ^ 64 → w.under.grants.made + 1 < 2 ^ 64
 one_left w v is left = subst (λ (x : World). x.under.grants.made + 1 < 2 ^ 64) (sym is) left

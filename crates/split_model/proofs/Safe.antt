@@ -1,7 +1,6 @@
 -- What is true of the machine at every moment stays true, and then each ask may be carried out.
 use Rattle.std.proofs.Common.{◌≡◌, ℕ, ◌+◌, ◌<◌, ◌≤◌, ◌^◌, List, [], ◌∷◌, length, refl, sym, ap, ◌∙◌, arith}
 use Rattle.std.specs.Prelude.{Option, Some, None, Result, Ok, Err}
-use Rattle.std.proofs.lemmas.Option.{none-some}
 use Rattle.std.proofs.lemmas.List.Elements.{All-nil, All-contains}
 use Rattle.blk_base.specs.Options.{Options}
 use Rattle.blk_base.specs.declared.config.Job.{Job}
@@ -20,7 +19,7 @@ use Rattle.grant_table.specs.declared.entry.MapRefusal.{MapRefusal}
 use Rattle.grant_table.specs.Table.{GrantTable, IsLive, fresh_table, verdict_at}
 use Rattle.event_channel.specs.declared.channels.PortState.{PortState}
 use Rattle.event_channel.specs.declared.channels.PortState.TheVariants as port
-use Rattle.event_channel.specs.Channels.{ChannelState, state_of, is_pending, sent}
+use Rattle.event_channel.specs.Channels.{ChannelState, state_of, sent}
 use Rattle.hypervisor.specs.Hypervisor.{Hypervisor}
 use Rattle.hypervisor.specs.Act.{FrontAct, BackAct, Outcome, Took, front_act, back_act, map_act, bind_act}
 use Rattle.hypervisor.specs.May.{FrontMay, BackMay, HasMappingLeft}
@@ -39,7 +38,7 @@ use Rattle.split_model.specs.World.{World, start_of}
 use Rattle.split_model.proofs.Overwriting.{poke_cases}
 use Rattle.split_model.specs.Happening.{Happening, FrontMoves, BackMoves, JobMoves, Submits, Notifies, Pokes, Dumps, Looks, Settles, happens, after, front_after, back_after, job_after, front_turn, back_turn, job_turn, other_end}
 use Rattle.split_model.specs.Safe.{AreHeld, IsPorted, IsSafe}
-use Rattle.split_model.proofs.SafeActs.{of_back, back_test, of_read, of_disk, held_after, made_front}
+use Rattle.split_model.proofs.SafeActs.{of_back, of_read, of_disk, held_after, made_front, IsBackKeyAct, back_wait, back_keys, back_key_channels}
 use Rattle.split_model.proofs.SafeAnswers.{IsFronts, IsBacks, IsJobs, fronts_at, backs_of, jobs_of, back_answered, job_answered}
 use Rattle.split_model.proofs.SafeFront.{channels_front, step_fits, submit_kept}
 
@@ -85,12 +84,11 @@ map_ports h who gref mode (Err refusal) none = none
 same_ports : (h : Hypervisor) → NoPort h.channels → (x : BackAct) → x.under ≡ h → NoPortAfter x
 same_ports h none x same = rw same none
 
-wait_ports : (h : Hypervisor) (who : BackMover) (o : Outcome) (a : BackAct) → NoPort h.channels → back_act h who back_ask.Wait o ≡ Some a → NoPortAfter a
-wait_ports h back_mover.Back o a none e = back_test NoPortAfter (is_pending h.channels end.Back) _ a none e
-wait_ports h (back_mover.Job k) o a none e = absurd (none-some a e)
+key_ports : (h : Hypervisor) → NoPort h.channels → (x : BackAct) → IsBackKeyAct h x → NoPortAfter x
+key_ports h none x is = rw (back_key_channels h x is) none
 
 ports_back : (h : Hypervisor) (who : BackMover) (ask : BackAsk) (o : Outcome) (a : BackAct) → back_act h who ask o ≡ Some a → NoPort h.channels → NoPort a.under.channels
-ports_back h who back_ask.Wait o a e none = wait_ports h who o a none e
+ports_back h who back_ask.Wait o a e none = back_wait NoPortAfter h who a none (λ path. none) e
 ports_back h who back_ask.Fence o a e none = of_back NoPortAfter _ a none e
 ports_back h who (back_ask.Read m word) o a e none = of_back NoPortAfter _ a none e
 ports_back h who (back_ask.Write m word value) o a e none = of_back NoPortAfter _ a none e
@@ -99,9 +97,9 @@ ports_back h who (back_ask.Unmap m) o a e none = of_back NoPortAfter _ a none e
 ports_back h who (back_ask.Bind p) o a e none = of_back NoPortAfter _ a (bind_ports h p (state_of h.channels p) none) e
 ports_back h who back_ask.Send o a e none = of_back NoPortAfter _ a none e
 ports_back h who back_ask.ClosePort o a e none = of_back NoPortAfter _ a (none.0, rw none.1 refl) e
-ports_back h who (back_ask.GetKey path) o a e none = absurd (none-some a e)
-ports_back h who (back_ask.SetKey path text) o a e none = absurd (none-some a e)
-ports_back h who (back_ask.Watch path) o a e none = absurd (none-some a e)
+ports_back h who (back_ask.GetKey path) o a e none = back_keys NoPortAfter h who (back_ask.GetKey path) o a tt (key_ports h none) e
+ports_back h who (back_ask.SetKey path text) o a e none = back_keys NoPortAfter h who (back_ask.SetKey path text) o a tt (key_ports h none) e
+ports_back h who (back_ask.Watch path) o a e none = back_keys NoPortAfter h who (back_ask.Watch path) o a tt (key_ports h none) e
 ports_back h who (back_ask.DiskRead sector) o a e none = of_read NoPortAfter h _ o a (same_ports h none) e
 ports_back h who (back_ask.DiskWrite sector words) o a e none = of_disk NoPortAfter h _ o a (same_ports h none) e
 ports_back h who back_ask.Flush o a e none = of_disk NoPortAfter h _ o a (same_ports h none) e

@@ -3,7 +3,6 @@ use Rattle.std.proofs.Common.{◌≡◌, ℕ, Bool, true, false, if◌then◌els
 use Rattle.std.specs.Prelude.{Option, Some, None, Result, Ok, Err, is_some, ◌==◌}
 use Rattle.std.proofs.lemmas.Option.{none-some}
 use Rattle.blk_base.specs.declared.parts.Mode.{Mode}
-use Rattle.blk_base.specs.declared.parts.End.TheVariants as end
 use Rattle.blk_base.specs.declared.ask.FrontAsk.{FrontAsk}
 use Rattle.blk_base.specs.declared.ask.FrontAsk.TheVariants as front_ask
 use Rattle.blk_base.specs.declared.ask.BackAsk.{BackAsk}
@@ -17,7 +16,7 @@ use Rattle.grant_table.specs.declared.entry.MapRefusal.{MapRefusal}
 use Rattle.grant_table.specs.Table.{verdict_at}
 use Rattle.event_channel.specs.declared.channels.PortState.{PortState}
 use Rattle.event_channel.specs.declared.channels.PortState.TheVariants as port
-use Rattle.event_channel.specs.Channels.{ChannelState, fresh_channels, state_of, is_pending}
+use Rattle.event_channel.specs.Channels.{ChannelState, fresh_channels, state_of}
 use Rattle.hypervisor.specs.Hypervisor.{Hypervisor}
 use Rattle.hypervisor.specs.Act.{FrontAct, BackAct, Outcome, Gave, Took, Failed, front_act, back_act, map_act, bind_act, read_act, disk_act}
 use Rattle.blk_front.specs.declared.request.Request.{Request}
@@ -39,7 +38,7 @@ use Rattle.blk_back.specs.View as back
 use Rattle.blk_back.specs.Ask as back_ends
 use Rattle.blk_back.specs.Step.{job_ask_of}
 use Rattle.split_model.specs.Safe.{IsPorted}
-use Rattle.split_model.proofs.SafeActs.{of_front, of_back, front_test, back_test}
+use Rattle.split_model.proofs.SafeActs.{of_front, of_back, front_wait, back_wait}
 
 -- what the front asks: a new port only where there is none, and never for a close or a key
 abbrev pub IsFronts : ChannelState → FrontAsk → Type 0
@@ -124,7 +123,7 @@ abbrev AnswersFront : FrontAsk → FrontAct → Type 0
 AnswersFront ask a = front_ends.IsAnswer ask a.answer
 
 pub front_answered_at : (h : Hypervisor) (c : ChannelState) (ask : FrontAsk) (a : FrontAct) → IsFronts c ask → front_act h ask ≡ Some a → front_ends.IsAnswer ask a.answer
-front_answered_at h c front_ask.Wait a own e = front_test (AnswersFront front_ask.Wait) (is_pending h.channels end.Front) _ a tt e
+front_answered_at h c front_ask.Wait a own e = front_wait (AnswersFront front_ask.Wait) h a tt (λ path. tt) e
 front_answered_at h c front_ask.Fence a own e = of_front (AnswersFront front_ask.Fence) _ a tt e
 front_answered_at h c (front_ask.Read frame word) a own e = of_front (AnswersFront (front_ask.Read frame word)) _ a tt e
 front_answered_at h c (front_ask.Write frame word value) a own e = of_front (AnswersFront (front_ask.Write frame word value)) _ a tt e
@@ -139,6 +138,22 @@ front_answered_at h c (front_ask.Watch path) a own e = absurd own
 -- the front is answered what its ask allows
 pub front_answered : (h : Hypervisor) (v : front.View) (a : FrontAct) → front_act h (front_ends.ask_of v) ≡ Some a → front_ends.IsAnswer (front_ends.ask_of v) a.answer
 front_answered h v a e = front_answered_at h fresh_channels (front_ends.ask_of v) a (fronts_at fresh_channels v.stage v (ported_fresh v.stage)) e
+
+-- an ask for no key; the front makes no other
+abbrev pub AsksNoKey : FrontAsk → Type 0
+AsksNoKey (front_ask.GetKey path) = ⊥
+AsksNoKey (front_ask.SetKey path text) = ⊥
+AsksNoKey (front_ask.Watch path) = ⊥
+AsksNoKey ask = Unit {0}
+
+no_key_at : (ask : FrontAsk) → IsFronts fresh_channels ask → AsksNoKey ask
+no_key_at (front_ask.GetKey path) own = own
+no_key_at (front_ask.SetKey path text) own = own
+no_key_at (front_ask.Watch path) own = own
+no_key_at ask own = tt
+
+pub fronts_no_key : (v : front.View) → AsksNoKey (front_ends.ask_of v)
+fronts_no_key v = no_key_at (front_ends.ask_of v) (fronts_at fresh_channels v.stage v (ported_fresh v.stage))
 
 -- what the back asks: never a call of the disk, nor for a key
 abbrev pub IsBacks : BackAsk → Type 0
@@ -195,7 +210,7 @@ back_bind h p port.Closed = tt
 back_bind h p port.Bound = tt
 
 back_answered_at : (h : Hypervisor) (ask : BackAsk) (o : Outcome) (a : BackAct) → IsBacks ask → back_act h back_mover.Back ask o ≡ Some a → back_ends.IsAnswer ask a.answer
-back_answered_at h back_ask.Wait o a own e = back_test (AnswersBack back_ask.Wait) (is_pending h.channels end.Back) _ a tt e
+back_answered_at h back_ask.Wait o a own e = back_wait (AnswersBack back_ask.Wait) h back_mover.Back a tt (λ path. tt) e
 back_answered_at h back_ask.Fence o a own e = of_back (AnswersBack back_ask.Fence) _ a tt e
 back_answered_at h (back_ask.Read m word) o a own e = of_back (AnswersBack (back_ask.Read m word)) _ a tt e
 back_answered_at h (back_ask.Write m word value) o a own e = of_back (AnswersBack (back_ask.Write m word value)) _ a tt e

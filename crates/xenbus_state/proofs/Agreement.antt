@@ -3,7 +3,6 @@ use Rattle.std.proofs.Common.{◌≡◌, ℕ, ◌+◌, ◌==◌, if◌then◌els
 use Rattle.std.specs.Prelude.{Some}
 use Rattle.std.proofs.lemmas.Bool.Decides.{nat_tests}
 use Rattle.std.specs.Option.{option_map}
-use Rattle.arrayvec.specs.ArrayString.{ArrayString}
 use Rattle.blk_base.specs.declared.operation.Abi.{Abi}
 use Rattle.blk_base.specs.declared.operation.Abi.TheVariants.{X64, X32}
 use Rattle.xenbus_state.specs.declared.keys.BackKey.TheVariants as back
@@ -33,9 +32,9 @@ is_one false = refl
 order_again : (order : ℕ) → order ≤ 4 → order_of (Some order) ≡ Some order
 order_again order few = let low : nat_le order 4 ≡ true = grind (arith, nat_tests) in rw low refl
 
-layout_again : (abi : Abi) (text : ArrayString) → text.bytes ≡ text_of (Layout abi) → layout_read (Some text) ≡ Some abi
-layout_again X64 text e = rw e refl
-layout_again X32 text e = rw e refl
+layout_again : (abi : Abi) → layout_read (Some (text_of (Layout abi))) ≡ Some abi
+layout_again X64 = refl
+layout_again X32 = refl
 
 pub terms_again : (terms : FrontTerms) → terms.order ≤ 4 → terms.port < 2 ^ 32 → AreTermsRead terms
 terms_again terms few fits = record {
@@ -50,13 +49,13 @@ terms_again terms few fits = record {
 pub offer_again : (offer before : Features) (disk : DiskFacts) → offer.indirect < 2 ^ 32 → offer.order < 2 ^ 32 → reads_offer (λ key. text_of (back_value offer disk key)) before ≡ Some offer
 offer_again offer before disk indirect order = rw (flag_again offer.barrier, flag_again offer.flush, flag_again offer.discard, flag_again offer.persistent, number_again offer.indirect indirect, number_again offer.order order, not_zero offer.barrier, not_zero offer.flush, not_zero offer.discard, is_one offer.persistent) refl
 
-info_again : (read_only : Bool) (text : ArrayString) → text.bytes ≡ decimal (if read_only then 4 else 0) → option_map (λ n. n == 4) (fact_read back.Info (Some text)) ≡ Some read_only
-info_again true text e = rw (e, number_again 4 (omega arith)) refl
-info_again false text e = rw (e, number_again 0 (omega arith)) refl
+info_again : (read_only : Bool) → option_map (λ n. n == 4) (fact_read back.Info (Some (decimal (if read_only then 4 else 0)))) ≡ Some read_only
+info_again true = rw (number_again 4 (omega arith)) refl
+info_again false = rw (number_again 0 (omega arith)) refl
 
 pub facts_again : (offer : Features) (disk : DiskFacts) → disk.sectors < 2 ^ 64 → AreFactsRead offer disk
 facts_again offer disk fits = record {
-  sectors = λ text e. rw e (long_again disk.sectors fits);
-  size = λ text e. rw (e, number_again 512 (omega arith)) refl;
+  sectors = long_again disk.sectors fits;
+  size = rw (number_again 512 (omega arith)) refl;
   info = info_again disk.read_only;
 }

@@ -1,8 +1,7 @@
 -- What a back offers and what its disk is has no part in what it makes of its answers.
-use Rattle.std.proofs.Common.{◌≡◌, ◌∙◌, ap, refl, ◌==◌, Bool, true, false, List, [], ◌∷◌, if◌then◌else◌}
+use Rattle.std.proofs.Common.{◌≡◌, ℕ, ◌∙◌, ap, refl, ◌==◌, Bool, true, false, List, [], ◌∷◌, if◌then◌else◌}
 use Rattle.std.specs.Prelude.{Option, Some, None}
 use Rattle.std.specs.Option.{option_map}
-use Rattle.arrayvec.specs.ArrayString.{ArrayString}
 use Rattle.blk_base.specs.declared.ask.BackAnswer.{BackAnswer}
 use Rattle.blk_base.specs.declared.ask.BackAnswer.TheVariants as answer
 use Rattle.xenbus_state.specs.declared.keys.FrontKey.{FrontKey}
@@ -42,15 +41,15 @@ only_alone : (single : Bool) (f : Features) (d : DiskFacts) (v : BackView) → k
 only_alone true f d v = refl
 only_alone false f d v = refl
 
-key_alone : (k : FrontKey) (text : Option ArrayString) (f : Features) (d : DiskFacts) (v : BackView) → kept_or_halted (key_read k text (offering f d v)) (offering f d v) ≡ offering f d (kept_or_halted (key_read k text v) v)
+key_alone : (k : FrontKey) (text : Option (List ℕ)) (f : Features) (d : DiskFacts) (v : BackView) → kept_or_halted (key_read k text (offering f d v)) (offering f d v) ≡ offering f d (kept_or_halted (key_read k text v) v)
 key_alone key.RingPageOrder None f d v = refl
-key_alone key.RingPageOrder (Some text) f d v = kept_alone (λ w. with_order w (key.RingRefOf 0)) (order_of (number_of text.bytes)) f d v (λ x. refl)
+key_alone key.RingPageOrder (Some text) f d v = kept_alone (λ w. with_order w (key.RingRefOf 0)) (order_of (number_of text)) f d v (λ x. refl)
 key_alone (key.RingRefOf page) None f d v = only_alone (v.terms.order == 0) f d v
-key_alone (key.RingRefOf page) (Some text) f d v = kept_alone (λ w. with_gref w (after_page v.terms.order page)) (number_of text.bytes) f d v (λ x. refl)
+key_alone (key.RingRefOf page) (Some text) f d v = kept_alone (λ w. with_gref w (after_page v.terms.order page)) (number_of text) f d v (λ x. refl)
 key_alone key.RingRef None f d v = refl
-key_alone key.RingRef (Some text) f d v = kept_alone (λ w. with_gref w key.EventChannel) (number_of text.bytes) f d v (λ x. refl)
+key_alone key.RingRef (Some text) f d v = kept_alone (λ w. with_gref w key.EventChannel) (number_of text) f d v (λ x. refl)
 key_alone key.EventChannel None f d v = refl
-key_alone key.EventChannel (Some text) f d v = kept_alone with_port (number_of text.bytes) f d v (λ x. refl)
+key_alone key.EventChannel (Some text) f d v = kept_alone with_port (number_of text) f d v (λ x. refl)
 key_alone key.Protocol text f d v = kept_alone with_layout (layout_read text) f d v (λ x. refl)
 key_alone key.FeaturePersistent text f d v = kept_alone with_persistent (count_read text) f d v (λ x. refl)
 

@@ -4,7 +4,6 @@ use Rattle.std.specs.Prelude.{Option, Some, None}
 use Rattle.std.specs.Option.{option_map}
 use Rattle.std.proofs.lemmas.Bool.Decides.{nat_tests}
 use Rattle.std.proofs.lemmas.Nat.{pow_pos}
-use Rattle.arrayvec.specs.ArrayString.{ArrayString}
 use Rattle.blk_base.specs.declared.operation.Abi.{Abi}
 use Rattle.blk_base.specs.declared.parts.Mapping.{Mapping}
 use Rattle.blk_base.specs.declared.ask.BackAnswer.{BackAnswer}
@@ -170,15 +169,15 @@ persistent_sound (Some n) v h =
     let none = h.pages in
     record { order = h.order; placed = (h.own, h.bound, h.grefs, omega arith) }
 
-key_sound : (k : FrontKey) (text : Option ArrayString) (v : BackView) → IsReadingAt k v → IsSound (kept_or_halted (key_read k text v) v)
+key_sound : (k : FrontKey) (text : Option (List ℕ)) (v : BackView) → IsReadingAt k v → IsSound (kept_or_halted (key_read k text v) v)
 key_sound key.RingPageOrder None v h = record { order = omega arith; placed = (h.own, record { pages = h.pages; bound = h.bound }, (h.grefs, refl)) }
-key_sound key.RingPageOrder (Some text) v h = order_sound (number_of text.bytes) v h
+key_sound key.RingPageOrder (Some text) v h = order_sound (number_of text) v h
 key_sound (key.RingRefOf page) None v h = only_page_sound page v h
-key_sound (key.RingRefOf page) (Some text) v h = page_sound page (number_of text.bytes) v h
+key_sound (key.RingRefOf page) (Some text) v h = page_sound page (number_of text) v h
 key_sound key.RingRef None v h = bad_sound key.RingRef v h
-key_sound key.RingRef (Some text) v h = single_sound (number_of text.bytes) v h
+key_sound key.RingRef (Some text) v h = single_sound (number_of text) v h
 key_sound key.EventChannel None v h = bad_sound key.EventChannel v h
-key_sound key.EventChannel (Some text) v h = port_sound (number_of text.bytes) v h
+key_sound key.EventChannel (Some text) v h = port_sound (number_of text) v h
 key_sound key.Protocol text v h = layout_sound (layout_read text) v h
 key_sound key.FeaturePersistent text v h = persistent_sound (count_read text) v h
 

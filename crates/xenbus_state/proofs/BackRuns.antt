@@ -2,7 +2,6 @@
 use Rattle.std.proofs.Common.{subst, ◌≡◌, ℕ, ◌==◌, Bool, true, false, List, [], ◌∷◌, refl, if◌then◌else◌}
 use Rattle.std.specs.Prelude.{Option, Some, None}
 use Rattle.std.specs.Option.{option_map}
-use Rattle.arrayvec.specs.ArrayString.{ArrayString}
 use Rattle.blk_base.specs.declared.parts.Mapping.{Mapping}
 use Rattle.blk_base.specs.declared.ask.BackAnswer.{BackAnswer}
 use Rattle.blk_base.specs.declared.ask.BackAnswer.TheVariants as answer
@@ -52,15 +51,15 @@ only_page_state : (single : Bool) (v : BackView) → (kept_or_halted (if single 
 only_page_state true v = refl
 only_page_state false v = refl
 
-key_state : (k : FrontKey) (text : Option ArrayString) (v : BackView) → (kept_or_halted (key_read k text v) v).state ≡ v.state
+key_state : (k : FrontKey) (text : Option (List ℕ)) (v : BackView) → (kept_or_halted (key_read k text v) v).state ≡ v.state
 key_state key.RingPageOrder None v = refl
-key_state key.RingPageOrder (Some text) v = order_state (order_of (number_of text.bytes)) v
+key_state key.RingPageOrder (Some text) v = order_state (order_of (number_of text)) v
 key_state (key.RingRefOf page) None v = only_page_state (v.terms.order == 0) v
-key_state (key.RingRefOf page) (Some text) v = leaves (with_gref v (after_page v.terms.order page)) (number_of text.bytes) v (λ x. refl)
+key_state (key.RingRefOf page) (Some text) v = leaves (with_gref v (after_page v.terms.order page)) (number_of text) v (λ x. refl)
 key_state key.RingRef None v = refl
-key_state key.RingRef (Some text) v = leaves (with_gref v key.EventChannel) (number_of text.bytes) v (λ x. refl)
+key_state key.RingRef (Some text) v = leaves (with_gref v key.EventChannel) (number_of text) v (λ x. refl)
 key_state key.EventChannel None v = refl
-key_state key.EventChannel (Some text) v = leaves (with_port v) (number_of text.bytes) v (λ x. refl)
+key_state key.EventChannel (Some text) v = leaves (with_port v) (number_of text) v (λ x. refl)
 key_state key.Protocol text v = leaves (with_layout v) (layout_read text) v (λ x. refl)
 key_state key.FeaturePersistent text v = leaves (with_persistent v) (count_read text) v (λ x. refl)
 

@@ -2,7 +2,6 @@
 use Rattle.std.specs.Option.{option_map}
 use Rattle.std.specs.Prelude.{◌==◌, ◌≡◌, ◌↔◌, ℕ, ◌+◌, ◌-◌, ◌*◌, ◌^◌, ◌<◌, ◌≤◌, true, List, length, fold, Option, Some, None}
 use Rattle.std.specs.List.{list_all}
-use Rattle.arrayvec.specs.ArrayString.{ArrayString}
 use Rattle.xenbus_state.specs.declared.keys.FrontKey.TheVariants as front
 use Rattle.xenbus_state.specs.declared.keys.BackKey.{BackKey}
 use Rattle.xenbus_state.specs.declared.keys.BackKey.TheVariants as back
@@ -39,7 +38,7 @@ pub record AreTermsRead (terms : FrontTerms) : Type 0 where
   pub only : number_of (text_of (front_value terms front.RingRef)) ≡ Some 8
   pub pages : (page : ℕ) → page < 16 → number_of (text_of (front_value terms (front.RingRefOf page))) ≡ Some (8 + page)
   pub port : number_of (text_of (front_value terms front.EventChannel)) ≡ Some terms.port
-  pub layout : (text : ArrayString) → text.bytes ≡ text_of (front_value terms front.Protocol) → layout_read (Some text) ≡ Some terms.abi
+  pub layout : layout_read (Some (text_of (front_value terms front.Protocol))) ≡ Some terms.abi
   pub persistent : number_of (text_of (front_value terms front.FeaturePersistent)) ≡ Some (flag_of terms.persistent)
 
 abbrev pub TermsAreRead : Type 0
@@ -69,9 +68,9 @@ OfferIsRead = (offer before : Features) (disk : DiskFacts) → offer.indirect < 
 
 -- each fact of the disk that a back sets is read as what it says
 pub record AreFactsRead (offer : Features) (disk : DiskFacts) : Type 0 where
-  pub sectors : (text : ArrayString) → text.bytes ≡ text_of (back_value offer disk back.Sectors) → fact_read back.Sectors (Some text) ≡ Some disk.sectors
-  pub size : (text : ArrayString) → text.bytes ≡ text_of (back_value offer disk back.SectorSize) → fact_read back.SectorSize (Some text) ≡ Some 512
-  pub info : (text : ArrayString) → text.bytes ≡ text_of (back_value offer disk back.Info) → option_map (λ n. n == 4) (fact_read back.Info (Some text)) ≡ Some disk.read_only
+  pub sectors : fact_read back.Sectors (Some (text_of (back_value offer disk back.Sectors))) ≡ Some disk.sectors
+  pub size : fact_read back.SectorSize (Some (text_of (back_value offer disk back.SectorSize))) ≡ Some 512
+  pub info : option_map (λ n. n == 4) (fact_read back.Info (Some (text_of (back_value offer disk back.Info)))) ≡ Some disk.read_only
 
 abbrev pub FactsAreRead : Type 0
 FactsAreRead = (offer : Features) (disk : DiskFacts) → disk.sectors < 2 ^ 64 → AreFactsRead offer disk

@@ -1,6 +1,5 @@
 -- What an end does, told from what it asked and was answered: never from what it is doing.
-use Rattle.std.specs.Prelude.{◌≡◌, ℕ, ◌==◌, ◌&&◌, ◌⊎◌, Bool, true, false, Option, Some, None}
-use Rattle.arrayvec.specs.ArrayString.{ArrayString}
+use Rattle.std.specs.Prelude.{◌≡◌, ℕ, ◌==◌, ◌&&◌, ◌⊎◌, Bool, true, false, List, Option, Some, None}
 use Rattle.blk_base.specs.declared.ask.FrontAnswer.{FrontAnswer}
 use Rattle.blk_base.specs.declared.ask.FrontAnswer.TheVariants as front_answer
 use Rattle.blk_base.specs.declared.ask.BackAnswer.{BackAnswer}
@@ -37,15 +36,15 @@ use Rattle.xenbus_state.specs.BackAsk as back
 use Rattle.xenbus_state.specs.BackReading.{order_of, layout_read}
 
 -- the key of a ring of that order is malformed, or missing where it may not be
-abbrev pub IsBadKey : FrontKey → Option ArrayString → ℕ → Type 0
+abbrev pub IsBadKey : FrontKey → Option (List ℕ) → ℕ → Type 0
 IsBadKey key.RingPageOrder None order = ⊥
-IsBadKey key.RingPageOrder (Some text) order = order_of (number_of text.bytes) ≡ None
+IsBadKey key.RingPageOrder (Some text) order = order_of (number_of text) ≡ None
 IsBadKey (key.RingRefOf page) None order = (order == 0) ≡ false
-IsBadKey (key.RingRefOf page) (Some text) order = number_of text.bytes ≡ None
+IsBadKey (key.RingRefOf page) (Some text) order = number_of text ≡ None
 IsBadKey key.RingRef None order = Unit {0}
-IsBadKey key.RingRef (Some text) order = number_of text.bytes ≡ None
+IsBadKey key.RingRef (Some text) order = number_of text ≡ None
 IsBadKey key.EventChannel None order = Unit {0}
-IsBadKey key.EventChannel (Some text) order = number_of text.bytes ≡ None
+IsBadKey key.EventChannel (Some text) order = number_of text ≡ None
 IsBadKey key.Protocol text order = layout_read text ≡ None
 IsBadKey key.FeaturePersistent text order = count_read text ≡ None
 
@@ -58,7 +57,7 @@ HaltsFor v (ask.Bind port) answer.BindRefused reason = reason ≡ halt.BadPort p
 HaltsFor v a b reason = ⊥
 
 -- a key of the back is malformed, or missing where it may not be
-abbrev pub IsBadBackKey : BackKey → Option ArrayString → Type 0
+abbrev pub IsBadBackKey : BackKey → Option (List ℕ) → Type 0
 IsBadBackKey back_key.Sectors text = fact_read back_key.Sectors text ≡ None
 IsBadBackKey back_key.SectorSize text = fact_read back_key.SectorSize text ≡ None
 IsBadBackKey back_key.Info text = fact_read back_key.Info text ≡ None

@@ -1,6 +1,5 @@
 -- What is true of each end, whatever the other end's keys say.
 use Rattle.std.specs.Prelude.{ℕ, ◌≡◌, ◌↔◌, Bool, true, false, List, Option, Some}
-use Rattle.arrayvec.specs.ArrayString.{ArrayString}
 use Rattle.blk_base.specs.declared.ask.FrontAnswer.{FrontAnswer}
 use Rattle.blk_base.specs.declared.ask.FrontAnswer.TheVariants as front_answer
 use Rattle.blk_base.specs.declared.ask.BackAnswer.{BackAnswer}
@@ -57,10 +56,10 @@ abbrev pub NewsFollows : Type 0
 NewsFollows = (v : FrontView) (idle : Bool) (a : FrontAnswer) → front.IsAnswer (front.ask_of v idle) a → IsToldAfter v idle a
 
 abbrev pub FrontObeys : Type 0
-FrontObeys = (v : FrontView) (idle : Bool) (text : Option ArrayString) → v.stage ≡ front_stage.ReadState → DoesFront (front_action v.state v.closing idle (state_read text)) idle v (front_step.step_of v idle (front_answer.Key text)) (front_step.news_of v idle (front_answer.Key text))
+FrontObeys = (v : FrontView) (idle : Bool) (text : Option (List ℕ)) → v.stage ≡ front_stage.ReadState → DoesFront (front_action v.state v.closing idle (state_read text)) idle v (front_step.step_of v idle (front_answer.Key text)) (front_step.news_of v idle (front_answer.Key text))
 
 abbrev pub BackObeys : Type 0
-BackObeys = (v : BackView) (text : Option ArrayString) → v.stage ≡ stage.ReadState → back.says_closing v ≡ false → DoesBack (back_action v.state v.unplugged (state_read text)) (back_step.step_of v (back_answer.Key text)) (back_step.halt_of v (back_answer.Key text))
+BackObeys = (v : BackView) (text : Option (List ℕ)) → v.stage ≡ stage.ReadState → back.says_closing v ≡ false → DoesBack (back_action v.state v.unplugged (state_read text)) (back_step.step_of v (back_answer.Key text)) (back_step.halt_of v (back_answer.Key text))
 
 -- from a read of the other end's state, each end does what its table says
 abbrev pub TablesAreObeyed : Type 0

@@ -1,6 +1,5 @@
 -- The states of both ends (`io/xenbus.h`, enum xenbus_state).
-use Rattle.std.specs.Prelude.{ℕ, ◌==◌, if◌then◌else◌, Option, Some, None}
-use Rattle.arrayvec.specs.ArrayString.{ArrayString}
+use Rattle.std.specs.Prelude.{ℕ, ◌==◌, if◌then◌else◌, List, Option, Some, None}
 use Rattle.xenbus_state.specs.declared.state.BusState.{BusState}
 use Rattle.xenbus_state.specs.declared.state.BusState.TheVariants.{Unknown, Initialising, InitWait, Initialised, Connected, Closing, Closed, Reconfiguring, Reconfigured}
 use Rattle.xenbus_state.specs.Numbers.{number_of}
@@ -35,6 +34,6 @@ state_of_number None = None
 state_of_number (Some n) = state_of n
 
 -- what a state's key says; an absent key says Unknown
-abbrev pub state_read : Option ArrayString → Option BusState
+abbrev pub state_read : Option (List ℕ) → Option BusState
 state_read None = Some Unknown
-state_read (Some text) = state_of_number (number_of text.bytes)
+state_read (Some text) = state_of_number (number_of text)

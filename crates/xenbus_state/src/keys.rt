@@ -1,17 +1,16 @@
 // The keys of both ends, and where they lie.
-ghost use Rattle.std.specs.Prelude.{◌≡◌, ◌≤◌, ◌++◌, codes, decimal, length};
-ghost use Rattle.arrayvec.specs.ArrayString.{array_string_len};
+ghost use Rattle.std.specs.Prelude.{◌≡◌, ◌≤◌, ◌+◌, ◌++◌, codes, decimal, length};
 ghost use Rattle.blk_base.specs.declared.parts.End.{End};
 ghost use Rattle.key_directory.specs.Paths.{directory_of};
 ghost use Rattle.xenbus_state.specs.Keys.{front_name, back_name, path_under};
 
 use arrayvec::ArrayString;
-use blk_base::{End, Path};
+use blk_base::{End, Path, ShortText};
 use itoa::Buffer;
 use key_directory::directory_of;
 
 /// The name of a key, at most 32 bytes.
-pub type KeyName = ArrayString<32>;
+pub type KeyName = ShortText<32>;
 
 /// A key that the front sets, its state aside (`io/blkif.h`, "Frontend XenBus Nodes").
 #[derive(Clone, Copy, Debug, PartialEq, Eq)]
@@ -43,16 +42,16 @@ pub enum BackKey {
 impl FrontKey {
     /// The key's name in the front's directory.
     pub fn name(self) -> KeyName
-        ensures bytes { result.bytes ≡ front_name self }
-        ensures short { length result.bytes ≤ 32 }
+        ensures bytes { result ≡ front_name self }
+        ensures short { length result ≤ 32 }
     {
         match self {
-            FrontKey::RingPageOrder => named("ring-page-order"),
-            FrontKey::RingRef => named("ring-ref"),
+            FrontKey::RingPageOrder => KeyName::of("ring-page-order"),
+            FrontKey::RingRef => KeyName::of("ring-ref"),
             FrontKey::RingRefOf(page) => numbered("ring-ref", page),
-            FrontKey::EventChannel => named("event-channel"),
-            FrontKey::Protocol => named("protocol"),
-            FrontKey::FeaturePersistent => named("feature-persistent"),
+            FrontKey::EventChannel => KeyName::of("event-channel"),
+            FrontKey::Protocol => KeyName::of("protocol"),
+            FrontKey::FeaturePersistent => KeyName::of("feature-persistent"),
         }
     }
 }
@@ -60,40 +59,40 @@ impl FrontKey {
 impl BackKey {
     /// The key's name in the back's directory.
     pub fn name(self) -> KeyName
-        ensures bytes { result.bytes ≡ back_name self }
-        ensures short { length result.bytes ≤ 32 }
+        ensures bytes { result ≡ back_name self }
+        ensures short { length result ≤ 32 }
     {
         match self {
-            BackKey::FeatureBarrier => named("feature-barrier"),
-            BackKey::FeatureFlushCache => named("feature-flush-cache"),
-            BackKey::FeatureDiscard => named("feature-discard"),
-            BackKey::FeaturePersistent => named("feature-persistent"),
-            BackKey::FeatureMaxIndirectSegments => named("feature-max-indirect-segments"),
-            BackKey::MaxRingPageOrder => named("max-ring-page-order"),
-            BackKey::Sectors => named("sectors"),
-            BackKey::SectorSize => named("sector-size"),
-            BackKey::Info => named("info"),
+            BackKey::FeatureBarrier => KeyName::of("feature-barrier"),
+            BackKey::FeatureFlushCache => KeyName::of("feature-flush-cache"),
+            BackKey::FeatureDiscard => KeyName::of("feature-discard"),
+            BackKey::FeaturePersistent => KeyName::of("feature-persistent"),
+            BackKey::FeatureMaxIndirectSegments => KeyName::of("feature-max-indirect-segments"),
+            BackKey::MaxRingPageOrder => KeyName::of("max-ring-page-order"),
+            BackKey::Sectors => KeyName::of("sectors"),
+            BackKey::SectorSize => KeyName::of("sector-size"),
+            BackKey::Info => KeyName::of("info"),
         }
     }
 }
 
 /// Where a key of the front lies.
 pub fn front_path(key: FrontKey) -> Path
-    ensures { result.bytes ≡ path_under End.Front (front_name key) }
+    ensures { result ≡ path_under End.Front (front_name key) }
 {
     path(End::Front, key.name().as_str())
 }
 
 /// Where a key of the back lies.
 pub fn back_path(key: BackKey) -> Path
-    ensures { result.bytes ≡ path_under End.Back (back_name key) }
+    ensures { result ≡ path_under End.Back (back_name key) }
 {
     path(End::Back, key.name().as_str())
 }
 
 /// Where the state of an end lies.
 pub fn state_path(end: End) -> Path
-    ensures { result.bytes ≡ path_under end (codes "state") }
+    ensures { result ≡ path_under end (codes "state") }
 {
     path(end, "state")
 }
@@ -101,13 +100,10 @@ pub fn state_path(end: End) -> Path
 // A name under an end's directory.
 fn path(end: End, name: &str) -> Path
     requires { length name.now ≤ 32 }
-    ensures { result.bytes ≡ path_under end name.now }
+    ensures { result ≡ path_under end name.now }
 {
-    let mut path = Path::new();
-    path.push_str(directory(end));
-    path.push_str("/");
-    path.push_str(name);
-    path
+    let below: ShortText<33> = joined("/", name);
+    joined(directory(end), below.as_str())
 }
 
 // An end's directory.
@@ -118,26 +114,23 @@ fn directory(end: End) -> &'static str
     directory_of(end)
 }
 
-// A name as it stands.
-fn named(name: &str) -> KeyName
-    requires { length name.now ≤ 32 }
-    ensures bytes { result.bytes ≡ name.now }
-    ensures short { length result.bytes ≤ 32 }
-{
-    let mut text = KeyName::new();
-    text.push_str(name);
-    text
-}
-
 // A name with a number after it.
 fn numbered(name: &str, number: u32) -> KeyName
     requires { length name.now ≤ 20 }
-    ensures bytes { result.bytes ≡ name.now ++ decimal number }
-    ensures short { length result.bytes ≤ 32 }
+    ensures bytes { result ≡ name.now ++ decimal number }
+    ensures short { length result ≤ 32 }
 {
-    let mut text = KeyName::new();
     let mut buffer = Buffer::new();
-    text.push_str(name);
-    text.push_str(buffer.format(number));
-    text
+    joined(name, buffer.format(number))
+}
+
+// Two texts, one after the other.
+fn joined<const N: usize>(first: &str, second: &str) -> ShortText<N>
+    requires { length first.now + length second.now ≤ N }
+    ensures { result ≡ first.now ++ second.now }
+{
+    let mut text: ArrayString<N> = ArrayString::new();
+    text.push_str(first);
+    text.push_str(second);
+    ShortText::of(text.as_str())
 }

@@ -28,7 +28,7 @@ fn read_digits(digits: &[u8], limit: u64) -> Option<u64>
 // The number that 1 to `most` digits say, up to `limit`.
 #[tactic(auto, unfolding(crate::specs::Numbers::number_in))]
 fn read_up_to(text: &Text, most: usize, limit: u64) -> Option<u64>
-    ensures value { result ≡ number_in most limit text.now.bytes }
+    ensures value { result ≡ number_in most limit text.now }
     ensures within { IfSome result (λ number. number ≤ limit) }
 {
     let digits = text.as_str().as_bytes();
@@ -41,7 +41,7 @@ fn read_up_to(text: &Text, most: usize, limit: u64) -> Option<u64>
 /// The number of a key: 1 to 10 decimal digits, leading zeros allowed, up to 4294967295. `None`
 /// exactly where the text is nothing of the kind.
 pub fn read_number(text: &Text) -> Option<u32>
-    ensures { result ≡ number_of text.now.bytes }
+    ensures { result ≡ number_of text.now }
 {
     match read_up_to(text, 10, u64::from(u32::MAX)) {
         Some(number) => Some(number as u32),
@@ -51,7 +51,7 @@ pub fn read_number(text: &Text) -> Option<u32>
 
 /// The number of the key `sectors`: 1 to 20 decimal digits, up to 18446744073709551615.
 pub fn read_long(text: &Text) -> Option<u64>
-    ensures { result ≡ long_of text.now.bytes }
+    ensures { result ≡ long_of text.now }
 {
     read_up_to(text, 20, u64::MAX)
 }

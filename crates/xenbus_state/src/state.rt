@@ -40,7 +40,7 @@ impl BusState {
 
     /// The text of a state's key.
     pub fn text(self) -> Text
-        ensures { result.bytes ≡ decimal (state_number self) }
+        ensures { result ≡ decimal (state_number self) }
     {
         KeyValue::Number(u64::from(self.number())).text()
     }

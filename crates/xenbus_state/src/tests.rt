@@ -10,11 +10,11 @@ use crate::values::{FrontTerms, back_value, front_value};
 use blk_base::{Abi, End, Lent, Text};
 
 fn short(text: &str) -> Text {
-    let mut short = Text::new();
     if text.len() <= 64 {
-        short.push_str(text);
+        Text::of(text)
+    } else {
+        Text::new()
     }
-    short
 }
 
 fn number(text: &str) -> Option<u32> {

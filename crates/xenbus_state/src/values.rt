@@ -37,16 +37,14 @@ pub struct FrontTerms {
 impl KeyValue {
     /// The text of the key.
     pub fn text(self) -> Text
-        ensures { result.bytes ≡ text_of self }
+        ensures { result ≡ text_of self }
     {
-        let mut text = Text::new();
         let mut buffer = Buffer::new();
         match self {
-            KeyValue::Number(number) => text.push_str(buffer.format(number)),
-            KeyValue::Layout(Abi::X64) => text.push_str("x86_64-abi"),
-            KeyValue::Layout(Abi::X32) => text.push_str("x86_32-abi"),
+            KeyValue::Number(number) => Text::of(buffer.format(number)),
+            KeyValue::Layout(Abi::X64) => Text::of("x86_64-abi"),
+            KeyValue::Layout(Abi::X32) => Text::of("x86_32-abi"),
         }
-        text
     }
 }
 

@@ -1,5 +1,5 @@
 // Where a job of a number stands.
-ghost use Rattle.std.specs.Prelude.{◌≡◌, ◌<◌, ◌+◌, ◌&&◌, IfSome, length};
+ghost use Rattle.std.specs.Prelude.{◌≡◌, ◌<◌, ◌+◌, ◌&&◌, ◌↔◌, IfSome, IsTrue, Some, length};
 ghost use Rattle.back_jobs.specs.Order.{IsFirstFrom, IsNumberAt, number_at, is_above, is_below};
 ghost use Rattle.back_jobs.specs.Sound.{AreAscending};
 ghost use Rattle.back_jobs.specs.Jobs.{place_of, next_in};
@@ -21,6 +21,17 @@ pub(super) fn next_in(tasks: &[Task], number: u64) -> Option<u64>
     match tasks.iter().find(|t| number < t.number()) {
         None => None,
         Some(task) => Some(task.number()),
+    }
+}
+
+// Whether the first job has this number.
+#[inline(always)]
+pub(super) fn is_first(tasks: &[Task], number: u64) -> bool
+    ensures { IsTrue result ↔ (number_at tasks.now 0 ≡ Some number) }
+{
+    match tasks.first() {
+        None => false,
+        Some(task) => task.number() == number,
     }
 }
 
@@ -64,6 +75,9 @@ pub(super) fn first_above(tasks: &[Task], number: u64) -> usize
     if is_below(tasks, number) {
         return 0;
     }
+    if is_past(tasks, number) {
+        return tasks.len();
+    }
     if let Some(place) = guess(tasks, number) {
         return place + 1;
     }
@@ -80,6 +94,17 @@ fn is_below(tasks: &[Task], number: u64) -> bool
     }
 }
 
+// Whether no job has a number above this one, among jobs whose numbers ascend; also where there is no job.
+#[inline(always)]
+fn is_past(tasks: &[Task], number: u64) -> bool
+    ensures { result ≡ is_above tasks.now (number + 1) }
+{
+    match tasks.last() {
+        None => true,
+        Some(task) => task.number() <= number,
+    }
+}
+
 // The place of the job of a number where all jobs from the first one's number to it are held, as they
 // mostly are.
 #[inline(always)]
@@ -87,10 +112,7 @@ pub(super) fn guess(tasks: &[Task], number: u64) -> Option<usize>
     ensures { IfSome result (λ place. IsNumberAt number tasks.now place) }
 {
     let first = tasks.first()?.number();
-    if number < first || number - first >= tasks.len() as u64 {
-        return None;
-    }
-    let place = (number - first) as usize;
+    let place = number.wrapping_sub(first) as usize;
     match number_at(tasks, place) {
         Some(found) if found == number => Some(place),
         _ => None,

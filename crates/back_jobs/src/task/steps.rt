@@ -1,6 +1,6 @@
 // What an answer makes of a job.
 ghost use Rattle.std.specs.Prelude.{◌≡◌, ◌<◌};
-ghost use Rattle.back_jobs.specs.Task.{step_at, next_sector, next_segment, counted, sector_stage, rest_of, last_of, IsUnmap};
+ghost use Rattle.back_jobs.specs.Task.{at_word, step_at, next_sector, next_segment, counted, sector_stage, rest_of, last_of, IsUnmap};
 ghost use Rattle.back_jobs.specs.Sound.{IsInMode};
 ghost use Rattle.back_jobs.specs.declared.stage.Stage.TheVariants as stage;
 ghost use Rattle.blk_base.specs.declared.ask.BackAnswer.TheVariants.{Word, Done};
@@ -26,12 +26,13 @@ impl Task {
         requires placed { k < 128 }
         ensures { self.new ≡ step_at (stage.ReadWord mapping k) self.old (Word word) }
     {
-        self.words[k as usize] = word;
+        // The stage comes first: behind a write at some place of the words the built code would look at it anew.
         if k == 127 {
             self.stage = Stage::DiskWrite(mapping);
         } else {
-            self.stage = Stage::ReadWord(mapping, k + 1);
+            next_word(&mut self.stage, k + 1);
         }
+        self.words[k as usize] = word;
     }
 
     pub(super) fn wrote_sector(&mut self, mapping: Mapping)
@@ -65,7 +66,7 @@ impl Task {
         ensures { self.new ≡ step_at (stage.WriteWord mapping k) self.old Done }
     {
         if k != 127 {
-            self.stage = Stage::WriteWord(mapping, k + 1);
+            next_word(&mut self.stage, k + 1);
         } else if self.within == last_of(self.rest.as_slice()) {
             self.stage = Stage::Unmap(mapping);
         } else {
@@ -89,6 +90,19 @@ impl Task {
                 self.stage = Stage::Map;
             }
         }
+    }
+}
+
+// The word of this number is read or written next, through the same mapping: the mapping stays where it
+// is, and only the number is written.
+#[inline(always)]
+fn next_word(stage: &mut Stage, k: u32)
+    ensures { stage.new ≡ at_word k stage.old }
+{
+    match stage {
+        Stage::ReadWord(_, word) => *word = k,
+        Stage::WriteWord(_, word) => *word = k,
+        _ => {}
     }
 }
 

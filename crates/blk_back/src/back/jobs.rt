@@ -8,9 +8,10 @@ ghost use Rattle.back_jobs.specs.Sound.{StaysInPageAndDisk};
 ghost use Rattle.back_jobs.specs.Hands.{Names, HandsAfter};
 
 use super::Back;
+use crate::stage::Stage;
 use crate::told::{BackTold, Halt};
 use back_jobs::Effect;
-use blk_base::{BackAnswer, BackAsk, Endpoint};
+use blk_base::{BackAnswer, BackAsk};
 
 impl Back {
     /// What the job of the `number`-th request that was fetched in this epoch asks next; `Wait` also
@@ -64,7 +65,10 @@ impl Back {
     pub fn waits(&self) -> bool
         ensures { result ≡ is_waiting self.now }
     {
-        matches!(self.ask(), BackAsk::Wait)
+        if let Stage::Loop = self.stage {
+            return self.asleep && self.next_reply().is_none();
+        }
+        matches!(self.stage, Stage::Halted)
     }
 
     /// Whether it asks for nothing but an event, and no job is held.

@@ -274,8 +274,28 @@ impl Front {
     }
 
     /// A word of an answered read's data was read.
-    #[inline(never)]
+    #[inline(always)]
     pub(super) fn read_data(&mut self, n: u32, word: u32)
+        requires stage { self.old.stage ≡ stage.ReadData n }
+        requires placed { n < 11264 }
+        ensures { self.new ≡ data_step self.old.ending n word self.old }
+    {
+        let Some(ending) = &self.ending else {
+            return;
+        };
+        // Most words are followed by one of the same sector.
+        let place = n % SECTOR_WORDS;
+        if place != SECTOR_WORDS - 1 && n + 1 < SECTOR_WORDS * ending.request.count {
+            self.words[place as usize] = word;
+            self.stage = Stage::ReadData(n + 1);
+        } else {
+            self.read_last(n, word);
+        }
+    }
+
+    // The same, of any word: a sector's last one has it told.
+    #[inline(never)]
+    fn read_last(&mut self, n: u32, word: u32)
         requires stage { self.old.stage ≡ stage.ReadData n }
         requires placed { n < 11264 }
         ensures { self.new ≡ data_step self.old.ending n word self.old }

@@ -98,7 +98,23 @@ impl Front {
     }
 
     /// Whether it asks for nothing but an event.
+    #[inline(always)]
     pub fn idle(&self) -> bool
+        ensures { result ≡ is_wait (ask_of self.now) }
+    {
+        // Most moves are of a sector's words, and no such move waits.
+        if let Stage::Data(_) = self.stage {
+            return self.waiting == 0;
+        }
+        if let Stage::ReadData(_) = self.stage {
+            return self.ending.is_none();
+        }
+        self.waits()
+    }
+
+    // The same, at any stage.
+    #[inline(never)]
+    fn waits(&self) -> bool
         ensures { result ≡ is_wait (ask_of self.now) }
     {
         matches!(self.ask(), FrontAsk::Wait)

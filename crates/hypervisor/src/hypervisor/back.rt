@@ -1,51 +1,59 @@
 // What is done at an ask of the back or of one of its jobs.
-ghost use Rattle.std.specs.Prelude.{◌≡◌, ◌<◌, IfSome, Some};
+ghost use Rattle.std.specs.Prelude.{◌≡◌, ◌<◌, IfSome, IfOk, OnOk, OnErr, Some};
 ghost use Rattle.blk_base.specs.declared.parts.Mode.TheVariants.{ReadWrite};
 ghost use Rattle.blk_io.specs.Disk.{IsIn, AreIn, attached_of};
 ghost use Rattle.xen_pages.specs.Pages.{word_of, with_word};
 ghost use Rattle.grant_table.specs.Table.{IsLive, frame_of};
 ghost use Rattle.blk_base.specs.declared.moves.Move.{Move};
 ghost use Rattle.hypervisor.specs.Hypervisor.{Hypervisor};
-ghost use Rattle.hypervisor.specs.Act.{back_act, back_seen, back_under, back_with_move, outcome_of, outcome_told, with_pages, IsGiven, read_act, disk_act, wait_act};
+ghost use Rattle.hypervisor.specs.Act.{back_act, back_seen, back_under, back_with_move, outcome_of, outcome_told, with_pages, IsGiven, read_act, disk_act, wait_act, get_act, set_act, watch_act, back_watched, watch_next};
 ghost use Rattle.hypervisor.specs.Act.Outcome.{Took};
-ghost use Rattle.hypervisor.specs.May.{BackMay, IsCall, MayShow, HasMappingLeft};
+ghost use Rattle.hypervisor.specs.May.{BackMay, BackTakesMemory, IsCall, MayShow, HasMappingLeft};
 ghost use Rattle.hypervisor.specs.Disk.{DiskDoes, DiskReads, DiskWrites, DiskFlushes, DiskTrims};
 
-use super::Hypervisor;
-use blk_base::{BackAnswer, BackAsk, BackMover, End, Lent, Mapping, Mode, SectorWords};
+use super::{Hypervisor, Room};
+use blk_base::{
+    BackAnswer, BackAsk, BackMover, End, Lent, Mapping, Mode, OutOfMemory, Path, SectorWords, Text,
+};
 use blk_io::{Failed, SectorDisk};
 use event_channel::Port;
 
 impl Hypervisor {
     /// Does what the back or a job asks, with the disk behind the back, and gives the answer; `None`,
-    /// with nothing done, exactly where the back waits and no event is pending, a job waits, or a key
-    /// is asked for.
+    /// with nothing done, exactly where the back waits and neither an event is pending nor a watch,
+    /// writes a key outside its own directory, or where a job waits or asks for a key. Only a key that
+    /// is set and a watch take memory: after `OutOfMemory` nothing has changed.
     #[inline(always)]
     pub fn back<'a, D: SectorDisk>(
         &mut self,
         who: BackMover,
         ask: &BackAsk,
         disk: &mut D,
-        room: &'a mut SectorWords,
-    ) -> Option<BackAnswer<'a>>
+        room: &'a mut Room,
+    ) -> Result<Option<BackAnswer<'a>>, OutOfMemory>
         requires may { BackMay self.old (attached_of (D.seen disk.old)) ask.now }
-        ensures acted { back_with_move self.new who ask.now result ≡ back_seen (back_act self.old who ask.now (outcome_of result)) }
-        ensures under { self.new ≡ back_under self.old (back_act self.old who ask.now (outcome_of result)) }
-        ensures may_show { IfSome result (λ answer. MayShow self.new ask.now answer) }
-        ensures given { IsGiven (outcome_of result) }
-        ensures disk { DiskDoes ask.now (outcome_of result) (D.seen disk.old) (D.seen disk.new) }
+        ensures acted { IfOk result (λ answer. back_with_move self.new who ask.now answer ≡ back_seen (back_act self.old who ask.now (outcome_of answer))) }
+        ensures under { IfOk result (λ answer. self.new ≡ back_under self.old (back_act self.old who ask.now (outcome_of answer))) }
+        ensures may_show { IfOk result (λ answer. IfSome answer (λ a. MayShow self.new ask.now a)) }
+        ensures given { IfOk result (λ answer. IsGiven (outcome_of answer)) }
+        ensures disk { IfOk result (λ answer. DiskDoes ask.now (outcome_of answer) (D.seen disk.old) (D.seen disk.new)) }
+        ensures unchanged { OnErr result (self.new ≡ self.old) }
+        ensures untouched { OnErr result (D.seen disk.new ≡ D.seen disk.old) }
+        ensures memory { OnErr result (BackTakesMemory ask.now) }
     {
         match ask {
-            BackAsk::Wait => self.event(who),
-            BackAsk::Fence => Some(BackAnswer::Done),
-            BackAsk::Read { mapping, word } => Some(BackAnswer::Word(self.read(*mapping, *word))),
+            BackAsk::Wait => Ok(self.event(who, room)),
+            BackAsk::Fence => Ok(Some(BackAnswer::Done)),
+            BackAsk::Read { mapping, word } => {
+                Ok(Some(BackAnswer::Word(self.read(*mapping, *word))))
+            }
             BackAsk::Write {
                 mapping,
                 word,
                 value,
             } => {
                 self.write(*mapping, *word, *value);
-                Some(BackAnswer::Done)
+                Ok(Some(BackAnswer::Done))
             }
             _ => self.call(who, ask, disk, room),
         }
@@ -58,36 +66,44 @@ impl Hypervisor {
         who: BackMover,
         ask: &BackAsk,
         disk: &mut D,
-        room: &'a mut SectorWords,
-    ) -> Option<BackAnswer<'a>>
+        room: &'a mut Room,
+    ) -> Result<Option<BackAnswer<'a>>, OutOfMemory>
         requires may { BackMay self.old (attached_of (D.seen disk.old)) ask.now }
         requires call { IsCall ask.now }
-        ensures acted { back_with_move self.new who ask.now result ≡ back_seen (back_act self.old who ask.now (outcome_of result)) }
-        ensures under { self.new ≡ back_under self.old (back_act self.old who ask.now (outcome_of result)) }
-        ensures may_show { IfSome result (λ answer. MayShow self.new ask.now answer) }
-        ensures given { IsGiven (outcome_of result) }
-        ensures disk { DiskDoes ask.now (outcome_of result) (D.seen disk.old) (D.seen disk.new) }
+        ensures acted { IfOk result (λ answer. back_with_move self.new who ask.now answer ≡ back_seen (back_act self.old who ask.now (outcome_of answer))) }
+        ensures under { IfOk result (λ answer. self.new ≡ back_under self.old (back_act self.old who ask.now (outcome_of answer))) }
+        ensures may_show { IfOk result (λ answer. IfSome answer (λ a. MayShow self.new ask.now a)) }
+        ensures given { IfOk result (λ answer. IsGiven (outcome_of answer)) }
+        ensures disk { IfOk result (λ answer. DiskDoes ask.now (outcome_of answer) (D.seen disk.old) (D.seen disk.new)) }
+        ensures unchanged { OnErr result (self.new ≡ self.old) }
+        ensures untouched { OnErr result (D.seen disk.new ≡ D.seen disk.old) }
+        ensures memory { OnErr result (BackTakesMemory ask.now) }
     {
         match ask {
-            BackAsk::Map { gref, mode } => Some(self.map(*gref, *mode)),
+            BackAsk::Map { gref, mode } => Ok(Some(self.map(*gref, *mode))),
             BackAsk::Unmap(mapping) => {
                 self.unmap(*mapping);
-                Some(BackAnswer::Done)
+                Ok(Some(BackAnswer::Done))
             }
-            BackAsk::Bind(port) => Some(self.bind(*port)),
+            BackAsk::Bind(port) => Ok(Some(self.bind(*port))),
             BackAsk::Send => {
                 self.channels.send(End::Back);
-                Some(BackAnswer::Done)
+                Ok(Some(BackAnswer::Done))
             }
             BackAsk::ClosePort => {
                 self.channels.close(End::Back);
-                Some(BackAnswer::Done)
+                Ok(Some(BackAnswer::Done))
             }
-            BackAsk::DiskRead(sector) => Some(read_disk(*sector, disk, room)),
-            BackAsk::DiskWrite(sector, words) => Some(write_disk(*sector, words.get(), disk)),
-            BackAsk::Flush => Some(flush_disk(disk)),
-            BackAsk::Trim(sector, count) => Some(trim_disk(*sector, *count, disk)),
-            _ => None,
+            BackAsk::GetKey(path) => Ok(self.get_key(who, path.get(), room)),
+            BackAsk::SetKey(path, text) => self.put_key(who, path.get(), text.get()),
+            BackAsk::Watch(path) => self.set_watch(who, path.get()),
+            BackAsk::DiskRead(sector) => Ok(Some(read_disk(*sector, disk, &mut room.sector))),
+            BackAsk::DiskWrite(sector, words) => {
+                Ok(Some(write_disk(*sector, words.get(), disk)))
+            }
+            BackAsk::Flush => Ok(Some(flush_disk(disk))),
+            BackAsk::Trim(sector, count) => Ok(Some(trim_disk(*sector, *count, disk))),
+            _ => Ok(None),
         }
     }
 
@@ -114,9 +130,9 @@ impl Hypervisor {
         self.grants.write(&mut self.pages, mapping, word, value);
     }
 
-    // The back takes its event, if there is one.
+    // The back takes its event, or else its watch, if there is one.
     #[inline(always)]
-    fn event(&mut self, who: BackMover) -> Option<BackAnswer<'static>>
+    fn event<'a>(&mut self, who: BackMover, room: &'a mut Room) -> Option<BackAnswer<'a>>
         ensures acted { back_with_move self.new who BackAsk.Wait result ≡ back_seen (wait_act self.old who) }
         ensures under { self.new ≡ back_under self.old (wait_act self.old who) }
         ensures no_call { outcome_of result ≡ Took }
@@ -124,13 +140,78 @@ impl Hypervisor {
         match who {
             BackMover::Job(_) => None,
             BackMover::Back => {
-                if !self.channels.pending(End::Back) {
-                    return None;
+                if self.channels.pending(End::Back) {
+                    self.channels.take(End::Back);
+                    return Some(BackAnswer::Event);
                 }
-                self.channels.take(End::Back);
-                Some(BackAnswer::Event)
+                self.back_watch(room)
             }
         }
+    }
+
+    #[inline(never)]
+    fn back_watch<'a>(&mut self, room: &'a mut Room) -> Option<BackAnswer<'a>>
+        ensures acted { back_with_move self.new BackMover.Back BackAsk.Wait result ≡ back_seen (back_watched self.old (watch_next self.old End.Back)) }
+        ensures under { self.new ≡ back_under self.old (back_watched self.old (watch_next self.old End.Back)) }
+        ensures no_call { outcome_of result ≡ Took }
+    {
+        match self.take_watch(End::Back, room) {
+            None => None,
+            Some(path) => Some(BackAnswer::Watched(path)),
+        }
+    }
+
+    // The back is told the text at a path; a job is told none.
+    fn get_key<'a>(&self, who: BackMover, path: &Path, room: &'a mut Room) -> Option<BackAnswer<'a>>
+        ensures acted { back_with_move self.now who (BackAsk.GetKey path.now) result ≡ back_seen (get_act self.now who path.now) }
+        ensures under { back_under self.now (get_act self.now who path.now) ≡ self.now }
+        ensures no_call { outcome_of result ≡ Took }
+    {
+        let BackMover::Back = who else {
+            return None;
+        };
+        Some(BackAnswer::Key(self.key(path, room)))
+    }
+
+    // The back writes a text at a path under its own directory; a job writes none.
+    fn put_key(
+        &mut self,
+        who: BackMover,
+        path: &Path,
+        text: &Text,
+    ) -> Result<Option<BackAnswer<'static>>, OutOfMemory>
+        ensures acted { IfOk result (λ answer. back_with_move self.new who (BackAsk.SetKey path.now text.now) answer
+            ≡ back_seen (set_act self.old who path.now text.now)) }
+        ensures under { OnOk result (self.new ≡ back_under self.old (set_act self.old who path.now text.now)) }
+        ensures no_call { IfOk result (λ answer. outcome_of answer ≡ Took) }
+        ensures unchanged { OnErr result (self.new ≡ self.old) }
+    {
+        let BackMover::Back = who else {
+            return Ok(None);
+        };
+        if self.set_key(End::Back, path, text)? {
+            return Ok(Some(BackAnswer::Done));
+        }
+        Ok(None)
+    }
+
+    // The back watches a path; a job watches none.
+    fn set_watch(
+        &mut self,
+        who: BackMover,
+        path: &Path,
+    ) -> Result<Option<BackAnswer<'static>>, OutOfMemory>
+        ensures acted { IfOk result (λ answer. back_with_move self.new who (BackAsk.Watch path.now) answer
+            ≡ back_seen (watch_act self.old who path.now)) }
+        ensures under { OnOk result (self.new ≡ back_under self.old (watch_act self.old who path.now)) }
+        ensures no_call { IfOk result (λ answer. outcome_of answer ≡ Took) }
+        ensures unchanged { OnErr result (self.new ≡ self.old) }
+    {
+        let BackMover::Back = who else {
+            return Ok(None);
+        };
+        self.watch(End::Back, path)?;
+        Ok(Some(BackAnswer::Done))
     }
 
     fn map(&mut self, gref: u32, mode: Mode) -> BackAnswer<'static>

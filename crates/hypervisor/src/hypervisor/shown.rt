@@ -1,11 +1,11 @@
 // The moves that a report shows.
 ghost use Rattle.std.specs.Prelude.{◌≡◌, None};
-ghost use Rattle.hypervisor.specs.Act.{front_shown, back_shown, mover_of, job_number};
+ghost use Rattle.hypervisor.specs.Act.{front_shown, front_key_shown, back_shown, mover_of, job_number};
 ghost use Rattle.hypervisor.specs.Hypervisor.{Hypervisor};
 ghost use Rattle.hypervisor.specs.May.{MayShow, mapping_shown};
 
 use super::Hypervisor;
-use blk_base::{BackAnswer, BackAsk, BackMover, FrontAnswer, FrontAsk, Move, Mover};
+use blk_base::{BackAnswer, BackAsk, BackMover, FrontAnswer, FrontAsk, Lent, Move, Mover, Text};
 
 /// The move of the front as a report shows it, by what was asked and answered.
 #[inline(always)]
@@ -42,6 +42,22 @@ pub fn front_shown(ask: &FrontAsk, answer: &FrontAnswer) -> Move
         (FrontAsk::NewPort, FrontAnswer::Port(port)) => Move::FrontPort { port: *port },
         (FrontAsk::Send, _) => Move::Send(Mover::Front),
         (FrontAsk::ClosePort, _) => Move::ClosePort(Mover::Front),
+        _ => front_key_shown(ask, answer),
+    }
+}
+
+// The move of the front on a key or a watch, or its event.
+#[inline(never)]
+fn front_key_shown(ask: &FrontAsk, answer: &FrontAnswer) -> Move
+    ensures { result ≡ front_key_shown ask.now answer.now }
+{
+    match (ask, answer) {
+        (FrontAsk::GetKey(path), FrontAnswer::Key(text)) => {
+            Move::GetKey(Mover::Front, *path.get(), text_of(text))
+        }
+        (FrontAsk::SetKey(path, text), _) => Move::SetKey(Mover::Front, *path.get(), *text.get()),
+        (FrontAsk::Watch(path), _) => Move::Watch(Mover::Front, *path.get()),
+        (FrontAsk::Wait, FrontAnswer::Watched(path)) => Move::Watched(Mover::Front, *path.get()),
         _ => Move::Event(Mover::Front),
     }
 }
@@ -110,6 +126,12 @@ fn call_shown(who: BackMover, ask: &BackAsk, answer: &BackAnswer) -> Move
         (BackAsk::Bind(port), _) => Move::Bind { port: *port },
         (BackAsk::Send, _) => Move::Send(mover(who)),
         (BackAsk::ClosePort, _) => Move::ClosePort(mover(who)),
+        (BackAsk::GetKey(path), BackAnswer::Key(text)) => {
+            Move::GetKey(mover(who), *path.get(), text_of(text))
+        }
+        (BackAsk::SetKey(path, text), _) => Move::SetKey(mover(who), *path.get(), *text.get()),
+        (BackAsk::Watch(path), _) => Move::Watch(mover(who), *path.get()),
+        (BackAsk::Wait, BackAnswer::Watched(path)) => Move::Watched(mover(who), *path.get()),
         (BackAsk::DiskRead(sector), _) => Move::DiskRead {
             job: job(who),
             sector: *sector,
@@ -125,6 +147,16 @@ fn call_shown(who: BackMover, ask: &BackAsk, answer: &BackAnswer) -> Move
             count: *count,
         },
         _ => Move::Event(mover(who)),
+    }
+}
+
+// The text that was told.
+fn text_of(text: &Option<Lent<Text>>) -> Option<Text>
+    ensures { result ≡ text.now }
+{
+    match text {
+        None => None,
+        Some(text) => Some(*text.get()),
     }
 }
 

@@ -95,8 +95,8 @@ impl BackBus {
     // The reference of a page, after which this key is read.
     fn read_gref(&mut self, next: FrontKey, text: &Lent<'_, Text>) -> bool
         requires { IsGrefRead self.old.stage next self.old.terms.order }
-        ensures kept { self.new ≡ unwrap_or (option_map (with_gref self.old next) (number_of text.now.bytes)) self.old }
-        ensures good { result ≡ is_some (number_of text.now.bytes) }
+        ensures kept { self.new ≡ unwrap_or (option_map (with_gref self.old next) (number_of text.now)) self.old }
+        ensures good { result ≡ is_some (number_of text.now) }
     {
         let Some(gref) = read_number(text.get()) else {
             return false;

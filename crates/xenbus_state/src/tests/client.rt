@@ -1,5 +1,4 @@
 // A client: both ends over one directory of keys.
-use super::short;
 use crate::back::{BackBus, BackBusAsk};
 use crate::front::{FrontBus, FrontBusAsk, FrontNews};
 use crate::keys::{back_path, front_path, state_path};
@@ -13,9 +12,9 @@ use blk_base::{
 use key_directory::{KeyStop, Keys};
 use std::test::Fail;
 
-fn read(keys: &Keys, path: &Path) -> Option<Text> {
+fn read<'a>(keys: &'a Keys, path: &Path) -> Option<Lent<'a, Text>> {
     match keys.read(path) {
-        Some(text) => Some(short(text)),
+        Some(text) => Some(Lent::at(text)),
         None => None,
     }
 }
@@ -24,26 +23,23 @@ fn write(keys: &mut Keys, who: End, path: &Path, text: &Text) -> Result<(), KeyS
     keys.write(who, path, text)
 }
 
-fn lent(text: &Option<Text>) -> Option<Lent<'_, Text>> {
-    match text {
-        Some(text) => Some(Lent::at(text)),
-        None => None,
-    }
-}
-
 fn watch(keys: &mut Keys, who: End, path: &Path) -> Result<(), OutOfMemory> {
     keys.watch(who, path)
 }
 
-fn take(keys: &mut Keys, who: End) -> Option<Path> {
-    keys.take_watch(who).map(|watch| watch.path)
+fn take(keys: &mut Keys, who: End) -> Option<&Path> {
+    if keys.take_watch(who) {
+        keys.taken_watch(who)
+    } else {
+        None
+    }
 }
 
 // One move of an idle front; `None` where it only waits.
 fn move_front(front: &mut FrontBus, keys: &mut Keys) -> Result<Option<FrontNews>, Fail> {
     let news = match front.ask(true) {
         FrontBusAsk::Wait => match take(keys, End::Front) {
-            Some(path) => front.tell(true, &FrontAnswer::Watched(Lent::at(&path))),
+            Some(path) => front.tell(true, &FrontAnswer::Watched(Lent::at(path))),
             None => None,
         },
         FrontBusAsk::Watch => {
@@ -52,11 +48,11 @@ fn move_front(front: &mut FrontBus, keys: &mut Keys) -> Result<Option<FrontNews>
         }
         FrontBusAsk::GetState => {
             let text = read(keys, &state_path(End::Back));
-            front.tell(true, &FrontAnswer::Key(lent(&text)))
+            front.tell(true, &FrontAnswer::Key(text))
         }
         FrontBusAsk::GetKey(key) => {
             let text = read(keys, &back_path(key));
-            front.tell(true, &FrontAnswer::Key(lent(&text)))
+            front.tell(true, &FrontAnswer::Key(text))
         }
         FrontBusAsk::SetState(state) => {
             write(keys, End::Front, &state_path(End::Front), &state.text())?;
@@ -76,7 +72,7 @@ fn move_front(front: &mut FrontBus, keys: &mut Keys) -> Result<Option<FrontNews>
 fn move_back(back: &mut BackBus, keys: &mut Keys) -> Result<Option<BackHalt>, Fail> {
     let halt = match back.ask() {
         BackBusAsk::Wait => match take(keys, End::Back) {
-            Some(path) => back.tell(&BackAnswer::Watched(Lent::at(&path))),
+            Some(path) => back.tell(&BackAnswer::Watched(Lent::at(path))),
             None => None,
         },
         BackBusAsk::Watch => {
@@ -85,11 +81,11 @@ fn move_back(back: &mut BackBus, keys: &mut Keys) -> Result<Option<BackHalt>, Fa
         }
         BackBusAsk::GetState => {
             let text = read(keys, &state_path(End::Front));
-            back.tell(&BackAnswer::Key(lent(&text)))
+            back.tell(&BackAnswer::Key(text))
         }
         BackBusAsk::GetKey(key) => {
             let text = read(keys, &front_path(key));
-            back.tell(&BackAnswer::Key(lent(&text)))
+            back.tell(&BackAnswer::Key(text))
         }
         BackBusAsk::SetState(state) => {
             write(keys, End::Back, &state_path(End::Back), &state.text())?;

@@ -1,15 +1,10 @@
-use Rattle.std.proofs.Common.{◌≡◌, ◌<◌, ◌-◌, length, arith}
-use Rattle.std.proofs.lemmas.Bool.Decides.{nat_tests}
-use Rattle.grant_table.proofs.Live.{number_at}
+use Rattle.std.proofs.Common.{◌+◌, ◌-◌, ◌%◌, length}
 use Rattle.grant_table.proofs.Place.{is_place}
 use Rattle.grant_table.proofs.grants.guess.Goals as goal
 
 -- the number was found there
 pub returns-then-held-place : goal.returns-then-held-place
 returns-then-held-place c =
-    let newest = c.in_ok-newest.field-0.now in
-    let since = newest.mapping.number - c.args.number in
-    let back = c.if-newest-number.false in
-    let found : number_at c.args.held.now (length c.args.held.now - 1 - since) ≡ c.args.number = grind (arith, nat_tests, c.if-held-place.true) in
-    let within : length c.args.held.now - 1 - since < length c.args.held.now = omega (arith, back) in
-    is_place c.args.held.now c.requires c.args.number _ within found
+    let since = (c.in_ok-newest.field-0.now.mapping.number + (18446744073709551616 - c.args.number)) % 18446744073709551616 in
+    let place = (length c.args.held.now - 1 + (18446744073709551616 - since)) % 18446744073709551616 in
+    is_place c.args.held.now c.requires c.args.number place c.if-place-held.true c.if-held-place.true

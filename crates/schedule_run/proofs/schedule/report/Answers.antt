@@ -6,7 +6,7 @@ use Rattle.split_model.specs.Leads.{moment}
 use Rattle.schedule_run.specs.Machine.{Run}
 use Rattle.schedule_run.specs.Carrying.{ReadsAll}
 use Rattle.schedule_run.specs.Outcome.{outside}
-use Rattle.schedule_run.proofs.Ending.{begun_by, reading_stopped, end_stopped, all_told}
+use Rattle.schedule_run.proofs.Ending.{begun_by, begin_stopped, reading_stopped, end_stopped, all_told}
 use Rattle.schedule_run.proofs.schedule.report.Goals as goal
 
 pub returns-in_err-read_all : goal.returns-in_err-read_all
@@ -18,6 +18,9 @@ returns-in_err-read_all g c =
     let stopped = err_from_is_err_and c.from_residual-in_err-read_all.result c.from_residual-in_err-read_all.ensures.1 in
     rw (stopped.1, stopped.2) (reading_stopped _ _ _ _ _ old new _ _ first
     (subst (λ (w : World). ReadsAll c.args.bytes_limit (Err c.in_err-read_all.field-0.0) (g.S.Source.seen c.args.source.now) (g.S.Source.seen c.read_all.new.source) (moment w old.disk (g.R.Recorder.seen c.add.new.self)) (moment c.read_all.new.self.machine.world new.disk new.recorder)) world c.in_err-read_all.ensures))
+
+pub returns-in-Err : goal.returns-in-Err
+returns-in-Err g c = rw c.stop_of.ensures (begin_stopped _ _ _ Moves c.in-Err.stop (g.D.SectorDisk.seen c.args.disk.now) (g.R.Recorder.seen c.args.recorder.now) (g.R.Recorder.seen c.add.new.self) c.in-Err.ensures)
 
 pub returns-in-Err-add : goal.returns-in-Err-add
 returns-in-Err-add g c =

@@ -2,8 +2,14 @@ use Rattle.std.proofs.Common.{◌≡◌, rules, sym}
 use Rattle.std.specs.Prelude.{Some, None}
 use Rattle.back_jobs.specs.Order.{number_at}
 use Rattle.back_jobs.specs.Sound.{AreAscending}
-use Rattle.back_jobs.proofs.Finding.{guessed, numbered, placed, placed_nowhere, placed_between}
+use Rattle.back_jobs.proofs.Finding.{guessed, numbered, placed, placed_first, placed_nowhere, placed_between}
 use Rattle.back_jobs.proofs.jobs.Jobs.place.Goals as goal
+
+pub returns-then-is_first-clause-place : goal.returns-then-is_first-clause-place
+returns-then-is_first-clause-place c =
+    let tasks = c.as_slice-tasks.result.now in
+    let at : number_at tasks 0 ≡ Some c.args.number = search rules in
+    rw (← c.self.view_is, ← c.as_slice-tasks.ensures.value) (sym (placed_first tasks c.args.number at))
 
 pub returns-in-Some-clause-place : goal.returns-in-Some-clause-place
 returns-in-Some-clause-place c =

@@ -1,8 +1,15 @@
-use Rattle.std.proofs.Common.{rules}
+use Rattle.std.proofs.Common.{◌≡◌, ◌+◌, true, rules}
 use Rattle.std.specs.Prelude.{nat_le}
 use Rattle.std.proofs.lemmas.List.Sorted.{IsPartitionPoint-from_clause}
-use Rattle.back_jobs.proofs.Finding.{parted_above, not_above, guessed_above}
+use Rattle.back_jobs.specs.Order.{is_above}
+use Rattle.back_jobs.proofs.Finding.{parted_above, not_above, guessed_above, ends}
 use Rattle.back_jobs.proofs.jobs.finding.first_above.Goals as goal
+
+pub returns-then-is_past : goal.returns-then-is_past
+returns-then-is_past c =
+    let works = c.args.tasks.now in
+    let test : is_above works (c.args.number + 1) ≡ true = search rules in
+    ends works (c.args.number + 1) c.requires test
 
 pub returns-in-Some : goal.returns-in-Some
 returns-in-Some c = guessed_above c.args.tasks.now c.args.number c.in-Some.place c.requires c.in-Some.ensures

@@ -1,4 +1,4 @@
-use Rattle.std.proofs.Common.{◌≡◌, ◌-◌, rules}
+use Rattle.std.proofs.Common.{◌≡◌, ◌+◌, ◌-◌, ◌%◌, rules}
 use Rattle.std.specs.Prelude.{Some}
 use Rattle.back_jobs.specs.Order.{number_at}
 use Rattle.back_jobs.proofs.Finding.{numbered}
@@ -6,5 +6,6 @@ use Rattle.back_jobs.proofs.jobs.finding.guess.Goals as goal
 
 pub returns-in-Some : goal.returns-in-Some
 returns-in-Some c =
-    let at : number_at c.args.tasks.now (c.args.number - c.number-first.result) ≡ Some c.args.number = search rules in
-    numbered c.args.tasks.now (c.args.number - c.number-first.result) c.args.number at
+    let place = (c.args.number + (18446744073709551616 - c.number-first.result)) % 18446744073709551616 in
+    let at : number_at c.args.tasks.now place ≡ Some c.args.number = search rules in
+    numbered c.args.tasks.now place c.args.number at
