@@ -1,3 +1,7 @@
+// Jobs by hand. Their calls go through functions that promise nothing, so that the tests are proved
+// without what their contracts say; long tests are cut, since a small body is proved sooner.
+ghost use Rattle.std.specs.Prelude.{◌<◌, length};
+
 use crate::{Effect, Jobs};
 use blk_base::{Abi, BackAnswer, BackAsk, Lent, Mapping, Mode, OutOfMemory, Status};
 use blk_layout::{RawRequest, Segment};
@@ -18,6 +22,40 @@ fn jobs(alloc: Global) -> Result<Jobs, OutOfMemory> {
         max_indirect: 0,
     };
     Jobs::reserve(alloc, RingShape::of(Abi::X64, 0), info)
+}
+
+fn start(jobs: &mut Jobs, number: u64, op: u8, sector: u64)
+    requires { length jobs.old.works < jobs.old.room }
+{
+    jobs.start(number, &request(op, sector));
+}
+
+fn ask(jobs: &Jobs) -> BackAsk<'_> {
+    jobs.ask(1)
+}
+
+fn at(jobs: &Jobs) -> Option<(u64, u32)> {
+    jobs.at(1)
+}
+
+fn done(jobs: &Jobs) -> Option<(u64, u64, u8, Status)> {
+    jobs.done()
+}
+
+fn take_done(jobs: &mut Jobs) -> Option<(u64, u64, u8, Status)> {
+    jobs.take_done()
+}
+
+fn next_after(jobs: &Jobs, number: u64) -> Option<u64> {
+    jobs.next_after(number)
+}
+
+fn count(jobs: &Jobs) -> usize {
+    jobs.count()
+}
+
+fn give_up(jobs: &mut Jobs) -> Option<Mapping> {
+    jobs.give_up()
 }
 
 // A request of id 5 with sectors 2 and 3 of the frame of reference 24.
@@ -68,48 +106,80 @@ fn read_words(rt: &impl Abort, jobs: &mut Jobs, sector: u32) {
     let mapping = mapping(Mode::ReadOnly);
     for k in 0..128u32 {
         let word = sector.wrapping_mul(128).wrapping_add(k);
-        assert_eq!(rt; jobs.ask(1), BackAsk::Read { mapping, word });
+        assert_eq!(rt; ask(jobs), BackAsk::Read { mapping, word });
         let _ = answer(jobs, BackAnswer::Word(k));
     }
+}
+
+// Job 1 reads its first sector, and writes it to the disk.
+fn first_is_written(rt: &impl Abort, jobs: &mut Jobs) {
+    read_words(rt, jobs, 2);
+    assert!(rt; matches!(ask(jobs), BackAsk::DiskWrite(6, _)));
+    let effect = Effect {
+        id: 5,
+        index: 0,
+        failed: false,
+    };
+    assert_eq!(rt; answer(jobs, BackAnswer::Done), Some(effect));
+}
+
+// It reads the other one, and the disk fails it.
+fn second_is_failed(rt: &impl Abort, jobs: &mut Jobs) {
+    read_words(rt, jobs, 3);
+    assert!(rt; matches!(ask(jobs), BackAsk::DiskWrite(7, _)));
+    let failed = Effect {
+        id: 5,
+        index: 1,
+        failed: true,
+    };
+    assert_eq!(rt; answer(jobs, BackAnswer::DiskFailed), Some(failed));
+    assert_eq!(rt; done(jobs), None);
+}
+
+// It unmaps its frame, and leaves.
+fn unmaps_and_leaves(rt: &impl Abort, jobs: &mut Jobs) {
+    assert_eq!(rt; ask(jobs), BackAsk::Unmap(mapping(Mode::ReadOnly)));
+    let _ = answer(jobs, BackAnswer::Done);
+    assert_eq!(rt; done(jobs), Some((1, 5, 1, Status::Error)));
+    assert_eq!(rt; take_done(jobs), Some((1, 5, 1, Status::Error)));
+    assert_eq!(rt; count(jobs), 0);
 }
 
 #[test]
 fn a_write_maps_reads_writes_and_unmaps(rt: HostRuntime) -> Result<(), Fail> {
     let mut jobs = jobs(rt.alloc())?;
     assert!(rt; jobs.has_room());
-    jobs.start(1, &request(1, 6));
-    assert_eq!(rt; jobs.at(1), Some((5, 0)));
+    start(&mut jobs, 1, 1, 6);
+    assert_eq!(rt; at(&jobs), Some((5, 0)));
     assert_eq!(rt;
-        jobs.ask(1),
+        ask(&jobs),
         BackAsk::Map {
             gref: 24,
             mode: Mode::ReadOnly
         }
     );
     let _ = answer(&mut jobs, BackAnswer::Mapped(mapping(Mode::ReadOnly)));
-    read_words(&rt, &mut jobs, 2);
-    assert!(rt; matches!(jobs.ask(1), BackAsk::DiskWrite(6, _)));
-    let effect = Effect {
-        id: 5,
-        index: 0,
-        failed: false,
-    };
-    assert_eq!(rt; answer(&mut jobs, BackAnswer::Done), Some(effect));
-    read_words(&rt, &mut jobs, 3);
-    assert!(rt; matches!(jobs.ask(1), BackAsk::DiskWrite(7, _)));
-    let failed = Effect {
-        id: 5,
-        index: 1,
-        failed: true,
-    };
-    assert_eq!(rt; answer(&mut jobs, BackAnswer::DiskFailed), Some(failed));
-    assert_eq!(rt; jobs.done(), None);
-    assert_eq!(rt; jobs.ask(1), BackAsk::Unmap(mapping(Mode::ReadOnly)));
-    let _ = answer(&mut jobs, BackAnswer::Done);
-    assert_eq!(rt; jobs.done(), Some((1, 5, 1, Status::Error)));
-    assert_eq!(rt; jobs.take_done(), Some((1, 5, 1, Status::Error)));
-    assert_eq!(rt; jobs.count(), 0);
+    first_is_written(&rt, &mut jobs);
+    second_is_failed(&rt, &mut jobs);
+    unmaps_and_leaves(&rt, &mut jobs);
     Ok(())
+}
+
+// The disk gives job 1 a sector, and it writes its words, each one 9.
+fn write_words(rt: &impl Abort, jobs: &mut Jobs, mapping: Mapping, sector: u32) {
+    let _ = answer(jobs, BackAnswer::Sector(Lent::at(&[9; 128])));
+    for k in 0..128u32 {
+        let word = sector.wrapping_mul(128).wrapping_add(k);
+        assert_eq!(rt;
+            ask(jobs),
+            BackAsk::Write {
+                mapping,
+                word,
+                value: 9
+            }
+        );
+        let _ = answer(jobs, BackAnswer::Done);
+    }
 }
 
 #[test]
@@ -117,65 +187,68 @@ fn a_read_writes_its_sectors_to_the_frame(rt: HostRuntime) -> Result<(), Fail> {
     let mut jobs = jobs(rt.alloc())?;
     let mapping = mapping(Mode::ReadWrite);
     assert!(rt; jobs.has_room());
-    jobs.start(1, &request(0, 6));
+    start(&mut jobs, 1, 0, 6);
     let _ = answer(&mut jobs, BackAnswer::Mapped(mapping));
     for sector in 2..4u32 {
-        assert!(rt; matches!(jobs.ask(1), BackAsk::DiskRead(_)));
-        let _ = answer(&mut jobs, BackAnswer::Sector(Lent::at(&[9; 128])));
-        for k in 0..128u32 {
-            let word = sector.wrapping_mul(128).wrapping_add(k);
-            assert_eq!(rt;
-                jobs.ask(1),
-                BackAsk::Write {
-                    mapping,
-                    word,
-                    value: 9
-                }
-            );
-            let _ = answer(&mut jobs, BackAnswer::Done);
-        }
+        assert!(rt; matches!(ask(&jobs), BackAsk::DiskRead(_)));
+        write_words(&rt, &mut jobs, mapping, sector);
     }
-    assert_eq!(rt; jobs.ask(1), BackAsk::Unmap(mapping));
+    assert_eq!(rt; ask(&jobs), BackAsk::Unmap(mapping));
     let _ = answer(&mut jobs, BackAnswer::Done);
-    assert_eq!(rt; jobs.done(), Some((1, 5, 0, Status::Okay)));
+    assert_eq!(rt; done(&jobs), Some((1, 5, 0, Status::Okay)));
     Ok(())
+}
+
+// The map that job 1 asks for is refused, and no other job is held.
+fn map_is_refused(rt: &impl Abort, jobs: &mut Jobs) {
+    let _ = answer(jobs, BackAnswer::MapRefused(-1));
+    assert_eq!(rt; done(jobs), Some((1, 5, 1, Status::Error)));
+    assert_eq!(rt; next_after(jobs, 0), Some(1));
+    assert_eq!(rt; next_after(jobs, 1), None);
+    assert_eq!(rt; give_up(jobs), None);
 }
 
 #[test]
 fn what_is_not_served_is_done_at_once(rt: HostRuntime) -> Result<(), Fail> {
     let mut jobs = jobs(rt.alloc())?;
     assert!(rt; jobs.has_room());
-    jobs.start(1, &request(1, 7));
-    assert_eq!(rt; jobs.done(), Some((1, 5, 1, Status::Error)));
-    let _ = jobs.take_done();
+    start(&mut jobs, 1, 1, 7);
+    assert_eq!(rt; done(&jobs), Some((1, 5, 1, Status::Error)));
+    let _ = take_done(&mut jobs);
     assert!(rt; jobs.has_room());
-    jobs.start(1, &request(3, 0));
-    assert_eq!(rt; jobs.take_done(), Some((1, 5, 3, Status::Unsupported)));
+    start(&mut jobs, 1, 3, 0);
+    assert_eq!(rt; take_done(&mut jobs), Some((1, 5, 3, Status::Unsupported)));
     assert!(rt; jobs.has_room());
-    jobs.start(1, &request(1, 0));
-    let _ = answer(&mut jobs, BackAnswer::MapRefused(-1));
-    assert_eq!(rt; jobs.done(), Some((1, 5, 1, Status::Error)));
-    assert_eq!(rt; jobs.next_after(0), Some(1));
-    assert_eq!(rt; jobs.next_after(1), None);
-    assert_eq!(rt; jobs.give_up(), None);
+    start(&mut jobs, 1, 1, 0);
+    map_is_refused(&rt, &mut jobs);
     Ok(())
+}
+
+// The lowest that is done leaves first.
+fn lowest_leaves(rt: &impl Abort, jobs: &mut Jobs) {
+    assert_eq!(rt; take_done(jobs), Some((2, 5, 3, Status::Unsupported)));
+    let _ = answer(jobs, BackAnswer::MapRefused(-1));
+    assert_eq!(rt; done(jobs), Some((1, 5, 1, Status::Error)));
+    assert_eq!(rt; take_done(jobs), Some((1, 5, 1, Status::Error)));
+}
+
+// Those that are left leave in order.
+fn others_leave(rt: &impl Abort, jobs: &mut Jobs) {
+    assert_eq!(rt; take_done(jobs), Some((3, 5, 3, Status::Unsupported)));
+    assert_eq!(rt; take_done(jobs), Some((4, 5, 3, Status::Unsupported)));
+    assert_eq!(rt; take_done(jobs), None);
 }
 
 #[test]
 fn those_that_are_done_leave_in_order(rt: HostRuntime) -> Result<(), Fail> {
     let mut jobs = jobs(rt.alloc())?;
     assert!(rt; jobs.has_room());
-    jobs.start(1, &request(1, 0));
+    start(&mut jobs, 1, 1, 0);
     for number in 2..5u64 {
         assert!(rt; jobs.has_room());
-        jobs.start(number, &request(3, 0));
+        start(&mut jobs, number, 3, 0);
     }
-    assert_eq!(rt; jobs.take_done(), Some((2, 5, 3, Status::Unsupported)));
-    let _ = answer(&mut jobs, BackAnswer::MapRefused(-1));
-    assert_eq!(rt; jobs.done(), Some((1, 5, 1, Status::Error)));
-    assert_eq!(rt; jobs.take_done(), Some((1, 5, 1, Status::Error)));
-    assert_eq!(rt; jobs.take_done(), Some((3, 5, 3, Status::Unsupported)));
-    assert_eq!(rt; jobs.take_done(), Some((4, 5, 3, Status::Unsupported)));
-    assert_eq!(rt; jobs.take_done(), None);
+    lowest_leaves(&rt, &mut jobs);
+    others_leave(&rt, &mut jobs);
     Ok(())
 }
