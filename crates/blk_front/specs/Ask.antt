@@ -59,6 +59,7 @@ ask_at stage.RingFrame v = Write (entry_frame ring_frame) (entry_word ring_frame
 ask_at stage.RingFence v = Fence
 ask_at stage.RingFlags v = Write (entry_frame ring_frame) (entry_word ring_frame) 1
 ask_at stage.NewPort v = NewPort
+ask_at stage.Initialised v = Wait
 ask_at stage.Loop v = loop_ask v (next_request v)
 ask_at (stage.Data n) v = data_ask (next_request v) n
 ask_at (stage.GrantFrame place) v = name_ask (next_request v) place

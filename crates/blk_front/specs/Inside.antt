@@ -5,6 +5,7 @@ use Rattle.blk_front.specs.View.{View}
 abbrev pub view_of : Inside → View
 view_of f = record {
   sectors = f.sectors;
+  read_only = f.read_only;
   start = f.start;
   ring = f.ring;
   stage = f.stage;

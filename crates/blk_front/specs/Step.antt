@@ -150,7 +150,7 @@ step_at (stage.RingWord k) v answer = at (if k == 15 then stage.RingFrame else s
 step_at stage.RingFrame v answer = at stage.RingFence v
 step_at stage.RingFence v answer = at stage.RingFlags v
 step_at stage.RingFlags v answer = at stage.NewPort v
-step_at stage.NewPort v answer = record v { stage = stage.Loop; told = Some told.Ready }
+step_at stage.NewPort v answer = at stage.Initialised v
 step_at stage.Loop v answer = loop_step v (next_request v) answer
 step_at (stage.Data n) v answer = at (data_stage (next_request v) n) v
 step_at (stage.GrantFrame place) v answer = at (stage.GrantFence place) v

@@ -1,5 +1,5 @@
 -- When the front refuses a submission, and what an accepted one makes of it.
-use Rattle.std.specs.Prelude.{ℕ, ◌+◌, Bool, true, false, not, List, [], ◌∷◌, ◌++◌, length, sum_by, Option, Some, None, Result, Ok, Err, if◌then◌else◌, ◌==◌, nat_lt, nat_le}
+use Rattle.std.specs.Prelude.{ℕ, ◌+◌, Bool, true, false, not, ◌&&◌, List, [], ◌∷◌, ◌++◌, length, sum_by, Option, Some, None, Result, Ok, Err, if◌then◌else◌, ◌==◌, nat_lt, nat_le}
 use Rattle.blk_base.specs.declared.ask.FrontAsk.{FrontAsk}
 use Rattle.blk_base.specs.declared.ask.FrontAsk.TheVariants.{Wait}
 use Rattle.blk_base.specs.declared.config.Job.{Job}
@@ -13,9 +13,10 @@ use Rattle.blk_front.specs.declared.stage.Stage.TheVariants as stage
 use Rattle.blk_front.specs.declared.told.Refusal.{Refusal}
 use Rattle.blk_front.specs.declared.told.Refusal.TheVariants as refusal
 use Rattle.blk_front.specs.Pool.{taking}
-use Rattle.blk_front.specs.Request.{frames_for}
+use Rattle.blk_front.specs.Request.{is_write, frames_for}
 use Rattle.ring_words.specs.Shape.{entries_of}
 use Rattle.blk_front.specs.View.{View, shape}
+use Rattle.blk_front.specs.Ask.{ask_of}
 
 -- connected (XenbusStateConnected of `io/xenbus.h`) and not broken
 abbrev pub is_ready : Stage → Bool
@@ -24,6 +25,7 @@ is_ready stage.RingFrame = false
 is_ready stage.RingFence = false
 is_ready stage.RingFlags = false
 is_ready stage.NewPort = false
+is_ready stage.Initialised = false
 is_ready (stage.Broken word) = false
 is_ready s = true
 
@@ -60,10 +62,23 @@ wish_of (jobs.Read sector count) = Some (record { sector = sector; count = count
 wish_of (jobs.Write sector count tag) = Some (record { sector = sector; count = count; transfer = transfer.Write tag })
 wish_of job = None
 
+-- it waits until it is connected
+abbrev pub is_initialised : Stage → Bool
+is_initialised stage.Initialised = true
+is_initialised s = false
+
+-- connected, where it waits for it
+abbrev pub connected : View → View
+connected v = if is_initialised v.stage then record v { stage = stage.Loop } else v
+
 -- nothing is to be done until an event comes
 abbrev pub is_wait : FrontAsk → Bool
 is_wait Wait = true
 is_wait ask = false
+
+-- so it is with a front that was connected
+abbrev pub is_idle : View → Bool
+is_idle v = not (is_initialised v.stage) && is_wait (ask_of v)
 
 -- the next request, with these frames
 abbrev pub request_with : View → Wish → List ℕ → Request
@@ -85,10 +100,11 @@ submit_with v wish (Some taken) = (Ok (v.last + 1), accepted v wish taken)
 abbrev pub submit_one : View → Option Wish → Result ℕ Refusal × View
 submit_one v None = (Err refusal.Unsupported, v)
 submit_one v (Some wish) =
-    if nat_lt v.sectors (wish.sector + wish.count) then (Err refusal.Range, v)
+    if is_write wish.transfer && v.read_only then (Err refusal.ReadOnly, v)
+    else (if nat_lt v.sectors (wish.sector + wish.count) then (Err refusal.Range, v)
     else (if nat_lt 11 (frames_for wish.count) then (Err refusal.Long, v)
     else (if nat_le (entries_of shape.order) (unfinished v) then (Err refusal.Full, v)
-    else submit_with v wish (taking (frames_for wish.count) v.pool [])))
+    else submit_with v wish (taking (frames_for wish.count) v.pool []))))
 
 -- the answer to a submission, and the front after it
 abbrev pub submit_of : View → Job → Result ℕ Refusal × View

@@ -11,9 +11,10 @@ use Rattle.blk_front.specs.declared.request.Request.{Request}
 use Rattle.blk_front.specs.declared.stage.Ending.{Ending}
 use Rattle.blk_front.specs.declared.told.Told.{Told}
 
--- The front: the disk's sectors and the ring's first index; its own indices and what it does; whether it sleeps; the responses' producer as last read; the last number given; the unfinished requests in order of number, of which the last `waiting` aren't issued yet; the request whose response was taken, until it is finished; the frames in use; the words of the entry being written, and those of the sector being read; what is to be told.
+-- The front: the disk's sectors and whether it is read-only, and the ring's first index; its own indices and what it does; whether it sleeps; the responses' producer as last read; the last number given; the unfinished requests in order of number, of which the last `waiting` aren't issued yet; the request whose response was taken, until it is finished; the frames in use; the words of the entry being written, and those of the sector being read; what is to be told.
 pub record View : Type 0 where
   pub sectors : ℕ
+  pub read_only : Bool
   pub start : ℕ
   pub ring : Ring
   pub stage : Stage
@@ -70,6 +71,7 @@ next_request v = if v.waiting == 0 then None else slice_get v.requests (length v
 abbrev pub start_of : Options → View
 start_of config = record {
   sectors = config.sectors;
+  read_only = config.read_only;
   start = config.start;
   ring = record { entries = 32; prod = config.start; cons = config.start };
   stage = stage.RingWord 0;

@@ -27,6 +27,7 @@ use std::marker::Model;
 #[derive(Drop)]
 pub struct Front {
     sectors: u64,
+    read_only: bool,
     start: u32,
     ring: FrontRing,
     stage: Stage,
@@ -63,6 +64,7 @@ impl Front {
         let requests = Vec::with_capacity(alloc, 32)?;
         Ok(Front {
             sectors: config.sectors,
+            read_only: config.read_only,
             start: config.start,
             ring: FrontRing::attach(RingShape::of(Abi::X64, 0), config.start),
             stage: Stage::RingWord(0),
@@ -303,6 +305,7 @@ impl<'a> Endpoint<'a> for Front {
             Stage::RingFence => FrontAsk::Fence,
             Stage::RingFlags => write(0, 16, GTF_PERMIT_ACCESS),
             Stage::NewPort => FrontAsk::NewPort,
+            Stage::Initialised => FrontAsk::Wait,
             Stage::Loop => self.ask_in_loop(),
             Stage::Data(n) => self.issue_data(n),
             Stage::GrantFrame(place) => self.name_frame(place),
@@ -345,7 +348,7 @@ impl<'a> Endpoint<'a> for Front {
             (Stage::RingFrame, _) => self.stage = Stage::RingFence,
             (Stage::RingFence, _) => self.stage = Stage::RingFlags,
             (Stage::RingFlags, _) => self.stage = Stage::NewPort,
-            (Stage::NewPort, _) => self.connected(),
+            (Stage::NewPort, _) => self.stage = Stage::Initialised,
             (Stage::Loop, answer) => self.begin(answer),
             (Stage::Data(n), _) => self.wrote_data(n),
             (Stage::GrantFrame(place), _) => self.stage = Stage::GrantFence(place),

@@ -22,6 +22,9 @@ pub enum Stage {
     RingFlags,
     /// Makes the port of its events.
     NewPort,
+    /// Has made its ring and its port, and waits until it is connected (XenbusStateInitialised and
+    /// XenbusStateConnected of `io/xenbus.h`).
+    Initialised,
     /// Is connected, and at nothing in particular.
     Loop,
     /// Writes the data of a write, 128 words a sector: the word of this number is written next, 1 to

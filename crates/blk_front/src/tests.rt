@@ -7,8 +7,8 @@ mod reads;
 use crate::{Refusal, Told};
 use blk_base::{FrontAsk, Job, SectorCount};
 use guest::{
-    Memory, asks, asleep, connected, front_of, one_move, quiet_moves, read, read_of, untold_move,
-    write, write_of,
+    Memory, asks, asleep, connect, connected, front_of, front_of_read_only, one_move, quiet_moves,
+    read, read_of, untold_move, write, write_of,
 };
 use std::test::Fail;
 
@@ -54,9 +54,26 @@ fn the_start_writes_a_fresh_ring_and_grants_it_by_reference_8(rt: HostRuntime) -
         ];
         asks(&rt, &mut front, &mut memory, &grant)?;
         assert_eq!(rt; front.submit(write(0, 7)?), Err(Refusal::NotReady));
-        let port = one_move(&rt, &mut front, &mut memory)?;
-        assert_eq!(rt; port, (FrontAsk::NewPort, Some(Told::Ready)));
+        asks(&rt, &mut front, &mut memory, &[FrontAsk::NewPort])?;
     }
+    Ok(())
+}
+
+#[test]
+fn it_waits_with_its_port_until_it_is_connected_once(rt: HostRuntime) -> Result<(), Fail> {
+    let mut memory = Memory::new(rt.alloc())?;
+    let mut front = front_of(rt.alloc(), 0)?;
+    assert!(rt; !front.connect());
+    quiet_moves(&rt, &mut front, &mut memory, 20)?;
+    for _ in 0..2 {
+        asks(&rt, &mut front, &mut memory, &[FrontAsk::Wait])?;
+        assert_eq!(rt; front.submit(write(0, 7)?), Err(Refusal::NotReady));
+        assert!(rt; front.is_connected());
+        assert!(rt; !front.idle());
+    }
+    assert!(rt; front.connect());
+    assert!(rt; !front.connect());
+    assert_eq!(rt; front.submit(write(0, 7)?), Ok(1));
     Ok(())
 }
 
@@ -221,6 +238,19 @@ fn what_it_cannot_do_is_refused_and_changes_nothing(rt: HostRuntime) -> Result<(
 }
 
 #[test]
+fn a_write_to_a_read_only_disk_is_refused(rt: HostRuntime) -> Result<(), Fail> {
+    let mut memory = Memory::new(rt.alloc())?;
+    let mut front = front_of_read_only(rt.alloc())?;
+    assert_eq!(rt; front.submit(write(0, 7)?), Err(Refusal::NotReady));
+    connect(&rt, &mut front, &mut memory)?;
+    assert_eq!(rt; front.submit(write(0, 7)?), Err(Refusal::ReadOnly));
+    assert_eq!(rt; front.submit(write(8, 7)?), Err(Refusal::ReadOnly));
+    assert_eq!(rt; front.submit(read(8)?), Err(Refusal::Range));
+    assert_eq!(rt; front.submit(read(7)?), Ok(1));
+    Ok(())
+}
+
+#[test]
 fn a_33rd_request_is_refused(rt: HostRuntime) -> Result<(), Fail> {
     let mut memory = Memory::new(rt.alloc())?;
     let mut front = asleep(&rt, rt.alloc(), &mut memory, 0)?;
@@ -241,15 +271,12 @@ fn a_33rd_request_is_refused(rt: HostRuntime) -> Result<(), Fail> {
 #[test]
 fn has_told_says_whether_something_is_left_to_tell(rt: HostRuntime) -> Result<(), Fail> {
     let mut memory = Memory::new(rt.alloc())?;
-    let mut front = front_of(rt.alloc(), 0)?;
-    quiet_moves(&rt, &mut front, &mut memory, 19)?;
+    let mut front = connected(&rt, rt.alloc(), &mut memory, 0)?;
+    memory.write(2, 2, 1);
     assert_eq!(rt; front.has_told(), false);
-    assert_eq!(rt;
-        untold_move(&rt, &mut front, &mut memory)?,
-        FrontAsk::NewPort
-    );
+    assert_eq!(rt; untold_move(&rt, &mut front, &mut memory)?, look());
     assert_eq!(rt; front.has_told(), true);
-    assert_eq!(rt; front.take_told(), Some(Told::Ready));
+    assert_eq!(rt; front.take_told(), Some(Told::Broken(1)));
     assert_eq!(rt; front.has_told(), false);
     Ok(())
 }

@@ -4,8 +4,6 @@ use blk_base::Status;
 /// What happened at the front in its last move.
 #[derive(Clone, Copy, Debug, PartialEq, Eq)]
 pub enum Told {
-    /// It is connected.
-    Ready,
     /// It took the response to a request.
     Answer {
         id: u32,
@@ -30,6 +28,8 @@ pub enum Refusal {
     NotReady,
     /// Neither a read nor a write: this front issues nothing else.
     Unsupported,
+    /// A write, and the disk is read-only.
+    ReadOnly,
     /// A sector is past the disk's end.
     Range,
     /// More sectors than 11 segments have, which are 88.

@@ -48,13 +48,13 @@ ring_few None given abi order few is = cc
 ring_few (Some layout) None abi order few is = cc
 ring_few (Some layout) (Some n) abi order few is = few (cc)
 
-no_ring_with : (image : Text) (detail : Detail) (start : Option ℕ) (abi : Abi) (order : ℕ) → run_with image detail start ≡ Some (a_ring abi order) → ⊥
-no_ring_with image detail None abi order is = cc
-no_ring_with image detail (Some first) abi order is = cc
+no_ring_with : (image : Text) (moves read_only : Bool) (start : Option ℕ) (abi : Abi) (order : ℕ) → run_with image moves read_only start ≡ Some (a_ring abi order) → ⊥
+no_ring_with image moves read_only None abi order is = cc
+no_ring_with image moves read_only (Some first) abi order is = cc
 
-no_ring : (image : Option Text) (detail : Detail) (start : Option ℕ) (abi : Abi) (order : ℕ) → option_and_then (λ image. run_with image detail start) image ≡ Some (a_ring abi order) → ⊥
-no_ring None detail start abi order is = cc
-no_ring (Some image) detail start abi order is = no_ring_with image detail start abi order is
+no_ring : (image : Option Text) (moves read_only : Bool) (start : Option ℕ) (abi : Abi) (order : ℕ) → option_and_then (λ image. run_with image moves read_only start) image ≡ Some (a_ring abi order) → ⊥
+no_ring None moves read_only start abi order is = cc
+no_ring (Some image) moves read_only start abi order is = no_ring_with image moves read_only start abi order is
 
 no_bench : (seed count : Option ℕ) (abi : Abi) (order : ℕ) → bench_with seed count ≡ Some (a_ring abi order) → ⊥
 no_bench None count abi order is = cc
@@ -62,7 +62,7 @@ no_bench (Some seed) None abi order is = cc
 no_bench (Some seed) (Some count) abi order is = cc
 
 wish_few : (name : Text) (rows : List Row) (run inspect check bench : Bool) (abi : Abi) (order : ℕ) → (if run then run_in rows else (if inspect then ring_in rows else (if check then Some a_check else (if bench then bench_in rows else None)))) ≡ Some (a_ring abi order) → order ≤ 4
-wish_few name rows true inspect check bench abi order is = absurd (no_ring _ _ _ abi order is)
+wish_few name rows true inspect check bench abi order is = absurd (no_ring _ _ _ _ abi order is)
 wish_few name rows false true check bench abi order is = ring_few _ _ abi order (order_few (number_in (codes "order") rows) order) is
 wish_few name rows false false true bench abi order is = cc
 wish_few name rows false false false true abi order is = absurd (no_bench _ _ abi order is)

@@ -1,5 +1,5 @@
 -- A run's report goes to the output, and its image is the one named.
-use Rattle.std.proofs.Common.{◌≡◌, ℕ, List, Some, true, Result, Ok, Err, inr, refl, sym, ap, subst}
+use Rattle.std.proofs.Common.{◌≡◌, ℕ, List, Some, Result, Ok, Err, inr, refl, not, sym, ap, subst}
 use Rattle.std.specs.Borrow.{GName}
 use Rattle.blk_io.specs.Outside.{SourceSeen, SinkSeen}
 use Rattle.blk_io.specs.Disk.{DiskSeen, HasLength, IsAttached}
@@ -20,8 +20,8 @@ use Rattle.commands.proofs.Runs.{run_left}
 -- a run as `run_schedule` calls it: the disk with the image attached, and the recorder as the run left it
 pub record HasRun (image : List ℕ) (options : RunOptions) (result : Result (Unit {0}) RunStop) (sectors : ℕ) (lender : GName) (old new : Scene) : Type 0 where
   pub sized : HasLength old.disk.content sectors
-  pub runs : Runs (options_of options sectors) bytes_limit result old.source new.source (reporting options.detail lender (with_image image sectors old.disk) old.output) (reporting options.detail lender new.disk new.output)
-  pub lawful : RunsLawfully (options_of options sectors) bytes_limit result old.source new.source (reporting options.detail lender (with_image image sectors old.disk) old.output) (reporting options.detail lender new.disk new.output)
+  pub runs : Runs (options_of options sectors) bytes_limit result old.source new.source (reporting options.detail lender (with_image image options.read_only sectors old.disk) old.output) (reporting options.detail lender new.disk new.output)
+  pub lawful : RunsLawfully (options_of options sectors) bytes_limit result old.source new.source (reporting options.detail lender (with_image image options.read_only sectors old.disk) old.output) (reporting options.detail lender new.disk new.output)
 
 some_same : (a b : GName) → Some a ≡ Some b → a ≡ b
 some_same a b same = cc
@@ -30,16 +30,16 @@ some_same a b same = cc
 same_recorder : (detail detail' : Detail) (lender lender' : GName) (output : SinkSeen) → detail' ≡ detail → Some lender' ≡ Some lender → writing detail' lender' output ≡ writing detail lender output
 same_recorder detail detail' lender lender' output d l = rw (d, some_same lender' lender l) refl
 
-pub has_run : (image : List ℕ) (options : RunOptions) (detail' : Detail) (result : Result (Unit {0}) RunStop) (sectors : ℕ) (lender lender' : GName) (a b : SourceSeen) (d e f : DiskSeen) (r s t : SinkSeen) → IsAttached image true sectors d e → t ≡ s → Runs (options_of options sectors) bytes_limit result a b (outside e (writing options.detail lender r)) (outside f (writing detail' lender' s)) → (HasLength (content_of (outside e (writing options.detail lender r))) sectors → RunsLawfully (options_of options sectors) bytes_limit result a b (outside e (writing options.detail lender r)) (outside f (writing detail' lender' s))) → HasRun image options result sectors lender (scene a d r) (scene b f t)
+pub has_run : (image : List ℕ) (options : RunOptions) (detail' : Detail) (result : Result (Unit {0}) RunStop) (sectors : ℕ) (lender lender' : GName) (a b : SourceSeen) (d e f : DiskSeen) (r s t : SinkSeen) → IsAttached image (not options.read_only) sectors d e → t ≡ s → Runs (options_of options sectors) bytes_limit result a b (outside e (writing options.detail lender r)) (outside f (writing detail' lender' s)) → (HasLength (content_of (outside e (writing options.detail lender r))) sectors → RunsLawfully (options_of options sectors) bytes_limit result a b (outside e (writing options.detail lender r)) (outside f (writing detail' lender' s))) → HasRun image options result sectors lender (scene a d r) (scene b f t)
 has_run image options detail' result sectors lender lender' a b d e f r s t attached same runs lawful =
     let stays = run_left (options_of options sectors) bytes_limit result a b _ _ runs in
     let recorder : writing detail' lender' s ≡ writing options.detail lender s = same_recorder options.detail detail' lender lender' s stays.stays.detail stays.stays.lender in
     let long : HasLength e.content sectors = subst (λ (x : DiskSeen). HasLength x.content sectors) (sym attached.attached) attached.sized in
     rw same (record {
       sized = attached.sized;
-      runs = subst (λ w. Runs (options_of options sectors) bytes_limit result a b (outside (with_image image sectors d) (writing options.detail lender r)) (outside f w)) recorder
+      runs = subst (λ w. Runs (options_of options sectors) bytes_limit result a b (outside (with_image image options.read_only sectors d) (writing options.detail lender r)) (outside f w)) recorder
           (subst (λ x. Runs (options_of options sectors) bytes_limit result a b (outside x (writing options.detail lender r)) (outside f (writing detail' lender' s))) attached.attached runs);
-      lawful = subst (λ w. RunsLawfully (options_of options sectors) bytes_limit result a b (outside (with_image image sectors d) (writing options.detail lender r)) (outside f w)) recorder
+      lawful = subst (λ w. RunsLawfully (options_of options sectors) bytes_limit result a b (outside (with_image image options.read_only sectors d) (writing options.detail lender r)) (outside f w)) recorder
           (subst (λ x. RunsLawfully (options_of options sectors) bytes_limit result a b (outside x (writing options.detail lender r)) (outside f (writing detail' lender' s))) attached.attached (lawful long));
     })
 

@@ -101,7 +101,7 @@ ring_settles shape (Err Image) old new h = absurd h
 ring_settles shape (Err TooLong) old new h = absurd h
 
 -- what a run did
-left_by : (image : List ℕ) (options : RunOptions) (result : Result (Unit {0}) RunStop) (old new : Scene) (h : RunsOn image options result old new) → Left result old.source new.source (reporting options.detail h.lender (with_image image h.sectors old.disk) old.output) (reporting options.detail h.lender new.disk new.output)
+left_by : (image : List ℕ) (options : RunOptions) (result : Result (Unit {0}) RunStop) (old new : Scene) (h : RunsOn image options result old new) → Left result old.source new.source (reporting options.detail h.lender (with_image image options.read_only h.sectors old.disk) old.output) (reporting options.detail h.lender new.disk new.output)
 left_by image options result old new h = run_left (options_of options h.sectors) bytes_limit result old.source new.source _ _ h.runs
 
 run_settles : (image : List ℕ) (options : RunOptions) (result : Result (Unit {0}) Stop) (old new : Scene) → RunEnds image options result old new → Settles (status_at result) old new

@@ -25,7 +25,7 @@ pub record RunsOn (image : List ℕ) (options : RunOptions) (result : Result (Un
   pub sectors : ℕ
   pub sized : HasLength old.disk.content sectors
   pub lender : GName
-  pub runs : Runs (options_of options sectors) bytes_limit result old.source new.source (reporting options.detail lender (with_image image sectors old.disk) old.output) (reporting options.detail lender new.disk new.output)
+  pub runs : Runs (options_of options sectors) bytes_limit result old.source new.source (reporting options.detail lender (with_image image options.read_only sectors old.disk) old.output) (reporting options.detail lender new.disk new.output)
 
 -- the image failed where it was attached, and nothing else was done
 pub record FailsToAttach (old new : Scene) : Type 0 where

@@ -20,7 +20,7 @@ use Rattle.commands.specs.Ending.{FailsToAttach}
 -- the image of that name is attached, and the output gained the text of a report that echoes the whole schedule and is lawful: a run of the plain disk from what the disk held to what it holds, and more (`schedule_run`)
 pub record IsReported (image : List ℕ) (options : RunOptions) (old new : Scene) : Type 0 where
   pub sectors : ℕ
-  pub attached : new.disk.attachment ≡ Some (image_named image sectors)
+  pub attached : new.disk.attachment ≡ Some (image_named image options.read_only sectors)
   pub events : List Event
   pub report : List Line
   pub schedule : Tells (λ bytes. IsWholeSchedule bytes_limit bytes events) old.source.left
@@ -31,9 +31,9 @@ pub record IsReported (image : List ℕ) (options : RunOptions) (old new : Scene
 -- the image of that name is attached, and what was told before a stop is lawful
 pub record IsReportedSoFar (image : List ℕ) (options : RunOptions) (why : RunStop) (old new : Scene) : Type 0 where
   pub sectors : ℕ
-  pub attached : new.disk.attachment ≡ Some (image_named image sectors)
+  pub attached : new.disk.attachment ≡ Some (image_named image options.read_only sectors)
   pub lender : GName
-  pub lawful : RunsLawfully (options_of options sectors) bytes_limit (Err why) old.source new.source (reporting options.detail lender (with_image image sectors old.disk) old.output) (reporting options.detail lender new.disk new.output)
+  pub lawful : RunsLawfully (options_of options sectors) bytes_limit (Err why) old.source new.source (reporting options.detail lender (with_image image options.read_only sectors old.disk) old.output) (reporting options.detail lender new.disk new.output)
 
 -- so it is by how a run ends
 abbrev pub RunReports : List ℕ → RunOptions → Result (Unit {0}) Stop → Scene → Scene → Type 0

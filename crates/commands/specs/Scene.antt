@@ -1,5 +1,5 @@
 -- What lies outside the program at a moment, and what of it a run is given.
-use Rattle.std.specs.Prelude.{ℕ, List, Some, true, false}
+use Rattle.std.specs.Prelude.{ℕ, Bool, false, not, List, Some}
 use Rattle.std.specs.Borrow.{GName}
 use Rattle.blk_base.specs.Options.{Options}
 use Rattle.blk_base.specs.declared.operation.Abi.TheVariants.{X64}
@@ -22,23 +22,23 @@ scene source disk output = record { source = source; disk = disk; output = outpu
 
 -- the options of a run that were asked for, on an image of so many sectors
 abbrev pub options_of : RunOptions → ℕ → Options
-options_of options sectors = record { abi = X64; order = 0; persistent = 0; indirect = 0; start = options.start; read_only = false; sectors = sectors }
+options_of options sectors = record { abi = X64; order = 0; persistent = 0; indirect = 0; start = options.start; read_only = options.read_only; sectors = sectors }
 
--- without any, no moves are shown, and the ring begins at 0
+-- without any, no moves are shown, the ring begins at 0, and the disk may be written
 abbrev pub no_options : RunOptions
-no_options = record { detail = Lines; start = 0 }
+no_options = record { detail = Lines; start = 0; read_only = false }
 
 -- a schedule has fewer bytes than this
 abbrev pub bytes_limit : ℕ
 bytes_limit = 4294967296
 
--- the image of that name, which may be written
-abbrev pub image_named : List ℕ → ℕ → Attachment
-image_named name sectors = record { name = name; writable = true; sectors = sectors }
+-- the image of that name, for writing unless it is read-only
+abbrev pub image_named : List ℕ → Bool → ℕ → Attachment
+image_named name read_only sectors = record { name = name; writable = not read_only; sectors = sectors }
 
 -- the disk with that image attached
-abbrev pub with_image : List ℕ → ℕ → DiskSeen → DiskSeen
-with_image name sectors disk = record disk { attachment = Some (image_named name sectors) }
+abbrev pub with_image : List ℕ → Bool → ℕ → DiskSeen → DiskSeen
+with_image name read_only sectors disk = record disk { attachment = Some (image_named name read_only sectors) }
 
 -- a disk and a report that goes to the output, line by line
 abbrev pub reporting : Detail → GName → DiskSeen → SinkSeen → Outside

@@ -29,6 +29,10 @@ start_rule = record (new_rule (codes "start")) { long = Some (codes "start"); de
 abbrev pub moves_rule : Rule
 moves_rule = record (new_rule (codes "moves")) { long = Some (codes "moves"); action = Some SetTrue }
 
+-- `--read-only`
+abbrev pub read_only_rule : Rule
+read_only_rule = record (new_rule (codes "read-only")) { long = Some (codes "read-only"); action = Some SetTrue }
+
 -- `--abi`, a number from 32 to 64, and 64 where there is none
 abbrev pub abi_rule : Rule
 abi_rule = record (new_rule (codes "abi")) { long = Some (codes "abi"); defaults = codes "64" ∷ []; parser = Some (parser.Unsigned 32 64) }
@@ -43,7 +47,7 @@ number_rule id = record (new_rule id) { required = true; parser = Some (parser.U
 
 -- `run`
 abbrev pub run_set : App
-run_set = with_rule (with_rule (with_rule (new_app (codes "run")) image_rule) moves_rule) start_rule
+run_set = with_rule (with_rule (with_rule (with_rule (new_app (codes "run")) image_rule) moves_rule) start_rule) read_only_rule
 
 -- `inspect`
 abbrev pub inspect_set : App
@@ -94,8 +98,11 @@ abbrev pub is_yes : Option Text → Bool
 is_yes None = false
 is_yes (Some text) = bytes_eq text (codes "true")
 
-abbrev pub detail_in : List Row → Detail
-detail_in rows = if is_yes (first_of (codes "moves") rows) then Moves else Lines
+abbrev pub flag_in : Text → List Row → Bool
+flag_in id rows = is_yes (first_of id rows)
+
+abbrev pub detail_of : Bool → Detail
+detail_of moves = if moves then Moves else Lines
 
 -- a run on the image of that name with those options, the showing of a ring of that layout and order, the check of a report, or a bench of that seed and that many lines
 pub data Wish : Type 0 where
@@ -104,11 +111,11 @@ pub data Wish : Type 0 where
   a_check : Wish
   a_bench : ℕ → ℕ → Wish
 
-abbrev pub run_with : Text → Detail → Option ℕ → Option Wish
-run_with image detail start = option_map (λ first. a_run image (record { detail = detail; start = first })) start
+abbrev pub run_with : Text → (moves read_only : Bool) → Option ℕ → Option Wish
+run_with image moves read_only start = option_map (λ first. a_run image (record { detail = detail_of moves; start = first; read_only = read_only })) start
 
 abbrev pub run_in : List Row → Option Wish
-run_in rows = option_and_then (λ image. run_with image (detail_in rows) (option_and_then start_of (number_in (codes "start") rows))) (first_of (codes "image") rows)
+run_in rows = option_and_then (λ image. run_with image (flag_in (codes "moves") rows) (flag_in (codes "read-only") rows) (option_and_then start_of (number_in (codes "start") rows))) (first_of (codes "image") rows)
 
 abbrev pub ring_with : Option Abi → Option ℕ → Option Wish
 ring_with None order = None

@@ -52,8 +52,35 @@ fn words_that_ask_for_a_run(rt: HostRuntime) -> Result<(), Fail> {
         ),
         ("run disk --start +4 --moves", "disk", Detail::Moves, 4),
     ] {
-        let options = RunOptions { detail, start };
+        let read_only = false;
+        let options = RunOptions {
+            detail,
+            start,
+            read_only,
+        };
         assert!(rt; ask_for(alloc, line, Some(Command::Run { image, options }))?);
+    }
+    Ok(())
+}
+
+#[test]
+fn words_that_ask_for_a_run_on_a_read_only_disk(rt: HostRuntime) -> Result<(), Fail> {
+    let alloc = rt.alloc();
+    for (line, detail, start) in [
+        ("run disk --read-only", Detail::Lines, 0),
+        ("run --read-only disk --moves", Detail::Moves, 0),
+        ("run --start 7 --read-only disk", Detail::Lines, 7),
+    ] {
+        let options = RunOptions {
+            detail,
+            start,
+            read_only: true,
+        };
+        let command = Command::Run {
+            image: "disk",
+            options,
+        };
+        assert!(rt; ask_for(alloc, line, Some(command))?);
     }
     Ok(())
 }

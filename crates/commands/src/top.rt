@@ -50,9 +50,10 @@ use std::alloc::Global;
 ///   lines were carried out, and are reported. A generated schedule can be as long, and nothing is said.
 ///
 /// The first reason ends the run: an output that fails after it to hand on what it kept back changes
-/// no status. The image of a run is the one that the words name, attached for writing; `inspect`
-/// attaches none. Where the image is attached, neither source nor output fails, and the source exposes
-/// a whole schedule of lines that are carried out, or a ring's bytes, the status is 0 or 6.
+/// no status. The image of a run is the one that the words name, attached for writing unless they say
+/// that it is read-only; `inspect` attaches none. Where the image is attached, neither source nor
+/// output fails, and the source exposes a whole schedule of lines that are carried out, or a ring's
+/// bytes, the status is 0 or 6.
 ///
 /// What a report promises rests on this: source, output and disk expose what they hold, and nobody
 /// else writes the image meanwhile; shared words are sequentially consistent, and a hypercall is one
@@ -208,7 +209,7 @@ fn run_schedule<S: Source, D: SectorDisk, O: Sink>(
         (scene (S.seen src.old) (D.seen disk.old) (O.seen out.old))
         (scene (S.seen src.new) (D.seen disk.new) (O.seen out.new)) }
 {
-    let sectors = match disk.attach(image, true) {
+    let sectors = match disk.attach(image, !options.read_only) {
         Ok(sectors) => sectors,
         Err(AttachStop::Failed) => return Err(Stop::Image),
         Err(AttachStop::OutOfMemory) => return Err(Stop::OutOfMemory),
@@ -219,7 +220,7 @@ fn run_schedule<S: Source, D: SectorDisk, O: Sink>(
         persistent: 0,
         indirect: 0,
         start: options.start,
-        read_only: false,
+        read_only: options.read_only,
         sectors,
     };
     let mut report = LineSink {

@@ -2,8 +2,8 @@
 ghost use Rattle.std.specs.Prelude.{◌≡◌, ℕ, IfOk, codes, map, option_map, option_and_then};
 ghost use Rattle.std.specs.String.{string_bytes};
 ghost use Rattle.clap.specs.Words.{first_of, found_of, rows_of, subcommand_rows_of, rule_of};
-ghost use Rattle.commands.specs.Words.{wish_of, wish_by, wish_in, run_in, run_with, ring_in, bench_in, detail_in, number_in, start_of, layout_of, order_of};
-ghost use Rattle.commands.specs.Words.{command_set, read_set, run_set, inspect_set, check_set, bench_set, image_rule, moves_rule, start_rule, abi_rule, order_rule, number_rule};
+ghost use Rattle.commands.specs.Words.{wish_of, wish_by, wish_in, run_in, run_with, ring_in, bench_in, flag_in, number_in, start_of, layout_of, order_of};
+ghost use Rattle.commands.specs.Words.{command_set, read_set, run_set, inspect_set, check_set, bench_set, image_rule, moves_rule, start_rule, read_only_rule, abi_rule, order_rule, number_rule};
 ghost use Rattle.commands.specs.Reading.{IsArgument, IsSet};
 
 use blk_base::{Abi, OutOfMemory};
@@ -32,13 +32,16 @@ pub struct RunOptions {
     pub detail: Detail,
     /// The ring's first index: its producers begin there.
     pub start: u32,
+    /// Whether the disk is read-only: the image is never written.
+    pub read_only: bool,
 }
 
 /// The command that the words after the program's name ask for, as `clap` reads them: `run` with an
-/// image's name, and `--moves` and `--start`, a number of 32 bits, before or after it; `inspect`, with `--abi` 64 or 32 and `--order`
-/// from 0 to 4; `check`; or `bench`, with a seed and a count, numbers of 64 bits. Each option comes at most
-/// once, and a number may have a plus and zeros before it.
-/// Without them the layout is that of x86_64, the order 0, and the ring's first index 0.
+/// image's name, and `--moves`, `--read-only` and `--start`, a number of 32 bits, before or after it;
+/// `inspect`, with `--abi` 64 or 32 and `--order` from 0 to 4; `check`; or `bench`, with a seed and a
+/// count, numbers of 64 bits. Each option comes at most once, and a number may have a plus and zeros
+/// before it. Without them the layout is that of x86_64, the order 0, the ring's first index 0, and the
+/// disk may be written.
 ///
 /// `None` where `clap` finds a fault in the words, of which a wish for help is one, and at an `--abi`
 /// between 32 and 64. The error comes where there was no memory.
@@ -76,14 +79,15 @@ fn read_commands<'a>(alloc: Global) -> Result<clap::Command<'a>, AllocError>
         .subcommand(check_command(alloc))
 }
 
-// `run IMAGE [--moves] [--start N]`.
+// `run IMAGE [--moves] [--start N] [--read-only]`.
 fn run_command<'a>(alloc: Global) -> Result<clap::Command<'a>, AllocError>
     ensures { IfOk result (IsSet run_set) }
 {
     clap::Command::new(alloc, "run")
         .arg(image_argument(alloc))?
         .arg(moves_flag(alloc))?
-        .arg(start_option(alloc))
+        .arg(start_option(alloc))?
+        .arg(read_only_flag(alloc))
 }
 
 // `inspect [--abi N] [--order N]`.
@@ -142,6 +146,14 @@ fn start_option<'a>(alloc: Global) -> Arg<'a>
         .default_value("0")
 }
 
+fn read_only_flag<'a>(alloc: Global) -> Arg<'a>
+    ensures { IsArgument read_only_rule result }
+{
+    Arg::new(alloc, "read-only")
+        .long("read-only")
+        .action(ArgAction::SetTrue)
+}
+
 fn abi_option<'a>(alloc: Global) -> Arg<'a>
     ensures { IsArgument abi_rule result }
 {
@@ -178,17 +190,27 @@ fn run<'a>(found: &ArgMatches<'a>) -> Option<Command<'a>>
     ensures { option_map wish_by result ≡ run_in (rows_of (found_of found.now)) }
 {
     let image = text(found, "image")?;
-    run_with(image, detail(found), number(found, "start"))
+    run_with(
+        image,
+        flag(found, "moves"),
+        flag(found, "read-only"),
+        number(found, "start"),
+    )
 }
 
-// A run on the image of that name, whose ring begins at that number.
-fn run_with(image: &str, detail: Detail, number: Option<u64>) -> Option<Command<'_>>
-    ensures { option_map wish_by result ≡ run_with image.now detail (option_and_then start_of number) }
+// A run on the image of that name, with these options, whose ring begins at that number.
+fn run_with(image: &str, moves: bool, read_only: bool, number: Option<u64>) -> Option<Command<'_>>
+    ensures { option_map wish_by result ≡ run_with image.now moves read_only (option_and_then start_of number) }
 {
     let start = start(number?)?;
+    let detail = if moves { Detail::Moves } else { Detail::Lines };
     Some(Command::Run {
         image,
-        options: RunOptions { detail, start },
+        options: RunOptions {
+            detail,
+            start,
+            read_only,
+        },
     })
 }
 
@@ -209,13 +231,10 @@ fn bench<'a>(found: &ArgMatches<'a>) -> Option<Command<'a>>
 }
 
 // A flag that was used has the text `true`.
-fn detail(found: &ArgMatches<'_>) -> Detail
-    ensures { result ≡ detail_in (rows_of (found_of found.now)) }
+fn flag(found: &ArgMatches<'_>, id: &str) -> bool
+    ensures { result ≡ flag_in id.now (rows_of (found_of found.now)) }
 {
-    match text(found, "moves") {
-        Some("true") => Detail::Moves,
-        _ => Detail::Lines,
-    }
+    matches!(text(found, id), Some("true"))
 }
 
 // The layout whose words have that many bits.

@@ -7,7 +7,7 @@ use Rattle.blk_base.specs.declared.config.Job.{Job}
 use Rattle.schedule_text.specs.declared.event.Event.{Event}
 use Rattle.schedule_text.specs.declared.event.Event.TheVariants as events
 use Rattle.split_model.specs.World.{World, is_quiet}
-use Rattle.split_model.specs.Happening.{Happening, FrontMoves, BackMoves, JobMoves, Submits, Notifies, Pokes, Dumps, Looks, Settles, after}
+use Rattle.split_model.specs.Happening.{Happening, Submits, Settles, after}
 use Rattle.split_model.specs.Kind.{Makes, MakesSoFar, AreOf, AreOfSoFar, AreOfAll, front_moves, back_moves, round_start, IsBeginning, IsRoundSoFar, AreRoundsSoFar, IsSettlingSoFar, never, settle_bound}
 use Rattle.split_model.proofs.Echo.{is_move, front_are_moves, back_are_moves, job_are_moves, each_are_moves, start_are_moves, rounds_are_moves}
 use Rattle.blk_front.specs.Submit.{is_connected}
@@ -16,15 +16,8 @@ use Rattle.machine_pipeline.specs.Submissions.{job_submitted, jobs_of, submitted
 -- moves submit nothing
 moves_submit : (hs : List Happening) → AllByRecursion (λ (h : Happening). is_move h ≡ true) hs → submitted_of hs ≡ []
 moves_submit [] m = refl
-moves_submit (FrontMoves ∷ hs) m = moves_submit hs m.1
-moves_submit (BackMoves ∷ hs) m = moves_submit hs m.1
-moves_submit (JobMoves number outcome ∷ hs) m = moves_submit hs m.1
-moves_submit (Notifies at ∷ hs) m = moves_submit hs m.1
 moves_submit (Submits job ∷ hs) m = absurd (cc)
-moves_submit (Pokes frame word value ∷ hs) m = absurd (cc)
-moves_submit (Dumps ∷ hs) m = absurd (cc)
-moves_submit (Looks ∷ hs) m = absurd (cc)
-moves_submit (Settles ∷ hs) m = absurd (cc)
+moves_submit (h ∷ hs) m = moves_submit hs m.1
 
 both_submit : (a b : List Happening) → submitted_of (a ++ b) ≡ submitted_of a ++ submitted_of b
 both_submit a b = filter_map-append submitted_at a b
@@ -47,7 +40,7 @@ made_submits (events.Front n) w hs is = ap submitted_of is ∙ moves_submit (fro
 made_submits (events.Back n) w hs is = ap submitted_of is ∙ moves_submit (back_moves w n) (back_are_moves (is_connected w.front.stage) n)
 made_submits (events.Job number n) w hs is = moves_submit hs (job_are_moves number hs is.0)
 made_submits (events.Turn n) w hs is = moves_submit hs (rounds_are_moves never n w hs is)
-made_submits events.Settle w hs is = joined hs is.rounds (Settles ∷ []) [] is.all (moves_submit is.rounds (rounds_are_moves is_quiet is.are_rounds.count w is.rounds is.are_rounds.are_rounds)) refl
+made_submits events.Settle w hs is = joined hs is.rounds (Settles (is_quiet (after is.rounds w)) ∷ []) [] is.all (moves_submit is.rounds (rounds_are_moves is_quiet is.are_rounds.count w is.rounds is.are_rounds.are_rounds)) refl
 made_submits events.Look w hs is = ap submitted_of is
 made_submits (events.Notify at) w hs is = ap submitted_of is
 made_submits events.Suspend w hs is = absurd is

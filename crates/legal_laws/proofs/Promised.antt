@@ -54,7 +54,7 @@ unshown (line ∷ rest) once =
     ap (λ (b : Bool). b || list_any shows_moves rest) (only_begin_shows line (All-head (λ (x : Line). is_begin x ≡ false) line rest once))
     ∙ unshown rest (All-tail (λ (x : Line). is_begin x ≡ false) line rest once)
 
-shown_says : (config : Options) (detail : Detail) (rest : List Line) → IsBody detail rest → list_any shows_moves (lines.Begin config detail ∷ rest) ≡ true → detail ≡ Moves
+pub shown_says : (config : Options) (detail : Detail) (rest : List Line) → IsBody detail rest → list_any shows_moves (lines.Begin config detail ∷ rest) ≡ true → detail ≡ Moves
 shown_says config Moves rest body shown = refl
 shown_says config Lines rest body shown = absurd (true≢false (sym shown ∙ unshown rest body.once))
 

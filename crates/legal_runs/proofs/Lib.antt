@@ -1,1 +1,2 @@
+pub mod OneLayout
 pub mod Promised

@@ -1,6 +1,7 @@
 -- A lawful report is what a run promises.
-use Rattle.std.proofs.Common.{ℕ, List, subst}
-use Rattle.std.specs.Prelude.{All, Option}
+use Rattle.std.proofs.Common.{ℕ, List, ap, sym, ◌∙◌}
+use Rattle.std.specs.Prelude.{Option}
+use Rattle.std.specs.List.{list_any}
 use Rattle.blk_base.specs.Options.{Options}
 use Rattle.schedule_text.specs.declared.event.Event.{Event}
 use Rattle.schedule_text.specs.declared.line.Detail.{Detail}
@@ -8,15 +9,14 @@ use Rattle.schedule_text.specs.declared.line.Line.{Line}
 use Rattle.report_rules.specs.Obeys.{Obeys}
 use Rattle.machine_pipeline.specs.Submissions.{jobs_of}
 use Rattle.schedule_text.specs.Recorder.{report_text}
+use Rattle.trace_check.specs.Outline.{shows_moves}
 use Rattle.trace_check.specs.Rules.{KeepsAll}
 use Rattle.trace_check.specs.Found.{AreSound, EndsWell}
 use Rattle.trace_check.specs.Laws.{KeepsLayout}
 use Rattle.legal_laws.specs.Promised.{IsPromised, IsFoundLegal}
-use Rattle.schedule_text.specs.Range.{IsInRange}
-use Rattle.plain_disk.specs.Honest.{IsHonest}
-use Rattle.legal_laws.proofs.Legal.{honest_whole}
-use Rattle.legal_laws.proofs.Promised.{jobs_asked, promised_legal, promised_sound, promised_found_legal}
+use Rattle.legal_laws.proofs.Promised.{jobs_asked, shown_says, promised_legal, promised_sound, promised_found_legal}
 use Rattle.legal_runs.specs.Legal.{IsRunReport}
+use Rattle.legal_runs.proofs.OneLayout.{layout_stays}
 
 promised : (config : Options) (detail : Detail) (events : List Event) (before now : Option (List (List ℕ))) (report : List Line)
     → IsRunReport config detail events before now report → IsPromised config detail (jobs_of events) report
@@ -44,18 +44,25 @@ promised config detail events before now report r =
       };
     }
 
+-- where it shows moves, the layout of entries stays
+keeps_layout : (config : Options) (detail : Detail) (events : List Event) (before now : Option (List (List ℕ))) (report : List Line)
+    → IsRunReport config detail events before now report → KeepsLayout report
+keeps_layout config detail events before now report r shown =
+    let p = promised config detail events before now report r in
+    layout_stays report (r.lawful.moves (shown_says config detail p.rest p.body (ap (list_any shows_moves) (sym p.first) ∙ shown))).layout
+
 pub run_kept : (config : Options) (detail : Detail) (events : List Event) (before now : Option (List (List ℕ))) (report : List Line)
     → IsRunReport config detail events before now report → Obeys KeepsAll report
 run_kept config detail events before now report r =
     promised_legal config detail events (jobs_of events) report (promised config detail events before now report r) r.echo
 
 pub run_sound : (config : Options) (detail : Detail) (events : List Event) (before now : Option (List (List ℕ))) (report : List Line)
-    → IsRunReport config detail events before now report → KeepsLayout report → AreSound report × EndsWell report
-run_sound config detail events before now report r layout =
-    promised_sound config detail events (jobs_of events) report (promised config detail events before now report r) r.echo layout
+    → IsRunReport config detail events before now report → AreSound report × EndsWell report
+run_sound config detail events before now report r =
+    promised_sound config detail events (jobs_of events) report (promised config detail events before now report r) r.echo (keeps_layout config detail events before now report r)
 
 pub run_found : (config : Options) (detail : Detail) (events : List Event) (before now : Option (List (List ℕ))) (report : List Line)
-    → IsRunReport config detail events before now report → IsHonest report → KeepsLayout report → IsFoundLegal (report_text report)
-run_found config detail events before now report r honest layout =
-    promised_found_legal config detail events (jobs_of events) report (promised config detail events before now report r) r.echo layout
-    (subst (All IsInRange) (honest_whole report honest) r.lawful.grammar.lines)
+    → IsRunReport config detail events before now report → IsFoundLegal (report_text report)
+run_found config detail events before now report r =
+    promised_found_legal config detail events (jobs_of events) report (promised config detail events before now report r) r.echo
+    (keeps_layout config detail events before now report r) r.lawful.grammar.lines

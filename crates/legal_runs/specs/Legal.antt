@@ -6,7 +6,7 @@ use Rattle.schedule_text.specs.declared.line.Detail.{Detail}
 use Rattle.schedule_text.specs.declared.line.Line.{Line}
 use Rattle.schedule_text.specs.Range.{JobHasWidths}
 use Rattle.schedule_text.specs.Recorder.{report_text}
-use Rattle.plain_disk.specs.Honest.{honest_part, IsHonest}
+use Rattle.plain_disk.specs.Honest.{honest_part}
 use Rattle.plain_disk.specs.Echo.{Echoes}
 use Rattle.report_rules.specs.Obeys.{Obeys}
 use Rattle.pipeline_laws.specs.Effects.{IsOfADisk}
@@ -14,7 +14,6 @@ use Rattle.machine_pipeline.specs.Submissions.{jobs_of}
 use Rattle.schedule_run.specs.Lawful.{IsLawful}
 use Rattle.trace_check.specs.Rules.{KeepsAll}
 use Rattle.trace_check.specs.Found.{AreSound, EndsWell}
-use Rattle.trace_check.specs.Laws.{KeepsLayout}
 use Rattle.legal_laws.specs.Kept.{IsSettled}
 use Rattle.legal_laws.specs.Promised.{IsFoundLegal}
 
@@ -36,7 +35,7 @@ abbrev pub RunIsKept : Type 0
 RunIsKept = OfRuns (λ report. Obeys KeepsAll report)
 
 abbrev pub RunIsSound : Type 0
-RunIsSound = OfRuns (λ report. KeepsLayout report → AreSound report × EndsWell report)
+RunIsSound = OfRuns (λ report. AreSound report × EndsWell report)
 
 abbrev pub RunIsFoundLegal : Type 0
-RunIsFoundLegal = OfRuns (λ report. IsHonest report → KeepsLayout report → IsFoundLegal (report_text report))
+RunIsFoundLegal = OfRuns (λ report. IsFoundLegal (report_text report))

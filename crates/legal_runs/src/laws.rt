@@ -3,10 +3,9 @@ ghost use Rattle.legal_runs.specs.Legal.{RunIsKept, RunIsSound, RunIsFoundLegal}
 
 /// A lawful report that echoes its schedule keeps all rules, whatever a hostile hand overwrites
 /// (`kept`); no line of it breaks one for a check, and the last is `end` (`sound`); so a check finds
-/// its text legal, unless it stops before its end: that is a law of reports without hostile lines
-/// (`found`). Premises: the disk is one, as `run` asks for; each submission has numbers of the
-/// grammar; no `settle` ran out of rounds before the first hostile line; and, for the check, where
-/// moves are shown the layout of entries stays while they are read.
+/// its text legal, unless it stops before its end (`found`). Premises: the disk is one, as `run` asks
+/// for; each submission has numbers of the grammar; and no `settle` ran out of rounds before the
+/// first hostile line.
 pub fn the_report_of_a_run_is_legal()
     ensures kept { RunIsKept }
     ensures sound { RunIsSound }

@@ -1,5 +1,5 @@
 -- The job that the back makes of an entry.
-use Rattle.std.proofs.Common.{◌≡◌, ℕ, ◌+◌, ◌-◌, ◌^◌, ◌<◌, ◌≤◌, ◌==◌, false, List, [], ◌∷◌, ◌++◌, refl, ap, sym, ◌∙◌, arith}
+use Rattle.std.proofs.Common.{◌≡◌, ℕ, ◌+◌, ◌-◌, ◌^◌, ◌<◌, ◌≤◌, ◌==◌, true, false, List, [], ◌∷◌, ◌++◌, refl, ap, sym, ◌∙◌, arith}
 use Rattle.std.specs.Prelude.{Some, slice_get, nat_lt}
 use Rattle.std.proofs.lemmas.Bool.Decides.{nat_tests}
 use Rattle.std.proofs.lemmas.List.Elements.{All-push}
@@ -38,10 +38,10 @@ in_range sectors k r sized few s =
     let some = s.shaped.some in let most = s.shaped.few in
     (omega arith, omega arith, omega arith, omega arith, omega arith, omega arith, omega arith, eleven r, ranged r s.frames)
 
--- a read or write of a disk that may be written is served: the job moves its sectors
+-- a read, and a write of a disk that may be written, is served: the job moves its sectors
 serves : (config : Options) (number size : ℕ) (r : Request) (way : Transfer)
     → r.transfer ≡ way
-    → config.read_only ≡ false
+    → (is_write r.transfer ≡ true → config.read_only ≡ false)
     → r.sector + r.count ≤ config.sectors
     → IsShaped r
     → begun number (entry_request r) size (verdict_of (entry_request r) (info_of config)) ≡ moving number (entry_request r) size (is_write way) r.sector
@@ -55,13 +55,13 @@ serves config number size r (transfer.Write tag) way writable within shaped =
     let some : (frames_for r.count == 0) ≡ false = (let least = shaped.some in grind (arith, nat_tests)) in
     let few : nat_lt 11 (frames_for r.count) ≡ false = (let most = shaped.few in grind (arith, nat_tests)) in
     let on_disk : nat_lt config.sectors (r.sector + sectors_of (own_segments r)) ≡ false = (let all = own_sectors r shaped in grind (arith, nat_tests)) in
-    rw (way, writable, some, few, own_sound r shaped, on_disk) refl
+    rw (way, writable (ap is_write way), some, few, own_sound r shaped, on_disk) refl
 
 -- the job of the entry's words
-pub entry_job : (config : Options) (number size k : ℕ) (r : Request) → IsPlain config → k < 2 ^ 32 → IsSubmitted config.sectors k r → begun number (request_of X64 (entry_of r)) size (verdict_of (request_of X64 (entry_of r)) (info_of config)) ≡ moving number (entry_request r) size (is_write r.transfer) r.sector (own_segments r)
-entry_job config number size k r plain few s =
+pub entry_job : (config : Options) (number size k : ℕ) (r : Request) → IsPlain config → k < 2 ^ 32 → IsSubmitted config.sectors k r → (is_write r.transfer ≡ true → config.read_only ≡ false) → begun number (request_of X64 (entry_of r)) size (verdict_of (request_of X64 (entry_of r)) (info_of config)) ≡ moving number (entry_request r) size (is_write r.transfer) r.sector (own_segments r)
+entry_job config number size k r plain few s writable =
     ap (λ (x : RawRequest). begun number x size (verdict_of x (info_of config))) (reads_back X64 (entry_request r) (in_range config.sectors k r plain.sectors few s))
-    ∙ serves config number size r r.transfer refl plain.read_only s.sector s.shaped
+    ∙ serves config number size r r.transfer refl writable s.sector s.shaped
 
 -- that job is the one of the request
 pub is_work : (submitted : List Request) (fetched size sectors : ℕ) (number : ℕ) (r : Request)

@@ -32,7 +32,7 @@ use Rattle.machine_pipeline.proofs.BackLooks.{LooksAs}
 use Rattle.machine_pipeline.proofs.StationsBack.{begins_fetch}
 use Rattle.machine_pipeline.proofs.Turns.{does_step}
 use Rattle.split_model.specs.Shown.{back_lines, halt_lines}
-use Rattle.blk_front.specs.Submit.{is_connected}
+use Rattle.blk_front.specs.Submit.{is_ready}
 
 -- where the back saw more than it fetched
 some_requests : (start fetched seen word : ℕ) (ring : Ring) → ring.cons ≡ wrapped start fetched → word ≡ wrapped start seen → fetched ≤ seen → (requests_of ring word == 0) ≡ false → fetched < seen
@@ -86,7 +86,7 @@ goes_first config w g d shown given word read awake some p =
     let i : IsBetween stage.Loop w.back = between stage.Loop w.back refl refl refl refl in
     let more : g.fetched < g.back_seen = some_requests g.start g.fetched g.back_seen w.back.seen w.back.ring x.fetched x.back_saw x.back_from some in
     let n : IsNext w g = next_pushed config w g d stage.Loop p i more in
-    let s = begins_fetch config g d (is_connected w.front.stage) (is_issuing w.front.stage) (ending_at w.front.stage w.front.ending) (telling_at w.front.stage) None w.front.requests w.back.jobs.works w.under.pages (omega (arith, more, x.back_to)) h.stations in
+    let s = begins_fetch config g d (is_ready w.front.stage) (is_issuing w.front.stage) (ending_at w.front.stage w.front.ending) (telling_at w.front.stage) None w.front.requests w.back.jobs.works w.under.pages (omega (arith, more, x.back_to)) h.stations in
     goes_moved config w g d (Some s.step) stage.Loop (stage.Fetch 1) (record w.back { entry = word ∷ [] }) w.under.pages w.under.channels g.back_seen shown given (does_step shown (back_lines w.back.told given ++ halt_lines w.back.halted w.back.halted) (rw (p.untold, h.unhalted) refl) s) p
     (quiet_with config w g d stage.Loop (stage.Fetch 1) w.back.asleep w.back.seen (word ∷ []) w.under.channels g.back_seen h i (between (stage.Fetch 1) w.back refl refl refl refl) s.now x
     (omega arith, omega arith, more, (n.r, n.known, one_more n.r 0 word [] (omega arith) refl (read ∙ n.words 0 (omega arith))))

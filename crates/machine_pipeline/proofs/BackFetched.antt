@@ -19,7 +19,7 @@ use Rattle.blk_front.specs.declared.stage.Stage.{Stage as FrontStage}
 use Rattle.blk_front.specs.View.{slot_word}
 use Rattle.blk_front.specs.Step.{entry_of}
 use Rattle.blk_front.specs.Request.{is_write}
-use Rattle.blk_front.specs.Submit.{ending_of, is_connected}
+use Rattle.blk_front.specs.Submit.{ending_of, is_ready}
 use Rattle.blk_back.specs.declared.stage.Reply.{Reply}
 use Rattle.blk_back.specs.declared.stage.Stage.TheVariants as stage
 use Rattle.blk_back.specs.Step.{fetched}
@@ -144,10 +144,10 @@ goes_fetched config w g d k shown given r words p known e = subst (λ (ws : List
     t = begun (next_number w.back) (request_of X64 (entry_of r)) w.back.jobs.info.sectors (verdict_of (request_of X64 (entry_of r)) w.back.jobs.info)
 
     sub : IsSubmitted config.sectors g.fetched r
-    sub = subst (λ (sectors : ℕ). IsSubmitted sectors g.fetched r) h.sized (h.submitted.each g.fetched r known)
+    sub = subst (λ (sectors : ℕ). IsSubmitted sectors g.fetched r) h.sized.sectors (h.submitted.each g.fetched r known)
 
     made : t ≡ moving (next_number w.back) (entry_request r) w.back.jobs.info.sectors (is_write r.transfer) r.sector (own_segments r)
-    made = ap (λ (i : DiskInfo). begun (next_number w.back) (request_of X64 (entry_of r)) w.back.jobs.info.sectors (verdict_of (request_of X64 (entry_of r)) i)) h.info ∙ entry_job config (next_number w.back) w.back.jobs.info.sectors g.fetched r p.plain (omega (arith, x.few, x.all, x.fetched_pushed)) sub
+    made = ap (λ (i : DiskInfo). begun (next_number w.back) (request_of X64 (entry_of r)) w.back.jobs.info.sectors (verdict_of (request_of X64 (entry_of r)) i)) h.info ∙ entry_job config (next_number w.back) w.back.jobs.info.sectors g.fetched r p.plain (omega (arith, x.few, x.all, x.fetched_pushed)) sub (h.sized.writable g.fetched r known)
 
     is : IsWork g.submitted (g.fetched + 1) t
     is = subst (λ (u : Work). IsWork g.submitted (g.fetched + 1) u) (sym made) (is_work g.submitted g.fetched w.back.jobs.info.sectors config.sectors (next_number w.back) r number known sub)
@@ -157,8 +157,8 @@ goes_fetched config w g d k shown given r words p known e = subst (λ (ws : List
     unread y = subst (λ (u : Work). ReadAt w.under.pages y u.moved u.words [] u.stage) (sym made)
         (record { counted = refl; few = omega arith; sectors = λ i ws none. absurd (none-some ws none) })
 
-    s : Stepped None IsSame d [] (λ p. AreStations config (record g { fetched = g.fetched + 1 }) p (is_connected w.front.stage) (is_issuing w.front.stage) false (ending_at w.front.stage w.front.ending) (telling_at w.front.stage) None w.front.requests (w.back.jobs.works ++ t ∷ []) w.under.pages)
-    s = fetches config g d (is_connected w.front.stage) (is_issuing w.front.stage) (ending_at w.front.stage w.front.ending) (telling_at w.front.stage) None w.front.requests w.back.jobs.works w.under.pages t (omega (arith, x.back_to, h.back_at.2)) (ap (λ (u : Work). u.number) made ∙ number) (ap (λ (u : Work). worked u.stage u.moved) made) unread h.stations
+    s : Stepped None IsSame d [] (λ p. AreStations config (record g { fetched = g.fetched + 1 }) p (is_ready w.front.stage) (is_issuing w.front.stage) false (ending_at w.front.stage w.front.ending) (telling_at w.front.stage) None w.front.requests (w.back.jobs.works ++ t ∷ []) w.under.pages)
+    s = fetches config g d (is_ready w.front.stage) (is_issuing w.front.stage) (ending_at w.front.stage w.front.ending) (telling_at w.front.stage) None w.front.requests w.back.jobs.works w.under.pages t (omega (arith, x.back_to, h.back_at.2)) (ap (λ (u : Work). u.number) made ∙ number) (ap (λ (u : Work). worked u.stage u.moved) made) unread h.stations
 
 goes_further : (config : Options) (w : World) (g : Flow) (d : Pipeline) (k word : ℕ) (shown : Shown) (given : BackAnswer) (last : Bool)
     → (k == 27) ≡ last

@@ -20,7 +20,7 @@ use Rattle.blk_front.specs.declared.request.Request.{Request}
 use Rattle.blk_front.specs.declared.stage.Stage.{Stage as FrontStage}
 use Rattle.blk_front.specs.declared.stage.Stage.TheVariants as front
 use Rattle.blk_front.specs.Request.{frame_at}
-use Rattle.blk_front.specs.Submit.{is_connected}
+use Rattle.blk_front.specs.Submit.{is_ready, is_connected}
 use Rattle.blk_back.specs.declared.stage.Stage.TheVariants as stage
 use Rattle.blk_back.specs.View.{View}
 use Rattle.split_model.specs.World.{World}
@@ -107,7 +107,7 @@ maps config w g d verdict p e = subst (λ (x : Result ℕ MapRefusal). ActGoes c
     queue = h.queue;
     submitted = h.submitted;
     pool = h.pool;
-    stations = stations_elsewhere config g d (is_connected w.front.stage) (is_issuing w.front.stage) false (ending_at w.front.stage w.front.ending) (telling_at w.front.stage) None w.front.requests w.back.jobs.works w.under.pages new w.front.sectors w.front.last h.submitted (λ f low high. others f (omega arith)) h.stations;
+    stations = stations_elsewhere config g d (is_ready w.front.stage) (is_issuing w.front.stage) false (ending_at w.front.stage w.front.ending) (telling_at w.front.stage) None w.front.requests w.back.jobs.works w.under.pages new w.front.sectors w.front.last h.submitted (λ f low high. others f (omega arith)) h.stations;
     works = h.works;
     counted = h.counted;
     info = h.info;

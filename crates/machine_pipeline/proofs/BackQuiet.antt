@@ -13,7 +13,7 @@ use Rattle.back_jobs.specs.Hands.{hands_in}
 use Rattle.blk_front.specs.declared.request.Request.{Request}
 use Rattle.blk_front.specs.declared.stage.Stage.{Stage as FrontStage}
 use Rattle.blk_front.specs.View.{slot_word}
-use Rattle.blk_front.specs.Submit.{is_connected, ending_of}
+use Rattle.blk_front.specs.Submit.{is_ready, is_connected, ending_of}
 use Rattle.blk_back.specs.declared.stage.Reply.{Reply}
 use Rattle.blk_back.specs.declared.stage.Stage.{Stage as BackStage}
 use Rattle.blk_back.specs.View.{View}
@@ -101,7 +101,7 @@ pub quiet_with : {d' : Pipeline} (config : Options) (w : World) (g : Flow) (d : 
     → Holds config w g d w.front.stage b
     → IsBetween b w.back
     → IsBetween b' w.back
-    → AreStations config g d' (is_connected w.front.stage) (is_issuing w.front.stage) (is_fetching b') (ending_at w.front.stage w.front.ending) (telling_at w.front.stage) (reply_at b') w.front.requests w.back.jobs.works w.under.pages
+    → AreStations config g d' (is_ready w.front.stage) (is_issuing w.front.stage) (is_fetching b') (ending_at w.front.stage w.front.ending) (telling_at w.front.stage) (reply_at b') w.front.requests w.back.jobs.works w.under.pages
     → AreIndices (record g { back_seen = seen }) w.front.ring w.back.ring w.front.seen word w.back.fetched w.front.last w.front.waiting (length w.front.requests) (ending_of w.front.stage)
     → BackAt g.start g.fetched seen g.replied g.submitted w.back.jobs.works entry b'
     → IsFrontSleep g.start g.taken g.replied w.under.pages w.front.asleep channels.front_pending w.front.stage b'
@@ -133,7 +133,7 @@ pub quiet : (config : Options) (w : World) (g : Flow) (d : Pipeline) (b b' : Bac
     → Holds config w g d w.front.stage b
     → IsBetween b w.back
     → IsBetween b' w.back
-    → AreStations config g d (is_connected w.front.stage) (is_issuing w.front.stage) (is_fetching b') (ending_at w.front.stage w.front.ending) (telling_at w.front.stage) (reply_at b') w.front.requests w.back.jobs.works w.under.pages
+    → AreStations config g d (is_ready w.front.stage) (is_issuing w.front.stage) (is_fetching b') (ending_at w.front.stage w.front.ending) (telling_at w.front.stage) (reply_at b') w.front.requests w.back.jobs.works w.under.pages
     → BackAt g.start g.fetched g.back_seen g.replied g.submitted w.back.jobs.works w.back.entry b'
     → (w.front.asleep ≡ true → BackSends b g.replied g.taken → (g.replied ≡ g.taken) ⊎ (w.under.channels.front_pending ≡ true) ⊎ BackSends b' g.replied g.taken)
     → (is_back_arming b' ≡ true → is_back_arming b ≡ true)
@@ -147,7 +147,7 @@ quiet config w g d b b' h i j stations at sends arming may =
 
 -- the stations where no entry is being copied and no response written
 pub stations_between : (config : Options) (w : World) (g : Flow) (d : Pipeline) (b : BackStage) → Holds config w g d w.front.stage b → is_fetching b ≡ false → reply_at b ≡ None
-    → AreStations config g d (is_connected w.front.stage) (is_issuing w.front.stage) false (ending_at w.front.stage w.front.ending) (telling_at w.front.stage) None w.front.requests w.back.jobs.works w.under.pages
+    → AreStations config g d (is_ready w.front.stage) (is_issuing w.front.stage) false (ending_at w.front.stage w.front.ending) (telling_at w.front.stage) None w.front.requests w.back.jobs.works w.under.pages
 stations_between config w g d b h unfetching none =
-    subst (λ (fetching : Bool). AreStations config g d (is_connected w.front.stage) (is_issuing w.front.stage) fetching (ending_at w.front.stage w.front.ending) (telling_at w.front.stage) None w.front.requests w.back.jobs.works w.under.pages) unfetching
-    (subst (λ (replying : Option Reply). AreStations config g d (is_connected w.front.stage) (is_issuing w.front.stage) (is_fetching b) (ending_at w.front.stage w.front.ending) (telling_at w.front.stage) replying w.front.requests w.back.jobs.works w.under.pages) none h.stations)
+    subst (λ (fetching : Bool). AreStations config g d (is_ready w.front.stage) (is_issuing w.front.stage) fetching (ending_at w.front.stage w.front.ending) (telling_at w.front.stage) None w.front.requests w.back.jobs.works w.under.pages) unfetching
+    (subst (λ (replying : Option Reply). AreStations config g d (is_ready w.front.stage) (is_issuing w.front.stage) (is_fetching b) (ending_at w.front.stage w.front.ending) (telling_at w.front.stage) replying w.front.requests w.back.jobs.works w.under.pages) none h.stations)

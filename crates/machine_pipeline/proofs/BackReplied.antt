@@ -15,7 +15,7 @@ use Rattle.blk_front.specs.declared.request.Request.{Request}
 use Rattle.blk_front.specs.declared.stage.Stage.{Stage as FrontStage}
 use Rattle.blk_front.specs.declared.stage.Stage.TheVariants as front
 use Rattle.blk_front.specs.View.{slot_word, next_request}
-use Rattle.blk_front.specs.Submit.{is_connected, ending_of}
+use Rattle.blk_front.specs.Submit.{is_ready, is_connected, ending_of}
 use Rattle.blk_back.specs.declared.stage.Reply.{Reply}
 use Rattle.blk_back.specs.declared.stage.Stage.TheVariants as stage
 use Rattle.blk_back.specs.Ask.{response_word}
@@ -151,7 +151,7 @@ goes_producer config w g d rep p = record {
     queue = h.queue;
     submitted = h.submitted;
     pool = h.pool;
-    stations = stations_elsewhere config flow (after_step d (Some s.step)) (is_connected w.front.stage) (is_issuing w.front.stage) false (ending_at w.front.stage w.front.ending) (telling_at w.front.stage) None w.front.requests w.back.jobs.works w.under.pages new w.front.sectors w.front.last h.submitted (λ f low high. wrote.others f (omega arith)) s.now;
+    stations = stations_elsewhere config flow (after_step d (Some s.step)) (is_ready w.front.stage) (is_issuing w.front.stage) false (ending_at w.front.stage w.front.ending) (telling_at w.front.stage) None w.front.requests w.back.jobs.works w.under.pages new w.front.sectors w.front.last h.submitted (λ f low high. wrote.others f (omega arith)) s.now;
     works = h.works;
     counted = omega (arith, h.counted);
     info = h.info;
@@ -186,8 +186,8 @@ goes_producer config w g d rep p = record {
     a : IsReplying g.fetched w.back.jobs.works rep
     a = h.back_at
 
-    s : Stepped None IsSame d (lines.Reply rep.id rep.status ∷ []) (λ x. AreStations config (record g { replied = g.replied + 1; replies = g.replies ++ rep ∷ [] }) x (is_connected w.front.stage) (is_issuing w.front.stage) false (ending_at w.front.stage w.front.ending) (telling_at w.front.stage) None w.front.requests w.back.jobs.works w.under.pages)
-    s = replies config g d (is_connected w.front.stage) (is_issuing w.front.stage) false (ending_at w.front.stage w.front.ending) (telling_at w.front.stage) w.front.requests w.back.jobs.works w.under.pages rep a.positive h.replies.counted h.stations
+    s : Stepped None IsSame d (lines.Reply rep.id rep.status ∷ []) (λ x. AreStations config (record g { replied = g.replied + 1; replies = g.replies ++ rep ∷ [] }) x (is_ready w.front.stage) (is_issuing w.front.stage) false (ending_at w.front.stage w.front.ending) (telling_at w.front.stage) None w.front.requests w.back.jobs.works w.under.pages)
+    s = replies config g d (is_ready w.front.stage) (is_issuing w.front.stage) false (ending_at w.front.stage w.front.ending) (telling_at w.front.stage) w.front.requests w.back.jobs.works w.under.pages rep a.positive h.replies.counted h.stations
 
     -- no response that waits names its request, nor is its grant being ended
     others : (i : ℕ) (other : Reply) → slice_get g.replies i ≡ Some other → other.id ≢ rep.id

@@ -17,7 +17,7 @@ use Rattle.back_jobs.specs.Jobs.{Held as Jobs}
 use Rattle.blk_front.specs.declared.request.Request.{Request}
 use Rattle.blk_front.specs.declared.stage.Stage.{Stage as FrontStage}
 use Rattle.blk_front.specs.View.{slot_word}
-use Rattle.blk_front.specs.Submit.{is_connected, ending_of}
+use Rattle.blk_front.specs.Submit.{is_ready, is_connected, ending_of}
 use Rattle.blk_back.specs.declared.stage.Reply.{Reply}
 use Rattle.blk_back.specs.declared.stage.Stage.{Stage as BackStage}
 use Rattle.blk_back.specs.declared.stage.Stage.TheVariants as stage
@@ -97,7 +97,7 @@ pub goes_word : (config : Options) (w : World) (g : Flow) (d : Pipeline) (step :
     → frame ≡ 2
     → (BackSends b g.replied g.taken → ⊥)
     → ((j : ℕ) → j < i → word_of w.under.pages 2 (slot_word (wrapped g.start g.replied) j) ≡ response_word rep j)
-    → AreStations config g (after_step d step) (is_connected w.front.stage) (is_issuing w.front.stage) (is_fetching b') (ending_at w.front.stage w.front.ending) (telling_at w.front.stage) (reply_at b') w.front.requests jobs.works w.under.pages
+    → AreStations config g (after_step d step) (is_ready w.front.stage) (is_issuing w.front.stage) (is_fetching b') (ending_at w.front.stage w.front.ending) (telling_at w.front.stage) (reply_at b') w.front.requests jobs.works w.under.pages
     → AreWorks g.submitted g.fetched jobs.works
     → length jobs.works + 1 + g.replied ≡ g.fetched
     → jobs.info ≡ w.back.jobs.info

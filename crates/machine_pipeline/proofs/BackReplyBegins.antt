@@ -24,7 +24,7 @@ use Rattle.split_model.specs.World.{World}
 use Rattle.split_model.specs.Shown.{back_lines, halt_lines}
 use Rattle.machine_pipeline.proofs.Flow.{Flow, is_issuing, ending_at, worked, telling_at}
 use Rattle.machine_pipeline.proofs.Holds.{Holds, AreWorks, IsWork, IsReplying}
-use Rattle.blk_front.specs.Submit.{is_connected}
+use Rattle.blk_front.specs.Submit.{is_ready}
 use Rattle.machine_pipeline.specs.Step.{IsSame}
 use Rattle.machine_pipeline.proofs.Turns.{Goes, Stepped, does_step}
 use Rattle.machine_pipeline.proofs.Lists.{all_at}
@@ -143,5 +143,5 @@ goes_reply config w g d rep frame shown given p in_two e =
     is : IsWork g.submitted g.fetched l.t
     is = all_at (IsWork g.submitted g.fetched) works l.place l.t h.works.each l.at
 
-    s : Stepped None IsSame d [] (λ x. AreStations config g x (is_connected w.front.stage) (is_issuing w.front.stage) false (ending_at w.front.stage w.front.ending) (telling_at w.front.stage) (Some rep) w.front.requests (remove works l.place) w.under.pages)
-    s = begins_response config g d (is_connected w.front.stage) (is_issuing w.front.stage) false (ending_at w.front.stage w.front.ending) (telling_at w.front.stage) w.front.requests works w.under.pages l.place l.t rep l.at (ap (λ (j : JobStage). let u : Work = l.t in worked j u.moved) l.stage) (l.id ∙ is.id) h.works.ascending (λ i u at. let work = all_at (IsWork g.submitted g.fetched) works i u h.works.each at in work.positive) h.stations
+    s : Stepped None IsSame d [] (λ x. AreStations config g x (is_ready w.front.stage) (is_issuing w.front.stage) false (ending_at w.front.stage w.front.ending) (telling_at w.front.stage) (Some rep) w.front.requests (remove works l.place) w.under.pages)
+    s = begins_response config g d (is_ready w.front.stage) (is_issuing w.front.stage) false (ending_at w.front.stage w.front.ending) (telling_at w.front.stage) w.front.requests works w.under.pages l.place l.t rep l.at (ap (λ (j : JobStage). let u : Work = l.t in worked j u.moved) l.stage) (l.id ∙ is.id) h.works.ascending (λ i u at. let work = all_at (IsWork g.submitted g.fetched) works i u h.works.each at in work.positive) h.stations

@@ -11,7 +11,7 @@ use Rattle.blk_front.specs.declared.stage.Ending.{Ending}
 use Rattle.blk_front.specs.declared.stage.Stage.{Stage as FrontStage}
 use Rattle.blk_front.specs.declared.stage.Stage.TheVariants as front
 use Rattle.blk_front.specs.Request.{frame_at}
-use Rattle.blk_front.specs.Submit.{is_connected, ending_of}
+use Rattle.blk_front.specs.Submit.{is_ready, is_connected, ending_of}
 use Rattle.blk_back.specs.declared.stage.Stage.{Stage as BackStage}
 use Rattle.blk_back.specs.View.{View}
 use Rattle.blk_back.specs.Hands.{hands_at}
@@ -39,7 +39,7 @@ pub record BackStands (config : Options) (w : World) (g : Flow) (d : Pipeline) (
 -- what a move changes: the back's view, the ring's frame, the marks of events, and the producer as the back last saw it
 pub record Moves (config : Options) (w : World) (g : Flow) (d : Pipeline) (s : FrontStage) (b b' : BackStage) (v : View) (pages : List ℕ) (channels : ChannelState) (seen : ℕ) : Type 0 where
   pub indices : AreIndices (record g { back_seen = seen }) w.front.ring v.ring w.front.seen v.seen v.fetched w.front.last w.front.waiting (length w.front.requests) (ending_of s)
-  pub stations : AreStations config g d (is_connected s) (is_issuing s) (is_fetching b') (ending_at s w.front.ending) (telling_at s) (reply_at b') w.front.requests v.jobs.works w.under.pages
+  pub stations : AreStations config g d (is_ready s) (is_issuing s) (is_fetching b') (ending_at s w.front.ending) (telling_at s) (reply_at b') w.front.requests v.jobs.works w.under.pages
   pub works : AreWorks g.submitted g.fetched v.jobs.works
   pub counted : length v.jobs.works + reply_count (reply_at b') + g.replied ≡ g.fetched
   pub info : v.jobs.info ≡ w.back.jobs.info
@@ -120,8 +120,8 @@ still config w g d d' s b b' v pages channels seen h m = record {
   queue = h.queue;
   submitted = h.submitted;
   pool = h.pool;
-  stations = saw_more config g g.front_seen seen d' (is_connected s) (is_issuing s) (is_fetching b') (ending_at s w.front.ending) (telling_at s) (reply_at b') w.front.requests v.jobs.works pages
-      (stations_elsewhere config g d' (is_connected s) (is_issuing s) (is_fetching b') (ending_at s w.front.ending) (telling_at s) (reply_at b') w.front.requests v.jobs.works w.under.pages pages w.front.sectors w.front.last h.submitted (λ f low high. m.others f (omega arith)) m.stations);
+  stations = saw_more config g g.front_seen seen d' (is_ready s) (is_issuing s) (is_fetching b') (ending_at s w.front.ending) (telling_at s) (reply_at b') w.front.requests v.jobs.works pages
+      (stations_elsewhere config g d' (is_ready s) (is_issuing s) (is_fetching b') (ending_at s w.front.ending) (telling_at s) (reply_at b') w.front.requests v.jobs.works w.under.pages pages w.front.sectors w.front.last h.submitted (λ f low high. m.others f (omega arith)) m.stations);
   works = m.works;
   counted = m.counted;
   info = m.info ∙ h.info;

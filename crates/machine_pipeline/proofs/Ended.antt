@@ -19,7 +19,7 @@ use Rattle.blk_front.specs.declared.request.Transfer.TheVariants as transfer
 use Rattle.blk_front.specs.Request.{grant_flags, has_data, frame_at, words_in, IsShaped}
 use Rattle.blk_front.specs.Ask.{revoke_ask, end_ask}
 use Rattle.blk_front.specs.Pool.{with_all_free}
-use Rattle.blk_front.specs.Submit.{is_connected, ending_of}
+use Rattle.blk_front.specs.Submit.{is_ready, ending_of}
 use Rattle.blk_front.specs.declared.told.Told.TheVariants as told
 use Rattle.blk_front.specs.declared.stage.Ending.{Ending}
 use Rattle.blk_front.specs.declared.stage.Stage.{Stage as FrontStage}
@@ -33,7 +33,7 @@ use Rattle.machine_pipeline.proofs.Holds.{Holds, FrontAt, FrontSends, IsUnused, 
 use Rattle.machine_pipeline.proofs.Turns.{Goes, FrontGoes, front_says, front_next, said_nothing, does_step}
 use Rattle.machine_pipeline.proofs.Lists.{all_from}
 use Rattle.machine_pipeline.proofs.Data.{SameData, pooled_at}
-use Rattle.machine_pipeline.proofs.Kept.{SameFrame, SameEntry, SameGrants, data_same, other_frame, other_entry, slots_kept, frames_kept, entries_kept}
+use Rattle.machine_pipeline.proofs.Kept.{as_connected, SameFrame, SameEntry, SameGrants, data_same, other_frame, other_entry, slots_kept, frames_kept, entries_kept}
 use Rattle.machine_pipeline.proofs.Hands.{ending_apart, ending_own_apart}
 use Rattle.machine_pipeline.proofs.Frames.{is_submitted}
 use Rattle.machine_pipeline.proofs.Resting.{IsResting, at_loop, at_read, at_end, at_data, data_rests, slots_rest, frames_rest, entries_rest}
@@ -56,7 +56,7 @@ pub ends_on : (config : Options) (w : World) (g : Flow) (d d' : Pipeline) (s s' 
     → IsResting s → IsResting s'
     → may_front_sleep s ≡ false → is_front_arming s' ≡ false → ending_of s' ≤ ending_of s
     → Holds config w g d s w.back.stage
-    → AreStations config g d' (is_connected s') (is_issuing s') (is_fetching w.back.stage) (ending_at s' ending) (telling_at s') (reply_at w.back.stage) w.front.requests w.back.jobs.works pages
+    → AreStations config g d' (is_ready s') (is_issuing s') (is_fetching w.back.stage) (ending_at s' ending) (telling_at s') (reply_at w.back.stage) w.front.requests w.back.jobs.works pages
     → ArePooled pool w.front.requests (ending_at s' ending)
     → FrontAt g.start g.pushed g.taken g.front_seen g.submitted g.replies (next_request w.front) w.front.entry ending s'
     → AreDataWords pages words ending s'
@@ -78,7 +78,7 @@ ends_on config w g d d' s s' ending pool words pages i i' restless unarmed fewer
   info = h.info;
   replies = h.replies;
   front_at = at;
-  unused = subst (λ (b : Bool). IsUnused b g.pushed w.front.last) (i.connected ∙ sym i'.connected) h.unused;
+  unused = subst (λ (b : Bool). IsUnused b g.pushed w.front.last) (i.ready ∙ sym i'.ready) h.unused;
   back_at = h.back_at;
   unhalted = h.unhalted;
   memory = sized;
@@ -100,7 +100,7 @@ ends_on config w g d d' s s' ending pool words pages i i' restless unarmed fewer
   page = h.page;
   front_sleep = (let was = h.front_sleep in record { arming = λ t. absurd (true≢false (sym t ∙ unarmed)); armed = λ t. absurd (true≢false (sym t ∙ was.may restless)); may = λ t. was.may restless; woken = was.woken });
   back_sleep = (let was = h.back_sleep in record { arming = λ t. frames 2 (omega arith) 1 (omega arith) ∙ was.arming t; armed = λ t. frames 2 (omega arith) 1 (omega arith) ∙ was.armed t; may = was.may; woken = λ t. by_wake (was.woken t) });
-  ports = subst (λ (b : Bool). PortsAt b (is_bound_back w.back.stage) w.under.channels.made w.under.channels.ports) (i.connected ∙ sym i'.connected) h.ports;
+  ports = subst (λ (b : Bool). PortsAt b (is_bound_back w.back.stage) w.under.channels.made w.under.channels.ports) (as_connected s s' i.ready i'.ready) h.ports;
 }
   where
     by_wake : (g.pushed ≡ g.fetched) ⊎ (w.under.channels.back_pending ≡ true) ⊎ FrontSends s g.pushed g.fetched → (g.pushed ≡ g.fetched) ⊎ (w.under.channels.back_pending ≡ true) ⊎ FrontSends s' g.pushed g.fetched

@@ -27,7 +27,7 @@ use Rattle.machine_pipeline.proofs.Turns.{Goes, FrontGoes, said_nothing}
 use Rattle.machine_pipeline.proofs.Issuing.{issuing, entries_elsewhere, slots_turned, entries_turned, with_front, issue_moved}
 use Rattle.machine_pipeline.proofs.Stations.{AreStations, AreOpen}
 use Rattle.machine_pipeline.proofs.ReadsKept.{stations_kept}
-use Rattle.blk_front.specs.Submit.{is_connected}
+use Rattle.blk_front.specs.Submit.{is_ready}
 
 -- one word more of the next request's data
 frames_filled : (submitted requests : List Request) (pushed waiting : ℕ) (old : List ℕ) (s s' : FrontStage) (r : Request) (n : ℕ)
@@ -64,7 +64,7 @@ frames_filled submitted requests pushed waiting old s s' r n next sized within s
 pub filled_on : (config : Options) (w : World) (g : Flow) (d d' : Pipeline) (s s' : FrontStage) (r : Request) (n : ℕ)
     → may_front_sleep s ≡ true → may_front_sleep s' ≡ true
     → Holds config w g d s w.back.stage
-    → AreStations config g d' (is_connected s') (is_issuing s') (is_fetching w.back.stage) (ending_at s' w.front.ending) (telling_at s') (reply_at w.back.stage) w.front.requests w.back.jobs.works w.under.pages
+    → AreStations config g d' (is_ready s') (is_issuing s') (is_fetching w.back.stage) (ending_at s' w.front.ending) (telling_at s') (reply_at w.back.stage) w.front.requests w.back.jobs.works w.under.pages
     → next_request w.front ≡ Some r → is_issuing s' ≡ true → n < words_in r → filled s ≡ n → ((m : ℕ) → m < words_in r → m < filled s' → m ≤ n)
     → entered s ≤ 28 → entered s' ≡ 0 → named_frames s' ≡ 0 → granted_frames s' ≡ 0
     → FrontAt g.start g.pushed g.taken g.front_seen g.submitted g.replies (next_request w.front) w.front.entry w.front.ending s'
@@ -84,7 +84,7 @@ filled_on config w g d d' s s' r n i i' h stations e begun within so_far more fe
     let none : ending_at s' w.front.ending ≡ None = let stage = issuing s' i' in stage.ending w.front.ending in
     let others = fetched_apart g.submitted w.front.requests g.pushed w.front.waiting d'.requests r next h.queue (subst (AreOpen d'.requests w.front.requests) none stations.opened) (stations.waiting.issued begun) in
     issue_moved config w g d d' s s' w.front.entry new i i' h
-    (stations_kept config g d' (is_connected s') (is_issuing s') (is_fetching w.back.stage) (ending_at s' w.front.ending) (telling_at s') (reply_at w.back.stage) w.front.requests w.back.jobs.works w.under.pages new
+    (stations_kept config g d' (is_ready s') (is_issuing s') (is_fetching w.back.stage) (ending_at s' w.front.ending) (telling_at s') (reply_at w.back.stage) w.front.requests w.back.jobs.works w.under.pages new
     (λ j x q known here low high. let is = h.submitted.each j x known in data_apart w.under.pages frame word value x (omega arith) is.shaped
     (λ a in_it. others j x q known here low high a (n / 1024) in_it place)) stations) at
     (length-set w.under.pages (frame * 1024 + word) value ∙ h.memory)

@@ -33,7 +33,7 @@ use Rattle.machine_pipeline.proofs.Turns.{Goes, FrontGoes, said_nothing}
 use Rattle.machine_pipeline.proofs.Issuing.{issuing, frames_elsewhere, slots_turned, frames_turned, entries_turned, with_front, issue_moved, issue_kept}
 use Rattle.machine_pipeline.proofs.Stations.{AreStations, turned}
 use Rattle.machine_pipeline.proofs.ReadsKept.{stations_elsewhere}
-use Rattle.blk_front.specs.Submit.{is_connected}
+use Rattle.blk_front.specs.Submit.{is_ready}
 
 -- the frame word of another reference's entry
 pub other_named : (pages : List ℕ) (gref other value : ℕ) → gref < 1024 → other < 1024 → other ≢ gref → SameEntry pages (with_word pages (gref / 512) (2 * (gref % 512) + 1) value) other
@@ -93,7 +93,7 @@ entries_with submitted requests pushed waiting old new live s s' ending r place 
 pub entry_moved : (config : Options) (w : World) (g : Flow) (d d' : Pipeline) (s s' : FrontStage) (r : Request) (place : ℕ) (entry : List ℕ) (word value : ℕ)
     → may_front_sleep s ≡ true → may_front_sleep s' ≡ true
     → Holds config w g d s w.back.stage
-    → AreStations config g d' (is_connected s') (is_issuing s') (is_fetching w.back.stage) (ending_at s' w.front.ending) (telling_at s') (reply_at w.back.stage) w.front.requests w.back.jobs.works w.under.pages
+    → AreStations config g d' (is_ready s') (is_issuing s') (is_fetching w.back.stage) (ending_at s' w.front.ending) (telling_at s') (reply_at w.back.stage) w.front.requests w.back.jobs.works w.under.pages
     → IsNext g.submitted w.front.requests g.pushed w.front.waiting r
     → place < frames_of r
     → word < 1024
@@ -112,7 +112,7 @@ entry_moved config w g d d' s s' r place entry word value i i' h stations next i
     let high = pooled.1 in
     let elsewhere : (f : ℕ) → f ≢ gref / 512 → SameFrame w.under.pages (with_word w.under.pages (gref / 512) word value) f = λ f other. other_frame w.under.pages (gref / 512) word value f within other in
     issue_moved config w g d d' s s' entry (with_word w.under.pages (gref / 512) word value) i i' h
-    (stations_elsewhere config g d' (is_connected s') (is_issuing s') (is_fetching w.back.stage) (ending_at s' w.front.ending) (telling_at s') (reply_at w.back.stage) w.front.requests w.back.jobs.works w.under.pages _ w.front.sectors w.front.last h.submitted (λ f from to. elsewhere f (omega arith)) stations) at
+    (stations_elsewhere config g d' (is_ready s') (is_issuing s') (is_fetching w.back.stage) (ending_at s' w.front.ending) (telling_at s') (reply_at w.back.stage) w.front.requests w.back.jobs.works w.under.pages _ w.front.sectors w.front.last h.submitted (λ f from to. elsewhere f (omega arith)) stations) at
     (length-set w.under.pages (gref / 512 * 1024 + word) value ∙ h.memory)
     (λ x lt. elsewhere 2 (omega arith) x (omega arith))
     (others 8 (omega arith) (omega arith))
@@ -140,7 +140,7 @@ entry_on config w g d s s' r place entry word value m m' same h next in_it withi
     let i = issuing s m in
     let i' = issuing s' m' in
     entry_moved config w g d d s s' r place entry word value m m' h
-    (turned config g d (is_connected s) (is_connected s') (is_issuing s) (is_issuing s') (is_fetching w.back.stage) (ending_at s w.front.ending) (ending_at s' w.front.ending) (telling_at s) (telling_at s') (reply_at w.back.stage) w.front.requests w.back.jobs.works w.under.pages (i'.connected ∙ sym i.connected) same (i'.ending w.front.ending ∙ sym (i.ending w.front.ending)) (i'.untelling ∙ sym i.untelling) h.stations)
+    (turned config g d (is_ready s) (is_ready s') (is_issuing s) (is_issuing s') (is_fetching w.back.stage) (ending_at s w.front.ending) (ending_at s' w.front.ending) (telling_at s) (telling_at s') (reply_at w.back.stage) w.front.requests w.back.jobs.works w.under.pages (i'.ready ∙ sym i.ready) same (i'.ending w.front.ending ∙ sym (i.ending w.front.ending)) (i'.untelling ∙ sym i.untelling) h.stations)
     next in_it within others
     (λ new kept. frames_turned g.pushed w.under.pages new s s' w.front.requests less kept h.frames)
 

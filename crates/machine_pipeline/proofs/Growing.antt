@@ -1,5 +1,5 @@
 -- What one request more makes of the front's queue and pool, and of what the pipeline knows.
-use Rattle.std.proofs.Common.{◌≡◌, ◌≢◌, ℕ, zero, suc, ◌+◌, ◌-◌, ◌^◌, ◌<◌, ◌≤◌, ◌==◌, ◌⊎◌, ◌||◌, Bool, true, false, not, cond, List, [], ◌∷◌, ◌++◌, length, get_or, refl, ap, sym, ◌∙◌, subst, inl, inr, arith, length-append, length-set, get_or-set_other}
+use Rattle.std.proofs.Common.{◌≡◌, ◌≢◌, ℕ, zero, suc, ◌+◌, ◌-◌, ◌^◌, ◌<◌, ◌≤◌, ◌==◌, ◌⊎◌, ◌||◌, ◌&&◌, Bool, true, false, true≢false, not, cond, List, [], ◌∷◌, ◌++◌, length, get_or, refl, ap, sym, ◌∙◌, subst, inl, inr, arith, length-append, length-set, get_or-set_other}
 use Rattle.std.specs.Prelude.{All, Option, Some, None, option_and_then, option_map, position, slice_get, slice_index_or, count_by, sum_by}
 use Rattle.std.specs.List.{list_any}
 use Rattle.std.proofs.lemmas.Bool.Decides.{nat_tests}
@@ -10,13 +10,14 @@ use Rattle.std.proofs.lemmas.List.Elements.{All-push}
 use Rattle.std.proofs.lemmas.List.Sums.{sum_by_push}
 use Rattle.std.proofs.lemmas.List.Quantifiers.{all_pairs_push}
 use Rattle.std.proofs.lemmas.List.Folds.{list_any-append}
+use Rattle.blk_base.specs.Options.{Options}
 use Rattle.pipeline_laws.specs.Station.{Request as Asked, is_finished}
 use Rattle.blk_front.specs.declared.request.Request.{Request}
-use Rattle.blk_front.specs.Request.{tag_of, IsShaped}
+use Rattle.blk_front.specs.Request.{is_write, tag_of, IsShaped}
 use Rattle.blk_front.specs.declared.stage.Ending.{Ending}
 use Rattle.blk_front.specs.Pool.{with_taken, taking}
 use Rattle.machine_pipeline.proofs.Flow.{frames_of, uses, ending_frames, ending_uses, job_of}
-use Rattle.machine_pipeline.proofs.Holds.{IsPooled, AreQueued, IsSubmitted, AreSubmitted, ArePooled}
+use Rattle.machine_pipeline.proofs.Holds.{IsPooled, AreQueued, IsSubmitted, AreSubmitted, ArePooled, IsOfTheDisk}
 use Rattle.machine_pipeline.proofs.Stations.{AreKnown, AreOpen}
 use Rattle.machine_pipeline.proofs.Lists.{found_at, get_append, get_last, get_within, count_set}
 
@@ -47,6 +48,22 @@ submitted_more submitted sectors last x number on_disk small shaped pooled h = r
   ];
   sized = h.sized;
 }
+
+-- a write is submitted to a disk that may be written alone
+pub disk_more : (config : Options) (sectors : ℕ) (read_only : Bool) (submitted : List Request) (x : Request) → (is_write x.transfer && read_only) ≡ false
+    → IsOfTheDisk config sectors read_only submitted → IsOfTheDisk config sectors read_only (submitted ++ x ∷ [])
+disk_more config sectors read_only submitted x may h = record {
+  sectors = h.sectors;
+  read_only = h.read_only;
+  writable = λ k r e is. elim (push_was submitted x k r e) [
+    | inl was ↦ h.writable k r was is
+    | inr new ↦ sym h.read_only ∙ not_both (is_write x.transfer) read_only may (ap (λ (y : Request). is_write y.transfer) (sym new.1) ∙ is)
+  ];
+}
+  where
+    not_both : (b c : Bool) → (b && c) ≡ false → b ≡ true → c ≡ false
+    not_both true c e t = e
+    not_both false c e t = absurd (true≢false (sym t))
 
 pub queue_more : (submitted : List Request) (pushed sectors last : ℕ) (requests : List Request) (waiting : ℕ) (x : Request)
     → x.number ≡ last + 1 → last ≡ pushed + waiting → waiting ≤ length requests

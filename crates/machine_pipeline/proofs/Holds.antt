@@ -19,7 +19,7 @@ use Rattle.blk_front.specs.declared.stage.Stage.{Stage as FrontStage}
 use Rattle.blk_front.specs.declared.stage.Stage.TheVariants as front
 use Rattle.blk_front.specs.View.{fresh_word, slot_word, next_request}
 use Rattle.blk_front.specs.Step.{entry_of}
-use Rattle.blk_front.specs.Submit.{is_connected, ending_of}
+use Rattle.blk_front.specs.Submit.{is_ready, is_connected, ending_of}
 use Rattle.back_jobs.specs.declared.stage.Stage.{Stage as JobStage}
 use Rattle.back_jobs.specs.declared.stage.Stage.TheVariants as job
 use Rattle.back_jobs.specs.Task.{Work, mode_of}
@@ -324,21 +324,27 @@ pub record IsStarted (option start front_start : ℕ) : Type 0 where
   pub whole : start ≡ option
   pub known : front_start ≡ option
 
+-- the front knows the option's disk, and submits no write to a read-only one
+pub record IsOfTheDisk (config : Options) (size : ℕ) (fixed : Bool) (submitted : List Request) : Type 0 where
+  pub sectors : size ≡ config.sectors
+  pub read_only : fixed ≡ config.read_only
+  pub writable : (k : ℕ) (r : Request) → slice_get submitted k ≡ Some r → is_write r.transfer ≡ true → config.read_only ≡ false
+
 -- the machine with the front at stage s and the back at stage b, the flow of its words, and the pipeline that it stands for
 pub record Holds (config : Options) (w : World) (g : Flow) (d : Pipeline) (s : FrontStage) (b : BackStage) : Type 0 where
   pub started : IsStarted config.start g.start w.front.start
-  pub sized : w.front.sectors ≡ config.sectors
+  pub sized : IsOfTheDisk config w.front.sectors w.front.read_only g.submitted
   pub indices : AreIndices g w.front.ring w.back.ring w.front.seen w.back.seen w.back.fetched w.front.last w.front.waiting (length w.front.requests) (ending_of s)
   pub queue : AreQueued g.submitted g.pushed w.front.requests w.front.waiting
   pub submitted : AreSubmitted g.submitted w.front.sectors w.front.last
   pub pool : ArePooled w.front.pool w.front.requests (ending_at s w.front.ending)
-  pub stations : AreStations config g d (is_connected s) (is_issuing s) (is_fetching b) (ending_at s w.front.ending) (telling_at s) (reply_at b) w.front.requests w.back.jobs.works w.under.pages
+  pub stations : AreStations config g d (is_ready s) (is_issuing s) (is_fetching b) (ending_at s w.front.ending) (telling_at s) (reply_at b) w.front.requests w.back.jobs.works w.under.pages
   pub works : AreWorks g.submitted g.fetched w.back.jobs.works
   pub counted : length w.back.jobs.works + reply_count (reply_at b) + g.replied ≡ g.fetched
   pub info : w.back.jobs.info ≡ info_of config
   pub replies : AreReplies g.fetched g.taken g.replied g.replies
   pub front_at : FrontAt g.start g.pushed g.taken g.front_seen g.submitted g.replies (next_request w.front) w.front.entry w.front.ending s
-  pub unused : IsUnused (is_connected s) g.pushed w.front.last
+  pub unused : IsUnused (is_ready s) g.pushed w.front.last
   pub back_at : BackAt g.start g.fetched g.back_seen g.replied g.submitted w.back.jobs.works w.back.entry b
   pub unhalted : w.back.halted ≡ None
   pub memory : length w.under.pages ≡ 1114112

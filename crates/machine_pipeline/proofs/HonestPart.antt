@@ -17,8 +17,8 @@ use Rattle.plain_disk.specs.Honest.{is_honest, honest_part}
 use Rattle.plain_disk.proofs.Honest.{honest_more, honest_ends}
 use Rattle.blk_front.specs.declared.told.Refusal.{Refusal}
 use Rattle.blk_front.specs.Submit as front_submit
-use Rattle.split_model.specs.World.{World, start_of, is_quiet}
-use Rattle.split_model.specs.Happening.{Happening, FrontMoves, BackMoves, JobMoves, Submits, Notifies, Pokes, Dumps, Looks, Settles, is_guest_word, poke_lines, happens, after, lines_at, lines_of, submit_line, DiskRuns}
+use Rattle.split_model.specs.World.{World, start_of}
+use Rattle.split_model.specs.Happening.{Happening, Submits, Pokes, Dumps, Looks, Settles, is_guest_word, poke_lines, happens, after, lines_at, lines_of, submit_line, DiskRuns}
 use Rattle.split_model.specs.Honest.{honest_history}
 use Rattle.split_model.specs.Report.{report_of, ended_report_of}
 use Rattle.split_model.proofs.Running.{kept_of-append}
@@ -66,14 +66,11 @@ look_honest false other e = (e, tt)
 
 honest_at : (w : World) (h : Happening) → IsServed w h → AreHonest (lines_at w h)
 honest_at w (Submits job) may = submit_honest job (front_submit.submit_of w.front job).0
-honest_at w Looks may = look_honest (is_quiet w) lines.Busy refl
-honest_at w Settles may = look_honest (is_quiet w) lines.Unsettled refl
+honest_at w (Looks quiet) may = look_honest quiet lines.Busy refl
+honest_at w (Settles quiet) may = look_honest quiet lines.Unsettled refl
 honest_at w Dumps may = dump_lines_are (λ (line : Line). is_honest line ≡ true) w.under.pages 0 1024 (λ frame word value. refl)
 honest_at w (Pokes frame word value) may = absurd may
-honest_at w FrontMoves may = silent_honest (lines_at w FrontMoves) (move_silent w FrontMoves refl)
-honest_at w BackMoves may = silent_honest (lines_at w BackMoves) (move_silent w BackMoves refl)
-honest_at w (JobMoves number outcome) may = silent_honest (lines_at w (JobMoves number outcome)) (move_silent w (JobMoves number outcome) refl)
-honest_at w (Notifies at) may = tt
+honest_at w h may = silent_honest (lines_at w h) (move_silent w h refl)
 
 -- honest lines come before those of the rest
 honest_then : (ls rest : List Line) → AreHonest ls → honest_part (ls ++ rest) ≡ ls ++ honest_part rest
@@ -121,14 +118,7 @@ more_honest h hs w tail first (inr later) = inr (
 pub honest_with : (hs : List Happening) (w : World) (tail : List Line) → ArePossible hs w → HonestWith hs w tail
 honest_with [] w tail may = inl refl
 honest_with (Pokes frame word value ∷ hs) w tail may = inr (frame, word, value, lines_of hs (happens w (Pokes frame word value)) ++ tail, rw may.0.0 refl)
-honest_with (FrontMoves ∷ hs) w tail may = more_honest FrontMoves hs w tail refl (honest_with hs (happens w FrontMoves) tail may.1)
-honest_with (BackMoves ∷ hs) w tail may = more_honest BackMoves hs w tail refl (honest_with hs (happens w BackMoves) tail may.1)
-honest_with (JobMoves number outcome ∷ hs) w tail may = more_honest (JobMoves number outcome) hs w tail refl (honest_with hs (happens w (JobMoves number outcome)) tail may.1)
-honest_with (Submits job ∷ hs) w tail may = more_honest (Submits job) hs w tail refl (honest_with hs (happens w (Submits job)) tail may.1)
-honest_with (Notifies at ∷ hs) w tail may = more_honest (Notifies at) hs w tail refl (honest_with hs (happens w (Notifies at)) tail may.1)
-honest_with (Dumps ∷ hs) w tail may = more_honest Dumps hs w tail refl (honest_with hs (happens w Dumps) tail may.1)
-honest_with (Looks ∷ hs) w tail may = more_honest Looks hs w tail refl (honest_with hs (happens w Looks) tail may.1)
-honest_with (Settles ∷ hs) w tail may = more_honest Settles hs w tail refl (honest_with hs (happens w Settles) tail may.1)
+honest_with (h ∷ hs) w tail may = more_honest h hs w tail refl (honest_with hs (happens w h) tail may.1)
 
 -- what happened before comes first, and is served
 pub honest_first : (hs : List Happening) → (rest : List Happening) × (hs ≡ honest_history hs ++ rest)
@@ -139,14 +129,7 @@ honest_first (h ∷ hs) = let others = honest_first hs in (others.0, ap (λ (l :
 pub served_part : (hs : List Happening) (w : World) → ArePossible hs w → AreServed (honest_history hs) w
 served_part [] w may = tt
 served_part (Pokes frame word value ∷ hs) w may = tt
-served_part (FrontMoves ∷ hs) w may = (may.0, served_part hs (happens w FrontMoves) may.1)
-served_part (BackMoves ∷ hs) w may = (may.0, served_part hs (happens w BackMoves) may.1)
-served_part (JobMoves number outcome ∷ hs) w may = (may.0, served_part hs (happens w (JobMoves number outcome)) may.1)
-served_part (Submits job ∷ hs) w may = (may.0, served_part hs (happens w (Submits job)) may.1)
-served_part (Notifies at ∷ hs) w may = (may.0, served_part hs (happens w (Notifies at)) may.1)
-served_part (Dumps ∷ hs) w may = (may.0, served_part hs (happens w Dumps) may.1)
-served_part (Looks ∷ hs) w may = (may.0, served_part hs (happens w Looks) may.1)
-served_part (Settles ∷ hs) w may = (may.0, served_part hs (happens w Settles) may.1)
+served_part (h ∷ hs) w may = (may.0, served_part hs (happens w h) may.1)
 
 -- its disk and its submissions are the first of all
 pub disk_runs_first : (first rest : List Happening) (w : World) (before now : DiskSeen) → DiskRuns (first ++ rest) w before now → (between : DiskSeen) × DiskRuns first w before between

@@ -13,14 +13,14 @@ use Rattle.blk_front.specs.declared.stage.Stage.{Stage as FrontStage}
 use Rattle.blk_front.specs.declared.stage.Stage.TheVariants as front
 use Rattle.blk_front.specs.View as front_view
 use Rattle.blk_front.specs.View.{next_request}
-use Rattle.blk_front.specs.Submit.{is_connected, ending_of}
+use Rattle.blk_front.specs.Submit.{is_ready, is_connected, ending_of}
 use Rattle.blk_back.specs.declared.stage.Reply.{Reply}
 use Rattle.blk_back.specs.declared.stage.Stage.{Stage as BackStage}
 use Rattle.split_model.specs.World.{World}
 use Rattle.machine_pipeline.proofs.Flow.{Flow, has_ring, is_ring_named, is_ring_granted, filled, named_frames, granted_frames, entered, ending_at, revoking_at, is_front_arming, may_front_sleep, telling_at, is_issuing, is_fetching, reply_at}
 use Rattle.machine_pipeline.proofs.Holds.{FrontAt, RingBegun, AreRingWords, AreSlots, IsFilled, IsReadSoFar, AreEntries, FrontSends, IsFrontSleep, IsBackSleep, Holds}
 use Rattle.machine_pipeline.proofs.Frames.{is_submitted}
-use Rattle.machine_pipeline.proofs.Kept.{SameFrame, SameEntry, SameGrants, data_same, slots_kept}
+use Rattle.machine_pipeline.proofs.Kept.{as_connected, SameFrame, SameEntry, SameGrants, data_same, slots_kept}
 use Rattle.machine_pipeline.proofs.Data.{SameData, pooled_at}
 use Rattle.machine_pipeline.proofs.Stations.{AreStations, turned}
 use Rattle.machine_pipeline.proofs.ReadsKept.{stations_elsewhere}
@@ -34,7 +34,7 @@ pub record IsIssuing (s : FrontStage) : Type 0 where
   pub ending : (e : Option Ending) → ending_at s e ≡ None
   pub unrevoked : (ending : Option Ending) (e : Ending) → revoking_at s ending ≡ Some e → ⊥
   pub ended : ending_of s ≡ 0
-  pub connected : is_connected s ≡ true
+  pub ready : is_ready s ≡ true
   pub arming : is_front_arming s ≡ false
   pub untelling : telling_at s ≡ None
   pub silent : (pages words : List ℕ) (ending : Option Ending) → IsReadSoFar pages words ending s
@@ -46,6 +46,7 @@ issuing front.RingFrame t = absurd (cc)
 issuing front.RingFence t = absurd (cc)
 issuing front.RingFlags t = absurd (cc)
 issuing front.NewPort t = absurd (cc)
+issuing front.Initialised t = absurd (cc)
 issuing (front.ResponseHigh low) t = absurd (cc)
 issuing (front.ResponseLast low high) t = absurd (cc)
 issuing (front.GrantRead place) t = absurd (cc)
@@ -55,7 +56,7 @@ issuing front.StoreEvent t = absurd (cc)
 issuing front.EventFence t = absurd (cc)
 issuing front.LookAgain t = absurd (cc)
 issuing (front.Broken word) t = absurd (cc)
-issuing s t = record { ring = refl; named = refl; granted = refl; begun = λ start pages. tt; ending = λ e. refl; unrevoked = λ ending e same. none-some e same; ended = refl; connected = refl; arming = refl; untelling = refl; silent = λ pages words ending. tt }
+issuing s t = record { ring = refl; named = refl; granted = refl; begun = λ start pages. tt; ending = λ e. refl; unrevoked = λ ending e same. none-some e same; ended = refl; ready = refl; arming = refl; untelling = refl; silent = λ pages words ending. tt }
 
 -- the ring's own words and the grant of its frame
 pub ring_turned : (start pushed replied : ℕ) (old new : List ℕ) (s s' : FrontStage) (b : BackStage)
@@ -171,7 +172,7 @@ with_front w s entry pages = record {
 pub issue_moved : (config : Options) (w : World) (g : Flow) (d d' : Pipeline) (s s' : FrontStage) (entry pages : List ℕ)
     → may_front_sleep s ≡ true → may_front_sleep s' ≡ true
     → Holds config w g d s w.back.stage
-    → AreStations config g d' (is_connected s') (is_issuing s') (is_fetching w.back.stage) (ending_at s' w.front.ending) (telling_at s') (reply_at w.back.stage) w.front.requests w.back.jobs.works pages
+    → AreStations config g d' (is_ready s') (is_issuing s') (is_fetching w.back.stage) (ending_at s' w.front.ending) (telling_at s') (reply_at w.back.stage) w.front.requests w.back.jobs.works pages
     → FrontAt g.start g.pushed g.taken g.front_seen g.submitted g.replies (next_request w.front) entry w.front.ending s'
     → length pages ≡ 1114112
     → ((x : ℕ) → x < 16 → word_of pages 2 x ≡ word_of w.under.pages 2 x)
@@ -186,7 +187,8 @@ issue_moved config w g d d' s s' entry pages m m' h stations at sized words name
     let i' = issuing s' m' in
     let ended : ending_of s' ≡ ending_of s = i'.ended ∙ sym i.ended in
     let ending : ending_at s' w.front.ending ≡ ending_at s w.front.ending = i'.ending w.front.ending ∙ sym (i.ending w.front.ending) in
-    let connected : is_connected s' ≡ is_connected s = i'.connected ∙ sym i.connected in
+    let ready : is_ready s' ≡ is_ready s = i'.ready ∙ sym i.ready in
+    let connected : is_connected s' ≡ is_connected s = as_connected s' s i'.ready i.ready in
     record {
       started = h.started;
       sized = h.sized;
@@ -200,7 +202,7 @@ issue_moved config w g d d' s s' entry pages m m' h stations at sized words name
       info = h.info;
       replies = h.replies;
       front_at = at;
-      unused = rw connected h.unused;
+      unused = rw ready h.unused;
       back_at = h.back_at;
       unhalted = h.unhalted;
       memory = sized;
@@ -234,6 +236,6 @@ issue_kept config w g d s s' entry pages m m' same h at sized elsewhere =
     let i = issuing s m in
     let i' = issuing s' m' in
     issue_moved config w g d d s s' entry pages m m' h
-    (stations_elsewhere config g d (is_connected s') (is_issuing s') (is_fetching w.back.stage) (ending_at s' w.front.ending) (telling_at s') (reply_at w.back.stage) w.front.requests w.back.jobs.works w.under.pages pages w.front.sectors w.front.last h.submitted elsewhere
-    (turned config g d (is_connected s) (is_connected s') (is_issuing s) (is_issuing s') (is_fetching w.back.stage) (ending_at s w.front.ending) (ending_at s' w.front.ending) (telling_at s) (telling_at s') (reply_at w.back.stage) w.front.requests w.back.jobs.works w.under.pages (i'.connected ∙ sym i.connected) same (i'.ending w.front.ending ∙ sym (i.ending w.front.ending)) (i'.untelling ∙ sym i.untelling) h.stations))
+    (stations_elsewhere config g d (is_ready s') (is_issuing s') (is_fetching w.back.stage) (ending_at s' w.front.ending) (telling_at s') (reply_at w.back.stage) w.front.requests w.back.jobs.works w.under.pages pages w.front.sectors w.front.last h.submitted elsewhere
+    (turned config g d (is_ready s) (is_ready s') (is_issuing s) (is_issuing s') (is_fetching w.back.stage) (ending_at s w.front.ending) (ending_at s' w.front.ending) (telling_at s) (telling_at s') (reply_at w.back.stage) w.front.requests w.back.jobs.works w.under.pages (i'.ready ∙ sym i.ready) same (i'.ending w.front.ending ∙ sym (i.ending w.front.ending)) (i'.untelling ∙ sym i.untelling) h.stations))
     at sized

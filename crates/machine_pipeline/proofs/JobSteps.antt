@@ -21,7 +21,7 @@ use Rattle.back_jobs.specs.declared.stage.Stage.{Stage as JobStage}
 use Rattle.back_jobs.specs.declared.stage.Stage.TheVariants as job
 use Rattle.back_jobs.specs.Task.{Work, ask_at, counted}
 use Rattle.blk_base.specs.declared.parts.Mapping.{Mapping}
-use Rattle.blk_front.specs.Submit.{is_connected}
+use Rattle.blk_front.specs.Submit.{is_ready}
 use Rattle.split_model.specs.World.{World}
 use Rattle.pipeline_laws.specs.Station.{Station, Working, Failed, Request as Asked}
 use Rattle.pipeline_laws.specs.Move.{Move, Fills, Reads, Fails, Ends, station_before, station_after, words_after, move_lines}
@@ -91,7 +91,7 @@ job_stepped call config w g d p t t' r move said h is number still shows now mak
   shows = shows;
   asks = refl;
   disk = it.disk;
-  now = job_steps config g d (is_connected w.front.stage) (is_issuing w.front.stage) (is_fetching w.back.stage) (ending_at w.front.stage w.front.ending) (telling_at w.front.stage) (reply_at w.back.stage) w.front.requests w.back.jobs.works w.under.pages p t t' x move is.place h.works.ascending positive number it.after still has h.stations;
+  now = job_steps config g d (is_ready w.front.stage) (is_issuing w.front.stage) (is_fetching w.back.stage) (ending_at w.front.stage w.front.ending) (telling_at w.front.stage) (reply_at w.back.stage) w.front.requests w.back.jobs.works w.under.pages p t t' x move is.place h.works.ascending positive number it.after still has h.stations;
 }
   where
     x : StandsAt d.requests (t.number - 1) (worked t.stage t.moved)

@@ -15,7 +15,7 @@ use Rattle.blk_back.specs.declared.stage.Stage.{Stage as BackStage}
 use Rattle.blk_back.specs.declared.stage.Stage.TheVariants as back
 use Rattle.blk_back.specs.Hands.{hands_at}
 use Rattle.split_model.specs.World.{World}
-use Rattle.blk_front.specs.Submit.{is_connected}
+use Rattle.blk_front.specs.Submit.{is_ready}
 use Rattle.machine_pipeline.proofs.Flow.{Flow, ending_at, reply_at, is_issuing, is_fetching, worked, telling_at}
 use Rattle.machine_pipeline.proofs.Stations.{AreStations}
 use Rattle.machine_pipeline.proofs.StationsBack.{job_stays}
@@ -84,7 +84,7 @@ alone_after works p t t' id here same alone = all_from (λ (x : Work). x.number 
 
 -- the stations with these jobs
 abbrev pub StationsWith : Options → World → Flow → Pipeline → List Work → List ℕ → Type 0
-StationsWith config w g d works pages = AreStations config g d (is_connected w.front.stage) (is_issuing w.front.stage) (is_fetching w.back.stage) (ending_at w.front.stage w.front.ending) (telling_at w.front.stage) (reply_at w.back.stage) w.front.requests works pages
+StationsWith config w g d works pages = AreStations config g d (is_ready w.front.stage) (is_issuing w.front.stage) (is_fetching w.back.stage) (ending_at w.front.stage w.front.ending) (telling_at w.front.stage) (reply_at w.back.stage) w.front.requests works pages
 
 -- they stay where the job's stage is another of the same station, and a read's job has what its stage says
 pub stations_stay : (config : Options) (w : World) (g : Flow) (d : Pipeline) (p : ℕ) (t t' : Work) (r : Request) (pages : List ℕ)
@@ -96,7 +96,7 @@ pub stations_stay : (config : Options) (w : World) (g : Flow) (d : Pipeline) (p 
     → ((q : Asked) → slice_get d.requests (t.number - 1) ≡ Some q → is_write r.transfer ≡ false → ReadAt pages r t'.moved t'.words q.words t'.stage)
     → StationsWith config w g d (slice_set w.back.jobs.works p t') pages
 stations_stay config w g d p t t' r pages h here known number same now =
-    job_stays config g d (is_connected w.front.stage) (is_issuing w.front.stage) (is_fetching w.back.stage) (ending_at w.front.stage w.front.ending) (telling_at w.front.stage) (reply_at w.back.stage) w.front.requests w.back.jobs.works pages p t t' here number same
+    job_stays config g d (is_ready w.front.stage) (is_issuing w.front.stage) (is_fetching w.back.stage) (ending_at w.front.stage w.front.ending) (telling_at w.front.stage) (reply_at w.back.stage) w.front.requests w.back.jobs.works pages p t t' here number same
     (λ x q its at reads.
     let one : r ≡ x = same_Some r x (sym known ∙ (ap (λ (n : ℕ). slice_get g.submitted (n - 1)) (sym number) ∙ its)) in
     let was : slice_get d.requests (t.number - 1) ≡ Some q = ap (λ (n : ℕ). slice_get d.requests (n - 1)) (sym number) ∙ at in
@@ -163,7 +163,7 @@ pub job_holds : (config : Options) (w : World) (g : Flow) (d d' : Pipeline) (p :
     → (let v : World = record { front = w.front; back = record w.back { jobs = record w.back.jobs { works = slice_set w.back.jobs.works p t' }; told = None }; under = record w.under { pages = pages'; grants = grants' } } in Holds config v g d' v.front.stage v.back.stage)
 job_holds config w g d d' p t t' pages' grants' h here number stations now sized ring entry frames entries mapped =
     job_makes config w g d d' p t t' pages' grants' h here number
-    (stations_elsewhere config g d' (is_connected w.front.stage) (is_issuing w.front.stage) (is_fetching w.back.stage) (ending_at w.front.stage w.front.ending) (telling_at w.front.stage) (reply_at w.back.stage) w.front.requests (slice_set w.back.jobs.works p t') w.under.pages pages' w.front.sectors w.front.last h.submitted frames stations)
+    (stations_elsewhere config g d' (is_ready w.front.stage) (is_issuing w.front.stage) (is_fetching w.back.stage) (ending_at w.front.stage w.front.ending) (telling_at w.front.stage) (reply_at w.back.stage) w.front.requests (slice_set w.back.jobs.works p t') w.under.pages pages' w.front.sectors w.front.last h.submitted frames stations)
     now sized ring entry
     (frames_elsewhere config w g d w.front.stage w.back.stage pages' h frames)
     (told_elsewhere config w g d w.front.stage w.back.stage pages' h frames) entries mapped

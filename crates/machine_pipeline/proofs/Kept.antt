@@ -1,5 +1,5 @@
 -- What a write leaves as it was, subject by subject.
-use Rattle.std.proofs.Common.{◌≡◌, ◌≢◌, ℕ, zero, suc, ◌+◌, ◌*◌, ◌/◌, ◌%◌, ◌<◌, ◌≤◌, Bool, List, length, refl, ap, sym, ◌∙◌, arith, get_or-set_other}
+use Rattle.std.proofs.Common.{◌≡◌, ◌≢◌, ℕ, zero, suc, ◌+◌, ◌*◌, ◌/◌, ◌%◌, ◌<◌, ◌≤◌, Bool, true, true≢false, List, length, refl, ap, sym, ◌∙◌, arith, get_or-set_other}
 use Rattle.std.specs.Prelude.{All, Option, Some}
 use Rattle.std.proofs.lemmas.Grind.{get_or-set_at}
 use Rattle.xen_pages.specs.Pages.{word_of, with_word}
@@ -10,6 +10,7 @@ use Rattle.blk_front.specs.declared.stage.Ending.{Ending}
 use Rattle.blk_front.specs.declared.stage.Stage.{Stage as FrontStage}
 use Rattle.blk_front.specs.declared.stage.Stage.TheVariants as front
 use Rattle.blk_front.specs.View.{slot_word}
+use Rattle.blk_front.specs.Submit.{is_ready, is_connected}
 use Rattle.blk_back.specs.declared.stage.Reply.{Reply}
 use Rattle.blk_back.specs.declared.stage.Stage.{Stage as BackStage}
 use Rattle.blk_back.specs.declared.stage.Stage.TheVariants as back
@@ -17,6 +18,19 @@ use Rattle.blk_front.specs.Request.{frame_at, words_in}
 use Rattle.machine_pipeline.proofs.Flow.{wrapped, ending_at, revoking_at, entered, responded, frames_of}
 use Rattle.machine_pipeline.proofs.Data.{SameData, pooled_at}
 use Rattle.machine_pipeline.proofs.Holds.{IsPooled, RingBegun, AreRingWords, AreSlots, IsFilled, IsReadSoFar, AreDataWords, AreEntries, IsFrontSleep, IsBackSleep}
+
+-- a front that is ready made its ring and its port
+ready_connected : (s : FrontStage) → is_ready s ≡ true → is_connected s ≡ true
+ready_connected (front.RingWord k) t = absurd (true≢false (sym t))
+ready_connected front.RingFrame t = absurd (true≢false (sym t))
+ready_connected front.RingFence t = absurd (true≢false (sym t))
+ready_connected front.RingFlags t = absurd (true≢false (sym t))
+ready_connected front.NewPort t = absurd (true≢false (sym t))
+ready_connected s t = refl
+
+-- so two stages at which it is are as far
+pub as_connected : (s s' : FrontStage) → is_ready s ≡ true → is_ready s' ≡ true → is_connected s ≡ is_connected s'
+as_connected s s' t t' = ready_connected s t ∙ sym (ready_connected s' t')
 
 -- each word of a frame is as it was
 abbrev pub SameFrame : (old new : List ℕ) → ℕ → Type 0

@@ -1,16 +1,31 @@
--- The pipeline stands in no key: where keys alone change it goes on.
-use Rattle.std.proofs.Common.{List}
+-- The pipeline stands in no key: where keys alone change it goes on, whoever does what with them.
+use Rattle.std.proofs.Common.{◌≡◌, ℕ, true, List, [], ◌∷◌, refl, ap, sym, subst}
+use Rattle.std.specs.Prelude.{None}
+use Rattle.std.specs.List.{AllByRecursion, list_all}
+use Rattle.std.proofs.lemmas.List.{append-nil}
 use Rattle.blk_base.specs.Options.{Options}
+use Rattle.blk_base.specs.declared.parts.End.{End}
+use Rattle.blk_base.specs.declared.parts.End.TheVariants as end
+use Rattle.blk_base.specs.declared.moves.Mover.TheVariants as mover
+use Rattle.blk_base.specs.declared.moves.Move.TheVariants as moves
 use Rattle.schedule_text.specs.declared.line.Line.{Line}
+use Rattle.schedule_text.specs.declared.line.Line.TheVariants as lines
 use Rattle.key_directory.specs.Directory.{Directory}
-use Rattle.hypervisor.specs.Act.{with_keys}
+use Rattle.hypervisor.specs.Hypervisor.{Hypervisor}
+use Rattle.hypervisor.specs.Act.{with_keys, watch_taken}
+use Rattle.pipeline_laws.specs.Allowed.{is_aside}
 use Rattle.pipeline_laws.specs.Pipeline.{Pipeline}
 use Rattle.blk_front.specs.declared.stage.Stage.{Stage as FrontStage}
 use Rattle.blk_back.specs.declared.stage.Stage.{Stage as BackStage}
+use Rattle.blk_front.specs.View.{View}
 use Rattle.split_model.specs.World.{World}
+use Rattle.split_model.specs.Shown.{front_lines}
+use Rattle.split_model.specs.Keys.{KeyMove, negotiated, negotiated_lines}
+use Rattle.split_model.specs.Happening.{Negotiates, happens, lines_at}
+use Rattle.split_model.proofs.Keys.{negotiated_lines_are}
 use Rattle.machine_pipeline.proofs.Flow.{Flow}
 use Rattle.machine_pipeline.proofs.Holds.{Holds}
-use Rattle.machine_pipeline.proofs.Turns.{Goes}
+use Rattle.machine_pipeline.proofs.Turns.{Goes, said_nothing}
 use Rattle.machine_pipeline.specs.Step.{after_step}
 
 -- the machine with those keys
@@ -49,3 +64,42 @@ holds_keyed config w g d s b keys h = record {
 
 pub goes_keyed : (config : Options) (said : List Line) (w : World) (d : Pipeline) (keys : Directory) → Goes config said w d → Goes config said (keyed w keys) d
 goes_keyed config said w d keys p = record { flow = p.flow; step = p.step; does = p.does; holds = holds_keyed config w p.flow (after_step d p.step) w.front.stage w.back.stage keys p.holds }
+
+-- an end that told nothing tells nothing
+pub untold : (w : World) → w.front.told ≡ None → w ≡ record { front = (let v : View = w.front in record v { told = None }); back = w.back; under = w.under }
+untold w none = ap (λ t. record { front = (let v : View = w.front in record v { told = t }); back = w.back; under = w.under }) none
+
+-- a front that takes a watch, and is as it was
+pub watched_goes : (config : Options) (w : World) (g : Flow) (d : Pipeline) (path : List ℕ)
+    → w.front.told ≡ None
+    → Holds config w g d w.front.stage w.back.stage
+    → Goes config (lines.Move (moves.Watched mover.Front path) ∷ front_lines w.front.told) (record { front = (let v : View = w.front in record v { told = None }); back = w.back; under = watch_taken w.under end.Front }) d
+watched_goes config w g d path told h =
+    let left : Hypervisor = watch_taken w.under end.Front in
+    goes_keyed config _ _ d left.keys (record {
+      flow = g;
+      step = None;
+      does = said_nothing d (moves.Watched mover.Front path) w.front.told told;
+      holds = subst (λ (x : World). Holds config x g d x.front.stage x.back.stage) (untold w told) h;
+    })
+
+-- lines that are nothing to the pipeline
+words_aside : (ls : List Line) → AllByRecursion (λ (line : Line). is_aside line ≡ true) ls → list_all is_aside ls ≡ true
+words_aside [] all = refl
+words_aside (line ∷ ls) all = rw all.0 (words_aside ls all.1)
+
+pub asides_go : (config : Options) (w : World) (g : Flow) (d : Pipeline) (ls : List Line) → AllByRecursion (λ (line : Line). is_aside line ≡ true) ls → Holds config w g d w.front.stage w.back.stage → Goes config ls w d
+asides_go config w g d ls all h = record {
+  flow = g;
+  step = None;
+  does = record { asides = ls; aside = words_aside ls all; shows = sym (append-nil ls); asks = refl; allowed = tt; disk = λ a b e. e };
+  holds = h;
+}
+
+-- what an end does with the keys
+pub negotiates_goes : (config : Options) (w : World) (g : Flow) (d : Pipeline) (at : End) (move : KeyMove) → Holds config w g d w.front.stage w.back.stage
+    → Goes config (lines_at w (Negotiates at move)) (happens w (Negotiates at move)) d
+negotiates_goes config w g d at move h =
+    let shown = negotiated_lines w.back.stage at move w.under.keys in
+    goes_keyed config shown w d (negotiated w.back.stage at move w.under.keys)
+    (asides_go config w g d shown (negotiated_lines_are (λ (line : Line). is_aside line ≡ true) w.back.stage at move w.under.keys (λ path. refl) (λ path text. refl) (λ path. refl) (λ path. refl)) h)

@@ -13,8 +13,9 @@ use Rattle.blk_front.specs.declared.stage.Stage.TheVariants as front
 use Rattle.blk_front.specs.Submit.{is_connected}
 use Rattle.blk_back.specs.declared.stage.Stage.{Stage as BackStage}
 use Rattle.split_model.specs.World.{World, is_quiet}
+use Rattle.split_model.specs.Happening as happening
 use Rattle.split_model.specs.Happening.{Happening, FrontMoves, BackMoves, Submits, Notifies, Pokes, Dumps, Looks, Settles, happens, after}
-use Rattle.split_model.specs.Kind.{is_carried, is_carried_job, Makes, MakesSoFar, front_move, front_moves, back_moves, AreJobMoves, AreEachJobs, round_start, IsBeginning, IsRoundSoFar, AreRounds, never, settle_bound, AreRoundsSoFar, IsSettling, IsSettlingSoFar, AreOf, AreOfSoFar, AreOfAll}
+use Rattle.split_model.specs.Kind.{connecting, is_carried, is_carried_job, Makes, MakesSoFar, front_move, front_moves, back_moves, AreJobMoves, AreEachJobs, round_start, IsBeginning, IsRoundSoFar, AreRounds, never, settle_bound, AreRoundsSoFar, IsSettling, IsSettlingSoFar, AreOf, AreOfSoFar, AreOfAll}
 use Rattle.machine_pipeline.specs.Allowed.{IsTransfer, IsServed, AreServed, IsPossible, ArePossible}
 use Rattle.machine_pipeline.proofs.Flow.{Flow}
 use Rattle.machine_pipeline.proofs.Holds.{Holds}
@@ -53,14 +54,15 @@ record Joins (hs : List Happening) (w : World) : Type 0 where
 front_move_joins : (w : World) → Connects w.front.stage → Joins (front_move w) w
 front_move_joins w c = by_test (is_connected w.front.stage) refl
   where
-    by_test : (b : Bool) → is_connected w.front.stage ≡ b → Joins (if b then FrontMoves ∷ [] else replicate 20 FrontMoves ++ replicate 2 BackMoves) w
+    by_test : (b : Bool) → is_connected w.front.stage ≡ b → Joins (if b then FrontMoves ∷ [] else connecting) w
     by_test true e = record { served = (tt, tt); connected = connected_happens w FrontMoves e }
     by_test false e =
         let joined = twenty_connect w c in
         let middle : World = after (replicate 20 FrontMoves) w in
+        let mapping : List Happening = replicate 2 BackMoves ++ happening.Connects ∷ [] in
         record {
-          served = served_append (replicate 20 FrontMoves) (replicate 2 BackMoves) w (fronts_served 20 w) (backs_served 2 middle joined);
-          connected = connected_after (replicate 2 BackMoves) middle joined;
+          served = served_append (replicate 20 FrontMoves) mapping w (fronts_served 20 w) (served_append (replicate 2 BackMoves) (happening.Connects ∷ []) middle (backs_served 2 middle joined) (tt, tt));
+          connected = connected_after mapping middle joined;
         }
 
 front_moves_served : (w : World) (n : ℕ) → Connects w.front.stage → AreServed (front_moves w n) w
@@ -121,7 +123,7 @@ settling_served : (w : World) (hs : List Happening) → Connects w.front.stage �
 settling_served w hs c s =
     let rounds = s.are_rounds in
     subst (λ (l : List Happening). AreServed l w) (sym s.all)
-    (served_append s.rounds (Settles ∷ []) w (rounds_served is_quiet rounds.count w s.rounds c rounds.are_rounds) (tt, tt))
+    (served_append s.rounds (Settles (is_quiet (after s.rounds w)) ∷ []) w (rounds_served is_quiet rounds.count w s.rounds c rounds.are_rounds) (λ t. t, tt))
 
 settling_so_far_served : (w : World) (hs : List Happening) → Connects w.front.stage → IsSettlingSoFar w hs → AreServed hs w
 settling_so_far_served w hs c (inl r) = rounds_so_far_served is_quiet (settle_bound w) w hs c r
@@ -162,7 +164,7 @@ made_possible (events.Back n) w hs c carried k = served_possible hs w (subst (λ
 made_possible (events.Job number n) w hs c carried k = served_possible hs w (jobs_served number hs w k.0)
 made_possible (events.Turn n) w hs c carried k = served_possible hs w (rounds_served never n w hs c k)
 made_possible events.Settle w hs c carried k = served_possible hs w (settling_served w hs c k)
-made_possible events.Look w hs c carried k = served_possible hs w (only Looks w hs tt k)
+made_possible events.Look w hs c carried k = served_possible hs w (only (Looks (is_quiet w)) w hs (λ t. t) k)
 made_possible (events.Notify at) w hs c carried k = served_possible hs w (only (Notifies at) w hs tt k)
 made_possible events.Dump w hs c carried k = served_possible hs w (only Dumps w hs tt k)
 made_possible (events.Poke frame word value) w hs c carried k = subst (λ (l : List Happening). ArePossible l w) (sym k.0) ((carried, k.1), tt)

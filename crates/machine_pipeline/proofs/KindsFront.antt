@@ -22,7 +22,9 @@ use Rattle.blk_front.specs.View.{View, next_request}
 use Rattle.blk_front.specs.Step.{at, broken, looked, issue_stage, data_stage, granted, entry_of, loop_step, issued, response_at, is_mapped, finished, ended, revoked, sector_told, data_step, step_at}
 use Rattle.blk_front.specs.Submit.{is_connected}
 use Rattle.split_model.specs.World.{World, start_of}
-use Rattle.split_model.specs.Happening.{Happening, FrontMoves, BackMoves, JobMoves, Submits, Notifies, Pokes, Dumps, Looks, Settles, happens, after, back_turn, job_turn, back_after, job_after}
+use Rattle.split_model.specs.Happening as happening
+use Rattle.split_model.specs.Happening.{Happening, FrontMoves, BackMoves, JobMoves, Submits, happens, after, back_turn, job_turn, back_after, job_after}
+use Rattle.split_model.proofs.Keys.{connects_cases}
 use Rattle.split_model.proofs.SafeFront.{submit_kept}
 use Rattle.machine_pipeline.proofs.Turns.{front_turn_at, front_next}
 
@@ -169,7 +171,7 @@ front_nearer w front.RingFlags c e = (tt, refl)
 front_nearer w front.NewPort c e = (tt, refl)
 front_nearer w s c e = absurd (true≢false e)
 
--- nothing else than the front's own moves changes its stage
+-- nothing else than the front's own moves changes its stage, but that it is connected
 back_same : (w : World) (act : Option BackAct) → (let x : World = back_after w act in x.front.stage ≡ w.front.stage)
 back_same w None = refl
 back_same w (Some a) = refl
@@ -178,19 +180,16 @@ job_same : (w : World) (number : ℕ) (act : Option BackAct) → (let x : World 
 job_same w number None = refl
 job_same w number (Some a) = refl
 
-stage_after : (P : Stage → Type 0) (w : World) (h : Happening) → P w.front.stage → ((let x : World = happens w FrontMoves in P x.front.stage)) → (let x : World = happens w h in P x.front.stage)
-stage_after P w FrontMoves p moved = moved
-stage_after P w BackMoves p moved = subst P (sym (back_same w (back_turn w Took))) p
-stage_after P w (JobMoves number outcome) p moved = subst P (sym (job_same w number (job_turn w number outcome))) p
-stage_after P w (Submits job) p moved = let kept = submit_kept w.front job in subst P (sym kept.stage) p
-stage_after P w (Notifies at) p moved = p
-stage_after P w (Pokes frame word value) p moved = p
-stage_after P w Dumps p moved = p
-stage_after P w Looks p moved = p
-stage_after P w Settles p moved = p
+stage_after : (P : Stage → Type 0) (w : World) (h : Happening) → P front.Loop → P w.front.stage → ((let x : World = happens w FrontMoves in P x.front.stage)) → (let x : World = happens w h in P x.front.stage)
+stage_after P w FrontMoves looping p moved = moved
+stage_after P w BackMoves looping p moved = subst P (sym (back_same w (back_turn w Took))) p
+stage_after P w (JobMoves number outcome) looping p moved = subst P (sym (job_same w number (job_turn w number outcome))) p
+stage_after P w happening.Connects looping p moved = connects_cases (λ v shown. P v.stage) w.front (λ waits. looping) p
+stage_after P w (Submits job) looping p moved = let kept = submit_kept w.front job in subst P (sym kept.stage) p
+stage_after P w h looping p moved = p
 
 pub connected_happens : (w : World) (h : Happening) → is_connected w.front.stage ≡ true → (let x : World = happens w h in is_connected x.front.stage ≡ true)
-connected_happens w h e = stage_after (λ (s : Stage). is_connected s ≡ true) w h e (front_on w w.front.stage (front_turn_at w.front.stage w) e e)
+connected_happens w h e = stage_after (λ (s : Stage). is_connected s ≡ true) w h refl e (front_on w w.front.stage (front_turn_at w.front.stage w) e e)
 
 pub connected_after : (hs : List Happening) (w : World) → is_connected w.front.stage ≡ true → (let x : World = after hs w in is_connected x.front.stage ≡ true)
 connected_after [] w e = e
@@ -205,7 +204,7 @@ front_connects w c = by_test (is_connected w.front.stage) refl
 
 pub connects_after : (hs : List Happening) (w : World) → Connects w.front.stage → (let x : World = after hs w in Connects x.front.stage)
 connects_after [] w c = c
-connects_after (h ∷ hs) w c = connects_after hs (happens w h) (stage_after Connects w h c (front_connects w c))
+connects_after (h ∷ hs) w c = connects_after hs (happens w h) (stage_after Connects w h tt c (front_connects w c))
 
 connected_by : (n : ℕ) (w : World) → Connects w.front.stage → left w.front.stage ≤ n → (let x : World = after (replicate n FrontMoves) w in is_connected x.front.stage ≡ true)
 connected_by zero w c few = none_left w.front.stage c (omega arith)

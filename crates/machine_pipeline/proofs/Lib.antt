@@ -67,6 +67,7 @@ pub mod Starting
 pub mod StartingMoves
 pub mod StartingHolds
 pub mod Notified
+pub mod Connecting
 pub mod Quiet
 pub mod Together
 pub mod KindsFront

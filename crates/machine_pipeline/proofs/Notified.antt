@@ -42,12 +42,13 @@ set_or_kept : (bound pending : Bool) → pending ≡ true → (if bound then tru
 set_or_kept true pending t = refl
 set_or_kept false pending t = t
 
-marked : (config : Options) (w : World) (g : Flow) (d : Pipeline) (s : FrontStage) (b : BackStage) (front_pending back_pending : Bool)
-    → (w.under.channels.front_pending ≡ true → front_pending ≡ true)
-    → (w.under.channels.back_pending ≡ true → back_pending ≡ true)
+-- other marks, with which both ends would wake as well
+pub marked : (config : Options) (w : World) (g : Flow) (d : Pipeline) (s : FrontStage) (b : BackStage) (front_pending back_pending : Bool)
+    → IsFrontSleep g.start g.taken g.replied w.under.pages w.front.asleep front_pending s b
+    → IsBackSleep g.start g.fetched g.pushed w.under.pages w.back.asleep back_pending s b
     → Holds config w g d s b
     → Holds config (record { front = w.front; back = w.back; under = record w.under { channels = record w.under.channels { front_pending = front_pending; back_pending = back_pending } } }) g d s b
-marked config w g d s b front_pending back_pending front_more back_more h = record {
+marked config w g d s b front_pending back_pending front_sleep back_sleep h = record {
   started = h.started;
   sized = h.sized;
   indices = h.indices;
@@ -71,21 +72,24 @@ marked config w g d s b front_pending back_pending front_more back_more h = reco
   entries = h.entries;
   mapped = h.mapped;
   page = h.page;
-  front_sleep = marked_front g.start g.taken g.replied w.under.pages w.front.asleep w.under.channels.front_pending front_pending s b front_more h.front_sleep;
-  back_sleep = marked_back g.start g.fetched g.pushed w.under.pages w.back.asleep w.under.channels.back_pending back_pending s b back_more h.back_sleep;
+  front_sleep = front_sleep;
+  back_sleep = back_sleep;
   ports = h.ports;
 }
 
 pub notified_goes : (config : Options) (w : World) (g : Flow) (d : Pipeline) (at : End) → Stands config w g d → Goes config [] (happens w (Notifies at)) d
-notified_goes config w g d end.Front h = record {
+notified_goes config w g d at stands = record {
   flow = g;
   step = None;
   does = no_move IsSame d (λ a b same. same);
-  holds = marked config w g d w.front.stage w.back.stage (if is_bound w.under.channels then true else w.under.channels.front_pending) w.under.channels.back_pending (set_or_kept (is_bound w.under.channels) w.under.channels.front_pending) (λ t. t) h.holds;
+  holds = by_end at;
 }
-notified_goes config w g d end.Back h = record {
-  flow = g;
-  step = None;
-  does = no_move IsSame d (λ a b same. same);
-  holds = marked config w g d w.front.stage w.back.stage w.under.channels.front_pending (if is_bound w.under.channels then true else w.under.channels.back_pending) (λ t. t) (set_or_kept (is_bound w.under.channels) w.under.channels.back_pending) h.holds;
-}
+  where
+    h : Holds config w g d w.front.stage w.back.stage
+    h = stands.holds
+
+    by_end : (e : End) → (let x : World = happens w (Notifies e) in Holds config x g d w.front.stage w.back.stage)
+    by_end end.Front = marked config w g d w.front.stage w.back.stage (if is_bound w.under.channels then true else w.under.channels.front_pending) w.under.channels.back_pending
+        (marked_front g.start g.taken g.replied w.under.pages w.front.asleep w.under.channels.front_pending _ w.front.stage w.back.stage (set_or_kept (is_bound w.under.channels) w.under.channels.front_pending) h.front_sleep) h.back_sleep h
+    by_end end.Back = marked config w g d w.front.stage w.back.stage w.under.channels.front_pending (if is_bound w.under.channels then true else w.under.channels.back_pending)
+        h.front_sleep (marked_back g.start g.fetched g.pushed w.under.pages w.back.asleep w.under.channels.back_pending _ w.front.stage w.back.stage (set_or_kept (is_bound w.under.channels) w.under.channels.back_pending) h.back_sleep) h

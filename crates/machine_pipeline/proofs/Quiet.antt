@@ -1,8 +1,6 @@
 -- Where all is quiet, each request of the pipeline is finished.
 use Rattle.std.proofs.Common.{◌≡◌, ℕ, ◌+◌, ◌-◌, ◌==◌, ◌&&◌, ◌||◌, ◌⊎◌, inl, inr, not, if◌then◌else◌, Bool, true, false, List, [], ◌∷◌, length, refl, ap, sym, ◌∙◌, subst, arith, true≢false}
 use Rattle.std.specs.Prelude.{Option, Some, None, count_by, slice_get}
-use Rattle.std.specs.List.{AllByRecursion, list_all}
-use Rattle.std.proofs.lemmas.List.{append-nil}
 use Rattle.std.proofs.lemmas.Option.{none-some}
 use Rattle.std.proofs.lemmas.Bool.Decides.{nat_tests}
 use Rattle.blk_base.specs.Options.{Options}
@@ -38,9 +36,10 @@ use Rattle.split_model.proofs.Overwriting.{dump_lines_are}
 use Rattle.machine_pipeline.proofs.Flow.{Flow, ending_at, count_of, reply_at, reply_count}
 use Rattle.machine_pipeline.proofs.Holds.{Holds, Stands, FrontAt, BackAt, FrontSends, BackSends}
 use Rattle.machine_pipeline.proofs.Turns.{Goes}
+use Rattle.machine_pipeline.proofs.Keyed.{asides_go}
 use Rattle.machine_pipeline.proofs.Lists.{count_one}
 
--- a front that waits sleeps in its loop, and has no request to issue
+-- a front that was connected and waits sleeps in its loop, and has no request to issue
 record FrontSleeps (s : FrontStage) (asleep : Bool) (next : Option Request) : Type 0 where
   pub looping : s ≡ front.Loop
   pub sleeps : asleep ≡ true
@@ -56,29 +55,31 @@ issue_acts r transfer.Read t = true≢false (sym t)
 issue_acts r (transfer.Write tag) t = true≢false (sym t)
 
 front_sleeps : (start pushed taken seen : ℕ) (submitted : List Request) (replies : List Reply) (entry : List ℕ) (v : front_view.View) (s : FrontStage)
+    → not (front_submit.is_initialised s) ≡ true
     → front_submit.is_wait (front_ask.ask_at s v) ≡ true
     → FrontAt start pushed taken seen submitted replies (next_request v) entry v.ending s
     → FrontSleeps s v.asleep (next_request v)
-front_sleeps start pushed taken seen submitted replies entry v front.Loop waits at = in_loop (next_request v) v.asleep waits
+front_sleeps start pushed taken seen submitted replies entry v front.Loop ready waits at = in_loop (next_request v) v.asleep waits
   where
     in_loop : (next : Option Request) (asleep : Bool) → front_submit.is_wait (front_ask.loop_ask (record v { asleep = asleep }) next) ≡ true → FrontSleeps front.Loop asleep next
     in_loop (Some r) asleep t = absurd (issue_acts r r.transfer t)
     in_loop None true t = record { looping = refl; sleeps = refl; none_next = refl; sends_none = λ p f x. x }
     in_loop None false t = absurd (front_acts (responses_of v.ring v.seen == 0) _ _ refl refl t)
-front_sleeps start pushed taken seen submitted replies entry v (front.Data n) waits at =
+front_sleeps start pushed taken seen submitted replies entry v (front.Data n) ready waits at =
     absurd (true≢false (sym waits ∙ ap (λ (x : Option Request). front_submit.is_wait (front_ask.data_ask x n)) at.1))
-front_sleeps start pushed taken seen submitted replies entry v (front.GrantFrame place) waits at =
+front_sleeps start pushed taken seen submitted replies entry v (front.GrantFrame place) ready waits at =
     absurd (true≢false (sym waits ∙ ap (λ (x : Option Request). front_submit.is_wait (front_ask.name_ask x place)) at.1))
-front_sleeps start pushed taken seen submitted replies entry v (front.GrantFlags place) waits at =
+front_sleeps start pushed taken seen submitted replies entry v (front.GrantFlags place) ready waits at =
     absurd (true≢false (sym waits ∙ ap (λ (x : Option Request). front_submit.is_wait (front_ask.grant_ask x place)) at.1))
-front_sleeps start pushed taken seen submitted replies entry v (front.GrantRead place) waits at =
+front_sleeps start pushed taken seen submitted replies entry v (front.GrantRead place) ready waits at =
     absurd (true≢false (sym waits ∙ ap (λ (x : Option Ending). front_submit.is_wait (front_ask.revoke_ask x place)) at.1))
-front_sleeps start pushed taken seen submitted replies entry v (front.GrantEnd place before) waits at =
+front_sleeps start pushed taken seen submitted replies entry v (front.GrantEnd place before) ready waits at =
     absurd (true≢false (sym waits ∙ ap (λ (x : Option Ending). front_submit.is_wait (front_ask.end_ask x place before)) at.1))
-front_sleeps start pushed taken seen submitted replies entry v (front.ReadData n) waits at =
+front_sleeps start pushed taken seen submitted replies entry v (front.ReadData n) ready waits at =
     absurd (true≢false (sym waits ∙ ap (λ (x : Option Ending). front_submit.is_wait (front_ask.read_ask x n)) at.1))
-front_sleeps start pushed taken seen submitted replies entry v (front.Broken word) waits at = absurd at
-front_sleeps start pushed taken seen submitted replies entry v s waits at = absurd (true≢false (sym waits))
+front_sleeps start pushed taken seen submitted replies entry v (front.Broken word) ready waits at = absurd at
+front_sleeps start pushed taken seen submitted replies entry v front.Initialised ready waits at = absurd (true≢false (sym ready))
+front_sleeps start pushed taken seen submitted replies entry v s ready waits at = absurd (true≢false (sym waits))
 
 -- a back that waits sleeps in its loop, and replies to nothing
 record BackSleeps (s : BackStage) (asleep : Bool) : Type 0 where
@@ -174,11 +175,14 @@ caught_up_at config w g d quiet stands = record {
     h : Holds config w g d w.front.stage w.back.stage
     h = stands.holds
 
-    parts : AreQuiet (front_submit.is_wait (front_ask.ask_of w.front)) (back_ask.is_idle w.back) (has_to_take w.under end.Front) (has_to_take w.under end.Back)
+    parts : AreQuiet (front_submit.is_idle w.front) (back_ask.is_idle w.back) (has_to_take w.under end.Front) (has_to_take w.under end.Back)
     parts = all_quiet _ _ _ _ quiet
 
+    waiting : (not (front_submit.is_initialised w.front.stage) ≡ true) × (front_submit.is_wait (front_ask.ask_of w.front) ≡ true)
+    waiting = both _ _ parts.front
+
     front_side : FrontSleeps w.front.stage w.front.asleep (next_request w.front)
-    front_side = front_sleeps g.start g.pushed g.taken g.front_seen g.submitted g.replies w.front.entry w.front w.front.stage parts.front h.front_at
+    front_side = front_sleeps g.start g.pushed g.taken g.front_seen g.submitted g.replies w.front.entry w.front w.front.stage waiting.0 waiting.1 h.front_at
 
     idle : (back_ask.is_wait (back_ask.ask_of w.back) ≡ true) × ((length w.back.jobs.works == 0) ≡ true)
     idle = both _ _ parts.back
@@ -228,46 +232,23 @@ quiet_taken config w g d quiet stands = record { each = all_finished d.requests 
         let no_ending : count_of (ending_at w.front.stage w.front.ending) ≡ 0 = ap (λ (s : FrontStage). count_of (ending_at s w.front.ending)) rest.looping in
         omega arith
 
--- a look tells what is so
-look_goes : (config : Options) (w : World) (g : Flow) (d : Pipeline) (otherwise : Line) → is_aside otherwise ≡ true → Stands config w g d → Goes config ((if is_quiet w then lines.Quiet else otherwise) ∷ []) w d
-look_goes config w g d otherwise passes stands = by_test (is_quiet w) refl
-  where
-    by_test : (b : Bool) → is_quiet w ≡ b → Goes config ((if b then lines.Quiet else otherwise) ∷ []) w d
-    by_test true t = record {
-      flow = g;
-      step = Some Rests;
-      does = record { asides = []; aside = refl; shows = refl; asks = refl; allowed = quiet_taken config w g d t stands; disk = λ a b e. e };
-      holds = stands.holds;
-    }
-    by_test false t = record {
-      flow = g;
-      step = None;
-      does = record { asides = otherwise ∷ []; aside = rw passes refl; shows = refl; asks = refl; allowed = tt; disk = λ a b e. e };
-      holds = stands.holds;
-    }
-
-pub looks_goes : (config : Options) (w : World) (g : Flow) (d : Pipeline) → Stands config w g d → Goes config (lines_at w Looks) w d
-looks_goes config w g d stands = look_goes config w g d lines.Busy refl stands
-
-pub settles_goes : (config : Options) (w : World) (g : Flow) (d : Pipeline) → Stands config w g d → Goes config (lines_at w Settles) w d
-settles_goes config w g d stands = look_goes config w g d lines.Unsettled refl stands
-
--- a dump shows words of the ring, which are nothing to the pipeline
-words_aside : (ls : List Line) → AllByRecursion (λ (line : Line). is_aside line ≡ true) ls → list_all is_aside ls ≡ true
-words_aside [] all = refl
-words_aside (line ∷ ls) all = rw all.0 (words_aside ls all.1)
-
-pub dumps_goes : (config : Options) (w : World) (g : Flow) (d : Pipeline) → Stands config w g d → Goes config (lines_at w Dumps) w d
-dumps_goes config w g d stands = record {
+-- a look tells what was found, and all is quiet where it was found so
+look_goes : (config : Options) (w : World) (g : Flow) (d : Pipeline) (quiet : Bool) (otherwise : Line) → is_aside otherwise ≡ true → (quiet ≡ true → is_quiet w ≡ true) → Stands config w g d
+    → Goes config ((if quiet then lines.Quiet else otherwise) ∷ []) w d
+look_goes config w g d true otherwise passes found stands = record {
   flow = g;
-  step = None;
-  does = record {
-    asides = lines_at w Dumps;
-    aside = words_aside (lines_at w Dumps) (dump_lines_are (λ (line : Line). is_aside line ≡ true) w.under.pages 0 1024 (λ frame word value. refl));
-    shows = sym (append-nil (lines_at w Dumps));
-    asks = refl;
-    allowed = tt;
-    disk = λ a b e. e;
-  };
+  step = Some Rests;
+  does = record { asides = []; aside = refl; shows = refl; asks = refl; allowed = quiet_taken config w g d (found refl) stands; disk = λ a b e. e };
   holds = stands.holds;
 }
+look_goes config w g d false otherwise passes found stands = asides_go config w g d (otherwise ∷ []) (passes, tt) stands.holds
+
+pub looks_goes : (config : Options) (w : World) (g : Flow) (d : Pipeline) (quiet : Bool) → (quiet ≡ true → is_quiet w ≡ true) → Stands config w g d → Goes config (lines_at w (Looks quiet)) w d
+looks_goes config w g d quiet found stands = look_goes config w g d quiet lines.Busy refl found stands
+
+pub settles_goes : (config : Options) (w : World) (g : Flow) (d : Pipeline) (quiet : Bool) → (quiet ≡ true → is_quiet w ≡ true) → Stands config w g d → Goes config (lines_at w (Settles quiet)) w d
+settles_goes config w g d quiet found stands = look_goes config w g d quiet lines.Unsettled refl found stands
+
+-- a dump shows words of the ring, which are nothing to the pipeline
+pub dumps_goes : (config : Options) (w : World) (g : Flow) (d : Pipeline) → Stands config w g d → Goes config (lines_at w Dumps) w d
+dumps_goes config w g d stands = asides_go config w g d (lines_at w Dumps) (dump_lines_are (λ (line : Line). is_aside line ≡ true) w.under.pages 0 1024 (λ frame word value. refl)) stands.holds

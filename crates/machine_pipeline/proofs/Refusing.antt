@@ -29,7 +29,7 @@ use Rattle.blk_front.specs.declared.told.Refusal.{Refusal}
 use Rattle.blk_front.specs.declared.told.Refusal.TheVariants as refusal
 use Rattle.blk_front.specs.Pool.{lowest_of, with_taken, taking}
 use Rattle.blk_front.specs.View.{View, next_request}
-use Rattle.blk_front.specs.Submit.{is_ready, is_connected, ending_of, unfinished, submit_with, submit_of}
+use Rattle.blk_front.specs.Submit.{is_ready, ending_of, unfinished, submit_with, submit_of}
 use Rattle.blk_back.specs.declared.stage.Reply.{Reply}
 use Rattle.split_model.specs.World.{World}
 use Rattle.split_model.specs.Shown.{refusal_word}
@@ -47,13 +47,7 @@ abbrev pub answer_of : Result ℕ Refusal → Option RefusalWord
 answer_of (Ok number) = None
 answer_of (Err r) = Some (refusal_word r)
 
--- a front that isn't broken is ready once it is connected
-pub ready_at : (start pushed taken front_seen : ℕ) (submitted : List Request) (replies : List Reply) (next : Option Request) (entry : List ℕ)
-    (ending : Option Ending) (s : FrontStage)
-    → FrontAt start pushed taken front_seen submitted replies next entry ending s → is_ready s ≡ is_connected s
-ready_at start pushed taken front_seen submitted replies next entry ending (front.Broken word) at = absurd at
-ready_at start pushed taken front_seen submitted replies next entry ending s at = refl
-
+-- as many requests end as the front's stage says
 pub same_ending : (start pushed taken front_seen : ℕ) (submitted : List Request) (replies : List Reply) (next : Option Request) (entry : List ℕ)
     (ending : Option Ending) (s : FrontStage)
     → FrontAt start pushed taken front_seen submitted replies next entry ending s → count_of (ending_at s ending) ≡ ending_of s
@@ -186,20 +180,21 @@ frames_fit config w g d count h short free = taking_fits (frames_for count) w.fr
         omega arith
 
 -- one answer by both, as the same tests come out
-same_answer : (v : View) (wish : Wish) (spent connected past long full lacks : Bool) (taken : Option (List ℕ × List Bool))
+same_answer : (v : View) (wish : Wish) (spent connected refuses past long full lacks : Bool) (taken : Option (List ℕ × List Bool))
     → (long ≡ false → full ≡ false → (lacks ≡ false) × ((t : List ℕ × List Bool) × (taken ≡ Some t)))
-    → (if spent then Some words.Spent else (if not connected || false then Some words.NotReady else (if past then Some words.Range else (if long then Some words.Long else (if full then Some words.Full else (if lacks then Some words.Buffers else None))))))
-    ≡ answer_of (if spent then (Err refusal.Spent, v) else (if not connected then (Err refusal.NotReady, v) else (if past then (Err refusal.Range, v) else (if long then (Err refusal.Long, v) else (if full then (Err refusal.Full, v) else submit_with v wish taken))))).0
-same_answer v wish true connected past long full lacks taken fits = refl
-same_answer v wish false false past long full lacks taken fits = refl
-same_answer v wish false true true long full lacks taken fits = refl
-same_answer v wish false true false true full lacks taken fits = refl
-same_answer v wish false true false false true lacks taken fits = refl
-same_answer v wish false true false false false lacks taken fits = let yes = fits refl refl in rw (yes.0, yes.1.1) refl
+    → (if spent then Some words.Spent else (if not connected || false then Some words.NotReady else (if refuses then Some words.ReadOnly else (if past then Some words.Range else (if long then Some words.Long else (if full then Some words.Full else (if lacks then Some words.Buffers else None)))))))
+    ≡ answer_of (if spent then (Err refusal.Spent, v) else (if not connected then (Err refusal.NotReady, v) else (if refuses then (Err refusal.ReadOnly, v) else (if past then (Err refusal.Range, v) else (if long then (Err refusal.Long, v) else (if full then (Err refusal.Full, v) else submit_with v wish taken)))))).0
+same_answer v wish true connected refuses past long full lacks taken fits = refl
+same_answer v wish false false refuses past long full lacks taken fits = refl
+same_answer v wish false true true past long full lacks taken fits = refl
+same_answer v wish false true false true long full lacks taken fits = refl
+same_answer v wish false true false false true full lacks taken fits = refl
+same_answer v wish false true false false false true lacks taken fits = refl
+same_answer v wish false true false false false false lacks taken fits = let yes = fits refl refl in rw (yes.0, yes.1.1) refl
 
 refused_transfer : (config : Options) (w : World) (g : Flow) (d : Pipeline) (sector count : ℕ) (way : Transfer) → IsPlain config
     → Holds config w g d w.front.stage w.back.stage
-    → refusal_by (record { config = Some config; connected = is_connected w.front.stage; closing = false; broken = false }) config (map asked d.requests) (job_of way sector count) ≡ answer_of (submit_of w.front (job_of way sector count)).0
+    → refusal_by (record { config = Some config; connected = is_ready w.front.stage; closing = false; broken = false }) config (map asked d.requests) (job_of way sector count) ≡ answer_of (submit_of w.front (job_of way sector count)).0
 refused_transfer config w g d sector count way plain h = by_way way
   where
     known : AreKnown g.submitted d.requests
@@ -208,15 +203,12 @@ refused_transfer config w g d sector count way plain h = by_way way
     spent : length (map asked d.requests) ≡ w.front.last
     spent = length-map d.requests asked ∙ known.as_many ∙ (let all = h.submitted in all.counted)
 
-    ready : is_ready w.front.stage ≡ is_connected w.front.stage
-    ready = ready_at g.start g.pushed g.taken g.front_seen g.submitted g.replies (next_request w.front) w.front.entry w.front.ending w.front.stage h.front_at
-
     open_ones : count_by (λ (q : Asked). not (is_finished q.stage)) (map asked d.requests) ≡ unfinished w.front
     open_ones = as_unfinished d.requests ∙ h.stations.opened.unfinished ∙ ap (λ (n : ℕ). length w.front.requests + n)
         (same_ending g.start g.pushed g.taken g.front_seen g.submitted g.replies (next_request w.front) w.front.entry w.front.ending w.front.stage h.front_at)
 
     past : nat_lt config.sectors (sector + count) ≡ nat_lt w.front.sectors (sector + count)
-    past = ap (λ (n : ℕ). nat_lt n (sector + count)) (sym h.sized)
+    past = ap (λ (n : ℕ). nat_lt n (sector + count)) (sym h.sized.sectors)
 
     fits : nat_lt 11 (frames_for count) ≡ false → nat_le 32 (unfinished w.front) ≡ false
         → (nat_lt 1000 (sum_by frames_held (map asked d.requests) +
@@ -239,13 +231,13 @@ refused_transfer config w g d sector count way plain h = by_way way
             under : (n : ℕ) → n ≤ 1000 → nat_lt 1000 n ≡ false
             under n le = grind (arith, nat_tests)
 
-    by_way : (x : Transfer) → refusal_by (record { config = Some config; connected = is_connected w.front.stage; closing = false; broken = false }) config (map asked d.requests) (job_of x sector count) ≡ answer_of (submit_of w.front (job_of x sector count)).0
-    by_way transfer.Read = rw (spent, ready, plain.order, plain.indirect, past, open_ones)
-        (same_answer w.front (record { sector = sector; count = count; transfer = transfer.Read }) _ _ _ _ _ _ _ fits)
-    by_way (transfer.Write tag) = rw (spent, ready, plain.read_only, plain.order, plain.indirect, past, open_ones) (same_answer w.front (record { sector = sector; count = count; transfer = transfer.Write tag }) _ _ _ _ _ _ _ fits)
+    by_way : (x : Transfer) → refusal_by (record { config = Some config; connected = is_ready w.front.stage; closing = false; broken = false }) config (map asked d.requests) (job_of x sector count) ≡ answer_of (submit_of w.front (job_of x sector count)).0
+    by_way transfer.Read = rw (spent, plain.order, plain.indirect, past, open_ones)
+        (same_answer w.front (record { sector = sector; count = count; transfer = transfer.Read }) _ _ false _ _ _ _ _ fits)
+    by_way (transfer.Write tag) = rw (spent, sym h.sized.read_only, plain.order, plain.indirect, past, open_ones) (same_answer w.front (record { sector = sector; count = count; transfer = transfer.Write tag }) _ _ _ _ _ _ _ _ fits)
 
 -- the rule's answer is the front's
-ruled : (config : Options) (w : World) (g : Flow) (d : Pipeline) (job : Job) → IsPlain config → Holds config w g d w.front.stage w.back.stage → IsTransfer job → refusal_by (record { config = Some config; connected = is_connected w.front.stage; closing = false; broken = false }) config (map asked d.requests) job ≡ answer_of (submit_of w.front job).0
+ruled : (config : Options) (w : World) (g : Flow) (d : Pipeline) (job : Job) → IsPlain config → Holds config w g d w.front.stage w.back.stage → IsTransfer job → refusal_by (record { config = Some config; connected = is_ready w.front.stage; closing = false; broken = false }) config (map asked d.requests) job ≡ answer_of (submit_of w.front job).0
 ruled config w g d (Read sector count) plain h one = refused_transfer config w g d sector count transfer.Read plain h
 ruled config w g d (Write sector count tag) plain h one = refused_transfer config w g d sector count (transfer.Write tag) plain h
 ruled config w g d (Barrier sector count tag) plain h one = absurd one

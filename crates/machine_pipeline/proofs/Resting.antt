@@ -16,13 +16,13 @@ use Rattle.blk_front.specs.declared.stage.Stage.{Stage as FrontStage}
 use Rattle.blk_front.specs.declared.stage.Stage.TheVariants as front
 use Rattle.blk_front.specs.View as front_view
 use Rattle.blk_front.specs.View.{next_request}
-use Rattle.blk_front.specs.Submit.{is_connected, ending_of}
+use Rattle.blk_front.specs.Submit.{is_ready, is_connected, ending_of}
 use Rattle.blk_back.specs.declared.stage.Stage.{Stage as BackStage}
 use Rattle.split_model.specs.World.{World}
 use Rattle.machine_pipeline.proofs.Flow.{Flow, wrapped, has_ring, is_ring_named, is_ring_granted, filled, named_frames, granted_frames, entered, ending_at, revoking_at, telling_at, is_bound_back, is_issuing, is_fetching, reply_at}
 use Rattle.machine_pipeline.proofs.Holds.{FrontAt, RingBegun, AreRingWords, AreSlots, IsFilled, IsGranted, AreEntries, ArePooled, IsUnused, IsFrontSleep, FrontSends, PortsAt, IsReadSoFar, AreDataWords, AreRevoked, Holds}
 use Rattle.machine_pipeline.proofs.Data.{SameData, pooled_at}
-use Rattle.machine_pipeline.proofs.Kept.{SameFrame, SameEntry, SameGrants, data_same, same_entry, slots_kept, frames_kept, entries_kept}
+use Rattle.machine_pipeline.proofs.Kept.{as_connected, SameFrame, SameEntry, SameGrants, data_same, same_entry, slots_kept, frames_kept, entries_kept}
 use Rattle.machine_pipeline.proofs.Lists.{all_from}
 use Rattle.machine_pipeline.proofs.Frames.{is_submitted}
 use Rattle.machine_pipeline.proofs.Stations.{AreStations, saw_more, turned}
@@ -35,7 +35,7 @@ pub record IsResting (s : FrontStage) : Type 0 where
   pub named : is_ring_named s ≡ true
   pub granted : is_ring_granted s ≡ true
   pub begun : (start : ℕ) (pages : List ℕ) → RingBegun start pages s
-  pub connected : is_connected s ≡ true
+  pub ready : is_ready s ≡ true
   pub filled_none : filled s ≡ 0
   pub unnamed : named_frames s ≡ 0
   pub ungranted : granted_frames s ≡ 0
@@ -44,31 +44,31 @@ pub record IsResting (s : FrontStage) : Type 0 where
   pub quiet : (pushed fetched : ℕ) → FrontSends s pushed fetched → ⊥
 
 pub at_loop : IsResting front.Loop
-at_loop = record { ring = refl; named = refl; granted = refl; begun = λ start pages. tt; connected = refl; filled_none = refl; unnamed = refl; ungranted = refl; entered_none = refl; unissued = refl; quiet = λ p f x. x }
+at_loop = record { ring = refl; named = refl; granted = refl; begun = λ start pages. tt; ready = refl; filled_none = refl; unnamed = refl; ungranted = refl; entered_none = refl; unissued = refl; quiet = λ p f x. x }
 
 pub at_high : (low : ℕ) → IsResting (front.ResponseHigh low)
-at_high low = record { ring = refl; named = refl; granted = refl; begun = λ start pages. tt; connected = refl; filled_none = refl; unnamed = refl; ungranted = refl; entered_none = refl; unissued = refl; quiet = λ p f x. x }
+at_high low = record { ring = refl; named = refl; granted = refl; begun = λ start pages. tt; ready = refl; filled_none = refl; unnamed = refl; ungranted = refl; entered_none = refl; unissued = refl; quiet = λ p f x. x }
 
 pub at_last : (low high : ℕ) → IsResting (front.ResponseLast low high)
-at_last low high = record { ring = refl; named = refl; granted = refl; begun = λ start pages. tt; connected = refl; filled_none = refl; unnamed = refl; ungranted = refl; entered_none = refl; unissued = refl; quiet = λ p f x. x }
+at_last low high = record { ring = refl; named = refl; granted = refl; begun = λ start pages. tt; ready = refl; filled_none = refl; unnamed = refl; ungranted = refl; entered_none = refl; unissued = refl; quiet = λ p f x. x }
 
 pub at_read : (place : ℕ) → IsResting (front.GrantRead place)
-at_read place = record { ring = refl; named = refl; granted = refl; begun = λ start pages. tt; connected = refl; filled_none = refl; unnamed = refl; ungranted = refl; entered_none = refl; unissued = refl; quiet = λ p f x. x }
+at_read place = record { ring = refl; named = refl; granted = refl; begun = λ start pages. tt; ready = refl; filled_none = refl; unnamed = refl; ungranted = refl; entered_none = refl; unissued = refl; quiet = λ p f x. x }
 
 pub at_end : (place before : ℕ) → IsResting (front.GrantEnd place before)
-at_end place before = record { ring = refl; named = refl; granted = refl; begun = λ start pages. tt; connected = refl; filled_none = refl; unnamed = refl; ungranted = refl; entered_none = refl; unissued = refl; quiet = λ p f x. x }
+at_end place before = record { ring = refl; named = refl; granted = refl; begun = λ start pages. tt; ready = refl; filled_none = refl; unnamed = refl; ungranted = refl; entered_none = refl; unissued = refl; quiet = λ p f x. x }
 
 pub at_data : (n : ℕ) → IsResting (front.ReadData n)
-at_data n = record { ring = refl; named = refl; granted = refl; begun = λ start pages. tt; connected = refl; filled_none = refl; unnamed = refl; ungranted = refl; entered_none = refl; unissued = refl; quiet = λ p f x. x }
+at_data n = record { ring = refl; named = refl; granted = refl; begun = λ start pages. tt; ready = refl; filled_none = refl; unnamed = refl; ungranted = refl; entered_none = refl; unissued = refl; quiet = λ p f x. x }
 
 pub at_store : IsResting front.StoreEvent
-at_store = record { ring = refl; named = refl; granted = refl; begun = λ start pages. tt; connected = refl; filled_none = refl; unnamed = refl; ungranted = refl; entered_none = refl; unissued = refl; quiet = λ p f x. x }
+at_store = record { ring = refl; named = refl; granted = refl; begun = λ start pages. tt; ready = refl; filled_none = refl; unnamed = refl; ungranted = refl; entered_none = refl; unissued = refl; quiet = λ p f x. x }
 
 pub at_fence : IsResting front.EventFence
-at_fence = record { ring = refl; named = refl; granted = refl; begun = λ start pages. tt; connected = refl; filled_none = refl; unnamed = refl; ungranted = refl; entered_none = refl; unissued = refl; quiet = λ p f x. x }
+at_fence = record { ring = refl; named = refl; granted = refl; begun = λ start pages. tt; ready = refl; filled_none = refl; unnamed = refl; ungranted = refl; entered_none = refl; unissued = refl; quiet = λ p f x. x }
 
 pub at_look : IsResting front.LookAgain
-at_look = record { ring = refl; named = refl; granted = refl; begun = λ start pages. tt; connected = refl; filled_none = refl; unnamed = refl; ungranted = refl; entered_none = refl; unissued = refl; quiet = λ p f x. x }
+at_look = record { ring = refl; named = refl; granted = refl; begun = λ start pages. tt; ready = refl; filled_none = refl; unnamed = refl; ungranted = refl; entered_none = refl; unissued = refl; quiet = λ p f x. x }
 
 -- where no request ends, no grant is ended and no data are told
 pub unending : (s : FrontStage) (ending : Option Ending) → ending_of s ≡ 0 → ending_at s ending ≡ None
@@ -163,14 +163,14 @@ rest_kept config w g d s s' seen whole asleep pages channels i i' zero zero' h a
   queue = h.queue;
   submitted = h.submitted;
   pool = subst (ArePooled w.front.pool w.front.requests) (none ∙ sym none') h.pool;
-  stations = saw_more config g whole g.back_seen d (is_connected s') (is_issuing s') (is_fetching w.back.stage) (ending_at s' w.front.ending) (telling_at s') (reply_at w.back.stage) w.front.requests w.back.jobs.works pages
-      (stations_elsewhere config g d (is_connected s') (is_issuing s') (is_fetching w.back.stage) (ending_at s' w.front.ending) (telling_at s') (reply_at w.back.stage) w.front.requests w.back.jobs.works w.under.pages pages w.front.sectors w.front.last h.submitted (λ f low high. frames f (omega arith)) stations);
+  stations = saw_more config g whole g.back_seen d (is_ready s') (is_issuing s') (is_fetching w.back.stage) (ending_at s' w.front.ending) (telling_at s') (reply_at w.back.stage) w.front.requests w.back.jobs.works pages
+      (stations_elsewhere config g d (is_ready s') (is_issuing s') (is_fetching w.back.stage) (ending_at s' w.front.ending) (telling_at s') (reply_at w.back.stage) w.front.requests w.back.jobs.works w.under.pages pages w.front.sectors w.front.last h.submitted (λ f low high. frames f (omega arith)) stations);
   works = h.works;
   counted = h.counted;
   info = h.info;
   replies = h.replies;
   front_at = at;
-  unused = subst (λ (b : Bool). IsUnused b g.pushed w.front.last) (i.connected ∙ sym i'.connected) h.unused;
+  unused = subst (λ (b : Bool). IsUnused b g.pushed w.front.last) (i.ready ∙ sym i'.ready) h.unused;
   back_at = h.back_at;
   unhalted = h.unhalted;
   memory = sized;
@@ -193,7 +193,7 @@ rest_kept config w g d s s' seen whole asleep pages channels i i' zero zero' h a
     may = was.may;
     woken = λ t. by_wake (was.woken t);
   });
-  ports = subst (λ (b : Bool). PortsAt b (is_bound_back w.back.stage) channels.made channels.ports) (i.connected ∙ sym i'.connected)
+  ports = subst (λ (b : Bool). PortsAt b (is_bound_back w.back.stage) channels.made channels.ports) (as_connected s s' i.ready i'.ready)
       (subst (λ (n : ℕ). PortsAt (is_connected s) (is_bound_back w.back.stage) n channels.ports) (sym made) (subst (PortsAt (is_connected s) (is_bound_back w.back.stage) w.under.channels.made) (sym ports) h.ports));
 }
   where
@@ -213,8 +213,8 @@ rest_kept config w g d s s' seen whole asleep pages channels i i' zero zero' h a
         let pooled = pooled_at r is.frames place in
         same_entry w.under.pages pages (frame_at r place + 6) (let top = pooled.1 in omega arith) (frames 0 (omega arith)) (frames 1 (omega arith))
 
-    stations : AreStations config g d (is_connected s') (is_issuing s') (is_fetching w.back.stage) (ending_at s' w.front.ending) (telling_at s') (reply_at w.back.stage) w.front.requests w.back.jobs.works w.under.pages
-    stations = turned config g d (is_connected s) (is_connected s') (is_issuing s) (is_issuing s') (is_fetching w.back.stage) (ending_at s w.front.ending) (ending_at s' w.front.ending) (telling_at s) (telling_at s') (reply_at w.back.stage) w.front.requests w.back.jobs.works w.under.pages (i'.connected ∙ sym i.connected) (i'.unissued ∙ sym i.unissued) (none' ∙ sym none) (untelling s' zero' ∙ sym (untelling s zero)) h.stations
+    stations : AreStations config g d (is_ready s') (is_issuing s') (is_fetching w.back.stage) (ending_at s' w.front.ending) (telling_at s') (reply_at w.back.stage) w.front.requests w.back.jobs.works w.under.pages
+    stations = turned config g d (is_ready s) (is_ready s') (is_issuing s) (is_issuing s') (is_fetching w.back.stage) (ending_at s w.front.ending) (ending_at s' w.front.ending) (telling_at s) (telling_at s') (reply_at w.back.stage) w.front.requests w.back.jobs.works w.under.pages (i'.ready ∙ sym i.ready) (i'.unissued ∙ sym i.unissued) (none' ∙ sym none) (untelling s' zero' ∙ sym (untelling s zero)) h.stations
 
     by_wake : (g.pushed ≡ g.fetched) ⊎ (w.under.channels.back_pending ≡ true) ⊎ FrontSends s g.pushed g.fetched → (g.pushed ≡ g.fetched) ⊎ (channels.back_pending ≡ true) ⊎ FrontSends s' g.pushed g.fetched
     by_wake (inl same) = inl same

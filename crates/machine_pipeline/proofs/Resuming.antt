@@ -12,8 +12,7 @@ use Rattle.blk_base.specs.declared.parts.End.TheVariants as end
 use Rattle.schedule_text.specs.declared.line.Line.{Line}
 use Rattle.schedule_text.specs.declared.line.Line.TheVariants as lines
 use Rattle.event_channel.specs.Channels.{ChannelState, taken}
-use Rattle.hypervisor.specs.Hypervisor.{Hypervisor}
-use Rattle.hypervisor.specs.Act.{FrontAct, front_act, front_watched, watch_next, watch_taken}
+use Rattle.hypervisor.specs.Act.{FrontAct, front_act, front_watched, watch_next}
 use Rattle.pipeline_laws.specs.Pipeline.{Pipeline}
 use Rattle.ring_words.specs.Ring.{responses_of}
 use Rattle.xen_pages.specs.Pages.{word_of}
@@ -30,7 +29,7 @@ use Rattle.split_model.specs.Shown.{front_lines}
 use Rattle.machine_pipeline.proofs.Flow.{Flow, wrapped}
 use Rattle.machine_pipeline.proofs.Holds.{Holds, IsTaken}
 use Rattle.machine_pipeline.proofs.Turns.{Goes, FrontGoes, said_nothing}
-use Rattle.machine_pipeline.proofs.Keyed.{goes_keyed}
+use Rattle.machine_pipeline.proofs.Keyed.{watched_goes}
 use Rattle.machine_pipeline.proofs.Lists.{get_within}
 use Rattle.machine_pipeline.proofs.Wrapped.{distance_at}
 use Rattle.machine_pipeline.proofs.Resting.{at_loop, at_high, at_last, at_store, rested, rest_kept}
@@ -66,15 +65,7 @@ wait_goes config w g d told e h = by_pending w.under.channels.front_pending (wat
 
     by_pending : (b : Bool) (next : Option (List ℕ)) → w.under.channels.front_pending ≡ b → (let act : Option FrontAct = (if b then Some (record { answer = answer.Event; under = record w.under { channels = channels }; shown = moves.Event mover.Front }) else front_watched w.under next) in Goes config (loop_says w None act) (loop_next w None act) d)
     by_pending false None t = stays IsSame config w g d (λ a b same. same) here
-    by_pending false (Some path) t =
-        let untold : w ≡ record { front = (let v : View = w.front in record v { told = None }); back = w.back; under = w.under } = ap (λ t. record { front = (let v : View = w.front in record v { told = t }); back = w.back; under = w.under }) told in
-        let left : Hypervisor = watch_taken w.under end.Front in
-        goes_keyed config _ _ d left.keys (record {
-          flow = g;
-          step = None;
-          does = said_nothing d (moves.Watched mover.Front path) w.front.told told;
-          holds = subst (λ (x : World). Holds config x g d x.front.stage x.back.stage) untold here;
-        })
+    by_pending false (Some path) t = watched_goes config w g d path told here
     by_pending true next t = record {
       flow = g;
       step = None;

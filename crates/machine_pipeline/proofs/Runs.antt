@@ -15,7 +15,7 @@ use Rattle.schedule_text.specs.declared.line.Line.{Line}
 use Rattle.hypervisor.specs.Act.{Outcome, Gave, Took, Failed}
 use Rattle.blk_back.specs.Step.{job_ask_of}
 use Rattle.split_model.specs.World.{World, start_of}
-use Rattle.split_model.specs.Happening.{Happening, FrontMoves, BackMoves, JobMoves, Submits, Notifies, Pokes, Dumps, Looks, Settles, happens, after, lines_at, lines_of as shown_by, DiskRuns as MachineRuns}
+use Rattle.split_model.specs.Happening.{Happening, JobMoves, Submits, happens, after, lines_at, lines_of as shown_by, DiskRuns as MachineRuns}
 use Rattle.pipeline_laws.specs.Pipeline.{Pipeline, Step, Shows, step_lines, after_steps, lines_of, pipeline_of}
 use Rattle.pipeline_laws.specs.Allowed.{is_aside, AreAllowed as StepsAllowed}
 use Rattle.pipeline_laws.specs.Disk.{DiskRuns, AreConsistent}
@@ -91,14 +91,7 @@ none_after ask o a p = none-some a p.1
 
 pub goes_none : (w : World) (h : Happening) (a : List (List ℕ)) → SectorsGo w h (Some a) None → ⊥
 goes_none w (JobMoves number outcome) a p = none_after (job_ask_of w.back number) outcome a p
-goes_none w FrontMoves a p = none-some a p
-goes_none w BackMoves a p = none-some a p
-goes_none w (Submits job) a p = none-some a p
-goes_none w (Notifies at) a p = none-some a p
-goes_none w (Pokes frame word value) a p = none-some a p
-goes_none w Dumps a p = none-some a p
-goes_none w Looks a p = none-some a p
-goes_none w Settles a p = none-some a p
+goes_none w h a p = none-some a p
 
 stays_none : (ask : BackAsk) (o : Outcome) (x : Option (List (List ℕ))) → SectorsDo ask o None x → x ≡ None
 stays_none (back_ask.DiskRead sector) o x p = p.1
@@ -112,14 +105,7 @@ stays_none ask o x p = p.1
 
 none_goes : (w : World) (h : Happening) (x : Option (List (List ℕ))) → SectorsGo w h None x → x ≡ None
 none_goes w (JobMoves number outcome) x p = stays_none (job_ask_of w.back number) outcome x p
-none_goes w FrontMoves x p = p
-none_goes w BackMoves x p = p
-none_goes w (Submits job) x p = p
-none_goes w (Notifies at) x p = p
-none_goes w (Pokes frame word value) x p = p
-none_goes w Dumps x p = p
-none_goes w Looks x p = p
-none_goes w Settles x p = p
+none_goes w h x p = p
 
 none_runs : (hs : List Happening) (w : World) (x : Option (List (List ℕ))) → SectorsRun hs w None x → x ≡ None
 none_runs [] w x p = p
@@ -127,26 +113,12 @@ none_runs (h ∷ hs) w x p = none_runs hs (happens w h) x (subst (λ (y : Option
 
 pub called : (w : World) (h : Happening) (a b : List (List ℕ)) → SectorsGo w h (Some a) (Some b) → CallAt w h a b
 called w (JobMoves number outcome) a b p = p
-called w FrontMoves a b p = same_Some b a p
-called w BackMoves a b p = same_Some b a p
-called w (Submits job) a b p = same_Some b a p
-called w (Notifies at) a b p = same_Some b a p
-called w (Pokes frame word value) a b p = same_Some b a p
-called w Dumps a b p = same_Some b a p
-called w Looks a b p = same_Some b a p
-called w Settles a b p = same_Some b a p
+called w h a b p = same_Some b a p
 
 -- the requests of the first happening, and of those after it
 pub submitted_first : (h : Happening) (hs : List Happening) → submitted_of (h ∷ hs) ≡ option_to_list (submitted_at h) ++ submitted_of hs
 submitted_first (Submits job) hs = refl
-submitted_first FrontMoves hs = refl
-submitted_first BackMoves hs = refl
-submitted_first (JobMoves number outcome) hs = refl
-submitted_first (Notifies at) hs = refl
-submitted_first (Pokes frame word value) hs = refl
-submitted_first Dumps hs = refl
-submitted_first Looks hs = refl
-submitted_first Settles hs = refl
+submitted_first h hs = refl
 
 -- the first happening, and those after it
 pub one_more : (h : Happening) (hs : List Happening) (w : World) (p : Pipeline) (step : Option Step) → Does (submitted_at h) (CallAt w h) (lines_at w h) p step → IsRunFrom hs (happens w h) (after_step p step) → IsRunFrom (h ∷ hs) w p

@@ -8,7 +8,7 @@ use Rattle.blk_back.specs.Step.{job_ask_of}
 use Rattle.hypervisor.specs.Act.{Outcome, Gave, Took, Failed}
 use Rattle.hypervisor.specs.Disk.{DiskDoes, DiskReads, DiskWrites, DiskFlushes, DiskTrims}
 use Rattle.split_model.specs.World.{World}
-use Rattle.split_model.specs.Happening.{Happening, FrontMoves, BackMoves, JobMoves, Submits, Notifies, Pokes, Dumps, Looks, Settles, happens, DiskGoes, DiskRuns}
+use Rattle.split_model.specs.Happening.{Happening, JobMoves, happens, DiskGoes, DiskRuns}
 use Rattle.split_model.proofs.Keeping.{no_call}
 use Rattle.machine_pipeline.specs.Sectors.{SectorRead, SectorWritten, SectorsTrimmed, SectorsDo}
 
@@ -53,14 +53,7 @@ sectors_do ask o a b p = (tt, same_content a b (no_call o a b p).1)
 
 sectors_go : (w : World) (h : Happening) (a b : DiskSeen) → DiskGoes w h a b → SectorsGo w h a.content b.content
 sectors_go w (JobMoves number outcome) a b p = sectors_do (job_ask_of w.back number) outcome a b p
-sectors_go w FrontMoves a b p = same_content a b p
-sectors_go w BackMoves a b p = same_content a b p
-sectors_go w (Submits job) a b p = same_content a b p
-sectors_go w (Notifies at) a b p = same_content a b p
-sectors_go w (Pokes frame word value) a b p = same_content a b p
-sectors_go w Dumps a b p = same_content a b p
-sectors_go w Looks a b p = same_content a b p
-sectors_go w Settles a b p = same_content a b p
+sectors_go w h a b p = same_content a b p
 
 -- whatever the disk does, its sectors go along
 pub sectors_run : (hs : List Happening) (w : World) (a b : DiskSeen) → DiskRuns hs w a b → SectorsRun hs w a.content b.content

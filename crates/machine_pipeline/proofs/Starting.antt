@@ -10,7 +10,7 @@ use Rattle.blk_front.specs.declared.request.Request.{Request}
 use Rattle.blk_front.specs.declared.stage.Stage.{Stage as FrontStage}
 use Rattle.blk_front.specs.declared.stage.Stage.TheVariants as front
 use Rattle.blk_front.specs.View.{next_request}
-use Rattle.blk_front.specs.Submit.{is_connected, ending_of}
+use Rattle.blk_front.specs.Submit.{is_ready, is_connected, ending_of}
 use Rattle.blk_back.specs.declared.stage.Stage.{Stage as BackStage}
 use Rattle.blk_back.specs.declared.stage.Stage.TheVariants as back
 use Rattle.split_model.specs.World.{World}
@@ -20,7 +20,7 @@ use Rattle.machine_pipeline.proofs.Kept.{slots_kept}
 use Rattle.machine_pipeline.proofs.Lists.{all_from}
 use Rattle.machine_pipeline.proofs.Resting.{rested, unending, untelling, unrevoked, data_rests}
 use Rattle.machine_pipeline.proofs.ReadsKept.{stations_kept}
-use Rattle.machine_pipeline.proofs.Stations.{AreStations}
+use Rattle.machine_pipeline.proofs.Stations.{AreStations, turned}
 use Rattle.machine_pipeline.proofs.Indices.{indices_room}
 
 -- a stage at which no request is in the front's hands
@@ -30,35 +30,36 @@ pub record IsBare (s : FrontStage) : Type 0 where
   pub entered_none : entered s ≡ 0
   pub unarmed : is_front_arming s ≡ false
   pub unissued : is_issuing s ≡ false
+  pub unready : is_ready s ≡ false
 
 pub bare_word : (k : ℕ) → IsBare (front.RingWord k)
-bare_word k = record { none_ends = refl; filled_none = refl; entered_none = refl; unarmed = refl; unissued = refl }
+bare_word k = record { none_ends = refl; filled_none = refl; entered_none = refl; unarmed = refl; unissued = refl; unready = refl }
 
 pub bare_frame : IsBare front.RingFrame
-bare_frame = record { none_ends = refl; filled_none = refl; entered_none = refl; unarmed = refl; unissued = refl }
+bare_frame = record { none_ends = refl; filled_none = refl; entered_none = refl; unarmed = refl; unissued = refl; unready = refl }
 
 pub bare_fence : IsBare front.RingFence
-bare_fence = record { none_ends = refl; filled_none = refl; entered_none = refl; unarmed = refl; unissued = refl }
+bare_fence = record { none_ends = refl; filled_none = refl; entered_none = refl; unarmed = refl; unissued = refl; unready = refl }
 
 pub bare_flags : IsBare front.RingFlags
-bare_flags = record { none_ends = refl; filled_none = refl; entered_none = refl; unarmed = refl; unissued = refl }
+bare_flags = record { none_ends = refl; filled_none = refl; entered_none = refl; unarmed = refl; unissued = refl; unready = refl }
 
 pub bare_port : IsBare front.NewPort
-bare_port = record { none_ends = refl; filled_none = refl; entered_none = refl; unarmed = refl; unissued = refl }
+bare_port = record { none_ends = refl; filled_none = refl; entered_none = refl; unarmed = refl; unissued = refl; unready = refl }
 
-pub bare_loop : IsBare front.Loop
-bare_loop = record { none_ends = refl; filled_none = refl; entered_none = refl; unarmed = refl; unissued = refl }
+pub bare_initialised : IsBare front.Initialised
+bare_initialised = record { none_ends = refl; filled_none = refl; entered_none = refl; unarmed = refl; unissued = refl; unready = refl }
 
--- what was submitted and pushed before the front is connected
+-- what was submitted and pushed before the front is ready
 pub record AreNone (pushed last : ℕ) : Type 0 where
   pub unpushed : pushed ≡ 0
   pub unsubmitted : last ≡ 0
 
-none_of : (connected : Bool) (pushed last : ℕ) → connected ≡ false → IsUnused connected pushed last → AreNone pushed last
+none_of : (ready : Bool) (pushed last : ℕ) → ready ≡ false → IsUnused ready pushed last → AreNone pushed last
 none_of false pushed last e h = record { unpushed = h.0; unsubmitted = h.1 }
 none_of true pushed last e h = absurd (true≢false e)
 
-unused_of : (connected : Bool) (pushed last : ℕ) → AreNone pushed last → IsUnused connected pushed last
+unused_of : (ready : Bool) (pushed last : ℕ) → AreNone pushed last → IsUnused ready pushed last
 unused_of false pushed last h = (h.unpushed, h.unsubmitted)
 unused_of true pushed last h = tt
 
@@ -72,33 +73,32 @@ back_awake back.MapRing e = (refl, refl)
 back_awake back.Bind e = (refl, refl)
 back_awake b e = absurd (true≢false e)
 
-pub none_yet : (config : Options) (w : World) (g : Flow) (d : Pipeline) (s : FrontStage) → is_connected s ≡ false → Holds config w g d s w.back.stage → AreNone g.pushed w.front.last
-none_yet config w g d s starting h = none_of (is_connected s) g.pushed w.front.last starting h.unused
+pub none_yet : (config : Options) (w : World) (g : Flow) (d : Pipeline) (s : FrontStage) → is_ready s ≡ false → Holds config w g d s w.back.stage → AreNone g.pushed w.front.last
+none_yet config w g d s unready h = none_of (is_ready s) g.pushed w.front.last unready h.unused
 
-pub starts_on : (config : Options) (w : World) (g : Flow) (d d' : Pipeline) (s s' : FrontStage) (pages : List ℕ) (channels : ChannelState)
+pub starts_on : (config : Options) (w : World) (g : Flow) (d : Pipeline) (s s' : FrontStage) (pages : List ℕ) (channels : ChannelState)
     → is_connected s ≡ false → may_front_sleep s ≡ false → IsBare s → IsBare s'
     → Holds config w g d s w.back.stage
-    → AreStations config g d' (is_connected s') (is_issuing s') (is_fetching w.back.stage) (ending_at s' w.front.ending) (telling_at s') (reply_at w.back.stage) w.front.requests w.back.jobs.works w.under.pages
     → FrontAt g.start g.pushed g.taken g.front_seen g.submitted g.replies (next_request w.front) w.front.entry w.front.ending s'
     → length pages ≡ 1114112
     → ((x : ℕ) → 16 ≤ x → x < 1024 → word_of pages 2 x ≡ word_of w.under.pages 2 x)
     → AreRingWords g.start g.pushed g.replied pages s' w.back.stage
     → PortsAt (is_connected s') (is_bound_back w.back.stage) channels.made channels.ports
-    → Holds config (rested w s' w.front.seen w.front.asleep pages channels) g d' s' w.back.stage
-starts_on config w g d d' s s' pages channels starting restless i i' h stations at sized words ring ports = record {
+    → Holds config (rested w s' w.front.seen w.front.asleep pages channels) g d s' w.back.stage
+starts_on config w g d s s' pages channels starting restless i i' h at sized words ring ports = record {
   started = h.started;
   sized = h.sized;
   indices = indices_room g w.front.ring w.back.ring w.front.seen w.back.seen w.back.fetched w.front.last w.front.waiting (length w.front.requests) (ending_of s) (ending_of s') (let was = h.indices in let room = was.room in let e = i'.none_ends in omega arith) h.indices;
   queue = h.queue;
   submitted = h.submitted;
   pool = subst (ArePooled w.front.pool w.front.requests) (unending s w.front.ending i.none_ends ∙ sym (unending s' w.front.ending i'.none_ends)) h.pool;
-  stations = stations_kept config g d' (is_connected s') (is_issuing s') (is_fetching w.back.stage) (ending_at s' w.front.ending) (telling_at s') (reply_at w.back.stage) w.front.requests w.back.jobs.works w.under.pages pages (λ k r q its. absurd (unknown k r its)) stations;
+  stations = stations_kept config g d (is_ready s') (is_issuing s') (is_fetching w.back.stage) (ending_at s' w.front.ending) (telling_at s') (reply_at w.back.stage) w.front.requests w.back.jobs.works w.under.pages pages (λ k r q its. absurd (unknown k r its)) stations;
   works = h.works;
   counted = h.counted;
   info = h.info;
   replies = h.replies;
   front_at = at;
-  unused = unused_of (is_connected s') g.pushed w.front.last none;
+  unused = unused_of (is_ready s') g.pushed w.front.last none;
   back_at = h.back_at;
   unhalted = h.unhalted;
   memory = sized;
@@ -128,7 +128,12 @@ starts_on config w g d d' s s' pages channels starting restless i i' h stations 
 }
   where
     none : AreNone g.pushed w.front.last
-    none = none_yet config w g d s starting h
+    none = none_yet config w g d s i.unready h
+
+    stations : AreStations config g d (is_ready s') (is_issuing s') (is_fetching w.back.stage) (ending_at s' w.front.ending) (telling_at s') (reply_at w.back.stage) w.front.requests w.back.jobs.works w.under.pages
+    stations = turned config g d (is_ready s) (is_ready s') (is_issuing s) (is_issuing s') (is_fetching w.back.stage) (ending_at s w.front.ending) (ending_at s' w.front.ending) (telling_at s) (telling_at s') (reply_at w.back.stage) w.front.requests w.back.jobs.works w.under.pages
+        (i'.unready ∙ sym i.unready) (i'.unissued ∙ sym i.unissued)
+        (unending s' w.front.ending i'.none_ends ∙ sym (unending s w.front.ending i.none_ends)) (untelling s' i'.none_ends ∙ sym (untelling s i.none_ends)) h.stations
 
     empty : (j : ℕ) (r : Request) → slice_get w.front.requests j ≡ Some r → ⊥
     empty j r e =

@@ -56,7 +56,7 @@ start_holds config plain = record {
   safe = safe_start config;
   holds = record {
     started = record { whole = refl; known = refl };
-    sized = refl;
+    sized = record { sectors = refl; read_only = refl; writable = λ k r e. absurd (none-some r e) };
     indices = indices_first config plain;
     queue = record {
       known = λ k d lt. absurd (omega arith);

@@ -1,5 +1,5 @@
 -- The front makes its ring and its port, move by move.
-use Rattle.std.proofs.Common.{◌≡◌, ◌≢◌, ℕ, ◌+◌, ◌*◌, ◌<◌, ◌≤◌, ◌==◌, if◌then◌else◌, Bool, true, false, List, [], ◌∷◌, ◌++◌, length, refl, ap, sym, ◌∙◌, subst, arith, true≢false, length-set, Some}
+use Rattle.std.proofs.Common.{◌≡◌, ◌≢◌, ℕ, ◌+◌, ◌*◌, ◌<◌, ◌≤◌, ◌==◌, if◌then◌else◌, Bool, true, false, List, [], ◌∷◌, ◌++◌, length, refl, ap, sym, ◌∙◌, subst, arith, true≢false, length-set}
 use Rattle.std.specs.Prelude.{None}
 use Rattle.std.proofs.lemmas.Bool.Decides.{nat_tests}
 use Rattle.blk_base.specs.Options.{Options}
@@ -11,7 +11,7 @@ use Rattle.event_channel.specs.declared.channels.PortState.{PortState}
 use Rattle.event_channel.specs.declared.channels.PortState.TheVariants.{Unbound}
 use Rattle.event_channel.specs.Channels.{with_port}
 use Rattle.xen_pages.specs.Pages.{word_of, with_word}
-use Rattle.pipeline_laws.specs.Pipeline.{Pipeline, next}
+use Rattle.pipeline_laws.specs.Pipeline.{Pipeline}
 use Rattle.blk_front.specs.declared.stage.Stage.{Stage as FrontStage}
 use Rattle.blk_front.specs.declared.stage.Stage.TheVariants as front
 use Rattle.blk_front.specs.View.{View, fresh_word, next_request}
@@ -20,15 +20,11 @@ use Rattle.blk_front.specs.Submit.{is_connected}
 use Rattle.split_model.specs.World.{World}
 use Rattle.split_model.specs.Shown.{front_lines}
 use Rattle.machine_pipeline.specs.Plain.{IsPlain}
-use Rattle.machine_pipeline.proofs.Flow.{Flow, wrapped, may_front_sleep, is_bound_back, is_issuing, is_fetching, reply_at, ending_at, telling_at}
+use Rattle.machine_pipeline.proofs.Flow.{Flow, wrapped, may_front_sleep, is_bound_back}
 use Rattle.machine_pipeline.proofs.Holds.{Holds, FrontAt, RingBegun, AreRingWords, PortsAt}
-use Rattle.machine_pipeline.proofs.Turns.{Goes, FrontGoes, said_nothing, Stepped, does_step}
+use Rattle.machine_pipeline.proofs.Turns.{Goes, FrontGoes, said_nothing}
 use Rattle.machine_pipeline.proofs.Kept.{written, other_word, other_frame}
-use Rattle.machine_pipeline.proofs.Resting.{unending, untelling}
-use Rattle.machine_pipeline.proofs.Starting.{IsBare, bare_word, bare_frame, bare_fence, bare_flags, bare_port, bare_loop, none_yet, unbound_of, starts_on}
-use Rattle.machine_pipeline.proofs.Stations.{AreStations, turned}
-use Rattle.machine_pipeline.proofs.StationsFront.{connects}
-use Rattle.machine_pipeline.specs.Step.{IsSame}
+use Rattle.machine_pipeline.proofs.Starting.{IsBare, bare_word, bare_frame, bare_fence, bare_flags, bare_port, bare_initialised, none_yet, unbound_of, starts_on}
 
 -- a move to a further stage of these, with those words of memory
 makes : (config : Options) (w : World) (g : Flow) (d : Pipeline) (s s' : FrontStage) (m : Move) (pages : List ℕ)
@@ -44,11 +40,7 @@ makes config w g d s s' m pages told starting going restless i i' h place sized 
   flow = g;
   step = None;
   does = said_nothing d m w.front.told told;
-  holds = starts_on config w g d d s s' pages w.under.channels starting restless i i' h
-      (turned config g d (is_connected s) (is_connected s') (is_issuing s) (is_issuing s') (is_fetching w.back.stage) (ending_at s w.front.ending)
-      (ending_at s' w.front.ending) (telling_at s) (telling_at s') (reply_at w.back.stage) w.front.requests w.back.jobs.works w.under.pages
-      (going ∙ sym starting) (i'.unissued ∙ sym i.unissued) (unending s' w.front.ending i'.none_ends ∙ sym (unending s w.front.ending i.none_ends))
-      (untelling s' i'.none_ends ∙ sym (untelling s i.none_ends)) h.stations) place sized words ring
+  holds = starts_on config w g d s s' pages w.under.channels starting restless i i' h place sized words ring
       (subst (λ (c : Bool). PortsAt c (is_bound_back w.back.stage) w.under.channels.made w.under.channels.ports) (starting ∙ sym going) h.ports);
 }
 
@@ -169,16 +161,17 @@ first_port false made ports none empty e = (omega arith, ap (λ l. l ++ Unbound 
 first_port true made ports none empty e = absurd (true≢false e)
 
 port_goes : (config : Options) (w : World) (g : Flow) (d : Pipeline)
+    → w.front.told ≡ None
     → Holds config w g d front.NewPort w.back.stage
     → FrontGoes config w d front.NewPort
-port_goes config w g d h =
+port_goes config w g d told h =
     let ring = h.ring in
     let none = unbound_of false (is_bound_back w.back.stage) w.under.channels.made w.under.channels.ports refl h.ports in
     record {
       flow = g;
-      step = Some s.step;
-      does = does_step _ (lines.Ready ∷ []) refl s;
-      holds = starts_on config w g d (next d s.step) front.NewPort front.Loop w.under.pages (with_port w.under.channels) refl refl bare_port bare_loop h s.now tt h.memory (λ x from to. refl)
+      step = None;
+      does = said_nothing d (moves.FrontPort (w.under.channels.made + 1)) w.front.told told;
+      holds = starts_on config w g d front.NewPort front.Initialised w.under.pages (with_port w.under.channels) refl refl bare_port bare_initialised h tt h.memory (λ x from to. refl)
           (record {
             begun = tt;
             requests = λ t. ring.requests refl;
@@ -188,9 +181,6 @@ port_goes config w g d h =
           })
           (first_port (is_bound_back w.back.stage) w.under.channels.made w.under.channels.ports none.0 none.1 none.2);
     }
-  where
-    s : Stepped None IsSame d (lines.Ready ∷ []) (λ p. AreStations config g p true false (is_fetching w.back.stage) None None (reply_at w.back.stage) w.front.requests w.back.jobs.works w.under.pages)
-    s = connects config g d false (is_fetching w.back.stage) None None (reply_at w.back.stage) w.front.requests w.back.jobs.works w.under.pages h.stations
 
 -- a front that isn't connected goes on at each stage
 pub start_moves : (config : Options) (w : World) (g : Flow) (d : Pipeline) (s : FrontStage)
@@ -203,5 +193,5 @@ start_moves config w g d (front.RingWord k) plain told starting h = word_goes co
 start_moves config w g d front.RingFrame plain told starting h = frame_goes config w g d told h
 start_moves config w g d front.RingFence plain told starting h = fence_goes config w g d told h
 start_moves config w g d front.RingFlags plain told starting h = flags_goes config w g d told h
-start_moves config w g d front.NewPort plain told starting h = port_goes config w g d h
+start_moves config w g d front.NewPort plain told starting h = port_goes config w g d told h
 start_moves config w g d s plain told starting h = absurd (true≢false starting)

@@ -1,5 +1,5 @@
 -- A submission is refused, and changes nothing, or accepted, and then the pipeline has its request.
-use Rattle.std.proofs.Common.{◌≡◌, ◌≢◌, ℕ, ◌+◌, ◌-◌, ◌^◌, ◌<◌, ◌≤◌, ◌==◌, Bool, true, false, not, List, [], ◌∷◌, ◌++◌, length, refl, ap, sym, ◌∙◌, subst, arith}
+use Rattle.std.proofs.Common.{◌≡◌, ◌≢◌, ℕ, ◌+◌, ◌-◌, ◌^◌, ◌<◌, ◌≤◌, ◌==◌, ◌&&◌, Bool, true, false, not, List, [], ◌∷◌, ◌++◌, length, refl, ap, sym, ◌∙◌, subst, arith}
 use Rattle.std.specs.Prelude.{All, Option, Some, None, Result, Err, slice_get, nat_lt, nat_le, if◌then◌else◌}
 use Rattle.std.proofs.lemmas.Bool.Decides.{nat_tests}
 use Rattle.blk_base.specs.Options.{Options}
@@ -11,12 +11,12 @@ use Rattle.blk_front.specs.declared.request.Request.{Request}
 use Rattle.blk_front.specs.declared.request.Transfer.{Transfer}
 use Rattle.blk_front.specs.declared.request.Transfer.TheVariants as transfer
 use Rattle.blk_front.specs.declared.request.Wish.{Wish}
-use Rattle.blk_front.specs.Request.{tag_of, frames_for}
+use Rattle.blk_front.specs.Request.{is_write, tag_of, frames_for}
 use Rattle.blk_front.specs.Pool.{taking}
 use Rattle.blk_front.specs.declared.told.Refusal.{Refusal}
 use Rattle.blk_front.specs.declared.told.Refusal.TheVariants as refusal
 use Rattle.blk_front.specs.View.{View, next_request}
-use Rattle.blk_front.specs.Submit.{is_ready, is_connected, unfinished, request_with, accepted, wish_of, submit_one, submit_of}
+use Rattle.blk_front.specs.Submit.{is_ready, unfinished, request_with, accepted, wish_of, submit_one, submit_of}
 use Rattle.split_model.specs.World.{World}
 use Rattle.split_model.specs.Happening.{Submits, submit_line, lines_at, happens}
 use Rattle.machine_pipeline.specs.Allowed.{IsTransfer}
@@ -24,9 +24,9 @@ use Rattle.machine_pipeline.proofs.Flow.{Flow, job_of, ending_at, telling_at, is
 use Rattle.machine_pipeline.proofs.Holds.{IsPooled, ArePooled, Holds}
 use Rattle.machine_pipeline.proofs.Turns.{Stepped, does_alone, GoesBy}
 use Rattle.machine_pipeline.proofs.Next.{waiting_few}
-use Rattle.machine_pipeline.proofs.Growing.{longer, submitted_more, queue_more, pooled_more}
+use Rattle.machine_pipeline.proofs.Growing.{longer, submitted_more, disk_more, queue_more, pooled_more}
 use Rattle.machine_pipeline.proofs.Submitting.{submitted_flow, indices_more, next_more, front_at_more, IsIdle, idle_at, slots_more, frames_more, entries_more, works_more, front_at_grown, back_at_grown}
-use Rattle.machine_pipeline.proofs.Refusing.{ready_at, frames_fit, answer_of, refused_rightly}
+use Rattle.machine_pipeline.proofs.Refusing.{frames_fit, answer_of, refused_rightly}
 use Rattle.machine_pipeline.proofs.Stations.{AreStations}
 use Rattle.machine_pipeline.proofs.StationsFront.{submits}
 use Rattle.machine_pipeline.specs.Step.{IsSame}
@@ -40,15 +40,15 @@ accepting w wish taken = record { front = accepted w.front wish taken; back = w.
 
 accepted_on : (config : Options) (w : World) (g : Flow) (d d' : Pipeline) (wish : Wish) (taken : List ℕ × List Bool)
     → Holds config w g d w.front.stage w.back.stage
-    → is_connected w.front.stage ≡ true → w.front.last ≢ 4294967295 → unfinished w.front < 32
-    → wish.sector + wish.count ≤ w.front.sectors → tag_of wish.transfer < 2 ^ 32 → 1 ≤ wish.count → wish.count ≤ 88
+    → is_ready w.front.stage ≡ true → w.front.last ≢ 4294967295 → unfinished w.front < 32
+    → (is_write wish.transfer && w.front.read_only) ≡ false → wish.sector + wish.count ≤ w.front.sectors → tag_of wish.transfer < 2 ^ 32 → 1 ≤ wish.count → wish.count ≤ 88
     → taking (frames_for wish.count) w.front.pool [] ≡ Some taken
-    → AreStations config (submitted_flow g (request_with w.front wish taken.0)) d' (is_connected w.front.stage) (is_issuing w.front.stage) (is_fetching w.back.stage) (ending_at w.front.stage w.front.ending) (telling_at w.front.stage) (reply_at w.back.stage) (w.front.requests ++ request_with w.front wish taken.0 ∷ []) w.back.jobs.works w.under.pages
+    → AreStations config (submitted_flow g (request_with w.front wish taken.0)) d' (is_ready w.front.stage) (is_issuing w.front.stage) (is_fetching w.back.stage) (ending_at w.front.stage w.front.ending) (telling_at w.front.stage) (reply_at w.back.stage) (w.front.requests ++ request_with w.front wish taken.0 ∷ []) w.back.jobs.works w.under.pages
     → Holds config (accepting w wish taken) (submitted_flow g (request_with w.front wish taken.0)) d' w.front.stage w.back.stage
-accepted_on config w g d d' wish taken h connected unspent free on_disk small some few frames stations =
+accepted_on config w g d d' wish taken h ready unspent free may on_disk small some few frames stations =
     record {
       started = h.started;
-      sized = h.sized;
+      sized = disk_more config w.front.sectors w.front.read_only g.submitted x may h.sized;
       indices = indices_more g x w.front.ring w.back.ring w.front.seen w.back.seen w.back.fetched w.front.last w.front.waiting (length w.front.requests) _ _ (longer w.front.requests x) unspent free h.indices;
       queue = queue_more g.submitted g.pushed w.front.sectors w.front.last w.front.requests w.front.waiting x refl (let i = h.indices in i.all) (waiting_few h.indices) h.submitted h.queue;
       submitted = submitted_more g.submitted w.front.sectors w.front.last x refl on_disk small (record { some = some; few = few; frames = pooled.2 }) pooled.1
@@ -61,7 +61,7 @@ accepted_on config w g d d' wish taken h connected unspent free on_disk small so
       replies = h.replies;
       front_at = front_at_more g.start g.pushed g.taken g.front_seen (g.submitted ++ x ∷ []) g.replies (next_request w.front) (next_request (accepted w.front wish taken)) w.front.entry w.front.ending w.front.stage (λ r e. next_more w.front.requests w.front.waiting x r e)
           (front_at_grown g.start g.pushed g.taken g.front_seen g.submitted g.replies (next_request w.front) w.front.entry w.front.ending x w.front.stage h.front_at);
-      unused = rw connected tt;
+      unused = rw ready tt;
       back_at = back_at_grown g.start g.fetched g.back_seen g.replied g.submitted w.back.jobs.works w.back.entry x w.back.stage h.back_at;
       unhalted = h.unhalted;
       memory = h.memory;
@@ -122,6 +122,7 @@ submit_transfer config w g d sector count way some small h =
     subst (λ (o : Option Wish). SubmitGoes config w d job (if w.front.last == 4294967295 then (Err refusal.Spent, w.front) else (if not (is_ready w.front.stage) then (Err refusal.NotReady, w.front) else submit_one w.front o))) (sym (wish_is sector count way)) (
     either config w d job (w.front.last == 4294967295) (Err refusal.Spent, w.front) _ (λ t. refused config w g d job refusal.Spent h) (λ unspent.
     either config w d job (not (is_ready w.front.stage)) (Err refusal.NotReady, w.front) _ (λ t. refused config w g d job refusal.NotReady h) (λ ready.
+    either config w d job (is_write way && w.front.read_only) (Err refusal.ReadOnly, w.front) _ (λ t. refused config w g d job refusal.ReadOnly h) (λ may.
     either config w d job (nat_lt w.front.sectors (sector + count)) (Err refusal.Range, w.front) _ (λ t. refused config w g d job refusal.Range h) (λ on_disk.
     either config w d job (nat_lt 11 (frames_for count)) (Err refusal.Long, w.front) _ (λ t. refused config w g d job refusal.Long h) (λ short.
     either config w d job (nat_le 32 (unfinished w.front)) (Err refusal.Full, w.front) _ (λ t. refused config w g d job refusal.Full h) (λ free.
@@ -133,10 +134,10 @@ submit_transfer config w g d sector count way some small h =
       step = Some s.step;
       does = does_alone s;
       holds = accepted_on config w g d (next d s.step) wish fit.0 h
-          (sym (ready_at g.start g.pushed g.taken g.front_seen g.submitted g.replies (next_request w.front) w.front.entry w.front.ending w.front.stage h.front_at) ∙ is_true (is_ready w.front.stage) ready)
-          (differs w.front.last unspent) (below (unfinished w.front) free) (above w.front.sectors (sector + count) on_disk) small some (few_sectors count short)
+          (is_true (is_ready w.front.stage) ready)
+          (differs w.front.last unspent) (below (unfinished w.front) free) may (above w.front.sectors (sector + count) on_disk) small some (few_sectors count short)
           fit.1 s.now;
-    })))))))
+    }))))))))
   where
     job : Job
     job = job_of way sector count
@@ -144,10 +145,10 @@ submit_transfer config w g d sector count way some small h =
     wish : Wish
     wish = record { sector = sector; count = count; transfer = way }
 
-    stepped : (taken : List ℕ × List Bool) → refusal_now d job ≡ None → Stepped (Some job) IsSame d (lines.Submit (w.front.last + 1) job ∷ []) (λ p. AreStations config (submitted_flow g (request_with w.front wish taken.0)) p (is_connected w.front.stage) (is_issuing w.front.stage) (is_fetching w.back.stage) (ending_at w.front.stage w.front.ending) (telling_at w.front.stage) (reply_at w.back.stage) (w.front.requests ++ request_with w.front wish taken.0 ∷ []) w.back.jobs.works w.under.pages)
+    stepped : (taken : List ℕ × List Bool) → refusal_now d job ≡ None → Stepped (Some job) IsSame d (lines.Submit (w.front.last + 1) job ∷ []) (λ p. AreStations config (submitted_flow g (request_with w.front wish taken.0)) p (is_ready w.front.stage) (is_issuing w.front.stage) (is_fetching w.back.stage) (ending_at w.front.stage w.front.ending) (telling_at w.front.stage) (reply_at w.back.stage) (w.front.requests ++ request_with w.front wish taken.0 ∷ []) w.back.jobs.works w.under.pages)
     stepped taken same =
         let known : length d.requests ≡ w.front.last = h.stations.known.as_many ∙ h.submitted.counted in
-        submits config g d (is_connected w.front.stage) (is_issuing w.front.stage) (is_fetching w.back.stage) (ending_at w.front.stage w.front.ending) (telling_at w.front.stage) (reply_at w.back.stage) w.front.requests w.back.jobs.works w.under.pages (request_with w.front wish taken.0) (ap (λ (n : ℕ). n + 1) (sym known)) (omega (arith, h.indices.all)) same h.stations
+        submits config g d (is_ready w.front.stage) (is_issuing w.front.stage) (is_fetching w.back.stage) (ending_at w.front.stage w.front.ending) (telling_at w.front.stage) (reply_at w.back.stage) w.front.requests w.back.jobs.works w.under.pages (request_with w.front wish taken.0) (ap (λ (n : ℕ). n + 1) (sym known)) (omega (arith, h.indices.all)) same h.stations
 
     is_true : (b : Bool) → not b ≡ false → b ≡ true
     is_true true e = refl

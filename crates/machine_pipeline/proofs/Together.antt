@@ -9,7 +9,7 @@ use Rattle.blk_front.specs.declared.stage.Stage.TheVariants as front
 use Rattle.blk_front.specs.View.{next_request}
 use Rattle.split_model.specs.World.{World, start_of}
 use Rattle.split_model.specs.Safe.{IsSafe}
-use Rattle.split_model.specs.Happening.{Happening, FrontMoves, BackMoves, JobMoves, Submits, Notifies, Pokes, Dumps, Looks, Settles, happens, lines_at, after as world_after}
+use Rattle.split_model.specs.Happening.{Happening, FrontMoves, BackMoves, JobMoves, Negotiates, Connects, Submits, Notifies, Pokes, Dumps, Looks, Settles, happens, lines_at, after as world_after}
 use Rattle.split_model.proofs.Safe.{safe_happens}
 use Rattle.machine_pipeline.specs.Plain.{IsPlain}
 use Rattle.machine_pipeline.specs.Allowed.{IsServed, AreServed}
@@ -33,6 +33,8 @@ use Rattle.machine_pipeline.proofs.BackMoves.{back_moves}
 use Rattle.machine_pipeline.proofs.JobTurns.{job_kept}
 use Rattle.machine_pipeline.proofs.Submissions.{submit_kept}
 use Rattle.machine_pipeline.proofs.Notified.{notified_goes}
+use Rattle.machine_pipeline.proofs.Connecting.{waits_goes, connects_goes}
+use Rattle.machine_pipeline.proofs.Keyed.{negotiates_goes}
 use Rattle.machine_pipeline.proofs.Quiet.{dumps_goes, looks_goes, settles_goes}
 use Rattle.pipeline_laws.specs.Pipeline.{Pipeline, pipeline_of, Step}
 use Rattle.machine_pipeline.specs.Step.{CallAt, after_step, GoesStepwise, Does}
@@ -53,6 +55,7 @@ front_goes config w g d front.RingFrame plain safe e h = start_moves config w g 
 front_goes config w g d front.RingFence plain safe e h = start_moves config w g d front.RingFence plain safe.front_told refl h
 front_goes config w g d front.RingFlags plain safe e h = start_moves config w g d front.RingFlags plain safe.front_told refl h
 front_goes config w g d front.NewPort plain safe e h = start_moves config w g d front.NewPort plain safe.front_told refl h
+front_goes config w g d front.Initialised plain safe e h = waits_goes config w g d safe.front_told e h
 front_goes config w g d front.Loop plain safe e h = loop_goes config w g d safe e h
 front_goes config w g d (front.Data n) plain safe e h = data_goes config w g d n safe h
 front_goes config w g d (front.GrantFrame place) plain safe e h = frame_goes config w g d place safe h
@@ -78,12 +81,14 @@ pub goes_on : (config : Options) (w : World) (g : Flow) (d : Pipeline) (h : Happ
 goes_on config w g d FrontMoves plain s may = front_goes config w g d w.front.stage plain s.safe refl s.holds
 goes_on config w g d BackMoves plain s may = back_moves config w g d plain may s
 goes_on config w g d (JobMoves number outcome) plain s may = (let safe = s.safe in job_kept config w g d number outcome s.holds safe.held may)
+goes_on config w g d (Negotiates at move) plain s may = negotiates_goes config w g d at move s.holds
+goes_on config w g d Connects plain s may = connects_goes config w g d s.holds
 goes_on config w g d (Submits job) plain s may = submit_kept config w g d job plain s.holds may
 goes_on config w g d (Notifies at) plain s may = notified_goes config w g d at s
 goes_on config w g d (Pokes frame word value) plain s may = absurd may
 goes_on config w g d Dumps plain s may = dumps_goes config w g d s
-goes_on config w g d Looks plain s may = looks_goes config w g d s
-goes_on config w g d Settles plain s may = settles_goes config w g d s
+goes_on config w g d (Looks quiet) plain s may = looks_goes config w g d quiet may s
+goes_on config w g d (Settles quiet) plain s may = settles_goes config w g d quiet may s
 
 -- one happening more: what it is to the pipeline, and that all goes on
 pub record HasGone (asked : Option Job) (call : (before after : List (List ℕ)) → Type 0) (config : Options) (said : List Line) (w : World) (d : Pipeline) : Type 0 where

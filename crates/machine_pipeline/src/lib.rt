@@ -3,8 +3,9 @@
 //! jobs have of it. Whatever happens is nothing to the pipeline, or one step of it. No word of the
 //! plain disk stands here: what a report of the machine is follows from the pipeline's laws.
 //!
-//! The premises: a ring of one page and a disk that may be written (`IsPlain`); the back moves only
-//! once the front is connected, and what is submitted are reads and writes (`AreServed`).
+//! The premises: a ring of one page (`IsPlain`); the back moves only
+//! once the front made its ring and its port, what is submitted are reads and writes, keys are spelled
+//! as the grammar has them, and all is quiet where it is found so (`AreServed`).
 //! The happenings that the events of a schedule make are such.
 #![tactic(auto)]
 

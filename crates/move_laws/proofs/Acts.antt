@@ -7,13 +7,11 @@ use Rattle.std.proofs.lemmas.List.Elements.{All-contains, All-push, All-filter}
 use Rattle.blk_base.specs.declared.parts.Mapping.{Mapping}
 use Rattle.blk_base.specs.declared.parts.Mode.{Mode}
 use Rattle.blk_base.specs.declared.parts.Mode.TheVariants.{ReadWrite}
-use Rattle.blk_base.specs.declared.parts.End.TheVariants as end
 use Rattle.blk_base.specs.declared.ask.FrontAsk.{FrontAsk}
 use Rattle.blk_base.specs.declared.ask.FrontAsk.TheVariants as front_ask
 use Rattle.blk_base.specs.declared.ask.BackAsk.{BackAsk}
 use Rattle.blk_base.specs.declared.ask.BackAsk.TheVariants as back_ask
 use Rattle.blk_base.specs.declared.moves.BackMover.{BackMover}
-use Rattle.blk_base.specs.declared.moves.BackMover.TheVariants as back_mover
 use Rattle.blk_base.specs.declared.moves.Mover.{Mover}
 use Rattle.blk_base.specs.declared.moves.Mover.TheVariants as mover
 use Rattle.blk_base.specs.declared.moves.Move.{Move}
@@ -26,7 +24,7 @@ use Rattle.grant_table.specs.Table.{GrantTable, IsLive, held_of, frame_of, witho
 use Rattle.grant_table.specs.Sound.{IsGrantable}
 use Rattle.event_channel.specs.declared.channels.PortState.{PortState}
 use Rattle.event_channel.specs.declared.channels.PortState.TheVariants as port
-use Rattle.event_channel.specs.Channels.{state_of, is_pending}
+use Rattle.event_channel.specs.Channels.{state_of}
 use Rattle.hypervisor.specs.Hypervisor.{Hypervisor}
 use Rattle.hypervisor.specs.Act.{FrontAct, BackAct, Outcome, Gave, Took, Failed, front_act, back_act, map_act, bind_act, read_act, disk_act, wait_act, exchanged, mover_of, job_number, with_keys}
 use Rattle.schedule_text.specs.declared.line.Line.{Line}
@@ -43,7 +41,7 @@ use Rattle.move_laws.proofs.Follows.{IsAllowed}
 use Rattle.move_laws.proofs.Memory.{length_written, word_written, flags_written}
 use Rattle.move_laws.proofs.Standing.{filter_none, numbered_live, without_live, others_live, writers_live}
 use Rattle.move_laws.proofs.Tells.{tells_more, new_number}
-use Rattle.move_laws.proofs.Still.{IsStill, still, none_goes, tells_still}
+use Rattle.move_laws.proofs.Still.{IsStill, IsPlain, plain_key, still, none_goes, tells_still}
 use Rattle.move_laws.proofs.Entries.{IsGranted, granted, verdict_told, Found, found, frame_found}
 
 -- the move's line may follow, and then the lines tell of that memory and those mappings
@@ -86,24 +84,10 @@ cas_kept before pages table frame word old new framed worded tells = by_test (wo
         (tells_still before (lines.Move (moves.FrontCas frame word old new (word_of pages frame word))) pages table (still _ refl (λ f w v b. rw t refl) (λ n. refl) refl) tells)
 
 -- a move on a key or a watch changes neither memory nor mappings
-key_still : (who : Mover) (shown : Move) → IsKeyMove who shown → IsStill (lines.Move shown)
-key_still who (moves.Watch m path) is = still _ refl (λ f w v b. refl) (λ n. refl) refl
-key_still who (moves.Watched m path) is = still _ refl (λ f w v b. refl) (λ n. refl) refl
-key_still who (moves.GetKey m path text) is = still _ refl (λ f w v b. refl) (λ n. refl) refl
-key_still who (moves.SetKey m path text) is = still _ refl (λ f w v b. refl) (λ n. refl) refl
-key_still who shown is = absurd is
-
-key_allowed : (before : List Line) (who : Mover) (shown : Move) → IsKeyMove who shown → IsAllowed before (lines.Move shown)
-key_allowed before who (moves.Watch m path) is = record { coherent = tt; answered = tt; numbered = tt; touched = tt; grantable = tt }
-key_allowed before who (moves.Watched m path) is = record { coherent = tt; answered = tt; numbered = tt; touched = tt; grantable = tt }
-key_allowed before who (moves.GetKey m path text) is = record { coherent = tt; answered = tt; numbered = tt; touched = tt; grantable = tt }
-key_allowed before who (moves.SetKey m path text) is = record { coherent = tt; answered = tt; numbered = tt; touched = tt; grantable = tt }
-key_allowed before who shown is = absurd is
-
 key_kept : (before : List Line) (who : Mover) (shown : Move) (h u : Hypervisor) → IsKeyMove who shown → u ≡ with_keys h u.keys → Tells before h.pages h.grants → IsKept before shown u.pages u.grants
 key_kept before who shown h u is same tells =
     subst (λ (x : Hypervisor). IsKept before shown x.pages x.grants) (sym same)
-    (kept_still before shown h.pages h.grants (key_still who shown is) (key_allowed before who shown is) tells)
+    (let plain : IsPlain (lines.Move shown) = plain_key who shown is in kept_still before shown h.pages h.grants plain.is_still (plain.free before) tells)
 
 front_key_kept : (before : List Line) (h : Hypervisor) → Tells before h.pages h.grants → (x : FrontAct) → IsFrontKeyAct h x → FrontKeeps before x
 front_key_kept before h tells x is = key_kept before mover.Front x.shown h x.under is.shown is.under tells

@@ -1,5 +1,5 @@
 -- The front keeps to the frames that both ends share, whatever it is told.
-use Rattle.std.proofs.Common.{◌≡◌, ℕ, zero, suc, ◌+◌, ◌-◌, ◌*◌, ◌/◌, ◌%◌, ◌^◌, ◌<◌, Bool, true, false, not, if◌then◌else◌, List, [], ◌∷◌, ◌++◌, length, take, refl, ◌∙◌, subst, arith, length-set}
+use Rattle.std.proofs.Common.{◌≡◌, ℕ, zero, suc, ◌+◌, ◌-◌, ◌*◌, ◌/◌, ◌%◌, ◌^◌, ◌<◌, ◌&&◌, Bool, true, false, not, if◌then◌else◌, List, [], ◌∷◌, ◌++◌, length, take, refl, ◌∙◌, subst, arith, length-set}
 use Rattle.std.specs.Prelude.{All, Option, Some, None, option_map, option_and_then, Result, Ok, Err, slice_get, slice_set, position, nat_lt, nat_le, ◌==◌}
 use Rattle.std.proofs.lemmas.Option.{none-some, same_Some, slice_get_within, get_or_from_slice_get}
 use Rattle.std.proofs.lemmas.List.Elements.{All-nil, All-push, All-append, All-take, All-drop, All-get_or}
@@ -26,11 +26,12 @@ use Rattle.blk_front.specs.declared.told.Refusal.{Refusal}
 use Rattle.blk_front.specs.declared.told.Refusal.TheVariants as refusal
 use Rattle.blk_front.specs.declared.request.Wish.{Wish}
 use Rattle.blk_front.specs.Pool.{lowest_of, with_taken, with_free, with_all_free, taking}
-use Rattle.blk_front.specs.Request.{has_data, frame_at, frames_for, words_in}
+use Rattle.blk_front.specs.Request.{is_write, has_data, frame_at, frames_for, words_in}
 use Rattle.blk_front.specs.View.{View, next_request, shape, start_of, slot_frame, slot_word, ring_frame, entry_frame, entry_word}
 use Rattle.blk_front.specs.Ask.{ask_at, ask_of, data_ask, name_ask, grant_ask, revoke_ask, end_ask, read_ask, issue_ask, loop_ask, StaysInMemory}
 use Rattle.blk_front.specs.Step.{at, broken, looked, issue_stage, data_stage, granted, loop_step, found_at, issued, response_at, is_mapped, finished, ended, revoked, sector_told, data_step, step_at, step_of}
-use Rattle.blk_front.specs.Submit.{is_ready, unfinished, wish_of, submit_with, submit_one, submit_of}
+use Rattle.blk_front.specs.Submit.{is_ready, connected, unfinished, wish_of, submit_with, submit_one, submit_of}
+use Rattle.split_model.proofs.Keys.{connects_cases}
 
 -- a stage is at one of the words that it goes through
 abbrev pub IsPlaced : Stage → Type 0
@@ -272,6 +273,10 @@ front_step v x f =
     let y : IsFront (step_of v x) = step_kept v.stage v x f.placed f in
     record { placed = y.placed; shared = y.shared; ending = y.ending; pool = y.pool }
 
+-- where it is connected
+pub front_connected : (v : View) → IsFront v → IsFront (connected v)
+front_connected v f = connects_cases (λ x shown. IsFront x) v (λ waits. record { placed = tt; shared = f.shared; ending = f.ending; pool = f.pool }) f
+
 either_submit : (b : Bool) (x y : Result ℕ Refusal × View) → IsFront x.1 → IsFront y.1 → IsFront (if b then x else y).1
 either_submit true x y p q = p
 either_submit false x y p q = q
@@ -309,9 +314,11 @@ submit_wish v None f = f
 submit_wish v (Some wish) f =
     let frames = taking (frames_for wish.count) v.pool [] in
     let unless_full = if nat_le (entries_of shape.order) (unfinished v) then (Err refusal.Full, v) else submit_with v wish frames in
-    either_submit (nat_lt v.sectors (wish.sector + wish.count)) (Err refusal.Range, v) (if nat_lt 11 (frames_for wish.count) then (Err refusal.Long, v) else unless_full) f
+    let unless_long = if nat_lt 11 (frames_for wish.count) then (Err refusal.Long, v) else unless_full in
+    either_submit (is_write wish.transfer && v.read_only) (Err refusal.ReadOnly, v) (if nat_lt v.sectors (wish.sector + wish.count) then (Err refusal.Range, v) else unless_long) f
+    (either_submit (nat_lt v.sectors (wish.sector + wish.count)) (Err refusal.Range, v) unless_long f
     (either_submit (nat_lt 11 (frames_for wish.count)) (Err refusal.Long, v) unless_full f
-    (either_submit (nat_le (entries_of shape.order) (unfinished v)) (Err refusal.Full, v) (submit_with v wish frames) f (submit_frames v wish (frames_for wish.count) frames refl f)))
+    (either_submit (nat_le (entries_of shape.order) (unfinished v)) (Err refusal.Full, v) (submit_with v wish frames) f (submit_frames v wish (frames_for wish.count) frames refl f))))
 
 pub front_submit : (v : View) (job : Job) → IsFront v → IsFront (submit_of v job).1
 front_submit v job f =

@@ -22,7 +22,7 @@ use Rattle.segment_list.specs.declared.verdict.Verdict.{Verdict}
 use Rattle.segment_list.specs.declared.verdict.Verdict.TheVariants as verdict
 use Rattle.segment_list.specs.declared.verdict.Why.TheVariants as why
 use Rattle.segment_list.specs.Segments.{IsSound}
-use Rattle.segment_list.specs.Verdict.{transfer_verdict, flush_verdict, verdict_of}
+use Rattle.segment_list.specs.Verdict.{transfer_verdict, flush_verdict, verdict_of, IsOnDisk}
 use Rattle.segment_list.proofs.Served.{transfer_served}
 use Rattle.back_jobs.specs.declared.stage.Stage.{Stage}
 use Rattle.back_jobs.specs.declared.stage.Stage.TheVariants as stage
@@ -141,9 +141,12 @@ step_job_at s t given sound p h = absurd h
 step_job : (t : Work) (given : BackAnswer) → IsAnswer (ask_of t) given → IsJob t → IsJob (step_of t given)
 step_job t given h j = step_job_at t.stage t given j.segments j.placed h
 
--- a request that is served has sound segments
-transfer_sound : (k : Kind) (count sector : ℕ) (segments : List Segment) (info : DiskInfo) (p : Plan) → transfer_verdict k count sector segments info ≡ verdict.Serve p → AllByRecursion IsSound (take count segments)
-transfer_sound k count sector segments info p h = recursion_from_All IsSound (take count segments) (transfer_served k count sector segments info p h).on_disk.sound
+-- a request that is served has segments that are sound and lie on the disk
+abbrev IsOn : (count sector : ℕ) → List Segment → DiskInfo → Type 0
+IsOn count sector segments info = (0 < count) × IsOnDisk sector (take count segments) info
+
+transfer_on : (k : Kind) (count sector : ℕ) (segments : List Segment) (info : DiskInfo) (p : Plan) → transfer_verdict k count sector segments info ≡ verdict.Serve p → IsOn count sector segments info
+transfer_on k count sector segments info p h = let is = transfer_served k count sector segments info p h in (is.positive, is.on_disk)
 
 choose : (P : Type 0) (p : Plan) (a b c d : Bool) (A B C D : Verdict) → (A ≡ verdict.Serve p → P) → (B ≡ verdict.Serve p → P) → (C ≡ verdict.Serve p → P) → (d ≡ true → P) → (if a then A else (if b then B else (if c then C else (if d then D else verdict.Error why.Op)))) ≡ verdict.Serve p → P
 choose P p true b c d A B C D at_a at_b at_c at_d h = at_a h
@@ -155,17 +158,17 @@ choose P p false false false false A B C D at_a at_b at_c at_d h = absurd (cc)
 no_flush : (code : ℕ) → nat_le code 1 ≡ true → (code == 3) ≡ true → ⊥
 no_flush code few is = grind (arith, nat_tests)
 
-direct_sound : (code count device id sector : ℕ) (segments : List Segment) (info : DiskInfo) (p : Plan) → nat_le code 1 ≡ true → verdict_of (Direct code count device id sector segments) info ≡ verdict.Serve p → AllByRecursion IsSound (take count segments)
-direct_sound code count device id sector segments info p few h =
-    choose (AllByRecursion IsSound (take count segments)) p
+pub direct_served : (code count device id sector : ℕ) (segments : List Segment) (info : DiskInfo) (p : Plan) → nat_le code 1 ≡ true → verdict_of (Direct code count device id sector segments) info ≡ verdict.Serve p → (0 < count) × IsOnDisk sector (take count segments) info
+direct_served code count device id sector segments info p few h =
+    choose (IsOn count sector segments info) p
     (code == op_code op.Read) (code == op_code op.Write) (code == op_code op.Barrier) (code == op_code op.Flush)
     (transfer_verdict kind.Read count sector segments info) (transfer_verdict kind.Write count sector segments info) (transfer_verdict kind.Barrier count sector segments info) (flush_verdict count sector info)
-    (transfer_sound kind.Read count sector segments info p) (transfer_sound kind.Write count sector segments info p) (transfer_sound kind.Barrier count sector segments info p) (λ is. absurd (no_flush code few is)) h
+    (transfer_on kind.Read count sector segments info p) (transfer_on kind.Write count sector segments info p) (transfer_on kind.Barrier count sector segments info p) (λ is. absurd (no_flush code few is)) h
 
 served_job : (number : ℕ) (request : RawRequest) (size : ℕ) (info : DiskInfo) (p : Plan) → verdict_of request info ≡ verdict.Serve p → IsJob (served number request size)
 served_job number (Direct code count device id sector segments) size info p h =
     either (nat_le code 1) (moving number (Direct code count device id sector segments) size (code == 1) sector (take count segments)) (ended number (Direct code count device id sector segments) size (stage.Done Error))
-    (λ few. let sound = direct_sound code count device id sector segments info p few h in record { segments = sound; placed = first_last (take count segments) sound })
+    (λ few. let sound = recursion_from_All IsSound (take count segments) (direct_served code count device id sector segments info p few h).1.sound in record { segments = sound; placed = first_last (take count segments) sound })
     (λ more. record { segments = tt; placed = tt })
 served_job number (Discard flag device id sector count) size info p h = record { segments = tt; placed = tt }
 served_job number (Indirect code count device id sector pages) size info p h = record { segments = tt; placed = tt }

@@ -11,3 +11,5 @@ pub mod Back
 pub mod Always
 pub mod Runs
 pub mod Recorded
+pub mod Dumped
+pub mod ReadOnly

@@ -22,10 +22,11 @@ use Rattle.blk_back.specs.declared.told.BackTold.TheVariants as back_told
 use Rattle.blk_back.specs.declared.told.Halt.{Halt}
 use Rattle.blk_back.specs.View as back
 use Rattle.blk_back.specs.Step as back_step
-use Rattle.split_model.specs.World.{World, start_of, is_quiet}
+use Rattle.split_model.specs.World.{World, start_of}
 use Rattle.split_model.specs.Shown.{front_lines, back_lines, halt_lines, effect_line}
-use Rattle.split_model.specs.Happening.{Happening, FrontMoves, BackMoves, JobMoves, Submits, Notifies, Pokes, Dumps, Looks, Settles, is_guest_word, word_lines, ring_lines, happens, lines_at, lines_of, front_shows, back_shows, job_shows, front_turn, back_turn, job_turn, submit_line}
+use Rattle.split_model.specs.Happening.{Happening, FrontMoves, BackMoves, JobMoves, Negotiates, Connects, Submits, Notifies, Pokes, Dumps, Looks, Settles, is_guest_word, word_lines, ring_lines, happens, lines_at, lines_of, front_shows, back_shows, job_shows, front_turn, back_turn, job_turn, submit_line}
 use Rattle.schedule_text.specs.Recorder.{kept_of}
+use Rattle.split_model.proofs.Keys.{key_cases, negotiated_cases, connects_cases}
 use Rattle.split_model.proofs.Running.{kept_of-append}
 use Rattle.split_model.specs.Report.{report_of, ended_report_of}
 
@@ -40,7 +41,6 @@ move_kept move more p = ap (λ (l : List Line). lines.Move move ∷ l) p
 
 front_lines_kept : (t : Option Told) → AreKept (front_lines t)
 front_lines_kept None = refl
-front_lines_kept (Some front_told.Ready) = refl
 front_lines_kept (Some (front_told.Answer id status)) = refl
 front_lines_kept (Some (front_told.Sector id index words)) = refl
 front_lines_kept (Some (front_told.Broken word)) = refl
@@ -116,12 +116,16 @@ lines_at_kept : (w : World) (h : Happening) → AreKept (lines_at w h)
 lines_at_kept w FrontMoves = front_shows_kept w (front_turn w)
 lines_at_kept w BackMoves = back_shows_kept w (back_turn w Took)
 lines_at_kept w (JobMoves number outcome) = job_shows_kept w number (job_turn w number outcome)
+lines_at_kept w (Negotiates at move) =
+    negotiated_cases (λ keys shown. AreKept shown) w.back.stage at move w.under.keys
+    (λ may. key_cases (λ keys shown. AreKept shown) at move w.under.keys (λ path same. refl) (λ path text same may_set. refl) (λ path same. refl) (λ path first. refl) refl) refl
+lines_at_kept w Connects = connects_cases (λ v shown. AreKept shown) w.front (λ waits. refl) refl
 lines_at_kept w (Submits job) = submit_kept job (front_submit.submit_of w.front job).0
 lines_at_kept w (Notifies at) = refl
 lines_at_kept w (Pokes frame word value) = poke_kept (is_guest_word frame word) frame word value
 lines_at_kept w Dumps = dump_kept w.under.pages 0 1024
-lines_at_kept w Looks = look_kept (is_quiet w)
-lines_at_kept w Settles = settle_kept (is_quiet w)
+lines_at_kept w (Looks quiet) = look_kept quiet
+lines_at_kept w (Settles quiet) = settle_kept quiet
 
 pub lines_kept : (history : List Happening) (w : World) → kept_of Moves (lines_of history w) ≡ lines_of history w
 lines_kept [] w = refl

@@ -7,6 +7,7 @@ use Rattle.std.proofs.lemmas.List.Elements.{All-nil}
 use Rattle.blk_base.specs.Options.{Options}
 use Rattle.blk_base.specs.declared.moves.BackMover.TheVariants as back_mover
 use Rattle.blk_base.specs.declared.moves.Move.{Move}
+use Rattle.blk_base.specs.declared.parts.End.{End}
 use Rattle.xen_pages.specs.Pages.{fresh_pages, word_of, with_word}
 use Rattle.xen_pages.proofs.Words.{length-fresh_pages, word_of-fresh_pages}
 use Rattle.grant_table.specs.Table.{GrantTable, fresh_table}
@@ -27,10 +28,12 @@ use Rattle.blk_back.specs.Ask as back_ask
 use Rattle.blk_back.specs.Step as back_step
 use Rattle.blk_back.specs.Hands.{hands_of}
 use Rattle.blk_back.specs.View as back
-use Rattle.split_model.specs.World.{World, start_of, is_quiet}
-use Rattle.split_model.specs.Happening.{Happening, FrontMoves, BackMoves, JobMoves, Submits, Notifies, Pokes, Dumps, Looks, Settles, happens, lines_at, after, lines_of, front_after, front_shows, back_after, back_shows, job_after, job_shows, front_turn, back_turn, job_turn}
+use Rattle.split_model.specs.World.{World, start_of}
+use Rattle.split_model.specs.Happening.{Happening, FrontMoves, BackMoves, JobMoves, Negotiates, Connects, Submits, Notifies, Pokes, Dumps, Looks, Settles, happens, lines_at, after, lines_of, front_after, front_shows, back_after, back_shows, job_after, job_shows, front_turn, back_turn, job_turn}
 use Rattle.split_model.specs.Safe.{IsSafe}
 use Rattle.split_model.specs.Shown.{back_lines, halt_lines}
+use Rattle.split_model.specs.Keys.{KeyMove, mover_at}
+use Rattle.split_model.proofs.Keys.{negotiated_lines_are, ready_lines_are}
 use Rattle.split_model.proofs.Safe.{safe_start, safe_happens}
 use Rattle.split_model.proofs.Overwriting.{poke_cases, ring_lines_are}
 use Rattle.move_laws.specs.Permitted.{IsPermitted, ArePermitted}
@@ -39,7 +42,7 @@ use Rattle.move_laws.proofs.Always.{always_within}
 use Rattle.move_laws.specs.Tells.{Tells}
 use Rattle.move_laws.proofs.Follows.{IsAllowed, Follows}
 use Rattle.split_model.specs.Report.{report_of, ended_report_of}
-use Rattle.move_laws.proofs.Still.{IsStill, ArePlain, IsPlain, still, plain_front, plain_back, plain_halt, plain_submit, plain_quiet, plain_busy, plain_unsettled, tells_still, follow_one, follow_plain}
+use Rattle.move_laws.proofs.Still.{IsStill, ArePlain, IsPlain, still, plain_front, plain_back, plain_halt, plain_submit, plain_ready, plain_key, plain_quiet, plain_busy, plain_unsettled, tells_still, follow_one, follow_plain}
 use Rattle.move_laws.proofs.Acts.{IsKept, tells_write, front_kept, back_kept}
 
 -- the lines so far obey the rules, and tell what lies under the ends
@@ -119,16 +122,23 @@ dump_follows w before follows =
     follow_shown w.under.pages w.under.grants (lines_at w Dumps) before
     (ring_lines_are (IsShown w.under.pages w.under.grants) w.under.pages 0 1024 (omega arith) (λ word within. word_shown w.under.pages w.under.grants word within)) follows
 
+-- what an end does with the keys
+keys_plain : (w : World) (at : End) (move : KeyMove) → ArePlain (lines_at w (Negotiates at move))
+keys_plain w at move =
+    negotiated_lines_are IsPlain w.back.stage at move w.under.keys (λ path. plain_key (mover_at at) _ refl) (λ path text. plain_key (mover_at at) _ refl) (λ path. plain_key (mover_at at) _ refl) (λ path. plain_key (mover_at at) _ refl)
+
 pub follows_happens : (w : World) (h : Happening) (before : List Line) → IsSafe w → IsPermitted w h → FollowsTo before w → FollowsTo (before ++ lines_at w h) (happens w h)
 follows_happens w FrontMoves before safe within follows = front_follows w before (front_turn w) within follows refl
 follows_happens w BackMoves before safe within follows = back_follows w before Took (back_turn w Took) safe within follows refl
 follows_happens w (JobMoves number outcome) before safe within follows = job_follows w before number outcome (job_turn w number outcome) safe within follows refl
+follows_happens w (Negotiates at move) before safe within follows = follow_plain (lines_at w (Negotiates at move)) before w.under.pages w.under.grants (keys_plain w at move) follows
+follows_happens w Connects before safe within follows = follow_plain (lines_at w Connects) before w.under.pages w.under.grants (ready_lines_are IsPlain w.front.stage (λ waits. plain_ready)) follows
 follows_happens w (Submits job) before safe within follows = follow_plain (lines_at w (Submits job)) before w.under.pages w.under.grants (plain_submit job (front_submit.submit_of w.front job).0, tt) follows
 follows_happens w (Notifies at) before safe within follows = no_lines before w follows
 follows_happens w (Pokes frame word value) before safe within follows = poke_follows w before frame word value follows
 follows_happens w Dumps before safe within follows = dump_follows w before follows
-follows_happens w Looks before safe within follows = follow_plain (lines_at w Looks) before w.under.pages w.under.grants (one_plain (is_quiet w) lines.Quiet lines.Busy plain_quiet plain_busy, tt) follows
-follows_happens w Settles before safe within follows = follow_plain (lines_at w Settles) before w.under.pages w.under.grants (one_plain (is_quiet w) lines.Quiet lines.Unsettled plain_quiet plain_unsettled, tt) follows
+follows_happens w (Looks quiet) before safe within follows = follow_plain (lines_at w (Looks quiet)) before w.under.pages w.under.grants (one_plain quiet lines.Quiet lines.Busy plain_quiet plain_busy, tt) follows
+follows_happens w (Settles quiet) before safe within follows = follow_plain (lines_at w (Settles quiet)) before w.under.pages w.under.grants (one_plain quiet lines.Quiet lines.Unsettled plain_quiet plain_unsettled, tt) follows
 
 pub follows_after : (hs : List Happening) (w : World) (before : List Line) → IsSafe w → ArePermitted hs w → FollowsTo before w → FollowsTo (before ++ lines_of hs w) (after hs w)
 follows_after [] w before safe within follows = no_lines before w follows

@@ -6,6 +6,9 @@ use Rattle.std.proofs.lemmas.List.{append-nil}
 use Rattle.blk_base.specs.declared.config.Job.{Job}
 use Rattle.blk_base.specs.declared.ask.BackAnswer.{BackAnswer}
 use Rattle.blk_base.specs.declared.ask.BackAnswer.TheVariants as answers
+use Rattle.blk_base.specs.declared.moves.Mover.{Mover}
+use Rattle.blk_base.specs.declared.moves.Move.{Move}
+use Rattle.blk_base.specs.declared.moves.Move.TheVariants as moves
 use Rattle.grant_table.specs.Table.{GrantTable}
 use Rattle.schedule_text.specs.declared.line.Line.{Line}
 use Rattle.schedule_text.specs.declared.line.Line.TheVariants as lines
@@ -22,6 +25,7 @@ use Rattle.blk_back.specs.declared.told.Halt.{Halt}
 use Rattle.std.specs.Prelude.{Result, Ok, Err}
 use Rattle.split_model.specs.Shown.{front_lines, back_lines, halt_lines, effect_line}
 use Rattle.split_model.specs.Happening.{submit_line}
+use Rattle.split_model.proofs.SafeActs.{IsKeyMove}
 use Rattle.move_laws.specs.Tells.{Tells, standing_of}
 use Rattle.move_laws.proofs.Follows.{IsAllowed, Follows}
 use Rattle.move_laws.proofs.Standing.{filter_none, filter_same}
@@ -48,7 +52,7 @@ tells_still before line pages table s tells =
     (rw s.none_made refl)
     tells.grantable
 
--- a line that is no move's own
+-- a line that the rules allow wherever it stands
 pub record IsPlain (line : Line) : Type 0 where
   pub is_still : IsStill line
   pub free : (before : List Line) → IsAllowed before line
@@ -58,7 +62,6 @@ ArePlain ls = AllByRecursion IsPlain ls
 
 pub plain_front : (t : Option Told) → ArePlain (front_lines t)
 plain_front None = tt
-plain_front (Some front_told.Ready) = (record { is_still = still lines.Ready refl (λ f w v b. refl) (λ n. refl) refl; free = λ b. record { coherent = tt; answered = tt; numbered = tt; touched = tt; grantable = tt } }, tt)
 plain_front (Some (front_told.Answer id status)) = (record { is_still = still (lines.Answer id status) refl (λ f w v b. refl) (λ n. refl) refl; free = λ b. record { coherent = tt; answered = tt; numbered = tt; touched = tt; grantable = tt } }, tt)
 plain_front (Some (front_told.Sector id index words)) = (record { is_still = still (lines.Data id index words) refl (λ f w v b. refl) (λ n. refl) refl; free = λ b. record { coherent = tt; answered = tt; numbered = tt; touched = tt; grantable = tt } }, tt)
 plain_front (Some (front_told.Broken word)) = (record { is_still = still (lines.Broken word) refl (λ f w v b. refl) (λ n. refl) refl; free = λ b. record { coherent = tt; answered = tt; numbered = tt; touched = tt; grantable = tt } }, tt)
@@ -93,6 +96,17 @@ pub plain_submit : (job : Job) (r : Result ℕ Refusal) → IsPlain (submit_line
 plain_submit job (Ok number) = record { is_still = still (lines.Submit number job) refl (λ f w v b. refl) (λ n. refl) refl; free = λ b. record { coherent = tt; answered = tt; numbered = tt; touched = tt; grantable = tt } }
 plain_submit job (Err r) = record { is_still = still _ refl (λ f w v b. refl) (λ n. refl) refl; free = λ b. record { coherent = tt; answered = tt; numbered = tt; touched = tt; grantable = tt } }
 
+pub plain_ready : IsPlain lines.Ready
+plain_ready = record { is_still = still lines.Ready refl (λ f w v b. refl) (λ n. refl) refl; free = λ b. record { coherent = tt; answered = tt; numbered = tt; touched = tt; grantable = tt } }
+
+-- a move on a key or a watch
+pub plain_key : (who : Mover) (shown : Move) → IsKeyMove who shown → IsPlain (lines.Move shown)
+plain_key who (moves.Watch m path) is = record { is_still = still _ refl (λ f w v b. refl) (λ n. refl) refl; free = λ b. record { coherent = tt; answered = tt; numbered = tt; touched = tt; grantable = tt } }
+plain_key who (moves.Watched m path) is = record { is_still = still _ refl (λ f w v b. refl) (λ n. refl) refl; free = λ b. record { coherent = tt; answered = tt; numbered = tt; touched = tt; grantable = tt } }
+plain_key who (moves.GetKey m path text) is = record { is_still = still _ refl (λ f w v b. refl) (λ n. refl) refl; free = λ b. record { coherent = tt; answered = tt; numbered = tt; touched = tt; grantable = tt } }
+plain_key who (moves.SetKey m path text) is = record { is_still = still _ refl (λ f w v b. refl) (λ n. refl) refl; free = λ b. record { coherent = tt; answered = tt; numbered = tt; touched = tt; grantable = tt } }
+plain_key who shown is = absurd is
+
 pub plain_quiet : IsPlain lines.Quiet
 plain_quiet = record { is_still = still lines.Quiet refl (λ f w v b. refl) (λ n. refl) refl; free = λ b. record { coherent = tt; answered = tt; numbered = tt; touched = tt; grantable = tt } }
 
@@ -106,7 +120,7 @@ plain_unsettled = record { is_still = still lines.Unsettled refl (λ f w v b. re
 pub follow_one : (before : List Line) (line : Line) (pages pages' : List ℕ) (table table' : GrantTable) → Follows before pages table → IsAllowed before line → Tells (before ++ line ∷ []) pages' table' → Follows (before ++ line ∷ []) pages' table'
 follow_one before line pages pages' table table' follows allowed tells = record { obeys = obeys_more IsAllowed before line follows.obeys allowed; tells = tells }
 
--- and lines that are no move's own
+-- and lines that they allow wherever they stand
 pub follow_plain : (more before : List Line) (pages : List ℕ) (table : GrantTable) → ArePlain more → Follows before pages table → Follows (before ++ more) pages table
 follow_plain [] before pages table plain follows = subst (λ (ls : List Line). Follows ls pages table) (sym (append-nil before)) follows
 follow_plain (line ∷ more) before pages table plain follows =

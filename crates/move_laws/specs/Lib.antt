@@ -1,4 +1,5 @@
 pub mod Permitted
 pub mod Grantable
+pub mod Dumped
 pub mod Numbers
 pub mod Tells

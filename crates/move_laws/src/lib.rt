@@ -5,7 +5,7 @@
 //! maps and on touches; what the moves say of the ring and of each request is no part of them.
 #![tactic(auto)]
 
-ghost use Rattle.std.specs.Prelude.{◌≡◌, List};
+ghost use Rattle.std.specs.Prelude.{◌≡◌, List, true};
 ghost use Rattle.blk_base.specs.Options.{Options};
 ghost use Rattle.schedule_text.specs.declared.line.Detail.{Detail};
 ghost use Rattle.schedule_text.specs.declared.line.Detail.TheVariants.{Moves};
@@ -13,10 +13,12 @@ ghost use Rattle.report_rules.specs.Coherent.{IsCoherent};
 ghost use Rattle.report_rules.specs.Mapped.{AreMapAnswers};
 ghost use Rattle.report_rules.specs.Touch.{AreTouches};
 ghost use Rattle.split_model.specs.World.{World, start_of};
-ghost use Rattle.split_model.specs.Happening.{Happening, after, lines_of};
+ghost use Rattle.split_model.specs.Happening.{Happening, after, lines_of, DiskRuns};
+ghost use Rattle.blk_io.specs.Disk.{DiskSeen};
 ghost use Rattle.schedule_text.specs.Recorder.{kept_of};
 ghost use Rattle.move_laws.specs.Permitted.{ArePermitted};
 ghost use Rattle.move_laws.specs.Grantable.{AreGrantable};
+ghost use Rattle.move_laws.specs.Dumped.{AreWholeDumps};
 ghost use Rattle.move_laws.specs.Numbers.{AreNumbered};
 ghost use Rattle.move_laws.specs.Tells.{Tells};
 ghost use Rattle.split_model.specs.Report.{report_of, ended_report_of};
@@ -70,6 +72,21 @@ pub fn the_touches_are_in_grantable_frames()
     ensures lines { (config : Options) (history : List Happening) → AreGrantable (lines_of history (start_of config)) }
     ensures report { (config : Options) (detail : Detail) (history : List Happening) → AreGrantable (report_of config detail history) }
     ensures ended { (config : Options) (detail : Detail) (history : List Happening) → AreGrantable (ended_report_of config detail history) }
+{}
+
+/// A dump of the ring of one page shows each of its words that isn't 0, ascending, and no line comes
+/// after it before it has shown them all.
+pub fn the_dumps_show_every_word()
+    ensures report { (config : Options) (detail : Detail) (history : List Happening) → config.order ≡ 0
+        → AreWholeDumps config.order (report_of config detail history) }
+    ensures ended { (config : Options) (detail : Detail) (history : List Happening) → config.order ≡ 0
+        → AreWholeDumps config.order (ended_report_of config detail history) }
+{}
+
+/// A disk that the options say to be read-only holds what it held, whatever happens, hostile words too.
+pub fn a_read_only_disk_keeps_its_content()
+    ensures { (config : Options) (history : List Happening) (before now : DiskSeen) → config.read_only ≡ true
+        → DiskRuns history (start_of config) before now → now.content ≡ before.content }
 {}
 
 /// A recorder that shows moves keeps each of these lines.

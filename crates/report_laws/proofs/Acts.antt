@@ -1,14 +1,18 @@
--- An act's move is a line of the grammar without text, and leaves memory words of 32 bits, where what was asked has the widths.
+-- An act's move is a line of the grammar, and leaves memory words of 32 bits, where what was asked has the widths.
 use Rattle.std.proofs.Common.{◌≡◌, ℕ, ◌+◌, ◌^◌, ◌<◌, ◌≤◌, ◌==◌, Bool, true, false, List, [], ◌∷◌, refl, subst, arith}
-use Rattle.std.specs.Prelude.{All, Some, None, Result, Ok, Err, nat_lt}
+use Rattle.std.specs.Prelude.{All, Some, Result, Ok, Err, nat_lt, FitsSigned}
+use Rattle.std.specs.Int.{w32}
 use Rattle.std.specs.List.{AllByRecursion}
 use Rattle.std.proofs.lemmas.Option.{none-some, same_Some}
 use Rattle.std.proofs.lemmas.List.Elements.{recursion_from_All, All-contains}
 use Rattle.blk_base.specs.declared.parts.Mapping.{Mapping}
 use Rattle.blk_base.specs.declared.parts.Mode.{Mode}
-use Rattle.blk_base.specs.declared.parts.End.TheVariants as end
 use Rattle.blk_base.specs.declared.ask.FrontAsk.{FrontAsk}
 use Rattle.blk_base.specs.declared.ask.FrontAsk.TheVariants as front_ask
+use Rattle.blk_base.specs.declared.ask.FrontAnswer.{FrontAnswer}
+use Rattle.blk_base.specs.declared.ask.FrontAnswer.TheVariants as front_answer
+use Rattle.blk_base.specs.declared.ask.BackAnswer.{BackAnswer}
+use Rattle.blk_base.specs.declared.ask.BackAnswer.TheVariants as back_answer
 use Rattle.blk_base.specs.declared.ask.BackAsk.{BackAsk}
 use Rattle.blk_base.specs.declared.ask.BackAsk.TheVariants as back_ask
 use Rattle.blk_base.specs.declared.moves.BackMover.{BackMover}
@@ -26,16 +30,17 @@ use Rattle.grant_table.specs.Sound.{IsGrantable}
 use Rattle.event_channel.specs.declared.channels.PortState.{PortState}
 use Rattle.event_channel.specs.declared.channels.PortState.TheVariants as port
 use Rattle.event_channel.specs.Channels.{state_of}
+use Rattle.line_text.specs.Sector.{IsSector}
 use Rattle.schedule_text.specs.declared.line.Line.TheVariants as lines
 use Rattle.schedule_text.specs.Range.{IsInRange, MoveHasWidths, MoverHasWidths, BackHasWidths, is_move_allowed, is_mover_allowed, is_back_allowed}
 use Rattle.hypervisor.specs.Hypervisor.{Hypervisor}
-use Rattle.hypervisor.specs.Act.{FrontAct, BackAct, Outcome, Gave, Took, Failed, front_act, back_act, mover_of, job_number, map_act, bind_act, wait_act, read_act, disk_act, watch_next}
+use Rattle.hypervisor.specs.Act.{FrontAct, BackAct, Outcome, Gave, Took, Failed, IsGiven, front_act, back_act, mover_of, job_number, map_act, bind_act, wait_act, read_act, disk_act}
 use Rattle.blk_front.specs.Ask.{StaysInMemory}
 use Rattle.back_jobs.specs.Hands.{Names}
 use Rattle.split_model.specs.Safe.{AreHeld}
-use Rattle.split_model.proofs.SafeActs.{of_front, of_back}
-use Rattle.split_model.proofs.Unkeyed.{front_takes, back_takes}
+use Rattle.split_model.proofs.SafeActs.{of_front, of_back, front_takes, back_takes, front_wait, back_wait}
 use Rattle.move_laws.proofs.Entries.{Found, found, frame_found, IsGranted, granted}
+use Rattle.report_laws.proofs.Spelled.{AreSpelled, next_path}
 use Rattle.report_laws.proofs.Words.{AreWords, word_fits, write_fits, exchange_fits, map_fits, unmap_fits}
 
 pub record ActFits (shown : Move) (pages : List ℕ) : Type 0 where
@@ -58,21 +63,42 @@ FrontFits h ask = Unit {0}
 abbrev FrontActFits : FrontAct → Type 0
 FrontActFits a = ActFits a.shown a.under.pages
 
-pub front_act_fits : (h : Hypervisor) (ask : FrontAsk) (a : FrontAct) → AreWords h.pages → StaysInMemory ask → FrontFits h ask → watch_next h end.Front ≡ None → front_act h ask ≡ Some a → ActFits a.shown a.under.pages
-front_act_fits h front_ask.Wait a words within fits none e = front_takes FrontActFits h a none (act_fits (moves.Event mover.Front) h.pages tt refl words) e
-front_act_fits h front_ask.Fence a words within fits none e = of_front FrontActFits _ a (act_fits (moves.Fence mover.Front) h.pages tt refl words) e
-front_act_fits h (front_ask.Read frame word) a words within fits none e =
+pub front_act_fits : (h : Hypervisor) (ask : FrontAsk) (a : FrontAct) → AreWords h.pages → StaysInMemory ask → FrontFits h ask → AreSpelled h.keys → front_act h ask ≡ Some a → ActFits a.shown a.under.pages
+front_act_fits h front_ask.Wait a words within fits spelled e = front_takes FrontActFits h a (act_fits (moves.Event mover.Front) h.pages tt refl words) (λ path first. act_fits (moves.Watched mover.Front path) h.pages tt (next_path h.keys.front path spelled.front first) words) e
+front_act_fits h front_ask.Fence a words within fits spelled e = of_front FrontActFits _ a (act_fits (moves.Fence mover.Front) h.pages tt refl words) e
+front_act_fits h (front_ask.Read frame word) a words within fits spelled e =
     of_front FrontActFits _ a (act_fits (moves.FrontRead frame word (word_of h.pages frame word)) h.pages (omega (arith, within.0), omega (arith, within.1), word_fits h.pages frame word words) refl words) e
-front_act_fits h (front_ask.Write frame word value) a words within fits none e =
+front_act_fits h (front_ask.Write frame word value) a words within fits spelled e =
     of_front FrontActFits _ a (act_fits (moves.FrontWrite frame word value) _ (omega (arith, within.0), omega (arith, within.1), fits) refl (write_fits h.pages frame word value words fits)) e
-front_act_fits h (front_ask.Cas frame word old new) a words within fits none e =
+front_act_fits h (front_ask.Cas frame word old new) a words within fits spelled e =
     of_front FrontActFits _ a (act_fits (moves.FrontCas frame word old new (word_of h.pages frame word)) _ (omega (arith, within.0), omega (arith, within.1), fits.0, fits.1, word_fits h.pages frame word words) refl (exchange_fits h.pages frame word old new words fits.1)) e
-front_act_fits h front_ask.NewPort a words within fits none e = of_front FrontActFits _ a (act_fits (moves.FrontPort (h.channels.made + 1)) h.pages fits refl words) e
-front_act_fits h front_ask.Send a words within fits none e = of_front FrontActFits _ a (act_fits (moves.Send mover.Front) h.pages tt refl words) e
-front_act_fits h front_ask.ClosePort a words within fits none e = of_front FrontActFits _ a (act_fits (moves.ClosePort mover.Front) h.pages tt refl words) e
-front_act_fits h (front_ask.GetKey path) a words within fits none e = absurd fits
-front_act_fits h (front_ask.SetKey path text) a words within fits none e = absurd fits
-front_act_fits h (front_ask.Watch path) a words within fits none e = absurd fits
+front_act_fits h front_ask.NewPort a words within fits spelled e = of_front FrontActFits _ a (act_fits (moves.FrontPort (h.channels.made + 1)) h.pages fits refl words) e
+front_act_fits h front_ask.Send a words within fits spelled e = of_front FrontActFits _ a (act_fits (moves.Send mover.Front) h.pages tt refl words) e
+front_act_fits h front_ask.ClosePort a words within fits spelled e = of_front FrontActFits _ a (act_fits (moves.ClosePort mover.Front) h.pages tt refl words) e
+front_act_fits h (front_ask.GetKey path) a words within fits spelled e = absurd fits
+front_act_fits h (front_ask.SetKey path text) a words within fits spelled e = absurd fits
+front_act_fits h (front_ask.Watch path) a words within fits spelled e = absurd fits
+
+-- a word that it is told has 32 bits
+abbrev pub FrontTells : FrontAnswer → Type 0
+FrontTells (front_answer.Word word) = word < 2 ^ 32
+FrontTells a = Unit {0}
+
+abbrev FrontActTells : FrontAct → Type 0
+FrontActTells a = FrontTells a.answer
+
+pub front_told_fits : (h : Hypervisor) (ask : FrontAsk) (a : FrontAct) → AreWords h.pages → FrontFits h ask → front_act h ask ≡ Some a → FrontTells a.answer
+front_told_fits h front_ask.Wait a words fits e = front_wait FrontActTells h a tt (λ path. tt) e
+front_told_fits h front_ask.Fence a words fits e = of_front FrontActTells _ a tt e
+front_told_fits h (front_ask.Read frame word) a words fits e = of_front FrontActTells _ a (word_fits h.pages frame word words) e
+front_told_fits h (front_ask.Write frame word value) a words fits e = of_front FrontActTells _ a tt e
+front_told_fits h (front_ask.Cas frame word old new) a words fits e = of_front FrontActTells _ a (word_fits h.pages frame word words) e
+front_told_fits h front_ask.NewPort a words fits e = of_front FrontActTells _ a tt e
+front_told_fits h front_ask.Send a words fits e = of_front FrontActTells _ a tt e
+front_told_fits h front_ask.ClosePort a words fits e = of_front FrontActTells _ a tt e
+front_told_fits h (front_ask.GetKey path) a words fits e = absurd fits
+front_told_fits h (front_ask.SetKey path text) a words fits e = absurd fits
+front_told_fits h (front_ask.Watch path) a words fits e = absurd fits
 
 -- the back or a job of a number of 64 bits, above 0
 pub record IsMover (who : BackMover) : Type 0 where
@@ -132,24 +158,24 @@ held_well table hands m grantable held live =
 abbrev BackActFits : BackAct → Type 0
 BackActFits a = ActFits a.shown a.under.pages
 
-refusal_fits : (who : BackMover) (gref : ℕ) (mode : Mode) (refusal : MapRefusal) → BackHasWidths who → gref < 2 ^ 32 → MoveHasWidths (moves.MapRefused who gref mode (status_of refusal))
-refusal_fits who gref mode General w g = (w, g, omega arith)
-refusal_fits who gref mode BadRef w g = (w, g, omega arith)
+status_fits : (refusal : MapRefusal) → FitsSigned w32 (status_of refusal)
+status_fits General = omega arith
+status_fits BadRef = omega arith
 
 map_act_fits : (h : Hypervisor) (who : BackMover) (gref : ℕ) (mode : Mode) (verdict : Result ℕ MapRefusal) → AreWords h.pages → IsMover who → gref < 2 ^ 32 → h.grants.made + 1 < 2 ^ 64 → verdict_at h.pages gref mode ≡ verdict → BackActFits (map_act h who gref mode verdict)
 map_act_fits h who gref mode (Ok frame) words is fits few e =
     let g : IsGranted gref frame = granted gref (entry_word0 h.pages gref) (entry_word1 h.pages gref) mode frame e in
     let high : frame ≤ 1023 = g.high in
     act_fits (moves.Map who gref mode (h.grants.made + 1) frame) _ (is.widths, fits, few, omega arith) is.allowed (map_fits h.pages gref mode words)
-map_act_fits h who gref mode (Err refusal) words is fits few e = act_fits (moves.MapRefused who gref mode (status_of refusal)) h.pages (refusal_fits who gref mode refusal is.widths fits) is.allowed words
+map_act_fits h who gref mode (Err refusal) words is fits few e = act_fits (moves.MapRefused who gref mode (status_of refusal)) h.pages (is.widths, fits, status_fits refusal) is.allowed words
 
 bind_act_fits : (h : Hypervisor) (p : ℕ) (state : PortState) → AreWords h.pages → p < 2 ^ 32 → BackActFits (bind_act h p state)
 bind_act_fits h p port.Unbound words fits = act_fits (moves.Bind p) h.pages fits refl words
 bind_act_fits h p port.Closed words fits = act_fits (moves.BindRefused p) h.pages fits refl words
 bind_act_fits h p port.Bound words fits = act_fits (moves.BindRefused p) h.pages fits refl words
 
-wait_act_fits : (h : Hypervisor) (who : BackMover) (a : BackAct) → AreWords h.pages → watch_next h end.Back ≡ None → wait_act h who ≡ Some a → BackActFits a
-wait_act_fits h who a words none e = back_takes BackActFits h who a none (act_fits (moves.Event mover.Back) h.pages tt refl words) e
+wait_act_fits : (h : Hypervisor) (who : BackMover) (a : BackAct) → AreWords h.pages → AreSpelled h.keys → wait_act h who ≡ Some a → BackActFits a
+wait_act_fits h who a words spelled e = back_takes BackActFits h who a (act_fits (moves.Event mover.Back) h.pages tt refl words) (λ path first. act_fits (moves.Watched mover.Back path) h.pages tt (next_path h.keys.back path spelled.back first) words) e
 
 read_act_fits : (h : Hypervisor) (shown : Move) (o : Outcome) (a : BackAct) → ActFits shown h.pages → read_act h shown o ≡ Some a → BackActFits a
 read_act_fits h shown (Gave words) a fits e = of_back BackActFits _ a fits e
@@ -161,31 +187,78 @@ disk_act_fits h shown Took a fits e = of_back BackActFits _ a fits e
 disk_act_fits h shown Failed a fits e = of_back BackActFits _ a fits e
 disk_act_fits h shown (Gave words) a fits e = absurd (none-some a e)
 
-pub back_act_fits : (h : Hypervisor) (who : BackMover) (ask : BackAsk) (o : Outcome) (a : BackAct) (hands : List Mapping) → AreWords h.pages → All IsGrantable h.grants.live → AreHeld h.grants hands → h.grants.made + 1 < 2 ^ 64 → IsMover who → Names hands ask → BackFits who ask → watch_next h end.Back ≡ None → back_act h who ask o ≡ Some a → ActFits a.shown a.under.pages
-back_act_fits h who back_ask.Wait o a hands words grantable held few is names fits none e = wait_act_fits h who a words none e
-back_act_fits h who back_ask.Fence o a hands words grantable held few is names fits none e = of_back BackActFits _ a (act_fits (moves.Fence (mover_of who)) h.pages (mover_widths who is.widths) (mover_allowed who is.allowed) words) e
-back_act_fits h who (back_ask.Read m word) o a hands words grantable held few is names fits none e =
+pub back_act_fits : (h : Hypervisor) (who : BackMover) (ask : BackAsk) (o : Outcome) (a : BackAct) (hands : List Mapping) → AreWords h.pages → All IsGrantable h.grants.live → AreHeld h.grants hands → h.grants.made + 1 < 2 ^ 64 → IsMover who → Names hands ask → BackFits who ask → AreSpelled h.keys → back_act h who ask o ≡ Some a → ActFits a.shown a.under.pages
+back_act_fits h who back_ask.Wait o a hands words grantable held few is names fits spelled e = wait_act_fits h who a words spelled e
+back_act_fits h who back_ask.Fence o a hands words grantable held few is names fits spelled e = of_back BackActFits _ a (act_fits (moves.Fence (mover_of who)) h.pages (mover_widths who is.widths) (mover_allowed who is.allowed) words) e
+back_act_fits h who (back_ask.Read m word) o a hands words grantable held few is names fits spelled e =
     let well = held_well h.grants hands m grantable held (All-contains (IsLive h.grants) hands m held.live names.0) in
     let number = well.number in
     let frame = well.frame in
     of_back BackActFits _ a (act_fits (moves.Read who m.number (frame_of h.grants m) word (word_of h.pages (frame_of h.grants m) word)) h.pages (is.widths, omega arith, omega arith, omega (arith, names.1), word_fits h.pages (frame_of h.grants m) word words) is.allowed words) e
-back_act_fits h who (back_ask.Write m word value) o a hands words grantable held few is names fits none e =
+back_act_fits h who (back_ask.Write m word value) o a hands words grantable held few is names fits spelled e =
     let well = held_well h.grants hands m grantable held (All-contains (IsLive h.grants) hands m held.live names.0) in
     let number = well.number in
     let frame = well.frame in
     of_back BackActFits _ a (act_fits (moves.Write who m.number (frame_of h.grants m) word value) _ (is.widths, omega arith, omega arith, omega (arith, names.2), fits) is.allowed (write_fits h.pages (frame_of h.grants m) word value words fits)) e
-back_act_fits h who (back_ask.Map gref mode) o a hands words grantable held few is names fits none e = of_back BackActFits _ a (map_act_fits h who gref mode (verdict_at h.pages gref mode) words is fits few refl) e
-back_act_fits h who (back_ask.Unmap m) o a hands words grantable held few is names fits none e =
+back_act_fits h who (back_ask.Map gref mode) o a hands words grantable held few is names fits spelled e = of_back BackActFits _ a (map_act_fits h who gref mode (verdict_at h.pages gref mode) words is fits few refl) e
+back_act_fits h who (back_ask.Unmap m) o a hands words grantable held few is names fits spelled e =
     let well = held_well h.grants hands m grantable held (All-contains (IsLive h.grants) hands m held.live names) in
     let number = well.number in
     of_back BackActFits _ a (act_fits (moves.Unmap who m.number) _ (is.widths, omega arith) is.allowed (unmap_fits h.grants h.pages m words)) e
-back_act_fits h who (back_ask.Bind p) o a hands words grantable held few is names fits none e = of_back BackActFits _ a (bind_act_fits h p (state_of h.channels p) words fits) e
-back_act_fits h who back_ask.Send o a hands words grantable held few is names fits none e = of_back BackActFits _ a (act_fits (moves.Send (mover_of who)) h.pages (mover_widths who is.widths) (mover_allowed who is.allowed) words) e
-back_act_fits h who back_ask.ClosePort o a hands words grantable held few is names fits none e = of_back BackActFits _ a (act_fits (moves.ClosePort (mover_of who)) h.pages (mover_widths who is.widths) (mover_allowed who is.allowed) words) e
-back_act_fits h who (back_ask.GetKey path) o a hands words grantable held few is names fits none e = absurd fits
-back_act_fits h who (back_ask.SetKey path text) o a hands words grantable held few is names fits none e = absurd fits
-back_act_fits h who (back_ask.Watch path) o a hands words grantable held few is names fits none e = absurd fits
-back_act_fits h who (back_ask.DiskRead sector) o a hands words grantable held few is names fits none e = read_act_fits h (moves.DiskRead (job_number who) sector) o a (act_fits (moves.DiskRead (job_number who) sector) h.pages (fits.1.0, fits.0) fits.1.1 words) e
-back_act_fits h who (back_ask.DiskWrite sector sector_words) o a hands words grantable held few is names fits none e = disk_act_fits h (moves.DiskWrite (job_number who) sector) o a (act_fits (moves.DiskWrite (job_number who) sector) h.pages (fits.1.0, fits.0) fits.1.1 words) e
-back_act_fits h who back_ask.Flush o a hands words grantable held few is names fits none e = disk_act_fits h (moves.DiskFlush (job_number who)) o a (act_fits (moves.DiskFlush (job_number who)) h.pages fits.0 fits.1 words) e
-back_act_fits h who (back_ask.Trim sector count) o a hands words grantable held few is names fits none e = disk_act_fits h (moves.DiskTrim (job_number who) sector count) o a (act_fits (moves.DiskTrim (job_number who) sector count) h.pages (fits.2.0, fits.0, fits.1) fits.2.1 words) e
+back_act_fits h who (back_ask.Bind p) o a hands words grantable held few is names fits spelled e = of_back BackActFits _ a (bind_act_fits h p (state_of h.channels p) words fits) e
+back_act_fits h who back_ask.Send o a hands words grantable held few is names fits spelled e = of_back BackActFits _ a (act_fits (moves.Send (mover_of who)) h.pages (mover_widths who is.widths) (mover_allowed who is.allowed) words) e
+back_act_fits h who back_ask.ClosePort o a hands words grantable held few is names fits spelled e = of_back BackActFits _ a (act_fits (moves.ClosePort (mover_of who)) h.pages (mover_widths who is.widths) (mover_allowed who is.allowed) words) e
+back_act_fits h who (back_ask.GetKey path) o a hands words grantable held few is names fits spelled e = absurd fits
+back_act_fits h who (back_ask.SetKey path text) o a hands words grantable held few is names fits spelled e = absurd fits
+back_act_fits h who (back_ask.Watch path) o a hands words grantable held few is names fits spelled e = absurd fits
+back_act_fits h who (back_ask.DiskRead sector) o a hands words grantable held few is names fits spelled e = read_act_fits h (moves.DiskRead (job_number who) sector) o a (act_fits (moves.DiskRead (job_number who) sector) h.pages (fits.1.0, fits.0) fits.1.1 words) e
+back_act_fits h who (back_ask.DiskWrite sector sector_words) o a hands words grantable held few is names fits spelled e = disk_act_fits h (moves.DiskWrite (job_number who) sector) o a (act_fits (moves.DiskWrite (job_number who) sector) h.pages (fits.1.0, fits.0) fits.1.1 words) e
+back_act_fits h who back_ask.Flush o a hands words grantable held few is names fits spelled e = disk_act_fits h (moves.DiskFlush (job_number who)) o a (act_fits (moves.DiskFlush (job_number who)) h.pages fits.0 fits.1 words) e
+back_act_fits h who (back_ask.Trim sector count) o a hands words grantable held few is names fits spelled e = disk_act_fits h (moves.DiskTrim (job_number who) sector count) o a (act_fits (moves.DiskTrim (job_number who) sector count) h.pages (fits.2.0, fits.0, fits.1) fits.2.1 words) e
+
+-- a word that the back or a job is told has 32 bits, a sector is one of the grammar, and so is the status of a refusal
+abbrev pub BackTells : BackAnswer → Type 0
+BackTells (back_answer.Word word) = word < 2 ^ 32
+BackTells (back_answer.Sector words) = IsSector words
+BackTells (back_answer.MapRefused status) = FitsSigned w32 status
+BackTells a = Unit {0}
+
+abbrev BackActTells : BackAct → Type 0
+BackActTells a = BackTells a.answer
+
+map_told : (h : Hypervisor) (who : BackMover) (gref : ℕ) (mode : Mode) (verdict : Result ℕ MapRefusal) → BackActTells (map_act h who gref mode verdict)
+map_told h who gref mode (Ok frame) = tt
+map_told h who gref mode (Err refusal) = status_fits refusal
+
+bind_told : (h : Hypervisor) (p : ℕ) (state : PortState) → BackActTells (bind_act h p state)
+bind_told h p port.Unbound = tt
+bind_told h p port.Closed = tt
+bind_told h p port.Bound = tt
+
+read_told : (h : Hypervisor) (shown : Move) (o : Outcome) (a : BackAct) → IsGiven o → read_act h shown o ≡ Some a → BackActTells a
+read_told h shown (Gave words) a given e = of_back BackActTells _ a (record { size = given.0; fits = given.1 }) e
+read_told h shown Failed a given e = of_back BackActTells _ a tt e
+read_told h shown Took a given e = absurd (none-some a e)
+
+disk_told : (h : Hypervisor) (shown : Move) (o : Outcome) (a : BackAct) → disk_act h shown o ≡ Some a → BackActTells a
+disk_told h shown Took a e = of_back BackActTells _ a tt e
+disk_told h shown Failed a e = of_back BackActTells _ a tt e
+disk_told h shown (Gave words) a e = absurd (none-some a e)
+
+pub back_told_fits : (h : Hypervisor) (who : BackMover) (ask : BackAsk) (o : Outcome) (a : BackAct) → AreWords h.pages → IsGiven o → BackFits who ask → back_act h who ask o ≡ Some a → BackTells a.answer
+back_told_fits h who back_ask.Wait o a words given fits e = back_wait BackActTells h who a tt (λ path. tt) e
+back_told_fits h who back_ask.Fence o a words given fits e = of_back BackActTells _ a tt e
+back_told_fits h who (back_ask.Read m word) o a words given fits e = of_back BackActTells _ a (word_fits h.pages (frame_of h.grants m) word words) e
+back_told_fits h who (back_ask.Write m word value) o a words given fits e = of_back BackActTells _ a tt e
+back_told_fits h who (back_ask.Map gref mode) o a words given fits e = of_back BackActTells _ a (map_told h who gref mode (verdict_at h.pages gref mode)) e
+back_told_fits h who (back_ask.Unmap m) o a words given fits e = of_back BackActTells _ a tt e
+back_told_fits h who (back_ask.Bind p) o a words given fits e = of_back BackActTells _ a (bind_told h p (state_of h.channels p)) e
+back_told_fits h who back_ask.Send o a words given fits e = of_back BackActTells _ a tt e
+back_told_fits h who back_ask.ClosePort o a words given fits e = of_back BackActTells _ a tt e
+back_told_fits h who (back_ask.GetKey path) o a words given fits e = absurd fits
+back_told_fits h who (back_ask.SetKey path text) o a words given fits e = absurd fits
+back_told_fits h who (back_ask.Watch path) o a words given fits e = absurd fits
+back_told_fits h who (back_ask.DiskRead sector) o a words given fits e = read_told h _ o a given e
+back_told_fits h who (back_ask.DiskWrite sector sector_words) o a words given fits e = disk_told h _ o a e
+back_told_fits h who back_ask.Flush o a words given fits e = disk_told h _ o a e
+back_told_fits h who (back_ask.Trim sector count) o a words given fits e = disk_told h _ o a e

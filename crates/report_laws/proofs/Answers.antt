@@ -1,5 +1,5 @@
 -- Whatever happens, the consumer of responses is as far ahead of the first index as answers were told.
-use Rattle.std.proofs.Common.{◌≡◌, ℕ, ◌+◌, Bool, true, false, not, cond, if◌then◌else◌, List, [], ◌∷◌, ◌++◌, refl, sym, ap, subst, append_assoc, arith}
+use Rattle.std.proofs.Common.{◌≡◌, ℕ, ◌+◌, ◌&&◌, Bool, true, false, not, cond, if◌then◌else◌, List, [], ◌∷◌, ◌++◌, refl, sym, ap, subst, append_assoc, arith}
 use Rattle.std.specs.Prelude.{Option, Some, None, Result, Ok, Err, ◌==◌, nat_lt, nat_le}
 use Rattle.std.specs.List.{AllByRecursion}
 use Rattle.std.proofs.lemmas.List.{append-nil}
@@ -7,6 +7,7 @@ use Rattle.std.proofs.lemmas.List.Sums.{sum_by-cons, sum_by-append}
 use Rattle.blk_base.specs.Options.{Options}
 use Rattle.blk_base.specs.declared.config.Job.{Job}
 use Rattle.blk_base.specs.declared.moves.Move.{Move}
+use Rattle.blk_base.specs.declared.parts.End.{End}
 use Rattle.ring_words.specs.Shape.{entries_of}
 use Rattle.schedule_text.specs.declared.line.Detail.{Detail}
 use Rattle.schedule_text.specs.declared.line.Line.{Line}
@@ -16,20 +17,25 @@ use Rattle.blk_front.specs.declared.told.Told.{Told}
 use Rattle.blk_front.specs.declared.told.Told.TheVariants as told
 use Rattle.blk_front.specs.declared.request.Wish.{Wish}
 use Rattle.blk_front.specs.declared.told.Refusal.{Refusal}
+use Rattle.blk_front.specs.declared.stage.Stage.{Stage}
+use Rattle.blk_front.specs.declared.stage.Stage.TheVariants as stage
 use Rattle.blk_front.specs.declared.told.Refusal.TheVariants as refusal
 use Rattle.blk_front.specs.Pool.{taking}
-use Rattle.blk_front.specs.Request.{frames_for}
+use Rattle.blk_front.specs.Request.{is_write, frames_for}
 use Rattle.blk_front.specs.View.{View, shape}
 use Rattle.blk_front.specs.Step.{step_of}
-use Rattle.blk_front.specs.Submit.{is_ready, unfinished, wish_of, submit_with, submit_one, submit_of}
-use Rattle.split_model.specs.World.{World, start_of, is_quiet}
+use Rattle.blk_front.specs.Submit.{is_ready, is_initialised, connected, unfinished, wish_of, submit_with, submit_one, submit_of}
+use Rattle.split_model.specs.World.{World, start_of}
 use Rattle.split_model.specs.Safe.{IsSafe}
 use Rattle.split_model.specs.Shown.{front_lines}
+use Rattle.split_model.specs.Keys.{KeyMove}
+use Rattle.split_model.proofs.Keys.{connects_cases, negotiated_lines_are}
 use Rattle.split_model.proofs.Overwriting.{poke_lines_are, dump_lines_are}
-use Rattle.split_model.specs.Happening.{Happening, FrontMoves, BackMoves, JobMoves, Submits, Notifies, Pokes, Dumps, Looks, Settles, poke_lines, ring_lines, happens, lines_at, after, lines_of, front_after, front_shows, back_after, back_shows, job_after, job_shows, front_turn, back_turn, job_turn, submit_line}
+use Rattle.split_model.specs.Happening.{Happening, FrontMoves, BackMoves, JobMoves, Negotiates, Connects, Submits, Notifies, Pokes, Dumps, Looks, Settles, poke_lines, ring_lines, ready_lines, happens, lines_at, after, lines_of, front_after, front_shows, back_after, back_shows, job_after, job_shows, front_turn, back_turn, job_turn, submit_line}
 use Rattle.split_model.specs.Report.{report_of}
 use Rattle.split_model.proofs.Safe.{safe_start, safe_happens}
 use Rattle.machine_pipeline.specs.Plain.{IsPlain}
+use Rattle.machine_pipeline.proofs.Flow.{wrapped}
 use Rattle.report_laws.specs.QuietRing.{says_answer, answers_told}
 use Rattle.report_laws.proofs.Lines.{OfBack, back_all, job_all}
 use Rattle.report_laws.proofs.Counts.{CountsAt, with_told, front_counts}
@@ -54,7 +60,6 @@ answers_more before ls all =
 -- the front's lines
 told_counted : (before : List Line) (shown : Move) (t : Option Told) → answers_told (before ++ lines.Move shown ∷ front_lines t) ≡ with_told (answers_told before) t
 told_counted before shown None = answers_more before (lines.Move shown ∷ []) (refl, tt)
-told_counted before shown (Some told.Ready) = answers_more before (lines.Move shown ∷ lines.Ready ∷ []) (refl, (refl, tt))
 told_counted before shown (Some (told.Sector id index words)) = answers_more before (lines.Move shown ∷ lines.Data id index words ∷ []) (refl, (refl, tt))
 told_counted before shown (Some (told.Broken word)) = answers_more before (lines.Move shown ∷ lines.Broken word ∷ []) (refl, (refl, tt))
 told_counted before shown (Some (told.Answer id status)) = sum_by-append (λ (x : Line). cond (says_answer x) 1 0) before (lines.Move shown ∷ lines.Answer id status ∷ [])
@@ -108,9 +113,11 @@ wish_submitted v None = untaken v
 wish_submitted v (Some wish) =
     let frames = taking (frames_for wish.count) v.pool [] in
     let unless_full = if nat_le (entries_of shape.order) (unfinished v) then (Err refusal.Full, v) else submit_with v wish frames in
-    either_submit (nat_lt v.sectors (wish.sector + wish.count)) v (Err refusal.Range, v) (if nat_lt 11 (frames_for wish.count) then (Err refusal.Long, v) else unless_full) (untaken v)
+    let unless_long = if nat_lt 11 (frames_for wish.count) then (Err refusal.Long, v) else unless_full in
+    either_submit (is_write wish.transfer && v.read_only) v (Err refusal.ReadOnly, v) (if nat_lt v.sectors (wish.sector + wish.count) then (Err refusal.Range, v) else unless_long) (untaken v)
+    (either_submit (nat_lt v.sectors (wish.sector + wish.count)) v (Err refusal.Range, v) unless_long (untaken v)
     (either_submit (nat_lt 11 (frames_for wish.count)) v (Err refusal.Long, v) unless_full (untaken v)
-    (either_submit (nat_le (entries_of shape.order) (unfinished v)) v (Err refusal.Full, v) (submit_with v wish frames) (untaken v) (with_frames v wish frames)))
+    (either_submit (nat_le (entries_of shape.order) (unfinished v)) v (Err refusal.Full, v) (submit_with v wish frames) (untaken v) (with_frames v wish frames))))
 
 submit_untaken : (v : View) (job : Job) → IsUntaken v (submit_of v job).1
 submit_untaken v job =
@@ -131,18 +138,34 @@ poke_unanswered frame word value = poke_lines_are (λ (line : Line). says_answer
 dump_unanswered : (pages : List ℕ) → AreUnanswered (ring_lines pages 0 1024)
 dump_unanswered pages = dump_lines_are (λ (line : Line). says_answer line ≡ false) pages 0 1024 (λ frame word value. refl)
 
+-- a front that is connected took no response either
+connects_count : (start : ℕ) (v : View) (before : List Line) → CountsAt start (answers_told before) v.ring.cons v.stage → (let x : View = connected v in CountsAt start (answers_told (before ++ ready_lines v.stage)) x.ring.cons x.stage)
+connects_count start v before h =
+    connects_cases (λ x shown. CountsAt start (answers_told (before ++ shown)) x.ring.cons x.stage) v
+    (λ waits. (subst (λ (n : ℕ). v.ring.cons ≡ wrapped start n) (sym (answers_more before (lines.Ready ∷ []) (refl, tt))) (waiting v.stage waits h)))
+    (subst (λ (ls : List Line). CountsAt start (answers_told ls) v.ring.cons v.stage) (sym (append-nil before)) h)
+  where
+    waiting : (s : Stage) → is_initialised s ≡ true → CountsAt start (answers_told before) v.ring.cons s → v.ring.cons ≡ wrapped start (answers_told before)
+    waiting stage.Initialised waits h = h
+    waiting s waits h = absurd (cc)
+
+keys_unanswered : (w : World) (at : End) (move : KeyMove) → AreUnanswered (lines_at w (Negotiates at move))
+keys_unanswered w at move = negotiated_lines_are (λ (line : Line). says_answer line ≡ false) w.back.stage at move w.under.keys (λ path. refl) (λ path text. refl) (λ path. refl) (λ path. refl)
+
 one_counts : (start : ℕ) (w : World) (before : List Line) (h : Happening) → IsSafe w → CountsTo start before w → CountsTo start (before ++ lines_at w h) (happens w h)
 one_counts start w before FrontMoves safe h = front_counts_on start w before (front_turn w) safe h
 one_counts start w before BackMoves safe h = back_counts start w before (back_turn w Took) h
 one_counts start w before (JobMoves number outcome) safe h = job_counts start w before number (job_turn w number outcome) h
+one_counts start w before (Negotiates at move) safe h = same_counts start w (happens w (Negotiates at move)) before _ (keys_unanswered w at move) refl refl h
+one_counts start w before Connects safe h = connects_count start w.front before h
 one_counts start w before (Submits job) safe h =
     let kept = submit_untaken w.front job in
     same_counts start w (happens w (Submits job)) before _ (submit_unanswered job (submit_of w.front job).0) kept.cons kept.stage h
 one_counts start w before (Notifies at) safe h = same_counts start w (happens w (Notifies at)) before [] tt refl refl h
 one_counts start w before (Pokes frame word value) safe h = same_counts start w (happens w (Pokes frame word value)) before _ (poke_unanswered frame word value) refl refl h
 one_counts start w before Dumps safe h = same_counts start w w before _ (dump_unanswered w.under.pages) refl refl h
-one_counts start w before Looks safe h = same_counts start w w before _ (look_unanswered (is_quiet w) lines.Busy refl) refl refl h
-one_counts start w before Settles safe h = same_counts start w w before _ (look_unanswered (is_quiet w) lines.Unsettled refl) refl refl h
+one_counts start w before (Looks quiet) safe h = same_counts start w w before _ (look_unanswered quiet lines.Busy refl) refl refl h
+one_counts start w before (Settles quiet) safe h = same_counts start w w before _ (look_unanswered quiet lines.Unsettled refl) refl refl h
 
 all_count : (start : ℕ) (history : List Happening) (w : World) (before : List Line) → IsSafe w → CountsTo start before w → CountsTo start (before ++ lines_of history w) (after history w)
 all_count start [] w before safe h = subst (λ (ls : List Line). CountsTo start ls w) (sym (append-nil before)) h

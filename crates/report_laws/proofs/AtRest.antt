@@ -12,15 +12,15 @@ use Rattle.blk_front.specs.declared.stage.Stage.{Stage}
 use Rattle.blk_front.specs.Submit as front_submit
 use Rattle.blk_front.specs.Submit.{ending_of}
 use Rattle.split_model.specs.World.{World, start_of, is_quiet}
-use Rattle.split_model.specs.Happening.{Happening, FrontMoves, BackMoves, JobMoves, Submits, Notifies, Pokes, Dumps, Looks, Settles, lines_at, after, front_shows, back_shows, job_shows, front_turn, back_turn, job_turn, submit_line}
+use Rattle.split_model.specs.Happening.{Happening, FrontMoves, BackMoves, JobMoves, Negotiates, Connects, Submits, Notifies, Pokes, Dumps, Looks, Settles, lines_at, after, front_shows, back_shows, job_shows, front_turn, back_turn, job_turn, submit_line}
 use Rattle.machine_pipeline.specs.Plain.{IsPlain}
-use Rattle.machine_pipeline.specs.Allowed.{AreServed}
+use Rattle.machine_pipeline.specs.Allowed.{IsServed, AreServed}
 use Rattle.machine_pipeline.proofs.Flow.{Flow, has_ring, wrapped}
 use Rattle.machine_pipeline.proofs.Holds.{AreIndices, Stands}
 use Rattle.machine_pipeline.proofs.Quiet.{IsCaughtUp, caught_up_at}
 use Rattle.machine_pipeline.proofs.Together.{always_stands}
 use Rattle.report_laws.specs.AtRest.{IsAtRest}
-use Rattle.report_laws.proofs.Lines.{is_usual, AreUsual, front_usual, back_usual, job_usual, submit_usual, poke_usual, dump_usual}
+use Rattle.report_laws.proofs.Lines.{is_usual, AreUsual, front_usual, back_usual, job_usual, keys_usual, ready_usual, submit_usual, dump_usual}
 
 -- a list of no element
 pub none_left : {X : Type 0} (xs : List X) → length xs ≡ 0 → xs ≡ []
@@ -56,7 +56,7 @@ always_rests config history plain may quiet =
     let gone = always_stands config history plain may in
     rest_of config (after history (start_of config)) gone.flow gone.pipeline quiet gone.stands
 
--- a happening shows `quiet` only where the machine is
+-- a happening shows `quiet` only where the machine is so
 none_usual : (ls : List Line) → AreUsual ls → Contains ls lines.Quiet → ⊥
 none_usual ls all has = true≢false (sym (All-contains (λ (line : Line). is_usual line ≡ true) ls lines.Quiet (All-from_recursion (λ (line : Line). is_usual line ≡ true) ls all) has))
 
@@ -64,13 +64,15 @@ look_quiet : (quiet : Bool) (other : Line) → is_usual other ≡ true → Conta
 look_quiet true other e has = refl
 look_quiet false other e has = absurd (none_usual (other ∷ []) (e, tt) has)
 
-pub shown_quiet : (w : World) (h : Happening) → Contains (lines_at w h) lines.Quiet → is_quiet w ≡ true
-shown_quiet w FrontMoves has = absurd (none_usual (front_shows w (front_turn w)) (front_usual w (front_turn w)) has)
-shown_quiet w BackMoves has = absurd (none_usual (back_shows w (back_turn w Took)) (back_usual w (back_turn w Took)) has)
-shown_quiet w (JobMoves number outcome) has = absurd (none_usual (job_shows w number (job_turn w number outcome)) (job_usual w number (job_turn w number outcome)) has)
-shown_quiet w (Submits job) has = absurd (none_usual (submit_line job (front_submit.submit_of w.front job).0 ∷ []) (submit_usual job (front_submit.submit_of w.front job).0) has)
-shown_quiet w (Notifies at) has = absurd (none_usual [] tt has)
-shown_quiet w (Pokes frame word value) has = absurd (none_usual _ (poke_usual frame word value) has)
-shown_quiet w Dumps has = absurd (none_usual _ (dump_usual w.under.pages) has)
-shown_quiet w Looks has = look_quiet (is_quiet w) lines.Busy refl has
-shown_quiet w Settles has = look_quiet (is_quiet w) lines.Unsettled refl has
+pub shown_quiet : (w : World) (h : Happening) → IsServed w h → Contains (lines_at w h) lines.Quiet → is_quiet w ≡ true
+shown_quiet w FrontMoves may has = absurd (none_usual (front_shows w (front_turn w)) (front_usual w (front_turn w)) has)
+shown_quiet w BackMoves may has = absurd (none_usual (back_shows w (back_turn w Took)) (back_usual w (back_turn w Took)) has)
+shown_quiet w (JobMoves number outcome) may has = absurd (none_usual (job_shows w number (job_turn w number outcome)) (job_usual w number (job_turn w number outcome)) has)
+shown_quiet w (Negotiates at move) may has = absurd (none_usual _ (keys_usual w at move) has)
+shown_quiet w Connects may has = absurd (none_usual _ (ready_usual w.front.stage) has)
+shown_quiet w (Submits job) may has = absurd (none_usual (submit_line job (front_submit.submit_of w.front job).0 ∷ []) (submit_usual job (front_submit.submit_of w.front job).0) has)
+shown_quiet w (Notifies at) may has = absurd (none_usual [] tt has)
+shown_quiet w (Pokes frame word value) may has = absurd may
+shown_quiet w Dumps may has = absurd (none_usual _ (dump_usual w.under.pages) has)
+shown_quiet w (Looks quiet) may has = may (look_quiet quiet lines.Busy refl has)
+shown_quiet w (Settles quiet) may has = may (look_quiet quiet lines.Unsettled refl has)

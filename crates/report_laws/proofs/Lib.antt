@@ -10,13 +10,12 @@ pub mod Inline
 pub mod InlineLines
 pub mod Texts
 pub mod Words
-pub mod Acts
-pub mod Given
-pub mod Noted
 pub mod Told
+pub mod Spelled
+pub mod Acts
+pub mod FrontNumbers
 pub mod FrontAsks
+pub mod BackNumbers
 pub mod BackAsks
-pub mod Maps
-pub mod Mapped
 pub mod Grammar
 pub mod Refused

@@ -6,6 +6,7 @@ use Rattle.blk_base.specs.declared.config.Job.{Job}
 use Rattle.blk_base.specs.declared.ask.BackAnswer.{BackAnswer}
 use Rattle.blk_base.specs.declared.ask.BackAnswer.TheVariants as answers
 use Rattle.blk_base.specs.declared.moves.Move.{Move}
+use Rattle.blk_base.specs.declared.parts.End.{End}
 use Rattle.blk_base.specs.declared.operation.Status.{Status}
 use Rattle.schedule_text.specs.declared.line.Halt.{Halt as HaltLine}
 use Rattle.schedule_text.specs.declared.line.Line.{Line}
@@ -14,6 +15,7 @@ use Rattle.hypervisor.specs.Act.{FrontAct, BackAct, Took}
 use Rattle.blk_front.specs.declared.told.Told.{Told}
 use Rattle.blk_front.specs.declared.told.Told.TheVariants as front_told
 use Rattle.blk_front.specs.declared.told.Refusal.{Refusal}
+use Rattle.blk_front.specs.declared.stage.Stage.{Stage}
 use Rattle.blk_front.specs.View as front
 use Rattle.blk_front.specs.Step as front_step
 use Rattle.blk_front.specs.Submit as front_submit
@@ -22,10 +24,12 @@ use Rattle.blk_back.specs.declared.told.BackTold.TheVariants as back_told
 use Rattle.blk_back.specs.declared.told.Halt.{Halt}
 use Rattle.blk_back.specs.View as back
 use Rattle.blk_back.specs.Step as back_step
-use Rattle.split_model.specs.World.{World, is_quiet}
+use Rattle.split_model.specs.World.{World}
 use Rattle.split_model.specs.Shown.{front_lines, back_lines, halt_line, halt_lines, effect_line}
+use Rattle.split_model.specs.Keys.{KeyMove}
+use Rattle.split_model.proofs.Keys.{negotiated_lines_are, ready_lines_are}
 use Rattle.split_model.proofs.Overwriting.{poke_lines_are, dump_lines_are}
-use Rattle.split_model.specs.Happening.{Happening, FrontMoves, BackMoves, JobMoves, Submits, Notifies, Pokes, Dumps, Looks, Settles, poke_lines, ring_lines, happens, lines_at, lines_of, front_shows, back_shows, job_shows, front_turn, back_turn, job_turn, submit_line}
+use Rattle.split_model.specs.Happening.{Happening, FrontMoves, BackMoves, JobMoves, Negotiates, Connects, Submits, Notifies, Pokes, Dumps, Looks, Settles, poke_lines, ring_lines, ready_lines, happens, lines_at, lines_of, front_shows, back_shows, job_shows, front_turn, back_turn, job_turn, submit_line}
 use Rattle.report_laws.specs.Begun.{is_begin}
 
 abbrev pub says_quiet : Line → Bool
@@ -51,7 +55,6 @@ usual_quiet line e = refl
 
 front_lines_usual : (t : Option Told) → AreUsual (front_lines t)
 front_lines_usual None = tt
-front_lines_usual (Some front_told.Ready) = (refl, tt)
 front_lines_usual (Some (front_told.Answer id status)) = (refl, tt)
 front_lines_usual (Some (front_told.Sector id index words)) = (refl, tt)
 front_lines_usual (Some (front_told.Broken word)) = (refl, tt)
@@ -107,6 +110,13 @@ back_usual w act = back_all _ back_is_usual w act
 pub job_usual : (w : World) (number : ℕ) (act : Option BackAct) → AreUsual (job_shows w number act)
 job_usual w number act = job_all _ back_is_usual w number act
 
+-- what an end does with the keys, and a front that is connected
+pub keys_usual : (w : World) (at : End) (move : KeyMove) → AreUsual (lines_at w (Negotiates at move))
+keys_usual w at move = negotiated_lines_are (λ (line : Line). is_usual line ≡ true) w.back.stage at move w.under.keys (λ path. refl) (λ path text. refl) (λ path. refl) (λ path. refl)
+
+pub ready_usual : (s : Stage) → AreUsual (ready_lines s)
+ready_usual s = ready_lines_are (λ (line : Line). is_usual line ≡ true) s (λ waits. refl)
+
 pub submit_usual : (job : Job) (r : Result ℕ Refusal) → AreUsual (submit_line job r ∷ [])
 submit_usual job (Ok number) = (refl, tt)
 submit_usual job (Err r) = (refl, tt)
@@ -137,12 +147,14 @@ one_behind : (w : World) (h : Happening) → AreBehind (lines_at w h)
 one_behind w FrontMoves = usual_behind (front_shows w (front_turn w)) (front_usual w (front_turn w))
 one_behind w BackMoves = usual_behind (back_shows w (back_turn w Took)) (back_usual w (back_turn w Took))
 one_behind w (JobMoves number outcome) = usual_behind (job_shows w number (job_turn w number outcome)) (job_usual w number (job_turn w number outcome))
+one_behind w (Negotiates at move) = usual_behind (lines_at w (Negotiates at move)) (keys_usual w at move)
+one_behind w Connects = usual_behind (ready_lines w.front.stage) (ready_usual w.front.stage)
 one_behind w (Submits job) = usual_behind (submit_line job (front_submit.submit_of w.front job).0 ∷ []) (submit_usual job (front_submit.submit_of w.front job).0)
 one_behind w (Notifies at) = tt
 one_behind w (Pokes frame word value) = usual_behind _ (poke_usual frame word value)
 one_behind w Dumps = usual_behind _ (dump_usual w.under.pages)
-one_behind w Looks = look_behind (is_quiet w) lines.Busy refl
-one_behind w Settles = look_behind (is_quiet w) lines.Unsettled refl
+one_behind w (Looks quiet) = look_behind quiet lines.Busy refl
+one_behind w (Settles quiet) = look_behind quiet lines.Unsettled refl
 
 pub all_behind : (history : List Happening) (w : World) → AreBehind (lines_of history w)
 all_behind [] w = tt

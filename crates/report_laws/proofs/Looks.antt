@@ -12,11 +12,12 @@ use Rattle.report_rules.proofs.Obeys.{obeys_none, obeys_more}
 use Rattle.hypervisor.specs.Act.{Took}
 use Rattle.blk_front.specs.Submit as front_submit
 use Rattle.split_model.specs.World.{World, start_of, is_quiet}
-use Rattle.split_model.specs.Happening.{Happening, FrontMoves, BackMoves, JobMoves, Submits, Notifies, Pokes, Dumps, Looks, Settles, lines_at, after, lines_of, front_turn, back_turn, job_turn}
+use Rattle.split_model.specs.Happening.{Happening, FrontMoves, BackMoves, JobMoves, Negotiates, Connects, Submits, Notifies, Pokes, Dumps, Looks, Settles, lines_at, after, lines_of, front_turn, back_turn, job_turn}
 use Rattle.schedule_text.specs.Recorder.{kept_of}
 use Rattle.split_model.specs.Report.{report_of, ended_report_of}
-use Rattle.split_model.proofs.Running.{lines_of-append, kept_of-append}
-use Rattle.report_laws.proofs.Lines.{says_quiet, AreUsual, usual_quiet, front_usual, back_usual, job_usual, submit_usual, poke_usual, dump_usual}
+use Rattle.split_model.proofs.Running.{after-append, lines_of-append, kept_of-append}
+use Rattle.machine_pipeline.specs.Allowed.{IsPossible, ArePossible}
+use Rattle.report_laws.proofs.Lines.{says_quiet, AreUsual, usual_quiet, front_usual, back_usual, job_usual, keys_usual, ready_usual, submit_usual, poke_usual, dump_usual}
 
 -- a rule that says nothing of any other line than `quiet`
 abbrev pub SpeaksOfQuiet : (List Line → Line → Type 0) → Type 0
@@ -32,16 +33,18 @@ look_obeys : (Rule : List Line → Line → Type 0) → SpeaksOfQuiet Rule → (
 look_obeys Rule free before true other e holds obeys = obeys_more Rule before lines.Quiet obeys (holds refl)
 look_obeys Rule free before false other e holds obeys = obeys_more Rule before other obeys (free before other e)
 
-one_obeys : (Rule : List Line → Line → Type 0) → SpeaksOfQuiet Rule → (before : List Line) (w : World) (h : Happening) → (is_quiet w ≡ true → Rule before lines.Quiet) → Obeys Rule before → Obeys Rule (before ++ lines_at w h)
-one_obeys Rule free before w FrontMoves holds obeys = usual_obey Rule free _ before (front_usual w (front_turn w)) obeys
-one_obeys Rule free before w BackMoves holds obeys = usual_obey Rule free _ before (back_usual w (back_turn w Took)) obeys
-one_obeys Rule free before w (JobMoves number outcome) holds obeys = usual_obey Rule free _ before (job_usual w number (job_turn w number outcome)) obeys
-one_obeys Rule free before w (Submits job) holds obeys = usual_obey Rule free _ before (submit_usual job (front_submit.submit_of w.front job).0) obeys
-one_obeys Rule free before w (Notifies at) holds obeys = usual_obey Rule free [] before tt obeys
-one_obeys Rule free before w (Pokes frame word value) holds obeys = usual_obey Rule free _ before (poke_usual frame word value) obeys
-one_obeys Rule free before w Dumps holds obeys = usual_obey Rule free _ before (dump_usual w.under.pages) obeys
-one_obeys Rule free before w Looks holds obeys = look_obeys Rule free before (is_quiet w) lines.Busy refl holds obeys
-one_obeys Rule free before w Settles holds obeys = look_obeys Rule free before (is_quiet w) lines.Unsettled refl holds obeys
+one_obeys : (Rule : List Line → Line → Type 0) → SpeaksOfQuiet Rule → (before : List Line) (w : World) (h : Happening) → IsPossible w h → (is_quiet w ≡ true → Rule before lines.Quiet) → Obeys Rule before → Obeys Rule (before ++ lines_at w h)
+one_obeys Rule free before w FrontMoves may holds obeys = usual_obey Rule free _ before (front_usual w (front_turn w)) obeys
+one_obeys Rule free before w BackMoves may holds obeys = usual_obey Rule free _ before (back_usual w (back_turn w Took)) obeys
+one_obeys Rule free before w (JobMoves number outcome) may holds obeys = usual_obey Rule free _ before (job_usual w number (job_turn w number outcome)) obeys
+one_obeys Rule free before w (Negotiates at move) may holds obeys = usual_obey Rule free _ before (keys_usual w at move) obeys
+one_obeys Rule free before w Connects may holds obeys = usual_obey Rule free _ before (ready_usual w.front.stage) obeys
+one_obeys Rule free before w (Submits job) may holds obeys = usual_obey Rule free _ before (submit_usual job (front_submit.submit_of w.front job).0) obeys
+one_obeys Rule free before w (Notifies at) may holds obeys = usual_obey Rule free [] before tt obeys
+one_obeys Rule free before w (Pokes frame word value) may holds obeys = usual_obey Rule free _ before (poke_usual frame word value) obeys
+one_obeys Rule free before w Dumps may holds obeys = usual_obey Rule free _ before (dump_usual w.under.pages) obeys
+one_obeys Rule free before w (Looks quiet) may holds obeys = look_obeys Rule free before quiet lines.Busy refl (λ found. holds (may found)) obeys
+one_obeys Rule free before w (Settles quiet) may holds obeys = look_obeys Rule free before quiet lines.Unsettled refl (λ found. holds (may found)) obeys
 
 -- the report of one happening more
 pub report_more : (config : Options) (detail : Detail) (earlier : List Happening) (h : Happening) → report_of config detail (earlier ++ h ∷ []) ≡ report_of config detail earlier ++ lines_at (after earlier (start_of config)) h
@@ -54,19 +57,19 @@ abbrev pub HoldsWhereQuiet : (List Line → Line → Type 0) → Options → Det
 HoldsWhereQuiet Rule config detail history =
     (first rest : List Happening) → history ≡ first ++ rest → is_quiet (after first (start_of config)) ≡ true → Rule (report_of config detail first) lines.Quiet
 
-all_obey : (Rule : List Line → Line → Type 0) → SpeaksOfQuiet Rule → (config : Options) (detail : Detail) (later earlier : List Happening) → HoldsWhereQuiet Rule config detail (earlier ++ later) → Obeys Rule (report_of config detail earlier) → Obeys Rule (report_of config detail (earlier ++ later))
-all_obey Rule free config detail [] earlier holds obeys = subst (λ (hs : List Happening). Obeys Rule (report_of config detail hs)) (sym (append-nil earlier)) obeys
-all_obey Rule free config detail (h ∷ later) earlier holds obeys =
-    let next : Obeys Rule (report_of config detail earlier ++ lines_at (after earlier (start_of config)) h) = one_obeys Rule free (report_of config detail earlier) (after earlier (start_of config)) h (holds earlier (h ∷ later) refl) obeys in
+all_obey : (Rule : List Line → Line → Type 0) → SpeaksOfQuiet Rule → (config : Options) (detail : Detail) (later earlier : List Happening) → ArePossible later (after earlier (start_of config)) → HoldsWhereQuiet Rule config detail (earlier ++ later) → Obeys Rule (report_of config detail earlier) → Obeys Rule (report_of config detail (earlier ++ later))
+all_obey Rule free config detail [] earlier may holds obeys = subst (λ (hs : List Happening). Obeys Rule (report_of config detail hs)) (sym (append-nil earlier)) obeys
+all_obey Rule free config detail (h ∷ later) earlier may holds obeys =
+    let next : Obeys Rule (report_of config detail earlier ++ lines_at (after earlier (start_of config)) h) = one_obeys Rule free (report_of config detail earlier) (after earlier (start_of config)) h may.0 (holds earlier (h ∷ later) refl) obeys in
     subst (λ (hs : List Happening). Obeys Rule (report_of config detail hs)) (append_assoc earlier (h ∷ []) later)
-    (all_obey Rule free config detail later (earlier ++ h ∷ []) (subst (HoldsWhereQuiet Rule config detail) (sym (append_assoc earlier (h ∷ []) later)) holds) (subst (Obeys Rule) (sym (report_more config detail earlier h)) next))
+    (all_obey Rule free config detail later (earlier ++ h ∷ []) (subst (ArePossible later) (sym (after-append earlier (h ∷ []) (start_of config))) may.1) (subst (HoldsWhereQuiet Rule config detail) (sym (append_assoc earlier (h ∷ []) later)) holds) (subst (Obeys Rule) (sym (report_more config detail earlier h)) next))
 
-pub reports_obey : (Rule : List Line → Line → Type 0) → SpeaksOfQuiet Rule → (config : Options) (detail : Detail) (history : List Happening) → HoldsWhereQuiet Rule config detail history → Obeys Rule (report_of config detail history)
-reports_obey Rule free config detail history holds =
-    all_obey Rule free config detail history [] holds (obeys_more Rule [] (lines.Begin config detail) (obeys_none Rule) (free [] (lines.Begin config detail) refl))
+pub reports_obey : (Rule : List Line → Line → Type 0) → SpeaksOfQuiet Rule → (config : Options) (detail : Detail) (history : List Happening) → ArePossible history (start_of config) → HoldsWhereQuiet Rule config detail history → Obeys Rule (report_of config detail history)
+reports_obey Rule free config detail history may holds =
+    all_obey Rule free config detail history [] may holds (obeys_more Rule [] (lines.Begin config detail) (obeys_none Rule) (free [] (lines.Begin config detail) refl))
 
-pub ended_obey : (Rule : List Line → Line → Type 0) → SpeaksOfQuiet Rule → (config : Options) (detail : Detail) (history : List Happening) → HoldsWhereQuiet Rule config detail history → Obeys Rule (ended_report_of config detail history)
-ended_obey Rule free config detail history holds = obeys_more Rule (report_of config detail history) lines.End (reports_obey Rule free config detail history holds) (free (report_of config detail history) lines.End refl)
+pub ended_obey : (Rule : List Line → Line → Type 0) → SpeaksOfQuiet Rule → (config : Options) (detail : Detail) (history : List Happening) → ArePossible history (start_of config) → HoldsWhereQuiet Rule config detail history → Obeys Rule (ended_report_of config detail history)
+ended_obey Rule free config detail history may holds = obeys_more Rule (report_of config detail history) lines.End (reports_obey Rule free config detail history may holds) (free (report_of config detail history) lines.End refl)
 
 -- and of what a recorder keeps of it, where the rule asks for nothing that isn't kept
 kept_more : (Rule : List Line → Line → Type 0) → SpeaksOfQuiet Rule → (detail : Detail) (before : List Line) (line : Line) → (Rule before lines.Quiet → Rule (kept_of detail before) lines.Quiet) → Rule before line → Obeys Rule (kept_of detail before) → Obeys Rule (kept_of detail before ++ recorded detail line)

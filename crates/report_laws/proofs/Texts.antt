@@ -1,6 +1,6 @@
 -- The text of lines of the grammar gives back exactly these lines.
 use Rattle.std.proofs.Common.{◌≡◌, ℕ, true, List, [], ◌∷◌, ◌++◌, refl, ap, sym, ◌∙◌, append_assoc, true≢false}
-use Rattle.std.specs.Prelude.{nat_lt}
+use Rattle.std.specs.Prelude.{nat_lt, All}
 use Rattle.std.specs.List.{AllByRecursion}
 use Rattle.std.proofs.lemmas.List.Elements.{All-from_recursion, recursion_from_All}
 use Rattle.line_text.proofs.Both.{both_true}
@@ -57,11 +57,15 @@ same_text report other all others e = same_lines other report (recursion_from_Al
 pub given_back : (report : List Line) → AreInGrammar report → IsInGrammar report
 given_back report all = record { lines = all; exact = λ other others e. same_text report other all others e }
 
-first_lines : (a b : List Line) → AllByRecursion IsInRange (a ++ b) → AllByRecursion IsInRange a
-first_lines [] b all = tt
-first_lines (line ∷ a) b all = (all.0, first_lines a b all.1)
+-- what holds of all lines holds of the first of them
+pub all_before : (P : Line → Type 0) (report more : List Line) → All P (report ++ more) → All P report
+all_before P report more all = All-from_recursion P report (first_lines report more (recursion_from_All P (report ++ more) all))
+  where
+    first_lines : (a b : List Line) → AllByRecursion P (a ++ b) → AllByRecursion P a
+    first_lines [] b all = tt
+    first_lines (line ∷ a) b all = (all.0, first_lines a b all.1)
 
 -- what is in the grammar is so up to each of its lines
 pub grammar_before : (report more : List Line) → IsInGrammar (report ++ more) → IsInGrammar report
 grammar_before report more h =
-    given_back report (All-from_recursion IsInRange report (first_lines report more (recursion_from_All IsInRange (report ++ more) h.lines)))
+    given_back report (all_before IsInRange report more h.lines)

@@ -20,8 +20,11 @@ each_fits [] all i = omega arith
 each_fits (w ∷ words) all zero = all.0
 each_fits (w ∷ words) all (suc i) = each_fits words all.1 i
 
+pub index_fits : (words : List ℕ) (i : ℕ) → AreWords words → slice_index words i < 2 ^ 32
+index_fits words i all = each_fits words (recursion_from_All (λ (v : ℕ). v < 2 ^ 32) words all) i
+
 pub word_fits : (pages : List ℕ) (frame word : ℕ) → AreWords pages → word_of pages frame word < 2 ^ 32
-word_fits pages frame word all = each_fits pages (recursion_from_All (λ (v : ℕ). v < 2 ^ 32) pages all) (frame * 1024 + word)
+word_fits pages frame word all = index_fits pages (frame * 1024 + word) all
 
 pub fresh_words : (count : ℕ) → AreWords (zero_words count)
 unfolding zero_words

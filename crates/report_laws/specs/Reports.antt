@@ -1,14 +1,15 @@
 -- What is said of every report of the machine, as a recorder keeps it, whatever its options, its detail and what happens.
-use Rattle.std.specs.Prelude.{List}
+use Rattle.std.specs.Prelude.{◌<◌, ◌^◌, List, length}
 use Rattle.blk_base.specs.Options.{Options}
 use Rattle.schedule_text.specs.declared.line.Detail.{Detail}
 use Rattle.schedule_text.specs.declared.line.Line.{Line}
 use Rattle.split_model.specs.World.{World, start_of}
 use Rattle.split_model.specs.Happening.{Happening, after}
+use Rattle.schedule_text.specs.Range.{AreOptions}
 use Rattle.schedule_text.specs.Recorder.{kept_of}
 use Rattle.split_model.specs.Report.{report_of, ended_report_of}
 use Rattle.machine_pipeline.specs.Plain.{IsPlain}
-use Rattle.machine_pipeline.specs.Allowed.{AreServed}
+use Rattle.machine_pipeline.specs.Allowed.{AreServed, ArePossible}
 
 -- of the report of each history
 abbrev pub OfEachReport : (Options → Detail → List Line → Type 0) → Type 0
@@ -17,6 +18,30 @@ OfEachReport Rule = (config : Options) (detail : Detail) (history : List Happeni
 -- of each with its last line
 abbrev pub OfEachEnded : (Options → Detail → List Line → Type 0) → Type 0
 OfEachEnded Rule = (config : Options) (detail : Detail) (history : List Happening) → Rule config detail (kept_of detail (ended_report_of config detail history))
+
+-- of the report of each history that may happen, with words of the guest's memory overwritten
+abbrev pub OfPossibleReports : (Options → Detail → List Line → Type 0) → Type 0
+OfPossibleReports Rule =
+    (config : Options) (detail : Detail) (history : List Happening) → ArePossible history (start_of config)
+    → Rule config detail (kept_of detail (report_of config detail history))
+
+-- of each of these with its last line
+abbrev pub OfPossibleEnded : (Options → Detail → List Line → Type 0) → Type 0
+OfPossibleEnded Rule =
+    (config : Options) (detail : Detail) (history : List Happening) → ArePossible history (start_of config)
+    → Rule config detail (kept_of detail (ended_report_of config detail history))
+
+-- of the report of each such history with options of the grammar, where it has fewer than 2 ^ 64 lines
+abbrev pub OfShortReports : (Options → Detail → List Line → Type 0) → Type 0
+OfShortReports Rule =
+    (config : Options) (detail : Detail) (history : List Happening) → AreOptions config → ArePossible history (start_of config) → length (report_of config detail history) < 2 ^ 64
+    → Rule config detail (kept_of detail (report_of config detail history))
+
+-- of each of these with its last line
+abbrev pub OfShortEnded : (Options → Detail → List Line → Type 0) → Type 0
+OfShortEnded Rule =
+    (config : Options) (detail : Detail) (history : List Happening) → AreOptions config → ArePossible history (start_of config) → length (report_of config detail history) < 2 ^ 64
+    → Rule config detail (kept_of detail (ended_report_of config detail history))
 
 -- of the report of each history of reads and writes, on a ring of one page over a disk that may be written
 abbrev pub OfPlainReports : (Options → Detail → List Line → Type 0) → Type 0

@@ -4,7 +4,9 @@
 //! `split_model`; each law is over every list of happenings, of what a recorder keeps of the
 //! report, so with and without the lines of moves (`OfEachReport`), and where it says `OfPlain`
 //! the premises are those of `machine_pipeline`: reads and writes, of which the disk
-//! gives 128 words of 32 bits. What obeys a rule obeys it up to each of its lines.
+//! gives 128 words of 32 bits, and a machine that is quiet where it is found so. `OfPossible` lets
+//! a hostile hand overwrite words too, and so does `OfShort`, of reports of fewer than 2^64 lines.
+//! What obeys a rule obeys it up to each of its lines.
 #![tactic(auto)]
 
 ghost use Rattle.std.specs.Prelude.{◌≡◌, ℕ, ◌≤◌, ◌^◌, List, [], ◌∷◌, ◌++◌, Contains};
@@ -15,15 +17,15 @@ ghost use Rattle.schedule_text.specs.declared.line.Detail.{Detail};
 ghost use Rattle.schedule_text.specs.declared.line.Detail.TheVariants.{Lines, Moves};
 ghost use Rattle.schedule_text.specs.declared.line.Line.{Line};
 ghost use Rattle.schedule_text.specs.declared.line.Line.TheVariants.{Quiet, Answer};
-ghost use Rattle.schedule_text.specs.Range.{AreOptions};
 ghost use Rattle.schedule_text.specs.Recorder.{report_text};
 ghost use Rattle.split_model.specs.Happening.{Happening, lines_at};
+ghost use Rattle.machine_pipeline.specs.Allowed.{IsServed};
 ghost use Rattle.report_laws.specs.Begun.{IsBegun, IsBegunSoFar};
 ghost use Rattle.report_laws.specs.Ready.{IsReadyFirst};
 ghost use Rattle.report_laws.specs.AtRest.{IsAtRest};
 ghost use Rattle.report_laws.specs.QuietRing.{IsQuietRing};
 ghost use Rattle.report_laws.specs.Grammar.{AreInGrammar, IsInGrammar};
-ghost use Rattle.report_laws.specs.Reports.{OfEachReport, OfEachEnded, OfPlainReports, OfPlainEnded, OfPlainMachines};
+ghost use Rattle.report_laws.specs.Reports.{OfEachReport, OfEachEnded, OfPossibleReports, OfPossibleEnded, OfShortReports, OfShortEnded, OfPlainReports, OfPlainEnded, OfPlainMachines};
 ghost use Rattle.report_laws.specs.Wrong.{begun_twice, moved, ready_late, unserved, unread};
 
 /// `begin` is its first line and stands nowhere else, and lines of moves stand only where it says
@@ -35,17 +37,19 @@ pub fn every_report_begins_once()
         → IsBegunSoFar config detail first }
 {}
 
-/// A `ready` line stands before each `quiet` line.
+/// A `ready` line stands before each `quiet` line. The premise (`ArePossible`) is that where all is
+/// found quiet it is.
 pub fn no_report_is_quiet_before_it_is_ready()
-    ensures report { OfEachReport (λ config detail report. IsReadyFirst report) }
-    ensures ended { OfEachEnded (λ config detail report. IsReadyFirst report) }
+    ensures report { OfPossibleReports (λ config detail report. IsReadyFirst report) }
+    ensures ended { OfPossibleEnded (λ config detail report. IsReadyFirst report) }
     ensures before { (first more : List Line) → IsReadyFirst (first ++ more) → IsReadyFirst first }
 {}
 
 /// Wherever the machine shows `quiet`, for a `settle` or a `look`, its ring holds no request that
-/// isn't served and no response that isn't read, and nothing is left at either end.
+/// isn't served and no response that isn't read, and nothing is left at either end. What happens
+/// next is one of the happenings that may (`IsServed`), so `quiet` is shown only of a quiet machine.
 pub fn a_quiet_machine_is_at_rest()
-    ensures { OfPlainMachines (λ w. (next : Happening) → Contains (lines_at w next) Quiet → IsAtRest w) }
+    ensures { OfPlainMachines (λ w. (next : Happening) → IsServed w next → Contains (lines_at w next) Quiet → IsAtRest w) }
 {}
 
 /// So the ring's words say, by the moves before each `quiet` line.
@@ -55,10 +59,11 @@ pub fn a_quiet_ring_is_served_and_read()
     ensures before { (first more : List Line) → IsQuietRing (first ++ more) → IsQuietRing first }
 {}
 
-/// Each line is one of the grammar, and the report's text gives back exactly its lines.
+/// Each line is one of the grammar, and the report's text gives back exactly its lines, whatever
+/// words of memory are overwritten.
 pub fn every_report_is_in_the_grammar()
-    ensures report { OfPlainReports (λ config detail report. AreOptions config → IsInGrammar report) }
-    ensures ended { OfPlainEnded (λ config detail report. AreOptions config → IsInGrammar report) }
+    ensures report { OfShortReports (λ config detail report. IsInGrammar report) }
+    ensures ended { OfShortEnded (λ config detail report. IsInGrammar report) }
     ensures before { (first more : List Line) → IsInGrammar (first ++ more) → IsInGrammar first }
 {}
 

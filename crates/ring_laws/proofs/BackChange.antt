@@ -1,10 +1,8 @@
 -- What a move of the back makes of the jobs, and what it shows.
 use Rattle.std.proofs.Common.{◌≡◌, ℕ, ◌+◌, ◌≤◌, ◌==◌, Bool, true, false, if◌then◌else◌, [], ◌∷◌, ◌++◌, length, refl, arith}
 use Rattle.std.specs.Prelude.{Option, Some, None, is_some, position, Result, Ok, Err}
-use Rattle.std.proofs.lemmas.Option.{none-some}
 use Rattle.blk_base.specs.declared.operation.Abi.TheVariants.{X64}
 use Rattle.blk_base.specs.declared.parts.Mode.{Mode}
-use Rattle.blk_base.specs.declared.parts.End.TheVariants as end
 use Rattle.blk_base.specs.declared.ask.FrontAsk.{FrontAsk}
 use Rattle.blk_base.specs.declared.ask.FrontAsk.TheVariants as front_ask
 use Rattle.blk_base.specs.declared.ask.BackAsk.{BackAsk}
@@ -16,7 +14,7 @@ use Rattle.grant_table.specs.declared.entry.MapRefusal.{MapRefusal}
 use Rattle.grant_table.specs.Table.{verdict_at}
 use Rattle.event_channel.specs.declared.channels.PortState.{PortState}
 use Rattle.event_channel.specs.declared.channels.PortState.TheVariants as port
-use Rattle.event_channel.specs.Channels.{state_of, is_pending}
+use Rattle.event_channel.specs.Channels.{state_of}
 use Rattle.hypervisor.specs.Hypervisor.{Hypervisor}
 use Rattle.hypervisor.specs.Act.{FrontAct, BackAct, Outcome, front_act, back_act, map_act, bind_act}
 use Rattle.ring_words.specs.Ring.{requests_of, overruns, notifies}
@@ -180,7 +178,6 @@ front_by h (front_ask.Watch path) a own e = absurd own
 
 pub front_told_by : (t : Option Told) → AreBystanders (front_lines t)
 front_told_by None = tt
-front_told_by (Some front_told.Ready) = (record { plain = refl; unstepped = refl }, tt)
 front_told_by (Some (front_told.Answer id status)) = (record { plain = refl; unstepped = refl }, tt)
 front_told_by (Some (front_told.Sector id index words)) = (record { plain = refl; unstepped = refl }, tt)
 front_told_by (Some (front_told.Broken word)) = (record { plain = refl; unstepped = refl }, tt)

@@ -1,5 +1,5 @@
 -- The jobs that the rule finds for the replies so far, matched with those that the back answered; they stay due what they were due, and so do those that the reply under way may answer.
-use Rattle.std.proofs.Common.{◌≡◌, ℕ, ◌+◌, ◌≤◌, false, List, [], ◌∷◌, ◌++◌, length, map, refl, ap, sym, ◌∙◌, subst, arith}
+use Rattle.std.proofs.Common.{◌≡◌, ℕ, ◌+◌, ◌≤◌, Bool, List, [], ◌∷◌, ◌++◌, length, map, refl, ap, sym, ◌∙◌, subst, arith}
 use Rattle.std.specs.Prelude.{Some, IfSome}
 use Rattle.std.specs.List.{AllByRecursion}
 use Rattle.std.proofs.lemmas.List.{map-append}
@@ -22,7 +22,7 @@ use Rattle.ring_laws.proofs.Matching.{Matched, chosen_of, answer_of}
 use Rattle.ring_laws.proofs.Rows.{lines_none, lines_aside, answered_aside}
 use Rattle.ring_laws.proofs.Stays.{IsOn, AreIdle, due_aside}
 use Rattle.ring_laws.proofs.WrittenBack.{RowGoes, rests, grows, ends}
-use Rattle.ring_laws.proofs.WrittenElse.{AreElse}
+use Rattle.ring_laws.proofs.Written.{AllPass}
 
 abbrev pub words_in : Matched → List ℕ
 words_in m = let a : Answered = m.answer in response_words_of a.response
@@ -79,8 +79,8 @@ rests_all : (before : List Line) (t : Stage) → under_way t ≡ [] → (k : ℕ
 rests_all before t none k words due = fresh before k words (sym (ap (λ (n : ℕ). response_due (lines_before before n) k) (none_long t none)) ∙ due)
 
 -- lines of others
-pub chosen_aside : (before ys : List Line) (s : Stage) (answered : List Answered) → AreElse ys → IsOn before ys → AreIdle before ys → IsChosen before s answered → IsChosen (before ++ ys) s answered
-chosen_aside before ys s answered all on idle c = record {
+pub chosen_aside : (own : Bool) (before ys : List Line) (s : Stage) (answered : List Answered) → AllPass own ys → IsOn before ys → AreIdle before ys → IsChosen before s answered → IsChosen (before ++ ys) s answered
+chosen_aside own before ys s answered all on idle c = record {
   matched = c.matched;
   chosen = told ∙ c.chosen;
   answers = c.answers;
@@ -90,20 +90,20 @@ chosen_aside before ys s answered all on idle c = record {
 }
   where
     told : answered_in (before ++ ys) ≡ answered_in before
-    told = answered_aside false ys before all
+    told = answered_aside own ys before all
 
     stays_in : (s : Stage) → ((k : ℕ) (words : List ℕ) → response_due (lines_before before (length (under_way s))) k ≡ Some words → response_due before k ≡ Some words)
         → (k : ℕ) (words : List ℕ) → response_due (lines_before (before ++ ys) (length (under_way s))) k ≡ Some words → response_due (before ++ ys) k ≡ Some words
-    stays_in (stage.ReplyHigh r) stays = still before ys 1 1 on idle (lines_aside false ys before 1 all (omega arith)) stays
-    stays_in (stage.ReplyLast r) stays = still before ys 2 2 on idle (lines_aside false ys before 2 all (omega arith)) stays
-    stays_in (stage.Producer r) stays = still before ys 3 3 on idle (lines_aside false ys before 3 all (omega arith)) stays
+    stays_in (stage.ReplyHigh r) stays = still before ys 1 1 on idle (lines_aside own ys before 1 all (omega arith)) stays
+    stays_in (stage.ReplyLast r) stays = still before ys 2 2 on idle (lines_aside own ys before 2 all (omega arith)) stays
+    stays_in (stage.Producer r) stays = still before ys 3 3 on idle (lines_aside own ys before 3 all (omega arith)) stays
     stays_in s stays = fresh (before ++ ys)
 
     row_in : (s : Stage) → ((k : ℕ) (words : List ℕ) → response_due (lines_before before (length (under_way s))) k ≡ Some words → response_due before k ≡ Some words)
         → IfSome (row_at s) (λ (r : Reply). Candidate before (length (under_way s)) (response_in r)) → IfSome (row_at s) (λ (r : Reply). Candidate (before ++ ys) (length (under_way s)) (response_in r))
-    row_in (stage.ReplyHigh r) stays row = kept before ys 1 1 (response_in r) on idle (lines_aside false ys before 1 all (omega arith)) told stays row
-    row_in (stage.ReplyLast r) stays row = kept before ys 2 2 (response_in r) on idle (lines_aside false ys before 2 all (omega arith)) told stays row
-    row_in (stage.Producer r) stays row = kept before ys 3 3 (response_in r) on idle (lines_aside false ys before 3 all (omega arith)) told stays row
+    row_in (stage.ReplyHigh r) stays row = kept before ys 1 1 (response_in r) on idle (lines_aside own ys before 1 all (omega arith)) told stays row
+    row_in (stage.ReplyLast r) stays row = kept before ys 2 2 (response_in r) on idle (lines_aside own ys before 2 all (omega arith)) told stays row
+    row_in (stage.Producer r) stays row = kept before ys 3 3 (response_in r) on idle (lines_aside own ys before 3 all (omega arith)) told stays row
     row_in s stays row = tt
 
 same_answers : (s : Stage) (answered : List Answered) (k prod : ℕ) → under_way s ≡ [] → answered_then s answered k prod ≡ answered

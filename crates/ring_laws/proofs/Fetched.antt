@@ -9,6 +9,7 @@ use Rattle.blk_base.specs.declared.operation.Abi.{Abi}
 use Rattle.blk_base.specs.declared.operation.Abi.TheVariants.{X64}
 use Rattle.blk_base.specs.declared.parts.Mode.{Mode}
 use Rattle.blk_base.specs.declared.moves.BackMover.TheVariants as back
+use Rattle.blk_base.specs.declared.moves.Mover.TheVariants as mover
 use Rattle.blk_base.specs.declared.moves.Move.TheVariants as moves
 use Rattle.blk_layout.specs.declared.request.RawRequest.{RawRequest}
 use Rattle.blk_layout.specs.Entry.{request_of}
@@ -25,7 +26,7 @@ use Rattle.report_rules.specs.Published.{is_persistent}
 use Rattle.report_rules.specs.Job.{when, entry_value, entry_values, words_of_job, is_fetched, request_in, request_told, fetched_with, told_first, fetched_of}
 use Rattle.report_rules.proofs.Prefixes.{fetched_more}
 use Rattle.blk_back.specs.View.{info_of as back_info}
-use Rattle.ring_laws.proofs.Sight.{is_other, other_epoch, other_page, other_touch, untouched_word}
+use Rattle.ring_laws.proofs.Sight.{is_other, other_epoch, other_page, other_touch, untouched_word, layout_kept}
 use Rattle.ring_laws.proofs.Shows.{Sight, Shows, IsOnPages, other_on_pages, untouched_value, values_more, pages_kept, pages_more, abi_more, shows_map}
 use Rattle.ring_laws.proofs.Touches.{read_on}
 use Rattle.ring_laws.proofs.Began.{request_at}
@@ -60,7 +61,7 @@ fetched_aside (y ∷ ys) before k all =
 values_still : (before : List Line) (line : Line) → IsOnPages line → entry_value before line ≡ None → entry_values (before ++ line ∷ []) ≡ entry_values before
 values_still before line on none = values_more before line on ∙ (ap (λ (v : Option ℕ). entry_values before ++ option_to_list v) none ∙ append-nil (entry_values before))
 
-values_aside : (ys before : List Line) → AreOther ys → entry_values (before ++ ys) ≡ entry_values before
+pub values_aside : (ys before : List Line) → AreOther ys → entry_values (before ++ ys) ≡ entry_values before
 values_aside [] before all = ap entry_values (append-nil before)
 values_aside (y ∷ ys) before all =
     ap entry_values (sym (append_assoc before (y ∷ []) ys))
@@ -124,7 +125,7 @@ one_page before x number word w shows read = by_pages x.pages refl
 shape_then : (before : List Line) (line : Line) → IsOnPages line → ring_abi before ≡ Some X64 → ring_order before ≡ Some 0 → ring_shape (before ++ line ∷ []) ≡ Some (record { abi = X64; order = 0 })
 shape_then before line on abi order =
     let pages : ring_pages (before ++ line ∷ []) ≡ ring_pages before = pages_kept before line on.same_epoch on.page in
-    let same : ring_abi (before ++ line ∷ []) ≡ Some X64 = abi_more before line on.same_epoch ∙ (on.abi (ring_abi before) ∙ abi) in
+    let same : ring_abi (before ++ line ∷ []) ≡ Some X64 = abi_more before line on.same_epoch ∙ (ap (λ (a : Option Abi). abi_after a line) abi ∙ on.abi) in
     ap (λ (a : Option Abi). shape_of a (ring_order (before ++ line ∷ []))) same
     ∙ (ap (λ (ps : List Standing). shape_of (Some X64) (order_of (length ps))) pages ∙ ap (λ (o : Option ℕ). shape_of (Some X64) o) order)
 
@@ -148,15 +149,15 @@ no_value before (lines.Move (moves.Read back.Back number frame word value)) none
 no_value before line none = refl
 
 plain_on : (line : Line) → is_plain line ≡ true → page_made line ≡ None → IsOnPages line
-plain_on line plain none = record { same_epoch = plain_epoch line plain; start = λ n. starts n line plain; page = none; abi = λ abi. names abi line plain }
+plain_on line plain none = record { same_epoch = plain_epoch line plain; start = λ n. starts n line plain; page = none; abi = names line plain }
   where
     starts : (n : ℕ) (l : Line) → is_plain l ≡ true → start_told n l ≡ n
     starts n (lines.Begin config detail) e = absurd (cc)
     starts n l e = refl
 
-    names : (abi : Option Abi) (l : Line) → is_plain l ≡ true → abi_after abi l ≡ abi
-    names abi (lines.Move (moves.GetKey who path text)) e = absurd (cc)
-    names abi l e = refl
+    names : (l : Line) → is_plain l ≡ true → abi_after (Some X64) l ≡ Some X64
+    names (lines.Move (moves.GetKey mover.Back path text)) e = layout_kept path text e
+    names l e = refl
 
 -- the ring's first page is mapped: no word was read before
 first_map : (before ys : List Line) (x y : Sight) (gref number frame : ℕ) (mode : Mode) → AreOther ys → Shows before x → Shows ((before ++ lines.Move (moves.Map back.Back gref mode number frame) ∷ []) ++ ys) y → x.pages ≡ []

@@ -6,7 +6,6 @@ use Rattle.std.proofs.lemmas.Option.{none-some}
 use Rattle.std.proofs.lemmas.List.{append-nil}
 use Rattle.blk_base.specs.declared.config.Job.{Job}
 use Rattle.blk_base.specs.declared.parts.Mode.{Mode}
-use Rattle.blk_base.specs.declared.parts.End.TheVariants as end
 use Rattle.blk_base.specs.declared.ask.FrontAsk.{FrontAsk}
 use Rattle.blk_base.specs.declared.ask.FrontAsk.TheVariants as front_ask
 use Rattle.blk_base.specs.declared.ask.BackAsk.{BackAsk}
@@ -18,12 +17,12 @@ use Rattle.blk_base.specs.declared.moves.Move.{Move}
 use Rattle.blk_base.specs.declared.moves.Move.TheVariants as moves
 use Rattle.grant_table.specs.declared.entry.MapRefusal.{MapRefusal}
 use Rattle.grant_table.specs.Table.{verdict_at}
-use Rattle.event_channel.specs.Channels.{is_pending}
 use Rattle.hypervisor.specs.Hypervisor.{Hypervisor}
 use Rattle.hypervisor.specs.Act.{FrontAct, BackAct, Outcome, Gave, Took, Failed, front_act, back_act, map_act, read_act, disk_act}
 use Rattle.schedule_text.specs.declared.line.Line.{Line}
 use Rattle.schedule_text.specs.declared.line.Line.TheVariants as lines
 use Rattle.report_rules.specs.Overrun.{is_service}
+use Rattle.report_rules.specs.Stretch.{IsStretchAt}
 use Rattle.report_rules.specs.Reply.{is_of_back}
 use Rattle.blk_front.specs.declared.told.Told.{Told}
 use Rattle.blk_front.specs.declared.told.Told.TheVariants as front_told
@@ -50,18 +49,21 @@ pub record IsFree (over : Bool) (line : Line) : Type 0 where
 abbrev pub AreFree : Bool → List Line → Type 0
 AreFree over ls = AllByRecursion (IsFree over) ls
 
+-- a line that the rules of the ring pass over, where the rule on stretches allows it
+pub follow_other : (start : ℕ) (values : List ℕ) (before : List Line) (line : Line) (v : View) → is_other line ≡ true → (is_some v.halted ≡ true → is_service line ≡ false) → is_overrun line ≡ false → IsStretchAt before line → Follows start values before v → Follows start values (before ++ line ∷ []) v
+follow_other start values before line v other idle plain stretch f = record {
+  sight = f.sight;
+  begun = f.begun;
+  more = f.more;
+  grown = f.grown;
+  shows = shows_other before line f.sight other f.shows;
+  knows = f.knows;
+  stands = ring_more before line f.sight.start (is_some v.halted) f.stands (other_epoch line other) (shows_none before line (untouched_produced before line (other_touch line other))) idle plain (λ small. stretch);
+}
+
 pub follow_free : (start : ℕ) (values : List ℕ) (before : List Line) (line : Line) (v : View) → IsFree (is_some v.halted) line → Follows start values before v → Follows start values (before ++ line ∷ []) v
 follow_free start values before line v free f =
-    let still = other_touch line free.other in
-    record {
-      sight = f.sight;
-      begun = f.begun;
-      more = f.more;
-      grown = f.grown;
-      shows = shows_other before line f.sight free.other f.shows;
-      knows = f.knows;
-      stands = ring_more before line f.sight.start (is_some v.halted) f.stands (other_epoch line free.other) (shows_none before line (untouched_produced before line still)) free.idle free.plain (λ small. foreign_stretch before line free.foreign (untouched_word before line still));
-    }
+    follow_other start values before line v free.other free.idle free.plain (foreign_stretch before line free.foreign (untouched_word before line (other_touch line free.other))) f
 
 pub follow_all : (start : ℕ) (values : List ℕ) (more before : List Line) (v : View) → AreFree (is_some v.halted) more → Follows start values before v → Follows start values (before ++ more) v
 follow_all start values [] before v free f = subst (λ (ls : List Line). Follows start values ls v) (sym (append-nil before)) f
@@ -133,7 +135,6 @@ job_running false h k ask o a e = refl
 
 pub free_front : (over : Bool) (t : Option Told) → AreFree over (front_lines t)
 free_front over None = tt
-free_front over (Some front_told.Ready) = (free over lines.Ready refl refl refl refl, tt)
 free_front over (Some (front_told.Answer id status)) = (free over (lines.Answer id status) refl refl refl refl, tt)
 free_front over (Some (front_told.Sector id index words)) = (free over (lines.Data id index words) refl refl refl refl, tt)
 free_front over (Some (front_told.Broken word)) = (free over (lines.Broken word) refl refl refl refl, tt)

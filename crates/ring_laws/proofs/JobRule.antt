@@ -16,7 +16,7 @@ use Rattle.report_rules.specs.declared.job.Fetched.{Fetched}
 use Rattle.report_rules.specs.Standing.{is_epoch, this_epoch}
 use Rattle.report_rules.specs.Work.{work_tasks}
 use Rattle.report_rules.specs.Job.{fetched_of, id_of, disk_moves_of}
-use Rattle.report_rules.specs.Published.{info_told, serving, serving_after, kept_by, keeping_after}
+use Rattle.report_rules.specs.Published.{info_told, serving, serving_after}
 use Rattle.report_rules.specs.Step.{stepper, values_read, work_of}
 use Rattle.report_rules.specs.Walk.{step_at, is_step_at, spot_behind, is_unmapped_step, spot_in, advanced, walk_of, spot_of}
 use Rattle.report_rules.specs.Steps.{gref_of, touched_by, IsKeptFor, IsThrough, IsNextStep, IsStepOf, IsStepAt}
@@ -28,7 +28,7 @@ use Rattle.ring_laws.proofs.JobLines.{is_disk_of}
 use Rattle.ring_laws.proofs.Places.{IsStepOn}
 use Rattle.ring_laws.proofs.JobSteps.{IsDataBy, Steps}
 use Rattle.ring_laws.proofs.Began.{request_at}
-use Rattle.ring_laws.proofs.Bystanders.{IsRule, is_plain, if_some, some_and, no_effect}
+use Rattle.ring_laws.proofs.Bystanders.{IsRule, KeepsNone, is_plain, if_some, some_and, no_effect}
 use Rattle.ring_laws.proofs.Fetched.{fetched_in}
 
 -- a move that takes a job on is the next step of its next task
@@ -103,7 +103,7 @@ own_rule config before values k shown work quiet asked plan plain own s = record
 -- what a line that tells of a move of the disk is
 pub record IsTold (shown : Move) (k id index : ℕ) (line : Line) : Type 0 where
   pub same_epoch : is_epoch line ≡ false
-  pub keeps : keeping_after (kept_by false false) line ≡ kept_by false false
+  pub keeps : KeepsNone line
   pub serves : serving_after (serving false false false false) line ≡ serving false false false false
   pub tells : (info : DiskInfo) → info_told info line ≡ info
   pub still : disk_move_of line ≡ None
@@ -119,16 +119,16 @@ pub data ToldBy (epoch : List Line) (shown : Move) (k id index : ℕ) (told : Li
 
 pub effect_done : (k sector id index : ℕ) → IsTold (moves.DiskWrite k sector) k id index (lines.Effect id index)
 effect_done k sector id index =
-    record { same_epoch = refl; keeps = refl; serves = refl; tells = λ info. refl; still = refl; unstepped = refl; step = λ before. tt; moved = λ before. tt; effect = λ before shows request place. record { told = if_some _ shows (record { done = refl; request = request; place = place }); only = λ some none. absurd (cc) } }
+    record { same_epoch = refl; keeps = λ s none. none; serves = refl; tells = λ info. refl; still = refl; unstepped = refl; step = λ before. tt; moved = λ before. tt; effect = λ before shows request place. record { told = if_some _ shows (record { done = refl; request = request; place = place }); only = λ some none. absurd (cc) } }
 
 pub effect_given : (k sector id index : ℕ) (words : List ℕ) → IsTold (moves.DiskRead k sector) k id index (lines.EffectRead id index words)
 effect_given k sector id index words =
-    record { same_epoch = refl; keeps = refl; serves = refl; tells = λ info. refl; still = refl; unstepped = refl; step = λ before. tt; moved = λ before. tt; effect = λ before shows request place. record { told = if_some _ shows (record { done = refl; request = request; place = place }); only = λ some none. absurd (cc) } }
+    record { same_epoch = refl; keeps = λ s none. none; serves = refl; tells = λ info. refl; still = refl; unstepped = refl; step = λ before. tt; moved = λ before. tt; effect = λ before shows request place. record { told = if_some _ shows (record { done = refl; request = request; place = place }); only = λ some none. absurd (cc) } }
 
 pub write_failed : (k sector id index : ℕ) → IsTold (moves.DiskWrite k sector) k id index (lines.Fault id index)
 write_failed k sector id index =
-    record { same_epoch = refl; keeps = refl; serves = refl; tells = λ info. refl; still = refl; unstepped = refl; step = λ before. tt; moved = λ before. tt; effect = λ before shows request place. record { told = if_some _ shows (record { done = tt; request = request; place = place }); only = λ some none. absurd (cc) } }
+    record { same_epoch = refl; keeps = λ s none. none; serves = refl; tells = λ info. refl; still = refl; unstepped = refl; step = λ before. tt; moved = λ before. tt; effect = λ before shows request place. record { told = if_some _ shows (record { done = tt; request = request; place = place }); only = λ some none. absurd (cc) } }
 
 pub read_failed : (k sector id index : ℕ) → IsTold (moves.DiskRead k sector) k id index (lines.Fault id index)
 read_failed k sector id index =
-    record { same_epoch = refl; keeps = refl; serves = refl; tells = λ info. refl; still = refl; unstepped = refl; step = λ before. tt; moved = λ before. tt; effect = λ before shows request place. record { told = if_some _ shows (record { done = tt; request = request; place = place }); only = λ some none. absurd (cc) } }
+    record { same_epoch = refl; keeps = λ s none. none; serves = refl; tells = λ info. refl; still = refl; unstepped = refl; step = λ before. tt; moved = λ before. tt; effect = λ before shows request place. record { told = if_some _ shows (record { done = tt; request = request; place = place }); only = λ some none. absurd (cc) } }

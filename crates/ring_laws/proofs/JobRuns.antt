@@ -26,25 +26,27 @@ use Rattle.blk_back.specs.declared.told.Halt.{Halt}
 use Rattle.blk_back.specs.Ask.{ask_of}
 use Rattle.blk_back.specs.View as back
 use Rattle.blk_back.specs.Step as back_step
-use Rattle.split_model.specs.World.{World, start_of, is_quiet}
-use Rattle.split_model.specs.Happening.{Happening, FrontMoves, BackMoves, JobMoves, Submits, Notifies, Pokes, Dumps, Looks, Settles, poke_lines, ring_lines, happens, lines_at, after, front_after, front_shows, back_after, back_shows, job_after, job_shows, front_turn, back_turn, job_turn, submit_line}
+use Rattle.split_model.specs.World.{World, start_of}
+use Rattle.split_model.specs.Happening.{Happening, FrontMoves, BackMoves, JobMoves, Negotiates, Connects, Submits, Notifies, Pokes, Dumps, Looks, Settles, poke_lines, ring_lines, happens, lines_at, after, front_after, front_shows, back_after, back_shows, job_after, job_shows, front_turn, back_turn, job_turn, submit_line}
 use Rattle.split_model.specs.Safe.{IsSafe}
 use Rattle.split_model.proofs.Safe.{safe_start, safe_happens}
 use Rattle.split_model.specs.Shown.{back_lines, halt_lines}
 use Rattle.split_model.proofs.SafeAnswers.{backs_of, jobs_of, fronts_no_key}
+use Rattle.split_model.specs.Keys.{is_between}
 use Rattle.split_model.specs.Report.{report_of, ended_report_of}
+use Rattle.split_model.proofs.Keys.{NamesNoOther, named_start, named_happens}
 use Rattle.move_laws.specs.Permitted.{IsPermitted}
 use Rattle.move_laws.proofs.Always.{always_within}
 use Rattle.move_laws.proofs.Runs as memory
 use Rattle.ring_laws.proofs.Shows.{Sight, Shows}
 use Rattle.ring_laws.proofs.Knows.{Follows}
 use Rattle.ring_laws.proofs.Stages.{back_goes}
-use Rattle.ring_laws.proofs.Outsiders.{AreOutsiders, poke_outsiders, dump_outsiders, outsiders_free, outsiders_by}
+use Rattle.ring_laws.proofs.Outsiders.{AreOutsiders, keys_outsiders, ready_outsiders, poke_outsiders, dump_outsiders, outsiders_other, outsiders_by}
 use Rattle.ring_laws.proofs.Free.{IsFree, AreFree, front_free, job_free, job_running, free_front, free_told, free_submit, free_look, free_settle}
 use Rattle.ring_laws.proofs.Runs.{FollowsTo, follows_happens, follows_begin}
 use Rattle.ring_laws.proofs.Works.{no_jobs}
 use Rattle.ring_laws.proofs.Bystanders.{IsRule, IsBystander, AreBystanders, Aside, bystanders_go, no_effect}
-use Rattle.ring_laws.proofs.Fetched.{AreFetched, AreOther, fetched_in, others_fetched, back_fetched}
+use Rattle.ring_laws.proofs.Fetched.{AreFetched, AreOther, fetched_in, values_aside, others_fetched, back_fetched}
 use Rattle.ring_laws.proofs.BackChange.{back_by, front_by, front_told_by}
 use Rattle.ring_laws.proofs.Tells.{Tells, tells_aside, shows_free}
 use Rattle.ring_laws.proofs.BackTells.{lines_of_back, back_tells}
@@ -57,6 +59,7 @@ pub record Stand (config : Options) (before : List Line) (w : World) : Type 0 wh
   pub ring : FollowsTo config.start before w
   pub memory : memory.FollowsTo before w
   pub safe : IsSafe w
+  pub named : NamesNoOther w.under.keys
   pub tells : Tells config before w.back
   pub fetched : AreFetched config before
 
@@ -109,20 +112,22 @@ pub settle_by : (quiet : Bool) → IsBystander (if quiet then lines.Quiet else l
 settle_by true = record { plain = refl; unstepped = refl }
 settle_by false = record { plain = refl; unstepped = refl }
 
--- lines of neither end
-outside : (config : Options) (w : World) (before ys : List Line) → AreOutsiders ys → Stand config before w → Tells config (before ++ ys) w.back
-outside config w before ys all s = aside config config.start before ys w.back s.ring.follows (outsiders_free (is_some w.back.halted) ys all) (outsiders_by ys all) s.tells
+-- lines between all others
+outside : (config : Options) (own : Bool) (w : World) (before ys : List Line) → AreOutsiders own ys → Stand config before w → Tells config (before ++ ys) w.back
+outside config own w before ys all s = tells_aside config before ys w.back (outsiders_by own ys all) (values_aside ys before (outsiders_other own ys all)) s.tells
 
 tells_happens : (config : Options) (w : World) (h : Happening) (before : List Line) → Stand config before w → length (before ++ lines_at w h) < 2 ^ 64 → (let n : World = happens w h in Tells config (before ++ lines_at w h) n.back)
 tells_happens config w FrontMoves before s few = front_after_tells config w (before ++ front_shows w (front_turn w)) (front_turn w) (front_tells config w before (front_turn w) s.ring s.tells refl)
 tells_happens config w BackMoves before s few = back_goes_on config w before Took (back_turn w Took) s.ring s.tells refl few
 tells_happens config w (JobMoves number outcome) before s few = job_goes_on config w before number outcome (job_turn w number outcome) s refl
+tells_happens config w (Negotiates at move) before s few = outside config (is_between w.back.stage) w before (lines_at w (Negotiates at move)) (keys_outsiders w.back.stage at move w.under.keys s.named) s
+tells_happens config w Connects before s few = outside config true w before (lines_at w Connects) (ready_outsiders true w.front.stage) s
 tells_happens config w (Submits job) before s few = aside config config.start before (lines_at w (Submits job)) w.back s.ring.follows (free_submit (is_some w.back.halted) job (front_submit.submit_of w.front job).0, tt) (submit_by job (front_submit.submit_of w.front job).0, tt) s.tells
 tells_happens config w (Notifies at) before s few = no_lines config before w.back s.tells
-tells_happens config w (Pokes frame word value) before s few = outside config w before (poke_lines frame word value) (poke_outsiders frame word value) s
-tells_happens config w Dumps before s few = outside config w before (ring_lines w.under.pages 0 1024) (dump_outsiders w.under.pages) s
-tells_happens config w Looks before s few = aside config config.start before (lines_at w Looks) w.back s.ring.follows (free_look (is_some w.back.halted) (is_quiet w), tt) (look_by (is_quiet w), tt) s.tells
-tells_happens config w Settles before s few = aside config config.start before (lines_at w Settles) w.back s.ring.follows (free_settle (is_some w.back.halted) (is_quiet w), tt) (settle_by (is_quiet w), tt) s.tells
+tells_happens config w (Pokes frame word value) before s few = outside config true w before (poke_lines frame word value) (poke_outsiders true frame word value) s
+tells_happens config w Dumps before s few = outside config true w before (ring_lines w.under.pages 0 1024) (dump_outsiders true w.under.pages) s
+tells_happens config w (Looks quiet) before s few = aside config config.start before (lines_at w (Looks quiet)) w.back s.ring.follows (free_look (is_some w.back.halted) quiet, tt) (look_by quiet, tt) s.tells
+tells_happens config w (Settles quiet) before s few = aside config config.start before (lines_at w (Settles quiet)) w.back s.ring.follows (free_settle (is_some w.back.halted) quiet, tt) (settle_by quiet, tt) s.tells
 
 -- the lines of each mover tell what was fetched
 others_of : (over : Bool) (ys : List Line) → AreFree over ys → AreOther ys
@@ -169,25 +174,28 @@ job_fetches config w before k o (Some a) e are =
     let running : is_some w.back.halted ≡ false = job_running (is_some w.back.halted) w.under k (ask_job w.back.jobs k) o a e in
     others_fetched config before (job_shows w k (Some a)) (others_of over (job_shows w k (Some a)) (job_free over w.under k (back_step.job_ask_of w.back k) o a running (jobs_of w.back k) e, free_told over _ a.answer running)) are
 
-outside_fetched : (config : Options) (before ys : List Line) → AreOutsiders ys → AreFetched config before → AreFetched config (before ++ ys)
-outside_fetched config before ys all are = others_fetched config before ys (others_of false ys (outsiders_free false ys all)) are
+outside_fetched : (config : Options) (own : Bool) (before ys : List Line) → AreOutsiders own ys → AreFetched config before → AreFetched config (before ++ ys)
+outside_fetched config own before ys all are = others_fetched config before ys (outsiders_other own ys all) are
 
 fetched_happens : (config : Options) (w : World) (h : Happening) (before : List Line) → Stand config before w → AreFetched config (before ++ lines_at w h)
 fetched_happens config w FrontMoves before s = front_fetches config w before (front_turn w) refl s.fetched
 fetched_happens config w BackMoves before s = back_fetches config w before (back_turn w Took) refl s
 fetched_happens config w (JobMoves number outcome) before s = job_fetches config w before number outcome (job_turn w number outcome) refl s.fetched
+fetched_happens config w (Negotiates at move) before s = outside_fetched config (is_between w.back.stage) before (lines_at w (Negotiates at move)) (keys_outsiders w.back.stage at move w.under.keys s.named) s.fetched
+fetched_happens config w Connects before s = outside_fetched config true before (lines_at w Connects) (ready_outsiders true w.front.stage) s.fetched
 fetched_happens config w (Submits job) before s = let over : Bool = is_some w.back.halted in others_fetched config before (lines_at w (Submits job)) (others_of over (lines_at w (Submits job)) (free_submit over job (front_submit.submit_of w.front job).0, tt)) s.fetched
 fetched_happens config w (Notifies at) before s = no_fetch config before s.fetched
-fetched_happens config w (Pokes frame word value) before s = outside_fetched config before (poke_lines frame word value) (poke_outsiders frame word value) s.fetched
-fetched_happens config w Dumps before s = outside_fetched config before (ring_lines w.under.pages 0 1024) (dump_outsiders w.under.pages) s.fetched
-fetched_happens config w Looks before s = let over : Bool = is_some w.back.halted in others_fetched config before (lines_at w Looks) (others_of over (lines_at w Looks) (free_look over (is_quiet w), tt)) s.fetched
-fetched_happens config w Settles before s = let over : Bool = is_some w.back.halted in others_fetched config before (lines_at w Settles) (others_of over (lines_at w Settles) (free_settle over (is_quiet w), tt)) s.fetched
+fetched_happens config w (Pokes frame word value) before s = outside_fetched config true before (poke_lines frame word value) (poke_outsiders true frame word value) s.fetched
+fetched_happens config w Dumps before s = outside_fetched config true before (ring_lines w.under.pages 0 1024) (dump_outsiders true w.under.pages) s.fetched
+fetched_happens config w (Looks quiet) before s = let over : Bool = is_some w.back.halted in others_fetched config before (lines_at w (Looks quiet)) (others_of over (lines_at w (Looks quiet)) (free_look over quiet, tt)) s.fetched
+fetched_happens config w (Settles quiet) before s = let over : Bool = is_some w.back.halted in others_fetched config before (lines_at w (Settles quiet)) (others_of over (lines_at w (Settles quiet)) (free_settle over quiet, tt)) s.fetched
 
 pub stand_happens : (config : Options) (w : World) (h : Happening) (before : List Line) → IsPermitted w h → Stand config before w → length (before ++ lines_at w h) < 2 ^ 64 → Stand config (before ++ lines_at w h) (happens w h)
 stand_happens config w h before within s few = record {
-  ring = follows_happens config.start w h before s.ring;
+  ring = follows_happens config.start w h before s.named s.ring;
   memory = memory.follows_happens w h before s.safe within s.memory;
   safe = safe_happens w h s.safe;
+  named = named_happens w h s.named;
   tells = tells_happens config w h before s few;
   fetched = fetched_happens config w h before s;
 }
@@ -200,6 +208,7 @@ stand_start config detail = record {
   ring = record { follows = follows_begin config detail; told = refl };
   memory = memory.follows_begin config detail;
   safe = safe_start config;
+  named = named_start;
   tells = record {
     tale = record { obeys = obeys_more IsRule [] (lines.Begin config detail) (obeys_none IsRule) (begin_rule config detail); keeping = refl; serves = refl; told = refl };
     quiet = refl;

@@ -12,6 +12,7 @@ use Rattle.blk_back.specs.declared.told.Halt.{Halt}
 use Rattle.blk_back.specs.declared.stage.Stage.{Stage}
 use Rattle.blk_back.specs.declared.stage.Stage.TheVariants as stage
 use Rattle.blk_back.specs.View.{View}
+use Rattle.split_model.specs.Keys.{is_between}
 use Rattle.split_model.specs.Shown.{back_lines, halt_lines, halt_line}
 use Rattle.ring_laws.proofs.Shows.{Sight, Shows}
 use Rattle.ring_laws.proofs.Touches.{IsPage}
@@ -64,6 +65,17 @@ KnowsAt stage.ClosePort x ring page seen halted entry fetched = IsOver x halted
 KnowsAt stage.UnmapUnbound x ring page seen halted entry fetched = IsOver x halted
 KnowsAt stage.Halted x ring page seen halted entry fetched = IsOver x halted
 KnowsAt s x ring page seen halted entry fetched = Serves 0 x ring page seen halted entry fetched
+
+-- where no entry is being fetched the words of whole ones were read
+pub whole_words : (s : Stage) (x : Sight) (ring : Ring) (page : Mapping) (seen : ℕ) (halted : Option Halt) (entry : List ℕ) (fetched : ℕ) → is_between s ≡ true → KnowsAt s x ring page seen halted entry fetched → (count : ℕ) × (x.words ≡ 28 * count)
+whole_words stage.MapRing x ring page seen halted entry fetched is knows = (0, knows.words)
+whole_words (stage.Fetch k) x ring page seen halted entry fetched is knows = absurd (cc)
+whole_words (stage.GiveUp m) x ring page seen halted entry fetched is knows = (knows.count, knows.words)
+whole_words stage.UnmapRing x ring page seen halted entry fetched is knows = (knows.count, knows.words)
+whole_words stage.ClosePort x ring page seen halted entry fetched is knows = (knows.count, knows.words)
+whole_words stage.UnmapUnbound x ring page seen halted entry fetched is knows = (knows.count, knows.words)
+whole_words stage.Halted x ring page seen halted entry fetched is knows = (knows.count, knows.words)
+whole_words s x ring page seen halted entry fetched is knows = (knows.count, whole x.words knows.count knows.words)
 
 -- as the back stands
 abbrev pub Knows : Sight → View → Type 0

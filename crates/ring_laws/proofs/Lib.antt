@@ -56,3 +56,4 @@ pub mod Replying
 pub mod NextReply
 pub mod Chosen
 pub mod ReplyRuns
+pub mod LayoutRuns

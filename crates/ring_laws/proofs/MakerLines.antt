@@ -2,10 +2,8 @@
 use Rattle.std.proofs.Common.{◌≡◌, ℕ, ◌==◌, Bool, true, false, if◌then◌else◌, List, [], ◌∷◌, ◌++◌, refl}
 use Rattle.std.specs.Prelude.{Option, Some, None, is_some, Result, Ok, Err}
 use Rattle.std.specs.List.{AllByRecursion}
-use Rattle.std.proofs.lemmas.Option.{none-some}
 use Rattle.blk_base.specs.declared.config.Job.{Job}
 use Rattle.blk_base.specs.declared.parts.Mode.{Mode}
-use Rattle.blk_base.specs.declared.parts.End.TheVariants as end
 use Rattle.blk_base.specs.declared.ask.FrontAsk.{FrontAsk}
 use Rattle.blk_base.specs.declared.ask.FrontAsk.TheVariants as front_ask
 use Rattle.blk_base.specs.declared.ask.BackAsk.{BackAsk}
@@ -21,7 +19,7 @@ use Rattle.grant_table.specs.declared.entry.MapRefusal.{MapRefusal}
 use Rattle.grant_table.specs.Table.{verdict_at}
 use Rattle.event_channel.specs.declared.channels.PortState.{PortState}
 use Rattle.event_channel.specs.declared.channels.PortState.TheVariants as port
-use Rattle.event_channel.specs.Channels.{state_of, is_pending}
+use Rattle.event_channel.specs.Channels.{state_of}
 use Rattle.hypervisor.specs.Hypervisor.{Hypervisor}
 use Rattle.hypervisor.specs.Act.{FrontAct, BackAct, Outcome, front_act, back_act, map_act, bind_act}
 use Rattle.ring_words.specs.Ring.{requests_of}
@@ -105,7 +103,6 @@ halt_open (Some g) new = tt
 
 front_open : (t : Option Told) → AllByRecursion IsOpen (front_lines t)
 front_open None = tt
-front_open (Some front_told.Ready) = (λ before. record { unmap = tt; touch = tt }, tt)
 front_open (Some (front_told.Answer id status)) = (λ before. record { unmap = tt; touch = tt }, tt)
 front_open (Some (front_told.Sector id index words)) = (λ before. record { unmap = tt; touch = tt }, tt)
 front_open (Some (front_told.Broken word)) = (λ before. record { unmap = tt; touch = tt }, tt)
@@ -134,7 +131,7 @@ settle_calm false = calm lines.Unsettled plain_unsettled (λ before. record { un
 abbrev FrontCalm : FrontAct → Type 0
 FrontCalm a = IsCalm (lines.Move a.shown)
 
-key_calm : (who : Mover) (shown : Move) → IsKeyMove who shown → IsCalm (lines.Move shown)
+pub key_calm : (who : Mover) (shown : Move) → IsKeyMove who shown → IsCalm (lines.Move shown)
 key_calm who (moves.Watch m path) is = record { quiet = record { same_epoch = refl; none_gone = λ n. refl; none_made = λ k. refl }; free = λ before. record { unmap = tt; touch = tt } }
 key_calm who (moves.Watched m path) is = record { quiet = record { same_epoch = refl; none_gone = λ n. refl; none_made = λ k. refl }; free = λ before. record { unmap = tt; touch = tt } }
 key_calm who (moves.GetKey m path text) is = record { quiet = record { same_epoch = refl; none_gone = λ n. refl; none_made = λ k. refl }; free = λ before. record { unmap = tt; touch = tt } }

@@ -1,5 +1,5 @@
 -- Whatever happens from the start, jobs unmap only what they made, and nothing is left to them but what they have in their hands.
-use Rattle.std.proofs.Common.{◌≡◌, ℕ, ◌+◌, ◌<◌, ◌≤◌, ◌^◌, Bool, false, if◌then◌else◌, List, [], ◌∷◌, ◌++◌, length, refl, ap, sym, ◌∙◌, subst, append-nil, arith}
+use Rattle.std.proofs.Common.{◌≡◌, ℕ, ◌+◌, ◌<◌, ◌≤◌, ◌^◌, Bool, true, false, if◌then◌else◌, List, [], ◌∷◌, ◌++◌, length, refl, ap, sym, ◌∙◌, subst, append-nil, arith}
 use Rattle.std.specs.Prelude.{Option, Some, None, is_some, slice_get}
 use Rattle.std.specs.List.{AllByRecursion}
 use Rattle.blk_base.specs.Options.{Options}
@@ -27,14 +27,15 @@ use Rattle.blk_front.specs.View as front
 use Rattle.blk_back.specs.Ask.{ask_of}
 use Rattle.blk_back.specs.View as back
 use Rattle.blk_back.specs.Step as back_step
-use Rattle.split_model.specs.World.{World, start_of, is_quiet}
-use Rattle.split_model.specs.Happening.{Happening, FrontMoves, BackMoves, JobMoves, Submits, Notifies, Pokes, Dumps, Looks, Settles, poke_lines, ring_lines, happens, lines_at, after, front_after, front_shows, back_after, back_shows, job_after, job_shows, front_turn, back_turn, job_turn}
+use Rattle.split_model.specs.World.{World, start_of}
+use Rattle.split_model.specs.Happening.{Happening, FrontMoves, BackMoves, JobMoves, Negotiates, Connects, Submits, Notifies, Pokes, Dumps, Looks, Settles, poke_lines, ring_lines, happens, lines_at, after, front_after, front_shows, back_after, back_shows, job_after, job_shows, front_turn, back_turn, job_turn}
 use Rattle.split_model.specs.Report.{report_of, ended_report_of}
 use Rattle.split_model.specs.Shown.{back_lines, halt_lines}
 use Rattle.split_model.proofs.SafeAnswers.{backs_of}
 use Rattle.move_laws.specs.Permitted.{IsPermitted}
 use Rattle.move_laws.proofs.Always.{always_within}
-use Rattle.ring_laws.proofs.Outsiders.{poke_outsiders, dump_outsiders, outsiders_calm}
+use Rattle.split_model.specs.Keys.{is_between}
+use Rattle.ring_laws.proofs.Outsiders.{keys_outsiders, ready_outsiders, poke_outsiders, dump_outsiders, outsiders_calm}
 use Rattle.ring_laws.proofs.Knows.{Follows}
 use Rattle.ring_laws.proofs.Free.{job_running}
 use Rattle.ring_laws.proofs.Began.{IsJobOf}
@@ -98,12 +99,14 @@ pub made_happens : (config : Options) (w : World) (h : Happening) (before : List
 made_happens config w FrontMoves before s t m = front_made w before (front_turn w) refl m
 made_happens config w BackMoves before s t m = back_made config w before Took (back_turn w Took) s t refl m
 made_happens config w (JobMoves number outcome) before s t m = job_made config w before number outcome (job_turn w number outcome) refl s t m
+made_happens config w (Negotiates at move) before s t m = made_aside before (lines_at w (Negotiates at move)) w.back (outsiders_calm (is_between w.back.stage) _ (keys_outsiders w.back.stage at move w.under.keys s.named)) m
+made_happens config w Connects before s t m = made_aside before (lines_at w Connects) w.back (outsiders_calm true _ (ready_outsiders true w.front.stage)) m
 made_happens config w (Submits job) before s t m = made_aside before (lines_at w (Submits job)) w.back (submit_calm job (front_submit.submit_of w.front job).0, tt) m
 made_happens config w (Notifies at) before s t m = no_lines before w.back m
-made_happens config w (Pokes frame word value) before s t m = made_aside before (poke_lines frame word value) w.back (outsiders_calm _ (poke_outsiders frame word value)) m
-made_happens config w Dumps before s t m = made_aside before (ring_lines w.under.pages 0 1024) w.back (outsiders_calm _ (dump_outsiders w.under.pages)) m
-made_happens config w Looks before s t m = made_aside before (lines_at w Looks) w.back (look_calm (is_quiet w), tt) m
-made_happens config w Settles before s t m = made_aside before (lines_at w Settles) w.back (settle_calm (is_quiet w), tt) m
+made_happens config w (Pokes frame word value) before s t m = made_aside before (poke_lines frame word value) w.back (outsiders_calm true _ (poke_outsiders true frame word value)) m
+made_happens config w Dumps before s t m = made_aside before (ring_lines w.under.pages 0 1024) w.back (outsiders_calm true _ (dump_outsiders true w.under.pages)) m
+made_happens config w (Looks quiet) before s t m = made_aside before (lines_at w (Looks quiet)) w.back (look_calm quiet, tt) m
+made_happens config w (Settles quiet) before s t m = made_aside before (lines_at w (Settles quiet)) w.back (settle_calm quiet, tt) m
 
 pub made_start : (config : Options) (detail : Detail) → (let w : World = start_of config in Made (lines.Begin config detail ∷ []) w.back)
 made_start config detail = record { obeys = obeys_more IsMine [] (lines.Begin config detail) (obeys_none IsMine) (record { unmap = tt; touch = tt }); hands = λ runs. tt }

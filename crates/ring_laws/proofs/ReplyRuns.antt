@@ -1,5 +1,5 @@
 -- Whatever happens from the start, the back replies only what a job is due, once.
-use Rattle.std.proofs.Common.{◌≡◌, ℕ, ◌<◌, ◌^◌, ◌||◌, Bool, false, if◌then◌else◌, List, [], ◌∷◌, ◌++◌, length, refl, ap, sym, ◌∙◌, subst, append-nil}
+use Rattle.std.proofs.Common.{◌≡◌, ℕ, ◌<◌, ◌^◌, ◌||◌, Bool, true, false, if◌then◌else◌, List, [], ◌∷◌, ◌++◌, length, refl, ap, sym, ◌∙◌, subst, append-nil}
 use Rattle.std.specs.Prelude.{Option, Some, None, is_some}
 use Rattle.std.specs.List.{list_any}
 use Rattle.std.proofs.lemmas.Option.{none-some}
@@ -26,8 +26,8 @@ use Rattle.blk_back.specs.declared.stage.Reply.{Reply}
 use Rattle.blk_back.specs.declared.stage.Stage.TheVariants as stage
 use Rattle.blk_back.specs.declared.stage.Stage.{Stage}
 use Rattle.hypervisor.specs.Hypervisor.{Hypervisor}
-use Rattle.split_model.specs.World.{World, start_of, is_quiet}
-use Rattle.split_model.specs.Happening.{Happening, FrontMoves, BackMoves, JobMoves, Submits, Notifies, Pokes, Dumps, Looks, Settles, poke_lines, ring_lines, happens, lines_at, after, front_after, front_shows, back_after, back_shows, job_after, job_shows, front_turn, back_turn, job_turn}
+use Rattle.split_model.specs.World.{World, start_of}
+use Rattle.split_model.specs.Happening.{Happening, FrontMoves, BackMoves, JobMoves, Negotiates, Connects, Submits, Notifies, Pokes, Dumps, Looks, Settles, poke_lines, ring_lines, happens, lines_at, after, front_after, front_shows, back_after, back_shows, job_after, job_shows, front_turn, back_turn, job_turn}
 use Rattle.split_model.specs.Report.{report_of, ended_report_of}
 use Rattle.move_laws.specs.Permitted.{IsPermitted}
 use Rattle.move_laws.proofs.Always.{always_within}
@@ -37,10 +37,12 @@ use Rattle.ring_laws.proofs.Shows.{Sight}
 use Rattle.ring_laws.proofs.Knows.{KnowsAt, Knows, Follows}
 use Rattle.ring_laws.proofs.Stages.{back_goes}
 use Rattle.ring_laws.proofs.Sight.{other_epoch}
-use Rattle.ring_laws.proofs.Outsiders.{AreOutsiders, poke_outsiders, dump_outsiders, outsiders_free, outsiders_by, outsiders_else}
+use Rattle.split_model.specs.Keys.{is_between}
+use Rattle.ring_laws.proofs.Outsiders.{AreOutsiders, keys_outsiders, ready_outsiders, poke_outsiders, dump_outsiders, outsiders_other, outsiders_by, outsiders_pass}
 use Rattle.ring_laws.proofs.Free.{IsFree, AreFree, front_free, job_free, job_running, free_front, free_told, free_submit, free_look, free_settle}
 use Rattle.ring_laws.proofs.Works.{AreJobs, job_found, all_second}
 use Rattle.ring_laws.proofs.Bystanders.{Tale, IsBystander, AreBystanders, Aside, plain_epoch, bystanders_go, bystanders_aside}
+use Rattle.ring_laws.proofs.Fetched.{values_aside}
 use Rattle.ring_laws.proofs.Stays.{IsOn, AreIdle, move_idle}
 use Rattle.ring_laws.proofs.BackChange.{Changed, change_at, back_by, told_by, front_by, front_told_by}
 use Rattle.ring_laws.proofs.Tells.{Tells, small_number}
@@ -51,14 +53,14 @@ use Rattle.ring_laws.proofs.After.{kept_after}
 use Rattle.ring_laws.proofs.JobRuns.{Stand, same_values, stand_start, stand_happens, submit_by, look_by, settle_by}
 use Rattle.ring_laws.proofs.MakerTurns.{Made}
 use Rattle.ring_laws.proofs.MakerRuns.{made_happens, made_start, hand_empty}
-use Rattle.ring_laws.proofs.Due.{Answered, Writes, IsWorkOver, response_in, answered_then}
+use Rattle.ring_laws.proofs.Due.{Answered, Writes, under_way, IsWorkOver, response_in, answered_then}
 use Rattle.ring_laws.proofs.Over.{over_of_done, over_kept, small_op}
 use Rattle.ring_laws.proofs.Owed.{IsOwed, Owes, owes_aside, owes_told, nothing_owed}
 use Rattle.ring_laws.proofs.Replying.{pending, pending_at, IsReplyOf, IsOwing, Finds, OwesThen, owes_at}
 use Rattle.ring_laws.proofs.NextReply.{next_has}
 use Rattle.ring_laws.proofs.WrittenBack.{MoveWrites, back_writes}
 use Rattle.ring_laws.proofs.Chosen.{IsChosen, chosen_aside, chosen_goes}
-use Rattle.ring_laws.proofs.Written.{start_writes, end_writes}
+use Rattle.ring_laws.proofs.Written.{AllPass, writes_all, start_writes, end_writes}
 use Rattle.ring_laws.proofs.WrittenElse.{AreElse, other_writes, front_else, job_else, submit_else, look_else, settle_else}
 
 -- the replies that the lines so far tell, and the one under way
@@ -85,23 +87,23 @@ bystanders_on config before ys all epoch = record { epoch = epoch; same = no_epo
     no_epoch [] all = refl
     no_epoch (l ∷ ls) all = let b : IsBystander l = all.0 in ap (λ (c : Bool). c || list_any is_epoch ls) (plain_epoch l b.plain) ∙ no_epoch ls all.1
 
--- lines of others
-others : (config : Options) (before ys : List Line) (v : back.View) → AreElse ys → AreBystanders ys → entry_values (before ++ ys) ≡ entry_values before → Tells config before v → Replies config before v → Replies config (before ++ ys) v
-others config before ys v elses all same t r =
+-- lines of others; those of the back's own between two replies alone
+others : (config : Options) (own : Bool) (before ys : List Line) (v : back.View) → (own ≡ true → under_way v.stage ≡ []) → AllPass own ys → AreBystanders ys → entry_values (before ++ ys) ≡ entry_values before → Tells config before v → Replies config before v → Replies config (before ++ ys) v
+others config own before ys v none passed all same t r =
     let go : Aside config before ys = bystanders_go config ys before all t.tale t.quiet in
     record {
       answered = r.answered;
       job = r.job;
-      writes = other_writes before ys v.stage r.answered elses r.writes;
+      writes = writes_all own before ys v.stage r.answered none passed r.writes;
       owes = λ runs. same_owes config (entry_values before ++ []) (entry_values (before ++ ys)) (this_epoch before ++ ys) (this_epoch (before ++ ys)) v.fetched v.jobs.works _ (append-nil (entry_values before) ∙ sym same) (sym go.epoch)
           (owes_aside config (entry_values before) [] (this_epoch before) ys v.fetched v.jobs.works _ (λ k. bystanders_aside k ys all) (r.owes runs));
-      chosen = chosen_aside before ys v.stage r.answered elses (bystanders_on config before ys all go.epoch) (bystanders_idle before ys all) r.chosen;
+      chosen = chosen_aside own before ys v.stage r.answered passed (bystanders_on config before ys all go.epoch) (bystanders_idle before ys all) r.chosen;
     }
 
 others_free : (config : Options) (w : World) (before ys : List Line) → AreElse ys → AreBystanders ys → AreFree (is_some w.back.halted) ys → Stand config before w → Replies config before w.back → Replies config (before ++ ys) w.back
 others_free config w before ys elses all free s r =
     let f : Follows config.start [] before w.back = s.ring.follows in
-    others config before ys w.back elses all (same_values (is_some w.back.halted) before ys f.sight free f.shows) s.tells r
+    others config false before ys w.back (λ own. absurd (cc)) elses all (same_values (is_some w.back.halted) before ys f.sight free f.shows) s.tells r
 
 front_replies : (config : Options) (w : World) (before : List Line) (act : Option FrontAct) → Stand config before w → front_turn w ≡ act → Replies config before w.back → Replies config (before ++ front_shows w act) w.back
 front_replies config w before None s e r = no_lines config before w.back r
@@ -217,24 +219,33 @@ job_replies config w before k o (Some a) e s r =
       job = r.job;
       writes = other_writes before (job_shows w k (Some a)) v.stage r.answered elses r.writes;
       owes = λ runs. moved_owes config before w.under w.back k o a (place_of w.back.jobs.works k) (work_of w.back.jobs.works k) (r.answered ++ pending_at v.stage r.job) refl refl asks same told (r.owes running);
-      chosen = chosen_aside before (job_shows w k (Some a)) v.stage r.answered elses (record { epoch = behind.epoch; same = free_epochs (is_some w.back.halted) (job_shows w k (Some a)) free }) (move_idle before a.shown _ a.answer behind_tale.obeys) r.chosen;
+      chosen = chosen_aside false before (job_shows w k (Some a)) v.stage r.answered elses (record { epoch = behind.epoch; same = free_epochs (is_some w.back.halted) (job_shows w k (Some a)) free }) (move_idle before a.shown _ a.answer behind_tale.obeys) r.chosen;
     }
 
--- lines of neither end
-outside_replies : (config : Options) (w : World) (before ys : List Line) → AreOutsiders ys → Stand config before w → Replies config before w.back → Replies config (before ++ ys) w.back
+-- lines between all others
+outside_replies : (config : Options) (w : World) (before ys : List Line) → AreOutsiders (is_between w.back.stage) ys → Stand config before w → Replies config before w.back → Replies config (before ++ ys) w.back
 outside_replies config w before ys all s r =
-    others_free config w before ys (outsiders_else ys all) (outsiders_by ys all) (outsiders_free (is_some w.back.halted) ys all) s r
+    let own : Bool = is_between w.back.stage in
+    others config own before ys w.back (none_between w.back.stage) (outsiders_pass own ys all) (outsiders_by own ys all) (values_aside ys before (outsiders_other own ys all)) s.tells r
+  where
+    none_between : (s : Stage) → is_between s ≡ true → under_way s ≡ []
+    none_between (stage.ReplyHigh r) is = absurd (cc)
+    none_between (stage.ReplyLast r) is = absurd (cc)
+    none_between (stage.Producer r) is = absurd (cc)
+    none_between s is = refl
 
 replies_happen : (config : Options) (w : World) (h : Happening) (before : List Line) → Stand config before w → Stand config (before ++ lines_at w h) (happens w h) → Made before w.back → Replies config before w.back → (let n : World = happens w h in Replies config (before ++ lines_at w h) n.back)
 replies_happen config w FrontMoves before s t made r = front_after_replies config w (before ++ front_shows w (front_turn w)) (front_turn w) (front_replies config w before (front_turn w) s refl r)
 replies_happen config w BackMoves before s t made r = back_replies config w before Took (back_turn w Took) refl s t made r
 replies_happen config w (JobMoves number outcome) before s t made r = job_replies config w before number outcome (job_turn w number outcome) refl s r
+replies_happen config w (Negotiates at move) before s t made r = outside_replies config w before (lines_at w (Negotiates at move)) (keys_outsiders w.back.stage at move w.under.keys s.named) s r
+replies_happen config w Connects before s t made r = outside_replies config w before (lines_at w Connects) (ready_outsiders (is_between w.back.stage) w.front.stage) s r
 replies_happen config w (Submits job) before s t made r = others_free config w before (lines_at w (Submits job)) (submit_else job (front_submit.submit_of w.front job).0) (submit_by job (front_submit.submit_of w.front job).0, tt) (free_submit (is_some w.back.halted) job (front_submit.submit_of w.front job).0, tt) s r
 replies_happen config w (Notifies at) before s t made r = no_lines config before w.back r
-replies_happen config w (Pokes frame word value) before s t made r = outside_replies config w before (poke_lines frame word value) (poke_outsiders frame word value) s r
-replies_happen config w Dumps before s t made r = outside_replies config w before (ring_lines w.under.pages 0 1024) (dump_outsiders w.under.pages) s r
-replies_happen config w Looks before s t made r = others_free config w before (lines_at w Looks) (look_else (is_quiet w)) (look_by (is_quiet w), tt) (free_look (is_some w.back.halted) (is_quiet w), tt) s r
-replies_happen config w Settles before s t made r = others_free config w before (lines_at w Settles) (settle_else (is_quiet w)) (settle_by (is_quiet w), tt) (free_settle (is_some w.back.halted) (is_quiet w), tt) s r
+replies_happen config w (Pokes frame word value) before s t made r = outside_replies config w before (poke_lines frame word value) (poke_outsiders (is_between w.back.stage) frame word value) s r
+replies_happen config w Dumps before s t made r = outside_replies config w before (ring_lines w.under.pages 0 1024) (dump_outsiders (is_between w.back.stage) w.under.pages) s r
+replies_happen config w (Looks quiet) before s t made r = others_free config w before (lines_at w (Looks quiet)) (look_else quiet) (look_by quiet, tt) (free_look (is_some w.back.halted) quiet, tt) s r
+replies_happen config w (Settles quiet) before s t made r = others_free config w before (lines_at w (Settles quiet)) (settle_else quiet) (settle_by quiet, tt) (free_settle (is_some w.back.halted) quiet, tt) s r
 
 -- all that the lines so far tell
 record All (config : Options) (before : List Line) (w : World) : Type 0 where

@@ -14,14 +14,16 @@ use Rattle.blk_front.specs.Ask as front_ask
 use Rattle.blk_front.specs.Submit as front_submit
 use Rattle.blk_back.specs.View as back
 use Rattle.blk_back.specs.Step as back_step
-use Rattle.split_model.specs.World.{World, start_of, is_quiet}
-use Rattle.split_model.specs.Happening.{Happening, FrontMoves, BackMoves, JobMoves, Submits, Notifies, Pokes, Dumps, Looks, Settles, poke_lines, ring_lines, happens, lines_at, after, lines_of, front_after, front_shows, back_after, back_shows, job_after, job_shows, front_turn, back_turn, job_turn}
+use Rattle.split_model.specs.World.{World, start_of}
+use Rattle.split_model.specs.Happening.{Happening, FrontMoves, BackMoves, JobMoves, Negotiates, Connects, Submits, Notifies, Pokes, Dumps, Looks, Settles, poke_lines, ring_lines, happens, lines_at, after, lines_of, front_after, front_shows, back_after, back_shows, job_after, job_shows, front_turn, back_turn, job_turn}
 use Rattle.split_model.proofs.SafeAnswers.{jobs_of, fronts_no_key}
+use Rattle.split_model.specs.Keys.{is_between}
 use Rattle.split_model.specs.Report.{report_of, ended_report_of}
+use Rattle.split_model.proofs.Keys.{NamesNoOther, named_start, named_happens}
 use Rattle.ring_laws.proofs.ObeysRing.{ring_none, ring_more, foreign_stretch}
 use Rattle.ring_laws.proofs.Knows.{Follows}
 use Rattle.ring_laws.proofs.Stages.{back_goes}
-use Rattle.ring_laws.proofs.Outsiders.{poke_outsiders, dump_outsiders, outsiders_free}
+use Rattle.ring_laws.proofs.Outsiders.{keys_outsiders, ready_outsiders, poke_outsiders, dump_outsiders, outsiders_follow}
 use Rattle.ring_laws.proofs.Free.{follow_free, follow_all, front_free, job_free, job_running, free_front, free_told, free_submit, free_look, free_settle, free_end}
 
 -- the lines so far keep the rules, and the back has nothing left to tell
@@ -59,24 +61,27 @@ job_follows start w before k o (Some a) f e =
     let all : Follows start [] (before ++ job_shows w k (Some a)) w.back = follow_all start [] _ before w.back (job_free (is_some w.back.halted) w.under k (back_step.job_ask_of w.back k) o a running (jobs_of w.back k) e, free_told (is_some w.back.halted) _ a.answer running) f.follows in
     record { follows = record { sight = all.sight; begun = all.begun; more = all.more; grown = all.grown; shows = all.shows; knows = all.knows; stands = all.stands }; told = refl }
 
-pub follows_happens : (start : ℕ) (w : World) (h : Happening) (before : List Line) → FollowsTo start before w → FollowsTo start (before ++ lines_at w h) (happens w h)
-follows_happens start w FrontMoves before f = front_follows start w before (front_turn w) f refl
-follows_happens start w BackMoves before f = back_follows start w before Took (back_turn w Took) f refl
-follows_happens start w (JobMoves number outcome) before f = job_follows start w before number outcome (job_turn w number outcome) f refl
-follows_happens start w (Submits job) before f = record { follows = follow_free start [] before _ w.back (free_submit (is_some w.back.halted) job (front_submit.submit_of w.front job).0) f.follows; told = f.told }
-follows_happens start w (Notifies at) before f = subst (λ (ls : List Line). FollowsTo start ls (happens w (Notifies at))) (sym (append-nil before)) (record { follows = f.follows; told = f.told })
-follows_happens start w (Pokes frame word value) before f =
-    record { follows = follow_all start [] (poke_lines frame word value) before w.back (outsiders_free (is_some w.back.halted) _ (poke_outsiders frame word value)) f.follows; told = f.told }
-follows_happens start w Dumps before f =
-    record { follows = follow_all start [] (ring_lines w.under.pages 0 1024) before w.back (outsiders_free (is_some w.back.halted) _ (dump_outsiders w.under.pages)) f.follows; told = f.told }
-follows_happens start w Looks before f = record { follows = follow_free start [] before _ w.back (free_look (is_some w.back.halted) (is_quiet w)) f.follows; told = f.told }
-follows_happens start w Settles before f = record { follows = follow_free start [] before _ w.back (free_settle (is_some w.back.halted) (is_quiet w)) f.follows; told = f.told }
+pub follows_happens : (start : ℕ) (w : World) (h : Happening) (before : List Line) → NamesNoOther w.under.keys → FollowsTo start before w → FollowsTo start (before ++ lines_at w h) (happens w h)
+follows_happens start w FrontMoves before named f = front_follows start w before (front_turn w) f refl
+follows_happens start w BackMoves before named f = back_follows start w before Took (back_turn w Took) f refl
+follows_happens start w (JobMoves number outcome) before named f = job_follows start w before number outcome (job_turn w number outcome) f refl
+follows_happens start w (Negotiates at move) before named f =
+    record { follows = outsiders_follow start [] (lines_at w (Negotiates at move)) before w.back (keys_outsiders w.back.stage at move w.under.keys named) f.follows; told = f.told }
+follows_happens start w Connects before named f = record { follows = outsiders_follow start [] (lines_at w Connects) before w.back (ready_outsiders (is_between w.back.stage) w.front.stage) f.follows; told = f.told }
+follows_happens start w (Submits job) before named f = record { follows = follow_free start [] before _ w.back (free_submit (is_some w.back.halted) job (front_submit.submit_of w.front job).0) f.follows; told = f.told }
+follows_happens start w (Notifies at) before named f = subst (λ (ls : List Line). FollowsTo start ls (happens w (Notifies at))) (sym (append-nil before)) (record { follows = f.follows; told = f.told })
+follows_happens start w (Pokes frame word value) before named f =
+    record { follows = outsiders_follow start [] (poke_lines frame word value) before w.back (poke_outsiders (is_between w.back.stage) frame word value) f.follows; told = f.told }
+follows_happens start w Dumps before named f =
+    record { follows = outsiders_follow start [] (ring_lines w.under.pages 0 1024) before w.back (dump_outsiders (is_between w.back.stage) w.under.pages) f.follows; told = f.told }
+follows_happens start w (Looks quiet) before named f = record { follows = follow_free start [] before _ w.back (free_look (is_some w.back.halted) quiet) f.follows; told = f.told }
+follows_happens start w (Settles quiet) before named f = record { follows = follow_free start [] before _ w.back (free_settle (is_some w.back.halted) quiet) f.follows; told = f.told }
 
-follows_after : (start : ℕ) (hs : List Happening) (w : World) (before : List Line) → FollowsTo start before w → FollowsTo start (before ++ lines_of hs w) (after hs w)
-follows_after start [] w before f = no_lines start before w f
-follows_after start (h ∷ hs) w before f =
+follows_after : (start : ℕ) (hs : List Happening) (w : World) (before : List Line) → NamesNoOther w.under.keys → FollowsTo start before w → FollowsTo start (before ++ lines_of hs w) (after hs w)
+follows_after start [] w before named f = no_lines start before w f
+follows_after start (h ∷ hs) w before named f =
     subst (λ (ls : List Line). FollowsTo start ls (after hs (happens w h))) (append_assoc before (lines_at w h) (lines_of hs (happens w h)))
-    (follows_after start hs (happens w h) (before ++ lines_at w h) (follows_happens start w h before f))
+    (follows_after start hs (happens w h) (before ++ lines_at w h) (named_happens w h named) (follows_happens start w h before named f))
 
 -- the first line
 pub follows_begin : (config : Options) (detail : Detail) → Follows config.start [] (lines.Begin config detail ∷ []) (back.start_of config)
@@ -91,7 +96,7 @@ follows_begin config detail = record {
 }
 
 report_follows : (config : Options) (detail : Detail) (history : List Happening) → FollowsTo config.start (report_of config detail history) (after history (start_of config))
-report_follows config detail history = follows_after config.start history (start_of config) (lines.Begin config detail ∷ []) (record { follows = follows_begin config detail; told = refl })
+report_follows config detail history = follows_after config.start history (start_of config) (lines.Begin config detail ∷ []) named_start (record { follows = follows_begin config detail; told = refl })
 
 ended_follows : (config : Options) (detail : Detail) (history : List Happening) → Follows config.start [] (ended_report_of config detail history) (let w : World = after history (start_of config) in w.back)
 ended_follows config detail history =

@@ -84,10 +84,10 @@ pub record IsOnPages (line : Line) : Type 0 where
   pub same_epoch : is_epoch line ≡ false
   pub start : (n : ℕ) → start_told n line ≡ n
   pub page : page_made line ≡ None
-  pub abi : (abi : Option Abi) → abi_after abi line ≡ abi
+  pub abi : abi_after (Some X64) line ≡ Some X64
 
 pub other_on_pages : (line : Line) → is_other line ≡ true → IsOnPages line
-other_on_pages line other = record { same_epoch = other_epoch line other; start = λ n. other_start n line other; page = other_page line other; abi = λ abi. other_abi abi line other }
+other_on_pages line other = record { same_epoch = other_epoch line other; start = λ n. other_start n line other; page = other_page line other; abi = other_abi line other }
 
 replied_more : (before : List Line) (line : Line) → IsOnPages line → replied_before (before ++ line ∷ []) ≡ replied_after before (replied_before before) line
 replied_more before line on =
@@ -150,7 +150,7 @@ shows_more before line x replied produced words values on shows r p w t vs = rec
   start = start_more before line (on.start (start_of before)) ∙ shows.start;
   fresh = λ none. touched_more before line on.same_epoch ∙ both_false (list_any is_touch (this_epoch before)) (is_touch line) (shows.fresh none) (t none);
   values = values_more before line on ∙ (ap (λ (ws : List ℕ). ws ++ option_to_list (entry_value before line)) shows.values ∙ vs);
-  abi = abi_more before line on.same_epoch ∙ (on.abi (ring_abi before) ∙ shows.abi);
+  abi = abi_more before line on.same_epoch ∙ (ap (λ (abi : Option Abi). abi_after abi line) shows.abi ∙ on.abi);
   few = shows.few;
 }
 

@@ -9,7 +9,7 @@ use Rattle.schedule_text.specs.declared.line.Line.TheVariants as lines
 use Rattle.report_rules.specs.declared.standing.Standing.{Standing}
 use Rattle.report_rules.specs.Ring.{is_first_page, page_made, start_told, abi_after, produced_shown, page_from, word_in, ring_word, order_of, ring_order}
 use Rattle.report_rules.specs.Standing.{is_epoch, has_number}
-use Rattle.blk_base.specs.declared.operation.Abi.{Abi}
+use Rattle.blk_base.specs.declared.operation.Abi.TheVariants.{X64}
 use Rattle.report_rules.specs.Job.{when, entry_value}
 use Rattle.std.specs.Option.{option_to_list}
 use Rattle.std.proofs.lemmas.List.{append-nil}
@@ -73,14 +73,14 @@ no_page number pages b is empty = absurd (no_both is.page is.one)
     no_both : (p : Standing) → pages ≡ p ∷ [] → ⊥
     no_both p one = cc
 
-touch_on : (line : Line) → is_epoch line ≡ false → ((n : ℕ) → start_told n line ≡ n) → page_made line ≡ None → ((abi : Option Abi) → abi_after abi line ≡ abi) → IsOnPages line
+touch_on : (line : Line) → is_epoch line ≡ false → ((n : ℕ) → start_told n line ≡ n) → page_made line ≡ None → abi_after (Some X64) line ≡ Some X64 → IsOnPages line
 touch_on line e s p a = record { same_epoch = e; start = s; page = p; abi = a }
 
 pub read_on : (number frame word value : ℕ) → IsOnPages (lines.Move (moves.Read back.Back number frame word value))
-read_on number frame word value = touch_on (lines.Move (moves.Read back.Back number frame word value)) refl (λ n. refl) refl (λ abi. refl)
+read_on number frame word value = touch_on (lines.Move (moves.Read back.Back number frame word value)) refl (λ n. refl) refl refl
 
 pub write_on : (number frame word value : ℕ) → IsOnPages (lines.Move (moves.Write back.Back number frame word value))
-write_on number frame word value = touch_on (lines.Move (moves.Write back.Back number frame word value)) refl (λ n. refl) refl (λ abi. refl)
+write_on number frame word value = touch_on (lines.Move (moves.Write back.Back number frame word value)) refl (λ n. refl) refl refl
 
 counted : (word : Option ℕ) (b : Bool) (words : ℕ) → is_some word ≡ b → words + cond (is_some word) 1 0 ≡ words + cond b 1 0
 counted word b words e = ap (λ (c : Bool). words + cond c 1 0) e

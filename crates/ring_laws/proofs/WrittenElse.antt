@@ -42,7 +42,6 @@ free_else over line f untold = passes_other false line f.other untold (λ own. f
 
 told_else : (t : Option Told) → AreElse (front_lines t)
 told_else None = tt
-told_else (Some front_told.Ready) = (free_else false lines.Ready (free_front false (Some front_told.Ready)).0 refl, tt)
 told_else (Some (front_told.Answer id status)) = (free_else false (lines.Answer id status) (free_front false (Some (front_told.Answer id status))).0 refl, tt)
 told_else (Some (front_told.Sector id index words)) = (free_else false (lines.Data id index words) (free_front false (Some (front_told.Sector id index words))).0 refl, tt)
 told_else (Some (front_told.Broken word)) = (free_else false (lines.Broken word) (free_front false (Some (front_told.Broken word))).0 refl, tt)

@@ -1,2 +1,3 @@
 pub mod Unmaps
 pub mod Own
+pub mod Layout

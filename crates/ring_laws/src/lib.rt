@@ -16,6 +16,7 @@ ghost use Rattle.report_rules.specs.Effect.{AreEffects};
 ghost use Rattle.report_rules.specs.Reply.{AreReplies};
 ghost use Rattle.ring_laws.specs.Unmaps.{AreUnmaps};
 ghost use Rattle.ring_laws.specs.Own.{AreOwn};
+ghost use Rattle.ring_laws.specs.Layout.{HasOneLayout};
 ghost use Rattle.split_model.specs.Happening.{Happening};
 ghost use Rattle.split_model.specs.Report.{report_of, ended_report_of};
 
@@ -92,4 +93,10 @@ pub fn the_replies_are_those_of_the_work()
         → AreReplies (report_of config detail history) }
     ensures ended { (config : Options) (detail : Detail) (history : List Happening) → length (report_of config detail history) < 2 ^ 64
         → AreReplies (ended_report_of config detail history) }
+{}
+
+/// The back reads no `protocol` that names another layout of entries than that of 64-bit guests.
+pub fn one_layout_is_named()
+    ensures report { (config : Options) (detail : Detail) (history : List Happening) → HasOneLayout (report_of config detail history) }
+    ensures ended { (config : Options) (detail : Detail) (history : List Happening) → HasOneLayout (ended_report_of config detail history) }
 {}

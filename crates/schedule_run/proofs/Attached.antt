@@ -2,8 +2,8 @@
 use Rattle.std.proofs.Common.{◌≡◌, ℕ, List, [], ◌∷◌, Option, Some, None, refl, ◌∙◌}
 use Rattle.hypervisor.specs.Act.{FrontAct, BackAct, Took}
 use Rattle.split_model.specs.World.{World}
-use Rattle.split_model.specs.Happening.{Happening, FrontMoves, BackMoves, JobMoves, Submits, Notifies, Pokes, Dumps, Looks, Settles, happens, after, front_after, back_after, job_after, front_turn, back_turn, job_turn}
-use Rattle.split_model.proofs.SafeFront.{sectors_front, submit_kept}
+use Rattle.split_model.specs.Happening.{Happening, FrontMoves, BackMoves, JobMoves, Negotiates, Connects, Submits, Notifies, Pokes, Dumps, Looks, Settles, happens, after, front_after, back_after, job_after, front_turn, back_turn, job_turn}
+use Rattle.split_model.proofs.SafeFront.{sectors_front, connected_kept, submit_kept}
 
 front_sectors_at : (w : World) (act : Option FrontAct) → (let v : World = front_after w act in v.front.sectors) ≡ w.front.sectors
 front_sectors_at w None = refl
@@ -22,12 +22,14 @@ pub sectors_kept : (w : World) (h : Happening) → (let v : World = happens w h 
 sectors_kept w FrontMoves = front_sectors_at w (front_turn w)
 sectors_kept w BackMoves = back_sectors_at w (back_turn w Took)
 sectors_kept w (JobMoves number outcome) = job_sectors_at w number (job_turn w number outcome)
+sectors_kept w (Negotiates at move) = refl
+sectors_kept w Connects = let kept = connected_kept w.front in kept.0
 sectors_kept w (Submits job) = let kept = submit_kept w.front job in kept.sectors
 sectors_kept w (Notifies at) = refl
 sectors_kept w (Pokes frame word value) = refl
 sectors_kept w Dumps = refl
-sectors_kept w Looks = refl
-sectors_kept w Settles = refl
+sectors_kept w (Looks quiet) = refl
+sectors_kept w (Settles quiet) = refl
 
 pub sectors_after : (hs : List Happening) (w : World) → (let v : World = after hs w in v.front.sectors) ≡ w.front.sectors
 sectors_after [] w = refl

@@ -76,18 +76,18 @@ each_few from to w (h ∷ hs) e =
     let same : above e.0 (let v : World = happens w h in v.back) ≡ above e.0 w.back = ap (λ (x : Happening). above e.0 (let v : World = happens w x in v.back)) e.2 ∙ job_above e.0 e.0 w (job_turn w e.0 e.1) in
     omega arith
 
-front_few : (w : World) → length (front_move w) ≤ 22
+front_few : (w : World) → length (front_move w) ≤ 23
 front_few w = by_test (is_connected w.front.stage)
   where
-    by_test : (b : Bool) → length (if b then FrontMoves ∷ [] else connecting) ≤ 22
+    by_test : (b : Bool) → length (if b then FrontMoves ∷ [] else connecting) ≤ 23
     by_test true = omega arith
     by_test false = omega arith
 
-start_few : (w : World) → length (round_start w) ≤ 23
+start_few : (w : World) → length (round_start w) ≤ 24
 start_few w = let first = front_few w in let both = length-append (front_move w) (BackMoves ∷ []) in omega arith
 
 -- a round, as far as its jobs
-begun_few : (w : World) (hs jobs : List Happening) (to : ℕ) → IsReached w → hs ≡ round_start w ++ jobs → AreEachJobs 0 to (after (round_start w) w) jobs → length hs ≤ 55
+begun_few : (w : World) (hs jobs : List Happening) (to : ℕ) → IsReached w → hs ≡ round_start w ++ jobs → AreEachJobs 0 to (after (round_start w) w) jobs → length hs ≤ 56
 begun_few w hs jobs to r all each =
     let start = start_few w in
     let both : length hs ≡ length (round_start w) + length jobs = ap length all ∙ length-append (round_start w) jobs in
@@ -103,11 +103,11 @@ beginning_few hs all n b le =
     let both : length all ≡ length hs + length b.0 = ap length b.1 ∙ length-append hs b.0 in
     omega arith
 
-round_so_far_few : (w : World) (hs : List Happening) → IsReached w → IsRoundSoFar w hs → length hs ≤ 55
-round_so_far_few w hs r (inl b) = let start = start_few w in beginning_few hs (round_start w) 55 b (omega arith)
+round_so_far_few : (w : World) (hs : List Happening) → IsReached w → IsRoundSoFar w hs → length hs ≤ 56
+round_so_far_few w hs r (inl b) = let start = start_few w in beginning_few hs (round_start w) 56 b (omega arith)
 round_so_far_few w hs r (inr b) = let jobs = b.are_jobs in begun_few w hs b.jobs jobs.0 r b.all jobs.1
 
-rounds_few : (test : World → Bool) (n : ℕ) (w : World) (hs : List Happening) → IsReached w → AreRounds test n w hs → length hs ≤ 55 * n
+rounds_few : (test : World → Bool) (n : ℕ) (w : World) (hs : List Happening) → IsReached w → AreRounds test n w hs → length hs ≤ 56 * n
 rounds_few test zero w hs r are = let none : length hs ≡ 0 = ap length are in omega arith
 rounds_few test (suc n) w hs r are =
     let p = are.1 in
@@ -118,7 +118,7 @@ rounds_few test (suc n) w hs r are =
     let both : length hs ≡ length p.0 + length p.1 = ap length p.2 ∙ length-append p.0 p.1 in
     omega arith
 
-rounds_so_far_few : (test : World → Bool) (bound : ℕ) (w : World) (hs : List Happening) → IsReached w → AreRoundsSoFar test bound w hs → length hs ≤ 55 * bound
+rounds_so_far_few : (test : World → Bool) (bound : ℕ) (w : World) (hs : List Happening) → IsReached w → AreRoundsSoFar test bound w hs → length hs ≤ 56 * bound
 rounds_so_far_few test bound w hs r are =
     let before = are.before in
     let whole = rounds_few test are.count w are.whole r are.are_rounds in
@@ -135,7 +135,7 @@ settling_few w hs r is =
     let within = are.within in
     let bound = settle_few w r in
     let rounds = rounds_few is_quiet are.count w is.rounds r are.are_rounds in
-    let both : length hs ≡ length is.rounds + 1 = ap length is.all ∙ length-append is.rounds (Settles ∷ []) in
+    let both : length hs ≡ length is.rounds + 1 = ap length is.all ∙ length-append is.rounds (Settles (is_quiet (after is.rounds w)) ∷ []) in
     omega arith
 
 settling_so_far_few : (w : World) (hs : List Happening) → IsReached w → IsSettlingSoFar w hs → length hs ≤ 10 ^ 9

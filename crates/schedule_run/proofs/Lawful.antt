@@ -13,9 +13,13 @@ use Rattle.report_rules.specs.Obeys.{Obeys}
 use Rattle.report_rules.proofs.Obeys.{obeys_none, obeys_before}
 use Rattle.move_laws.proofs.Recorded.{report_kept, ended_kept}
 use Rattle.move_laws.proofs.Runs.{report_obeys, ended_obeys, coherent_of, answers_of, touches_of, grantable_of}
+use Rattle.move_laws.proofs.Dumped.{report_dumped, ended_dumped}
+use Rattle.move_laws.proofs.ReadOnly.{content_kept}
 use Rattle.ring_laws.proofs.JobRuns.{report_rules, ended_rules, steps_of, data_of, effects_of}
 use Rattle.ring_laws.proofs.MakerRuns.{report_unmaps, ended_unmaps, report_own, ended_own}
 use Rattle.ring_laws.proofs.ReplyRuns.{report_replies, ended_replies}
+use Rattle.ring_laws.specs.Layout.{KeepsX64}
+use Rattle.ring_laws.proofs.LayoutRuns.{report_layout, ended_layout}
 use Rattle.ring_laws.proofs.Runs.{report_overruns, ended_overruns, report_stretches, ended_stretches}
 use Rattle.pipeline_laws.specs.Run.{IsRun}
 use Rattle.disk_laws.specs.Run.{IsRunSoFar}
@@ -50,13 +54,13 @@ use Rattle.report_laws.specs.Ready.{IsReadyAt}
 use Rattle.report_laws.specs.QuietRing.{IsQuietRing, IsQuietRingAt}
 use Rattle.report_laws.proofs.Begun.{report_begun, ended_begun, begun_before}
 use Rattle.report_laws.proofs.Grammar.{report_grammar, ended_grammar}
-use Rattle.report_laws.proofs.Texts.{grammar_before}
+use Rattle.report_laws.proofs.Texts.{all_before, grammar_before}
 use Rattle.report_laws.proofs.Ready.{report_ready, ended_ready}
 use Rattle.report_laws.proofs.QuietRing.{report_quiet, ended_quiet}
 use Rattle.schedule_run.specs.Lawful.{ObeysMoves, ShowsWork, ServesRequests, ServesRequestsSoFar, IsLawful, IsLawfulSoFar}
 
 -- the moves, where they are shown
-whole_moves : (config : Options) (history : List Happening) → IsPlain config → ObeysMoves (report_of config Moves history)
+whole_moves : (config : Options) (history : List Happening) → IsPlain config → ObeysMoves config.order (report_of config Moves history)
 whole_moves config history plain =
     let obeys = report_obeys config Moves history in
     let report = report_of config Moves history in
@@ -67,9 +71,11 @@ whole_moves config history plain =
       grantable = grantable_of report obeys;
       overruns = report_overruns config Moves history;
       stretches = report_stretches config Moves history plain.start;
+      dumps = report_dumped config Moves history plain.order;
+      layout = report_layout config Moves history;
     }
 
-ended_moves : (config : Options) (history : List Happening) → IsPlain config → ObeysMoves (ended_report_of config Moves history)
+ended_moves : (config : Options) (history : List Happening) → IsPlain config → ObeysMoves config.order (ended_report_of config Moves history)
 ended_moves config history plain =
     let obeys = ended_obeys config Moves history in
     let report = ended_report_of config Moves history in
@@ -80,15 +86,17 @@ ended_moves config history plain =
       grantable = grantable_of report obeys;
       overruns = ended_overruns config Moves history;
       stretches = ended_stretches config Moves history plain.start;
+      dumps = ended_dumped config Moves history plain.order;
+      layout = ended_layout config Moves history;
     }
 
-shown : (detail : Detail) (config : Options) (history : List Happening) → IsPlain config → detail ≡ Moves → ObeysMoves (kept_of detail (report_of config detail history))
+shown : (detail : Detail) (config : Options) (history : List Happening) → IsPlain config → detail ≡ Moves → ObeysMoves config.order (kept_of detail (report_of config detail history))
 shown detail config history plain same =
-    subst (λ (d : Detail). ObeysMoves (kept_of d (report_of config d history))) (sym same) (subst ObeysMoves (sym (report_kept config history)) (whole_moves config history plain))
+    subst (λ (d : Detail). ObeysMoves config.order (kept_of d (report_of config d history))) (sym same) (subst (ObeysMoves config.order) (sym (report_kept config history)) (whole_moves config history plain))
 
-ended_shown : (detail : Detail) (config : Options) (history : List Happening) → IsPlain config → detail ≡ Moves → ObeysMoves (kept_of detail (ended_report_of config detail history))
+ended_shown : (detail : Detail) (config : Options) (history : List Happening) → IsPlain config → detail ≡ Moves → ObeysMoves config.order (kept_of detail (ended_report_of config detail history))
 ended_shown detail config history plain same =
-    subst (λ (d : Detail). ObeysMoves (kept_of d (ended_report_of config d history))) (sym same) (subst ObeysMoves (sym (ended_kept config history)) (ended_moves config history plain))
+    subst (λ (d : Detail). ObeysMoves config.order (kept_of d (ended_report_of config d history))) (sym same) (subst (ObeysMoves config.order) (sym (ended_kept config history)) (ended_moves config history plain))
 
 -- the work
 whole_work : (config : Options) (history : List Happening) → length (report_of config Moves history) < 2 ^ 64 → ShowsWork (report_of config Moves history)
@@ -124,14 +132,16 @@ work_before report more h = record {
   replies = obeys_before _ report more h.replies;
 }
 
-moves_before : (report more : List Line) → ObeysMoves (report ++ more) → ObeysMoves report
-moves_before report more h = record {
+moves_before : (order : ℕ) (report more : List Line) → ObeysMoves order (report ++ more) → ObeysMoves order report
+moves_before order report more h = record {
   coherent = obeys_before _ report more h.coherent;
   answered = obeys_before _ report more h.answered;
   touched = obeys_before _ report more h.touched;
   grantable = obeys_before _ report more h.grantable;
   overruns = obeys_before _ report more h.overruns;
   stretches = obeys_before _ report more h.stretches;
+  dumps = obeys_before _ report more h.dumps;
+  layout = all_before KeepsX64 report more h.layout;
 }
 
 -- what a run of the plain disk answers
@@ -343,12 +353,13 @@ report_lawful config detail history before now h long runs =
     let same : honest_part report ≡ first = report_honest config detail history h in
     record {
       begun = report_begun config detail history;
-      grammar = subst IsInGrammar (sym same) (report_grammar config detail (honest_history history) h.plain (allowed h) h.options);
+      kept = λ fixed. content_kept config history before now fixed runs;
+      grammar = report_grammar config detail history h.options h.possible h.short;
       requests = λ honest of. report_serves config detail history before now h long runs (all_honest config detail history h honest) of;
       honest = λ of.
           subst (ServesRequestsSoFar (submitted_of history) before.content) (sym same)
           (so_far_served (submitted_of history) before.content first (honest_run config detail history before now h long runs (subst (IsOfADisk config.sectors before.content) same of)));
-      ready = report_ready config detail history;
+      ready = report_ready config detail history h.possible;
       ring = λ moves. subst IsQuietRing (sym same) (report_quiet config detail (honest_history history) h.plain (allowed h) moves);
       moves = shown detail config history h.plain;
       work = λ moves. worked detail config history moves h.short;
@@ -359,12 +370,11 @@ pub ended_lawful : (config : Options) (detail : Detail) (history : List Happenin
 ended_lawful config detail history before now h long runs =
     record {
       begun = ended_begun config detail history;
-      grammar =
-          of_part config detail history h IsInGrammar (λ all. ended_grammar config detail history h.plain (served_whole h all) h.options)
-          (report_grammar config detail (honest_history history) h.plain (allowed h) h.options);
+      kept = λ fixed. content_kept config history before now fixed runs;
+      grammar = ended_grammar config detail history h.options h.possible h.short;
       requests = λ honest of. ended_serves config detail history before now h long runs (all_ended config detail history h honest) of;
       honest = λ of. so_far_served (submitted_of history) before.content _ (ended_honest_run config detail history before now h long runs of);
-      ready = ended_ready config detail history;
+      ready = ended_ready config detail history h.possible;
       ring = λ moves.
           of_part config detail history h IsQuietRing (λ all. ended_quiet config detail history h.plain (served_whole h all) moves)
           (report_quiet config detail (honest_history history) h.plain (allowed h) moves);
@@ -384,11 +394,11 @@ begun_lawful config detail history before said rest h all run =
     let part = said_part config detail history said rest h all in
     record {
       begun = begun_before config detail one other (subst (IsBegun config detail) (sym split) (ended_begun config detail history));
-      grammar = grammar_before (honest_part one) part.0 (subst IsInGrammar (sym part.1) (ended_grammar config detail (honest_history history) h.plain (allowed h) h.options));
+      grammar = grammar_before one other (subst IsInGrammar (sym split) (ended_grammar config detail history h.options h.possible h.short));
       honest = λ of. so_far_served (submitted_of history) before (honest_part one) (run of);
-      ready = obeys_before IsReadyAt one other (subst (Obeys IsReadyAt) (sym split) (ended_ready config detail history));
+      ready = obeys_before IsReadyAt one other (subst (Obeys IsReadyAt) (sym split) (ended_ready config detail history h.possible));
       ring = λ moves. obeys_before IsQuietRingAt (honest_part one) part.0 (subst (Obeys IsQuietRingAt) (sym part.1) (ended_quiet config detail (honest_history history) h.plain (allowed h) moves));
-      moves = λ moves. moves_before one other (subst ObeysMoves (sym split) (ended_shown detail config history h.plain moves));
+      moves = λ moves. moves_before config.order one other (subst (ObeysMoves config.order) (sym split) (ended_shown detail config history h.plain moves));
       work = λ moves. work_before one other (subst ShowsWork (sym split) (ended_worked detail config history moves h.short));
     }
 
@@ -417,7 +427,7 @@ nothing_lawful config detail jobs before =
       };
       ready = obeys_none IsReadyAt;
       ring = λ same. obeys_none IsQuietRingAt;
-      moves = λ same. record { coherent = obeys_none _; answered = obeys_none _; touched = obeys_none _; grantable = obeys_none _; overruns = obeys_none _; stretches = obeys_none _ };
+      moves = λ same. record { coherent = obeys_none _; answered = obeys_none _; touched = obeys_none _; grantable = obeys_none _; overruns = obeys_none _; stretches = obeys_none _; dumps = obeys_none _; layout = All-nil KeepsX64 };
       work = λ same. record { steps = obeys_none _; data_given = obeys_none _; effects = obeys_none _; unmaps = obeys_none _; own = obeys_none _; replies = obeys_none _ };
     }
   where

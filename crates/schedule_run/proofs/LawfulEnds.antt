@@ -21,6 +21,7 @@ use Rattle.split_model.proofs.Echo.{echo_of, schedule_echo, kept_echo}
 use Rattle.disk_laws.proofs.SubmissionsOf.{events_submit}
 use Rattle.schedule_run.specs.Outcome.{Outside, outside, HasCarriedOut, EndsWhole, IsCut, IsUnsent, HasRead, StandsAtStop, StopsWith, EndsUnsent, Runs}
 use Rattle.schedule_run.specs.Reading.{IsWholeSchedule, HasBegun, HasComeTo, IsReadSoFar, Tells}
+use Rattle.move_laws.proofs.ReadOnly.{content_kept}
 use Rattle.schedule_run.specs.Lawful.{IsLawful, IsLawfulSoFar, HasLawfulReport, IsToldSoFar, HasLawfulBeginning, IsLawfulRun, ToldOf, IsLawfulStop, RunsLawfully}
 use Rattle.schedule_run.specs.declared.schedule.RunStop.{RunStop}
 use Rattle.schedule_run.specs.declared.schedule.RunStop.TheVariants as stop
@@ -53,6 +54,7 @@ beginning_same config events old new before h same = record {
   report = h.report;
   told = subst (IsToldSoFar old.recorder.detail h.report old.recorder.told) (sym same) h.told;
   lawful = h.lawful;
+  kept = h.kept;
 }
 
 -- a run that was stopped by its recorder, wherever
@@ -120,17 +122,18 @@ unsent_lawful config limit a b old new long h =
         lawful = subst (λ (jobs : List Job). IsLawfulSoFar config detail jobs old.disk.content (kept_of detail report)) (events_submit done.events (start_of config) leads.history leads.is_kind)
             (begun_lawful config detail leads.history old.disk.content report [] told (append-nil report)
             (ended_honest_run config detail leads.history old.disk new.disk told long leads.disk));
+        kept = λ fixed. content_kept config leads.history old.disk new.disk fixed leads.disk;
       },
     )
 
 -- the recorder stopped at the first line, in an event, or at the last line
 cut_lawful : (config : Options) (limit : ℕ) (a : SourceSeen) (why : RecordStop) (old new : Outside) → HasLength old.disk.content config.sectors → IsCut config limit a.left why old new → BeginsLawfully config limit a old new
-cut_lawful config limit a why old new long (inl h) = ([], read_none limit a.left, stopped_at_first config h.word why old new h.told)
+cut_lawful config limit a why old new long (inl h) = ([], read_none limit a.left, stopped_at_first config h.word why old new h.disk h.told)
 cut_lawful config limit a why old new long (inr (inl h)) =
     (h.events ++ h.event ∷ [], read_come limit h.events h.event a.left h.schedule, stopped_in_event config h.events h.event why old h.middle (moment h.last new.disk new.recorder) long h.carried h.stopped)
 cut_lawful config limit a why old new long (inr (inr h)) =
     let carried = h.carried in
-    (h.events, read_whole limit h.events a.left h.schedule, stopped_at_end config h.events why old (moment carried.0 new.disk h.before) new long carried.1 h.told)
+    (h.events, read_whole limit h.events a.left h.schedule, stopped_at_end config h.events why old (moment carried.0 new.disk h.before) new refl long carried.1 h.told)
 
 -- it failed to hand on what was told of whole events
 kept_lawful : (config : Options) (limit : ℕ) (a : SourceSeen) (old new : Outside) → HasLength old.disk.content config.sectors → IsUnsent config a.left old new → BeginsLawfully config limit a old new
@@ -148,6 +151,7 @@ none_lawful config limit a old new same = (
     report = [];
     told = inl (ap (λ (x : Outside). x.recorder.told) same ∙ sym (gained_none old.recorder.told));
     lawful = nothing_lawful config old.recorder.detail [] old.disk.content;
+    kept = λ fixed. ap (λ (x : Outside). x.disk.content) same;
   },
 )
 

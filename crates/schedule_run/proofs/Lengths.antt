@@ -5,11 +5,14 @@ use Rattle.std.specs.List.{AllByRecursion}
 use Rattle.std.proofs.lemmas.List.Sums.{sum_by-cons, sum_by-append}
 use Rattle.xen_pages.specs.Pages.{word_of}
 use Rattle.blk_base.specs.Options.{Options}
+use Rattle.blk_base.specs.declared.parts.End.{End}
 use Rattle.blk_base.specs.declared.ask.BackAnswer.{BackAnswer}
 use Rattle.schedule_text.specs.declared.event.Event.{Event}
 use Rattle.schedule_text.specs.declared.event.Event.TheVariants as events
+use Rattle.schedule_text.specs.declared.line.Line.{Line}
 use Rattle.schedule_text.specs.declared.line.Line.TheVariants.{Poke}
 use Rattle.schedule_text.specs.declared.line.Detail.{Detail}
+use Rattle.key_directory.specs.Directory.{Directory}
 use Rattle.hypervisor.specs.Act.{FrontAct, BackAct, Took}
 use Rattle.blk_front.specs.declared.told.Told.{Told}
 use Rattle.blk_front.specs.declared.told.Told.TheVariants as front_told
@@ -23,16 +26,18 @@ use Rattle.blk_back.specs.Step as back_step
 use Rattle.blk_front.specs.Submit.{is_connected}
 use Rattle.split_model.specs.World.{World, start_of, is_quiet}
 use Rattle.split_model.specs.Shown.{front_lines, back_lines, halt_lines}
-use Rattle.split_model.specs.Happening.{Happening, FrontMoves, BackMoves, JobMoves, Submits, Notifies, Pokes, Dumps, Looks, Settles, is_guest_word, word_lines, ring_lines, happens, lines_at, after, lines_of, front_shows, back_shows, job_shows, front_turn, back_turn, job_turn}
+use Rattle.split_model.specs.Happening.{Happening, FrontMoves, BackMoves, JobMoves, Negotiates, Connects, Submits, Notifies, Pokes, Dumps, Looks, Settles, is_guest_word, word_lines, ring_lines, ready_lines, happens, lines_at, after, lines_of, front_shows, back_shows, job_shows, front_turn, back_turn, job_turn}
+use Rattle.blk_back.specs.declared.stage.Stage.{Stage as BackStage}
+use Rattle.split_model.specs.Keys.{KeyMove, negotiated_lines}
 use Rattle.split_model.specs.Kind.{Makes, AreOfAll, AreOfSoFar, front_moves, back_moves, never}
 use Rattle.split_model.proofs.Echo.{is_move, front_are_moves, back_are_moves, job_are_moves, rounds_are_moves}
+use Rattle.split_model.proofs.Keys.{key_cases, negotiated_cases, connects_cases}
 use Rattle.split_model.specs.Report.{report_of}
 use Rattle.machine_pipeline.specs.Plain.{IsPlain}
 use Rattle.schedule_run.proofs.Counts.{event_so_far_few, events_few}
 
 front_few : (told : Option Told) → length (front_lines told) ≤ 1
 front_few None = omega arith
-front_few (Some front_told.Ready) = omega arith
 front_few (Some (front_told.Answer id status)) = omega arith
 front_few (Some (front_told.Sector id index words)) = omega arith
 front_few (Some (front_told.Broken word)) = omega arith
@@ -84,6 +89,15 @@ poke_few : (there : Bool) (frame word value : ℕ) → length (if there then Pok
 poke_few true frame word value = omega arith
 poke_few false frame word value = omega arith
 
+key_few : (stage : BackStage) (at : End) (move : KeyMove) (d : Directory) → length (negotiated_lines stage at move d) ≤ 3
+key_few stage at move d =
+    negotiated_cases (λ (after : Directory) (shown : List Line). length shown ≤ 3) stage at move d
+    (λ may. key_cases (λ (after : Directory) (shown : List Line). length shown ≤ 3) at move d
+    (λ path same. omega arith) (λ path text same may_set. omega arith) (λ path same. omega arith) (λ path first. omega arith) (omega arith)) (omega arith)
+
+ready_few : (v : front.View) → length (ready_lines v.stage) ≤ 3
+ready_few v = connects_cases (λ after (shown : List Line). length shown ≤ 3) v (λ waits. omega arith) (omega arith)
+
 -- a dump shows 1024 lines at most, and any other happening three
 abbrev pub dumps_at : Happening → ℕ
 dumps_at Dumps = 1
@@ -96,12 +110,14 @@ lines_few : (w : World) (h : Happening) → length (lines_at w h) ≤ 3 + 1024 *
 lines_few w FrontMoves = front_shows_few w (front_turn w)
 lines_few w BackMoves = back_shows_few w (back_turn w Took)
 lines_few w (JobMoves number outcome) = job_shows_few w number (job_turn w number outcome)
+lines_few w (Negotiates at move) = key_few w.back.stage at move w.under.keys
+lines_few w Connects = ready_few w.front
 lines_few w (Submits job) = omega arith
 lines_few w (Notifies at) = omega arith
 lines_few w (Pokes frame word value) = poke_few (is_guest_word frame word) frame word value
 lines_few w Dumps = let few = words_few w.under.pages 0 1024 in omega arith
-lines_few w Looks = omega arith
-lines_few w Settles = omega arith
+lines_few w (Looks quiet) = omega arith
+lines_few w (Settles quiet) = omega arith
 
 lines_by : (hs : List Happening) (w : World) → length (lines_of hs w) ≤ 3 * length hs + 1024 * dumps_of hs
 lines_by [] w = omega arith
@@ -121,6 +137,8 @@ moves_dump [] m = refl
 moves_dump (FrontMoves ∷ hs) m = none_more FrontMoves hs refl (moves_dump hs m.1)
 moves_dump (BackMoves ∷ hs) m = none_more BackMoves hs refl (moves_dump hs m.1)
 moves_dump (JobMoves number outcome ∷ hs) m = none_more (JobMoves number outcome) hs refl (moves_dump hs m.1)
+moves_dump (Negotiates at move ∷ hs) m = none_more (Negotiates at move) hs refl (moves_dump hs m.1)
+moves_dump (Connects ∷ hs) m = none_more Connects hs refl (moves_dump hs m.1)
 moves_dump (Notifies at ∷ hs) m = none_more (Notifies at) hs refl (moves_dump hs m.1)
 moves_dump (h ∷ hs) m = absurd (cc)
 
@@ -143,10 +161,11 @@ made_dumps (events.Turn n) w hs k = no_dumps hs hs refl (rounds_are_moves never 
 made_dumps events.Settle w hs k =
     let rounds = k.are_rounds in
     let none = moves_dump k.rounds (rounds_are_moves is_quiet rounds.count w k.rounds rounds.are_rounds) in
-    let both : dumps_of hs ≡ dumps_of k.rounds + dumps_of (Settles ∷ []) = ap dumps_of k.all ∙ sum_by-append dumps_at k.rounds (Settles ∷ []) in
-    let last : dumps_of (Settles ∷ []) ≡ 0 = sum_by-cons dumps_at Settles [] in
+    let found = Settles (is_quiet (after k.rounds w)) in
+    let both : dumps_of hs ≡ dumps_of k.rounds + dumps_of (found ∷ []) = ap dumps_of k.all ∙ sum_by-append dumps_at k.rounds (found ∷ []) in
+    let last : dumps_of (found ∷ []) ≡ 0 = sum_by-cons dumps_at found [] in
     omega arith
-made_dumps events.Look w hs k = only_dumps hs Looks k
+made_dumps events.Look w hs k = only_dumps hs (Looks (is_quiet w)) k
 made_dumps (events.Notify at) w hs k = only_dumps hs (Notifies at) k
 made_dumps (events.Poke frame word value) w hs k = only_dumps hs (Pokes frame word value) k.0
 made_dumps events.Dump w hs k = only_dumps hs Dumps k

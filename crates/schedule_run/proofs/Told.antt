@@ -2,7 +2,7 @@
 use Rattle.std.proofs.Common.{◌≡◌, ℕ, ◌^◌, ◌<◌, ◌≤◌, List, [], ◌∷◌, ◌++◌, length, Result, Ok, Err, inl, inr, refl, ap, sym, ◌∙◌, subst, append_assoc, append-nil, length-append, arith}
 use Rattle.blk_base.specs.Options.{Options}
 use Rattle.blk_base.specs.declared.config.Job.{Job}
-use Rattle.blk_io.specs.Disk.{HasLength}
+use Rattle.blk_io.specs.Disk.{DiskSeen, HasLength}
 use Rattle.schedule_text.specs.declared.event.Event.{Event}
 use Rattle.schedule_text.specs.declared.line.Detail.{Detail}
 use Rattle.schedule_text.specs.declared.line.Line.{Line}
@@ -26,6 +26,7 @@ use Rattle.disk_laws.proofs.Before.{HasRunSoFar}
 use Rattle.plain_disk.specs.Honest.{honest_part}
 use Rattle.pipeline_laws.specs.Effects.{IsOfADisk}
 use Rattle.schedule_run.specs.Outcome.{Outside, outside, IsServed, HasCarried}
+use Rattle.move_laws.proofs.ReadOnly.{content_kept}
 use Rattle.schedule_run.specs.Lawful.{IsLawful, IsLawfulSoFar, HasLawfulReport, HasLawfulBeginning, EventLeaves}
 use Rattle.schedule_run.proofs.Lengths.{report_short, report_so_far_short}
 use Rattle.schedule_run.proofs.Lawful.{IsTold, report_lawful, report_honest_run, begun_honest, begun_lawful, nothing_lawful}
@@ -77,6 +78,7 @@ carried_so_far config events old now long h =
       lawful = subst (λ (jobs : List Job). IsLawfulSoFar config detail jobs old.disk.content (kept_of detail report)) (events_submit events (start_of config) leads.history leads.is_kind)
           (begun_lawful config detail leads.history old.disk.content report (End ∷ []) (is_told config events old now h) refl
           (report_honest_run config detail leads.history old.disk now.disk (is_told config events old now h) long leads.disk));
+      kept = λ fixed. content_kept config leads.history old.disk now.disk fixed leads.disk;
     }
 
 -- nothing was told whole: the recorder stopped at the first line
@@ -85,14 +87,15 @@ nothing_before x [] cut rest e = refl
 nothing_before x (y ∷ []) cut rest e = absurd (cc)
 nothing_before x (y ∷ z ∷ said) cut rest e = absurd (cc)
 
-pub stopped_at_first : (config : Options) (word : Detail) (why : RecordStop) (old new : Outside) → StopsAmong [] (Begin config word ∷ []) why old.recorder new.recorder → HasLawfulBeginning config [] old new
-stopped_at_first config word why old new s =
+pub stopped_at_first : (config : Options) (word : Detail) (why : RecordStop) (old new : Outside) → new.disk ≡ old.disk → StopsAmong [] (Begin config word ∷ []) why old.recorder new.recorder → HasLawfulBeginning config [] old new
+stopped_at_first config word why old new same s =
     let none : s.said ≡ [] = nothing_before (Begin config word) s.said s.cut s.rest s.all in
     let detail = old.recorder.detail in
     record {
       report = [];
       told = inr (s.cut, subst (λ (l : List Line). StopsWithin (gained old.recorder.told (kept_of detail l)) (recorded detail s.cut) new.recorder.told) none s.stops);
       lawful = nothing_lawful config detail [] old.disk.content;
+      kept = λ fixed. ap (λ (d : DiskSeen). d.content) same;
     }
 
 -- the lines of all that happened, cut among the last one's
@@ -141,11 +144,12 @@ stopped_in_event config events event why old middle new long h stopped =
           (begun_lawful config detail all old.disk.content said ((told.cut ∷ told.rest) ++ End ∷ []) both
           (cut_report config detail whole.history whole.last told.said told.rest told.cut told.all)
           (begun_honest config detail whole.history whole.last told.said (told.cut ∷ told.rest) old.disk new.disk both long whole.disk (sym told.all)));
+      kept = λ fixed. content_kept config all old.disk new.disk fixed whole.disk;
     }
 
 -- or at the last line
-pub stopped_at_end : (config : Options) (events : List Event) (why : RecordStop) (old : Outside) (before : Moment) (new : Outside) → HasLength old.disk.content config.sectors → HasCarried config events old before → StopsAmong [] (End ∷ []) why before.recorder new.recorder → HasLawfulBeginning config events old new
-stopped_at_end config events why old before new long h s =
+pub stopped_at_end : (config : Options) (events : List Event) (why : RecordStop) (old : Outside) (before : Moment) (new : Outside) → new.disk ≡ before.disk → HasLength old.disk.content config.sectors → HasCarried config events old before → StopsAmong [] (End ∷ []) why before.recorder new.recorder → HasLawfulBeginning config events old new
+stopped_at_end config events why old before new same_disk long h s =
     let leads = h.leads in
     let detail = old.recorder.detail in
     let report = report_of config detail leads.history in
@@ -164,6 +168,7 @@ stopped_at_end config events why old before new long h s =
           (begun_lawful config detail leads.history old.disk.content said (told.cut ∷ told.rest) whole all
           (subst (λ (ls : List Line). IsOfADisk config.sectors old.disk.content (honest_part (kept_of detail ls)) → HasRunSoFar (submitted_of leads.history) old.disk.content (honest_part (kept_of detail ls))) (sym same)
           (report_honest_run config detail leads.history old.disk before.disk whole long leads.disk)));
+      kept = λ fixed. ap (λ (d : DiskSeen). d.content) same_disk ∙ content_kept config leads.history old.disk before.disk fixed leads.disk;
     }
 
 -- one event more

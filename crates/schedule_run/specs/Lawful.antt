@@ -1,5 +1,5 @@
 -- What every report of a run tells, whatever its schedule: `report_rules`, `plain_disk`, `pipeline_laws` and `report_laws` have the rules.
-use Rattle.std.specs.Prelude.{◌≡◌, ℕ, ◌⊎◌, List, filter, Option, Result, Ok, Err}
+use Rattle.std.specs.Prelude.{◌≡◌, ℕ, ◌⊎◌, true, List, filter, Option, Result, Ok, Err}
 use Rattle.blk_base.specs.Options.{Options}
 use Rattle.blk_base.specs.declared.config.Job.{Job}
 use Rattle.blk_io.specs.Outside.{SourceSeen}
@@ -20,8 +20,10 @@ use Rattle.report_rules.specs.Data.{AreData}
 use Rattle.report_rules.specs.Effect.{AreEffects}
 use Rattle.ring_laws.specs.Unmaps.{AreUnmaps}
 use Rattle.ring_laws.specs.Own.{AreOwn}
+use Rattle.ring_laws.specs.Layout.{HasOneLayout}
 use Rattle.report_rules.specs.Reply.{AreReplies}
 use Rattle.move_laws.specs.Grantable.{AreGrantable}
+use Rattle.move_laws.specs.Dumped.{AreWholeDumps}
 use Rattle.plain_disk.specs.Honest.{honest_part, IsHonest}
 use Rattle.plain_disk.specs.Echo.{is_echo, AnswersAll, Echoes}
 use Rattle.pipeline_laws.specs.Run.{IsRun}
@@ -42,14 +44,16 @@ use Rattle.schedule_run.specs.Outcome.{Outside, HasCarried}
 use Rattle.schedule_run.specs.declared.schedule.RunStop.{RunStop}
 use Rattle.schedule_run.specs.declared.schedule.RunStop.TheVariants as stop
 
--- the moves that a report shows: each read shows what the lines before it left there; each map is answered as its entry stands by them; each touch of the back or a job is of a word of frames 2 to 1023 through a mapping that stands, and writes only through one for writing; a producer that overran halts the back, which serves nothing more; each entry is fetched in one stretch, each word once, only where a request is unconsumed
-pub record ObeysMoves (report : List Line) : Type 0 where
+-- the moves that a report shows: each read shows what the lines before it left there; each map is answered as its entry stands by them; each touch of the back or a job is of a word of frames 2 to 1023 through a mapping that stands, and writes only through one for writing; a producer that overran halts the back, which serves nothing more; each entry is fetched in one stretch, each word once, only where a request is unconsumed; a dump shows each word of a ring of `2^order` pages that isn't 0; and no other layout of entries is named than that of 64-bit guests
+pub record ObeysMoves (order : ℕ) (report : List Line) : Type 0 where
   pub coherent : IsCoherent report
   pub answered : AreMapAnswers report
   pub touched : AreTouches report
   pub grantable : AreGrantable report
   pub overruns : IsOverrunRule report
   pub stretches : AreStretches report
+  pub dumps : AreWholeDumps order report
+  pub layout : HasOneLayout report
 
 -- the work that a report shows: each job's moves are in order the steps of the work of its entry as its words were read; each word that it writes to the guest is the one that the disk gave; what came of a move of the disk stands behind it, and nowhere else; a job reads, writes and unmaps only through what it mapped itself; and each reply is the response of a job whose work is over and that had none yet, pushed and told once it is whole
 pub record ShowsWork (report : List Line) : Type 0 where
@@ -78,25 +82,26 @@ pub record ServesRequestsSoFar (jobs : List Job) (before : Option (List (List �
   pub unbroken : IsUnbroken report
   pub states : AreStates report
 
--- a report begins with the options; the front was connected before the first `quiet` line; and where it shows the moves, they obey the rules, whatever a hostile hand overwrites. A report that no hostile hand touched serves its requests as the plain disk does, from what the disk held to what it holds, where the disk tells that, or what the report shows of it are the calls of a disk. Of any other, the lines before the first hostile one do so; they are lines of the grammar that their text gives back, and where moves are shown the ring is served and read at each `quiet` line
+-- a report begins with the options; its lines are lines of the grammar that its text gives back; a read-only disk holds what it held; the front was connected before the first `quiet` line; and where it shows the moves, they obey the rules, whatever a hostile hand overwrites. A report that no hostile hand touched serves its requests as the plain disk does, from what the disk held to what it holds, where the disk tells that, or what the report shows of it are the calls of a disk. Of any other, the lines before the first hostile one do so, and where moves are shown the ring is served and read at each of their `quiet` lines
 pub record IsLawful (config : Options) (detail : Detail) (jobs : List Job) (before now : Option (List (List ℕ))) (report : List Line) : Type 0 where
   pub begun : IsBegun config detail report
-  pub grammar : IsInGrammar (honest_part report)
+  pub kept : config.read_only ≡ true → now ≡ before
+  pub grammar : IsInGrammar report
   pub requests : IsHonest report → IsOfADisk config.sectors before report → ServesRequests config jobs before now report
   pub honest : IsOfADisk config.sectors before (honest_part report) → ServesRequestsSoFar jobs before (honest_part report)
   pub ready : IsReadyFirst report
   pub ring : detail ≡ Moves → IsQuietRing (honest_part report)
-  pub moves : detail ≡ Moves → ObeysMoves report
+  pub moves : detail ≡ Moves → ObeysMoves config.order report
   pub work : detail ≡ Moves → ShowsWork report
 
 -- so is the beginning of one, as far as it was written
 pub record IsLawfulSoFar (config : Options) (detail : Detail) (jobs : List Job) (before : Option (List (List ℕ))) (report : List Line) : Type 0 where
   pub begun : IsBegunSoFar config detail report
-  pub grammar : IsInGrammar (honest_part report)
+  pub grammar : IsInGrammar report
   pub honest : IsOfADisk config.sectors before (honest_part report) → ServesRequestsSoFar jobs before (honest_part report)
   pub ready : IsReadyFirst report
   pub ring : detail ≡ Moves → IsQuietRing (honest_part report)
-  pub moves : detail ≡ Moves → ObeysMoves report
+  pub moves : detail ≡ Moves → ObeysMoves config.order report
   pub work : detail ≡ Moves → ShowsWork report
 
 -- a lawful report was told, which echoes these events
@@ -110,11 +115,12 @@ pub record HasLawfulReport (config : Options) (events : List Event) (old new : O
 abbrev pub IsToldSoFar : Detail → List Line → Told → Told → Type 0
 IsToldSoFar detail report old new = (new ≡ gained old report) ⊎ ((cut : Line) × StopsWithin (gained old report) (recorded detail cut) new)
 
--- the lines that were told whole are lawful: they answer the submissions of these events
+-- the lines that were told whole are lawful: they answer the submissions of these events; and a read-only disk holds what it held
 pub record HasLawfulBeginning (config : Options) (events : List Event) (old new : Outside) : Type 0 where
   pub report : List Line
   pub told : IsToldSoFar old.recorder.detail report old.recorder.told new.recorder.told
   pub lawful : IsLawfulSoFar config old.recorder.detail (jobs_of events) old.disk.content report
+  pub kept : config.read_only ≡ true → new.disk.content ≡ old.disk.content
 
 -- an event, after others that led here from the outside where the run began, left the report lawful, and can be followed by more
 pub record LeavesLawful (config : Options) (events : List Event) (old : Outside) (new : Moment) : Type 0 where

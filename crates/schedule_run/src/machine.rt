@@ -124,8 +124,7 @@ impl Machine {
 }
 
 /// Whether options are ones that the machine serves yet: the x86_64 layout, a ring of one page from
-/// any start, and a disk of any size that may be written, without persistent grants or indirect
-/// pages.
+/// any start, and a disk of any size, read-only or not, without persistent grants or indirect pages.
 pub fn can_serve(config: &Config) -> bool
     ensures { result ≡ are_carried config.now }
 {
@@ -133,11 +132,7 @@ pub fn can_serve(config: &Config) -> bool
         Abi::X64 => true,
         Abi::X32 => false,
     };
-    is_x64
-        && config.order == 0
-        && config.persistent == 0
-        && config.indirect == 0
-        && !config.read_only
+    is_x64 && config.order == 0 && config.persistent == 0 && config.indirect == 0
 }
 
 /// Whether an event is one that the machine carries out yet, with the numbers of the grammar: a

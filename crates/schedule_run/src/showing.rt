@@ -1,5 +1,5 @@
 // The lines that a move shows.
-ghost use Rattle.std.specs.Prelude.{◌≡◌, ◌∷◌, ◌++◌, [], Some, None};
+ghost use Rattle.std.specs.Prelude.{◌≡◌, ◌∷◌, ◌++◌, [], Some, None, if◌then◌else◌};
 ghost use Rattle.schedule_text.specs.Recorder.{Adds};
 ghost use Rattle.split_model.specs.Happening.{submit_line};
 ghost use Rattle.hypervisor.specs.Act.{front_shown, back_shown};
@@ -131,6 +131,17 @@ fn take_told<R: Recorder>(
     follow_front(recorder, shown, told)
 }
 
+/// Says that the front is ready, where it waited to be connected.
+#[inline(never)]
+pub fn show_ready<R: Recorder>(recorder: &mut R, waited: bool) -> Result<(), RecordStop>
+    ensures { Adds (if waited then Line.Ready ∷ [] else []) result (R.seen recorder.old) (R.seen recorder.new) }
+{
+    if waited {
+        return recorder.add(&Line::Ready);
+    }
+    Ok(())
+}
+
 /// Shows what a move of the back made happen there, after the move, and the halt where it made the
 /// back halt.
 pub fn follow_back<R: Recorder>(
@@ -199,7 +210,6 @@ fn front_line(told: Told) -> Line
     ensures { result ∷ [] ≡ front_lines (Some told) }
 {
     match told {
-        Told::Ready => Line::Ready,
         Told::Answer { id, status } => Line::Answer {
             id: u64::from(id),
             status,
@@ -271,6 +281,7 @@ fn refusal_word(refusal: Refusal) -> RefusalWord
         Refusal::Spent => RefusalWord::Spent,
         Refusal::NotReady => RefusalWord::NotReady,
         Refusal::Unsupported => RefusalWord::Unsupported,
+        Refusal::ReadOnly => RefusalWord::ReadOnly,
         Refusal::Range => RefusalWord::Range,
         Refusal::Long => RefusalWord::Long,
         Refusal::Full => RefusalWord::Full,

@@ -30,11 +30,12 @@ use Rattle.blk_front.specs.Submit as front_submit
 use Rattle.xen_pages.specs.Pages.{word_of}
 use Rattle.split_model.specs.World.{World, is_quiet}
 use Rattle.split_model.specs.Shown.{front_lines, back_lines, halt_lines, effect_line}
-use Rattle.split_model.specs.Happening.{Happening, FrontMoves, BackMoves, JobMoves, Submits, Notifies, Pokes, Dumps, Looks, Settles, is_guest_word, word_lines, ring_lines, happens, lines_at, after, lines_of, front_shows, back_shows, job_shows, front_turn, back_turn, job_turn, submit_line}
+use Rattle.split_model.specs.Happening.{Happening, FrontMoves, BackMoves, JobMoves, Negotiates, Connects, Submits, Notifies, Pokes, Dumps, Looks, Settles, is_guest_word, word_lines, ring_lines, happens, lines_at, after, lines_of, front_shows, back_shows, job_shows, front_turn, back_turn, job_turn, submit_line}
 use Rattle.split_model.specs.Kind.{is_carried, Makes, AreOf, AreOfAll, connecting, front_move, front_moves, back_moves, AreJobMoves, AreEachJobs, round_start, IsRound, AreRounds, never}
 use Rattle.schedule_text.specs.Recorder.{recorded}
 use Rattle.schedule_text.specs.Recorder.{kept_of}
 use Rattle.split_model.proofs.Running.{lines_of-append}
+use Rattle.split_model.proofs.Keys.{negotiated_lines_are, ready_lines_are}
 
 -- the lines that echo
 abbrev pub echo_of : List Line → List Line
@@ -43,17 +44,18 @@ echo_of report = filter is_echo report
 pub echo-append : (a b : List Line) → echo_of (a ++ b) ≡ echo_of a ++ echo_of b
 echo-append a b = filter-append is_echo a b
 
--- a move of an end or of a job, or a spurious event
+-- a move of an end or of a job, what an end does with the keys, a connection, or a spurious event
 abbrev pub is_move : Happening → Bool
 is_move FrontMoves = true
 is_move BackMoves = true
 is_move (JobMoves number outcome) = true
+is_move (Negotiates at move) = true
+is_move Connects = true
 is_move (Notifies at) = true
 is_move h = false
 
 front_told_silent : (t : Option Told) → echo_of (front_lines t) ≡ []
 front_told_silent None = refl
-front_told_silent (Some front_told.Ready) = refl
 front_told_silent (Some (front_told.Answer id status)) = refl
 front_told_silent (Some (front_told.Sector id index words)) = refl
 front_told_silent (Some (front_told.Broken word)) = refl
@@ -104,16 +106,23 @@ job_silent w number (Some a) =
     let b : back.View = back_step.job_step w.back number a.answer in
     back_told_silent b.told a.answer
 
+-- so with any lines none of which echoes
+none_silent : (shown : List Line) → AllByRecursion (λ l. is_echo l ≡ false) shown → echo_of shown ≡ []
+none_silent [] none = refl
+none_silent (l ∷ shown) none = both_silent (l ∷ []) shown (one_silent l none.0) (none_silent shown none.1)
+
 pub move_silent : (w : World) (h : Happening) → is_move h ≡ true → echo_of (lines_at w h) ≡ []
 move_silent w FrontMoves m = front_silent w (front_turn w)
 move_silent w BackMoves m = back_silent w (back_turn w Took)
 move_silent w (JobMoves number outcome) m = job_silent w number (job_turn w number outcome)
+move_silent w (Negotiates at move) m = none_silent _ (negotiated_lines_are (λ l. is_echo l ≡ false) w.back.stage at move w.under.keys (λ path. refl) (λ path text. refl) (λ path. refl) (λ path. refl))
+move_silent w Connects m = none_silent _ (ready_lines_are (λ l. is_echo l ≡ false) w.front.stage (λ waits. refl))
 move_silent w (Notifies at) m = refl
 move_silent w (Submits job) m = absurd (cc)
 move_silent w (Pokes frame word value) m = absurd (cc)
 move_silent w Dumps m = absurd (cc)
-move_silent w Looks m = absurd (cc)
-move_silent w Settles m = absurd (cc)
+move_silent w (Looks quiet) m = absurd (cc)
+move_silent w (Settles quiet) m = absurd (cc)
 
 -- moves show no line that echoes
 pub moves_silent : (hs : List Happening) (w : World) → AllByRecursion (λ h. is_move h ≡ true) hs → echo_of (lines_of hs w) ≡ []
@@ -129,7 +138,9 @@ repeated zero h m = tt
 repeated (suc n) h m = (m, repeated n h m)
 
 connecting_moves : AllByRecursion (λ h. is_move h ≡ true) connecting
-connecting_moves = are_moves-append (replicate 20 FrontMoves) (replicate 2 BackMoves) (repeated 20 FrontMoves refl) (repeated 2 BackMoves refl)
+connecting_moves =
+    are_moves-append (replicate 20 FrontMoves) (replicate 2 BackMoves ++ Connects ∷ []) (repeated 20 FrontMoves refl)
+    (are_moves-append (replicate 2 BackMoves) (Connects ∷ []) (repeated 2 BackMoves refl) (refl, tt))
 
 turn_moves : (connected : Bool) → AllByRecursion (λ h. is_move h ≡ true) (if connected then FrontMoves ∷ [] else connecting)
 turn_moves true = (refl, tt)
@@ -179,11 +190,11 @@ settle_answers : (quiet : Bool) → (line : Line) × (echo_of ((if quiet then li
 settle_answers true = (lines.Quiet, refl, tt)
 settle_answers false = (lines.Unsettled, refl, tt)
 
-settle_echo : (w : World) (rounds : List Happening) → AllByRecursion (λ h. is_move h ≡ true) rounds → echo_of (lines_of (rounds ++ Settles ∷ []) w) ≡ echo_of ((if is_quiet (after rounds w) then lines.Quiet else lines.Unsettled) ∷ [])
-settle_echo w rounds m =
-    ap echo_of (lines_of-append rounds (Settles ∷ []) w)
-    ∙ (echo-append (lines_of rounds w) (lines_of (Settles ∷ []) (after rounds w))
-    ∙ (ap (λ l. l ++ echo_of (lines_of (Settles ∷ []) (after rounds w))) (moves_silent rounds w m)))
+settle_echo : (w : World) (rounds : List Happening) (quiet : Bool) → AllByRecursion (λ h. is_move h ≡ true) rounds → echo_of (lines_of (rounds ++ Settles quiet ∷ []) w) ≡ echo_of ((if quiet then lines.Quiet else lines.Unsettled) ∷ [])
+settle_echo w rounds quiet m =
+    ap echo_of (lines_of-append rounds (Settles quiet ∷ []) w)
+    ∙ (echo-append (lines_of rounds w) (lines_of (Settles quiet ∷ []) (after rounds w))
+    ∙ (ap (λ l. l ++ echo_of (lines_of (Settles quiet ∷ []) (after rounds w))) (moves_silent rounds w m)))
 
 poke_echo : (w : World) (frame word value : ℕ) → is_guest_word frame word ≡ true → echo_of (lines_of (Pokes frame word value ∷ []) w) ≡ lines.Poke frame word value ∷ []
 poke_echo w frame word value allowed = rw allowed refl
@@ -240,7 +251,7 @@ made_echo order (events.Job number n) w hs c k = silent_event w hs (job_are_move
 made_echo order (events.Turn n) w hs c k = silent_event w hs (rounds_are_moves never n w hs k)
 made_echo order events.Settle w hs c k =
     let a = settle_answers (is_quiet (after k.rounds w)) in
-    (a.0, ap (λ l. echo_of (lines_of l w)) k.all ∙ (settle_echo w k.rounds (rounds_are_moves is_quiet k.are_rounds.count w k.rounds k.are_rounds.are_rounds) ∙ a.1), a.2)
+    (a.0, ap (λ l. echo_of (lines_of l w)) k.all ∙ (settle_echo w k.rounds (is_quiet (after k.rounds w)) (rounds_are_moves is_quiet k.are_rounds.count w k.rounds k.are_rounds.are_rounds) ∙ a.1), a.2)
 made_echo order events.Look w hs c k =
     let a = look_answers (is_quiet w) in
     (a.0, ap (λ l. echo_of (lines_of l w)) k ∙ a.1, a.2)

@@ -1,5 +1,5 @@
 -- The front owes no more requests than its ring has entries, each of at most 88 sectors, whatever it is told.
-use Rattle.std.proofs.Common.{◌≡◌, ℕ, suc, ◌+◌, ◌*◌, ◌/◌, ◌%◌, ◌^◌, ◌<◌, ◌≤◌, Bool, true, false, not, if◌then◌else◌, List, [], ◌∷◌, ◌++◌, length, refl, sym, subst, arith, length-append}
+use Rattle.std.proofs.Common.{◌≡◌, ℕ, suc, ◌+◌, ◌*◌, ◌/◌, ◌%◌, ◌^◌, ◌<◌, ◌≤◌, ◌&&◌, Bool, true, false, not, if◌then◌else◌, List, [], ◌∷◌, ◌++◌, length, refl, sym, subst, arith, length-append}
 use Rattle.std.specs.Prelude.{All, Option, Some, None, Result, Ok, Err, nat_lt, nat_le, ◌==◌, slice_get, drop, take}
 use Rattle.std.proofs.lemmas.Bool.Decides.{nat_tests}
 use Rattle.std.specs.Option.{option_map}
@@ -26,10 +26,11 @@ use Rattle.blk_front.specs.declared.told.Refusal.{Refusal}
 use Rattle.blk_front.specs.declared.told.Refusal.TheVariants as refusal
 use Rattle.blk_front.specs.declared.told.Told.TheVariants as told
 use Rattle.blk_front.specs.Pool.{taking}
-use Rattle.blk_front.specs.Request.{has_data, words_in, frames_for}
+use Rattle.blk_front.specs.Request.{is_write, has_data, words_in, frames_for}
 use Rattle.blk_front.specs.View.{View, next_request, shape}
 use Rattle.blk_front.specs.Step.{at, broken, looked, issue_stage, data_stage, granted, loop_step, found_at, issued, taken, response_at, is_mapped, ended, revoked, sector_told, data_step, step_at, step_of}
-use Rattle.blk_front.specs.Submit.{is_ready, ending_of, unfinished, wish_of, request_with, submit_with, submit_one, submit_of}
+use Rattle.blk_front.specs.Submit.{is_ready, connected, ending_of, unfinished, wish_of, request_with, submit_with, submit_one, submit_of}
+use Rattle.split_model.proofs.Keys.{connects_cases}
 
 -- a request has at most 88 sectors
 abbrev pub IsShort : Request → Type 0
@@ -190,6 +191,10 @@ step_modest v x m = by_stage v.stage x refl
         response_modest v (response_of (low ∷ high ∷ last ∷ [])) low (issued v (low + high * 2 ^ 32)) (λ f e. found_in v.requests _ f e) m
     by_stage s a here = owed_modest (ending_of s) v (step_at s v a) (rw here (omega arith)) (step_owed s v a here (λ low high last e f. absurd (cc))) m
 
+-- where it is connected
+pub connected_modest : (v : View) → IsModest v → IsModest (connected v)
+connected_modest v m = connects_cases (λ x shown. IsModest x) v (λ waits. record { room = (let room = m.room in omega arith); short = m.short; ending = m.ending }) m
+
 -- and whatever is submitted
 either_submit : (b : Bool) (x y : Result ℕ Refusal × View) → IsModest x.1 → IsModest y.1 → IsModest (if b then x else y).1
 either_submit true x y p q = p
@@ -205,17 +210,18 @@ accepted_modest v wish (Some frames) few room m = record {
 
 wish_modest : (v : View) (wish : Option Wish) → IsModest v → IsModest (submit_one v wish).1
 wish_modest v None m = m
-wish_modest v (Some wish) m = by_tests (nat_lt v.sectors (wish.sector + wish.count)) (nat_lt 11 (frames_for wish.count)) (nat_le (entries_of shape.order) (unfinished v)) refl refl
+wish_modest v (Some wish) m = by_tests (is_write wish.transfer && v.read_only) (nat_lt v.sectors (wish.sector + wish.count)) (nat_lt 11 (frames_for wish.count)) (nat_le (entries_of shape.order) (unfinished v)) refl refl
   where
     frames : Option (List ℕ × List Bool)
     frames = taking (frames_for wish.count) v.pool []
 
-    by_tests : (range long full : Bool) → nat_lt 11 (frames_for wish.count) ≡ long → nat_le (entries_of shape.order) (unfinished v) ≡ full
-        → IsModest (if range then (Err refusal.Range, v) else (if long then (Err refusal.Long, v) else (if full then (Err refusal.Full, v) else submit_with v wish frames))).1
-    by_tests true long full l f = m
-    by_tests false true full l f = m
-    by_tests false false true l f = m
-    by_tests false false false l f =
+    by_tests : (refuses range long full : Bool) → nat_lt 11 (frames_for wish.count) ≡ long → nat_le (entries_of shape.order) (unfinished v) ≡ full
+        → IsModest (if refuses then (Err refusal.ReadOnly, v) else (if range then (Err refusal.Range, v) else (if long then (Err refusal.Long, v) else (if full then (Err refusal.Full, v) else submit_with v wish frames)))).1
+    by_tests true range long full l f = m
+    by_tests false true long full l f = m
+    by_tests false false true full l f = m
+    by_tests false false false true l f = m
+    by_tests false false false false l f =
         let few : frames_for wish.count ≤ 11 = grind (arith, nat_tests) in
         let room : unfinished v < 32 = grind (arith, nat_tests) in
         accepted_modest v wish frames (omega arith) room m

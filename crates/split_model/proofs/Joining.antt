@@ -193,8 +193,12 @@ rounds_spent n bound w v xs all are here =
     record { count = n; within = le; are_rounds = are; over = inl all }
 
 -- settling: rounds, and what was found
-pub settled : (bound : ℕ) (w : World) (xs ys : List Happening) → bound ≡ settle_bound w → AreRoundsUntilQuiet bound w xs → ys ≡ Settles ∷ [] → IsSettling w (xs ++ ys)
-settled bound w xs ys same are p = record { rounds = xs; are_rounds = subst (λ n. AreRoundsUntilQuiet n w xs) same are; all = ap (λ l. xs ++ l) p }
+pub settled : (bound : ℕ) (w v : World) (xs ys : List Happening) → bound ≡ settle_bound w → AreRoundsUntilQuiet bound w xs → v ≡ after xs w → ys ≡ Settles (is_quiet v) ∷ [] → IsSettling w (xs ++ ys)
+settled bound w v xs ys same are here p = record {
+  rounds = xs;
+  are_rounds = subst (λ n. AreRoundsUntilQuiet n w xs) same are;
+  all = ap (λ l. xs ++ l) (p ∙ ap (λ u. Settles (is_quiet u) ∷ []) here);
+}
 
 -- settling stopped at a round
 pub settling_begun : (bound : ℕ) (w : World) (xs : List Happening) → bound ≡ settle_bound w → AreRoundsSoFar is_quiet bound w xs → IsSettlingSoFar w xs

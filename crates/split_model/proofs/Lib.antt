@@ -9,7 +9,7 @@ pub mod SafeGrowth
 pub mod SafeFront
 pub mod Safe
 pub mod Overwriting
-pub mod Unkeyed
+pub mod Keys
 pub mod FewFront
 pub mod FewJobs
 pub mod Tight

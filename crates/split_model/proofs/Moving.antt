@@ -14,7 +14,7 @@ use Rattle.blk_base.specs.declared.moves.BackMover.{BackMover}
 use Rattle.blk_base.specs.declared.moves.BackMover.TheVariants.{Back, Job as JobOf}
 use Rattle.blk_base.specs.declared.moves.Move.{Move as Shown}
 use Rattle.schedule_text.specs.declared.line.Line.{Line}
-use Rattle.schedule_text.specs.declared.line.Line.TheVariants.{Move, Poke}
+use Rattle.schedule_text.specs.declared.line.Line.TheVariants.{Move, Ready, Poke}
 use Rattle.xen_pages.specs.Pages.{with_word}
 use Rattle.event_channel.specs.Channels.{is_pending}
 use Rattle.key_directory.specs.Watches.{is_empty_list, first_of}
@@ -29,7 +29,7 @@ use Rattle.hypervisor.specs.Disk.{DiskDoes}
 use Rattle.hypervisor.specs.May.{FrontMay, BackMay, FrontTakesMemory, BackTakesMemory}
 use Rattle.blk_front.specs.declared.told.Told.{Told as FrontTold}
 use Rattle.blk_front.specs.declared.told.Refusal.{Refusal}
-use Rattle.blk_front.specs.Submit.{submit_of}
+use Rattle.blk_front.specs.Submit.{is_initialised, connected, submit_of}
 use Rattle.blk_front.specs.View as front
 use Rattle.blk_front.specs.Ask as front_ends
 use Rattle.blk_front.specs.Step as front_step
@@ -44,7 +44,7 @@ use Rattle.back_jobs.specs.Hands.{Names}
 use Rattle.back_jobs.specs.Sound.{StaysInPageAndDisk}
 use Rattle.split_model.specs.World.{World}
 use Rattle.split_model.specs.Shown.{front_lines, back_lines, halt_lines}
-use Rattle.split_model.specs.Happening.{Happening, FrontMoves, BackMoves, JobMoves, Submits, Pokes, Dumps, is_guest_word, submit_line, happens, lines_at, DiskGoes, front_after, front_shows, back_after, back_shows, job_after, job_shows, front_turn, back_turn, job_turn}
+use Rattle.split_model.specs.Happening.{Happening, FrontMoves, BackMoves, JobMoves, Connects, Submits, Pokes, Dumps, is_guest_word, submit_line, happens, lines_at, DiskGoes, front_after, front_shows, back_after, back_shows, job_after, job_shows, front_turn, back_turn, job_turn}
 use Rattle.split_model.specs.Kind.{IsJobMove}
 use Rattle.hypervisor.specs.Act.{IsGiven}
 use Rattle.split_model.specs.Leads.{moment, Goes, Is}
@@ -53,7 +53,7 @@ use Rattle.split_model.proofs.Keeping.{no_call}
 use Rattle.split_model.proofs.Running.{goes_one}
 use Rattle.split_model.proofs.Safe.{safe_happens, front_may, back_may, job_may}
 use Rattle.split_model.proofs.SafeActs.{made_front, made_back, back_event}
-use Rattle.split_model.proofs.SafeFront.{sectors_front, submit_kept}
+use Rattle.split_model.proofs.SafeFront.{sectors_front, connected_kept, submit_kept}
 use Rattle.split_model.proofs.SafeAnswers.{AsksNoKey, fronts_no_key, IsBacks, backs_of, IsJobs, jobs_of, front_answered, back_answered, job_answered}
 
 -- one thing happened to the machine, and its lines were given to the recorder
@@ -379,6 +379,21 @@ job_asked_may w v k ask attached is safe same names within few disk left =
     let known : attached ≡ Some w.back.jobs.info.sectors = disk ∙ (sym (ap (λ (x : World). Some x.front.sectors) is) ∙ sym (ap (λ (n : ℕ). Some n) safe.sized)) in
     subst (BackMay w.under attached) (sym same)
     (job_may w.under attached w.back.jobs.info.sectors (hands_of w.back) w.back k safe.held (subst (Names (hands_of w.back)) same names) (subst (StaysInPageAndDisk w.back.jobs.info.sectors) same within) known (one_left w v is left) few)
+
+-- The front is connected, and that is said where it waited for it.
+now_connected : (w : World) (f : front.View) → f ≡ connected w.front → record { front = f; back = w.back; under = w.under } ≡ happens w Connects
+now_connected w f stepped = ap (λ (v : front.View). record { front = v; back = w.back; under = w.under }) stepped
+
+pub connected_safe : (w : World) (f : front.View) → IsSafe w → f ≡ connected w.front → IsSafe (record { front = f; back = w.back; under = w.under })
+connected_safe w f safe stepped = subst IsSafe (sym (now_connected w f stepped)) (safe_happens w Connects safe)
+
+pub connected_goes : (w : World) (f : front.View) (waits : Bool) (c : DiskSeen) (r s : RecorderSeen) (result : Result (Unit {0}) RecordStop) → f ≡ connected w.front → waits ≡ is_initialised w.front.stage → Adds (if waits then Ready ∷ [] else []) result r s
+    → Goes (Is (Connects ∷ [])) (Is (Connects ∷ [])) 0 result (moment w c r) (moment (record { front = f; back = w.back; under = w.under }) c s)
+connected_goes w f waits c r s result stepped waited shown =
+    let same : f.sectors ≡ w.front.sectors = ap (λ (v : front.View). v.sectors) stepped ∙ (connected_kept w.front).0 in
+    goes_here (Is (Connects ∷ [])) (Is (Connects ∷ [])) 0 Connects w (record { front = f; back = w.back; under = w.under }) c c r s result refl refl
+    (now_connected w f stepped) (omega arith) same refl
+    (subst (λ (b : Bool). Adds (if b then Ready ∷ [] else []) result r s) waited shown)
 
 -- A submission.
 pub submitted : (w : World) (job : Job) (f : front.View) → f ≡ (submit_of w.front job).1 → record { front = f; back = w.back; under = w.under } ≡ happens w (Submits job)

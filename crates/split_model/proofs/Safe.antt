@@ -36,11 +36,11 @@ use Rattle.blk_back.proofs.Hands.{hands_after, job_hands_after, step_info}
 use Rattle.segment_list.specs.declared.verdict.DiskInfo.{DiskInfo}
 use Rattle.split_model.specs.World.{World, start_of}
 use Rattle.split_model.proofs.Overwriting.{poke_cases}
-use Rattle.split_model.specs.Happening.{Happening, FrontMoves, BackMoves, JobMoves, Submits, Notifies, Pokes, Dumps, Looks, Settles, happens, after, front_after, back_after, job_after, front_turn, back_turn, job_turn, other_end}
+use Rattle.split_model.specs.Happening.{Happening, FrontMoves, BackMoves, JobMoves, Negotiates, Connects, Submits, Notifies, Pokes, Dumps, Looks, Settles, happens, after, front_after, back_after, job_after, front_turn, back_turn, job_turn, other_end}
 use Rattle.split_model.specs.Safe.{AreHeld, IsPorted, IsSafe}
 use Rattle.split_model.proofs.SafeActs.{of_back, of_read, of_disk, held_after, made_front, IsBackKeyAct, back_wait, back_keys, back_key_channels}
 use Rattle.split_model.proofs.SafeAnswers.{IsFronts, IsBacks, IsJobs, fronts_at, backs_of, jobs_of, back_answered, job_answered}
-use Rattle.split_model.proofs.SafeFront.{channels_front, step_fits, submit_kept}
+use Rattle.split_model.proofs.SafeFront.{channels_front, step_fits, connected_ported, connected_kept, submit_kept}
 
 -- at the start nothing is mapped, made or to be told
 none_live : AreHeld fresh_table []
@@ -139,6 +139,18 @@ safe_job w k o a safe e =
       sized = safe.sized;
       front_told = safe.front_told;
       back_told = refl;
+    }
+
+-- a front that is connected
+pub safe_connect : (w : World) → IsSafe w → IsSafe (happens w Connects)
+safe_connect w safe =
+    let kept = connected_kept w.front in
+    record {
+      ported = connected_ported w.front w.under.channels safe.ported;
+      held = safe.held;
+      sized = safe.sized ∙ sym kept.0;
+      front_told = kept.1 ∙ safe.front_told;
+      back_told = safe.back_told;
     }
 
 -- a submission
@@ -255,12 +267,14 @@ pub safe_happens : (w : World) (h : Happening) → IsSafe w → IsSafe (happens 
 safe_happens w FrontMoves safe = safe_front_turn w (front_turn w) safe refl
 safe_happens w BackMoves safe = safe_back_turn w Took (back_turn w Took) safe refl
 safe_happens w (JobMoves number outcome) safe = safe_job_turn w number outcome (job_turn w number outcome) safe refl
+safe_happens w (Negotiates at move) safe = record { ported = safe.ported; held = safe.held; sized = safe.sized; front_told = safe.front_told; back_told = safe.back_told }
+safe_happens w Connects safe = safe_connect w safe
 safe_happens w (Submits job) safe = safe_submit w job safe
 safe_happens w (Notifies at) safe = safe_notify w at safe
 safe_happens w (Pokes frame word value) safe = safe_poke w frame word value safe
 safe_happens w Dumps safe = safe
-safe_happens w Looks safe = safe
-safe_happens w Settles safe = safe
+safe_happens w (Looks quiet) safe = safe
+safe_happens w (Settles quiet) safe = safe
 
 -- whatever has happened
 pub safe_after : (hs : List Happening) (w : World) → IsSafe w → IsSafe (after hs w)

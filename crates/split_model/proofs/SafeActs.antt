@@ -102,22 +102,29 @@ front_watch h path = record { answer = front_answer.Watched path; under = watch_
 abbrev pub back_watch : Hypervisor → List ℕ → BackAct
 back_watch h path = record { answer = back_answer.Watched path; under = watch_taken h end.Back; shown = moves.Watched mover.Back path }
 
-pub front_wait : (P : FrontAct → Type 0) (h : Hypervisor) (a : FrontAct) → P (front_event h) → ((path : List ℕ) → P (front_watch h path)) → front_act h front_ask.Wait ≡ Some a → P a
-front_wait P h a event watch e = by_test (is_pending h.channels end.Front) (watch_next h end.Front) e
+pub front_takes : (P : FrontAct → Type 0) (h : Hypervisor) (a : FrontAct) → P (front_event h) → ((path : List ℕ) → watch_next h end.Front ≡ Some path → P (front_watch h path)) → front_act h front_ask.Wait ≡ Some a → P a
+front_takes P h a event watch e = by_test (is_pending h.channels end.Front) (watch_next h end.Front) refl e
   where
-    by_test : (b : Bool) (next : Option (List ℕ)) → (if b then Some (front_event h) else front_watched h next) ≡ Some a → P a
-    by_test true next e = of_front P _ a event e
-    by_test false None e = absurd (none-some a e)
-    by_test false (Some path) e = of_front P _ a (watch path) e
+    by_test : (b : Bool) (next : Option (List ℕ)) → watch_next h end.Front ≡ next → (if b then Some (front_event h) else front_watched h next) ≡ Some a → P a
+    by_test true next first e = of_front P _ a event e
+    by_test false None first e = absurd (none-some a e)
+    by_test false (Some path) first e = of_front P _ a (watch path first) e
+
+pub back_takes : (P : BackAct → Type 0) (h : Hypervisor) (who : BackMover) (a : BackAct) → P (back_event h) → ((path : List ℕ) → watch_next h end.Back ≡ Some path → P (back_watch h path)) → wait_act h who ≡ Some a → P a
+back_takes P h back_mover.Back a event watch e = by_test (is_pending h.channels end.Back) (watch_next h end.Back) refl e
+  where
+    by_test : (b : Bool) (next : Option (List ℕ)) → watch_next h end.Back ≡ next → (if b then Some (back_event h) else back_watched h next) ≡ Some a → P a
+    by_test true next first e = of_back P _ a event e
+    by_test false None first e = absurd (none-some a e)
+    by_test false (Some path) first e = of_back P _ a (watch path first) e
+back_takes P h (back_mover.Job k) a event watch e = absurd (none-some a e)
+
+-- the same, whichever watch it is
+pub front_wait : (P : FrontAct → Type 0) (h : Hypervisor) (a : FrontAct) → P (front_event h) → ((path : List ℕ) → P (front_watch h path)) → front_act h front_ask.Wait ≡ Some a → P a
+front_wait P h a event watch e = front_takes P h a event (λ path first. watch path) e
 
 pub back_wait : (P : BackAct → Type 0) (h : Hypervisor) (who : BackMover) (a : BackAct) → P (back_event h) → ((path : List ℕ) → P (back_watch h path)) → wait_act h who ≡ Some a → P a
-back_wait P h back_mover.Back a event watch e = by_test (is_pending h.channels end.Back) (watch_next h end.Back) e
-  where
-    by_test : (b : Bool) (next : Option (List ℕ)) → (if b then Some (back_event h) else back_watched h next) ≡ Some a → P a
-    by_test true next e = of_back P _ a event e
-    by_test false None e = absurd (none-some a e)
-    by_test false (Some path) e = of_back P _ a (watch path) e
-back_wait P h (back_mover.Job k) a event watch e = absurd (none-some a e)
+back_wait P h who a event watch e = back_takes P h who a event (λ path first. watch path) e
 
 pub front_watch_keys : (h : Hypervisor) (path : List ℕ) → IsFrontKeyAct h (front_watch h path)
 front_watch_keys h path = record { under = refl; shown = refl }

@@ -87,6 +87,7 @@ read_fronts c (Some e) n = tt
 
 pub fronts_at : (c : ChannelState) (s : FrontStage) (v : front.View) → IsPorted s c → IsFronts c (front_ends.ask_at s v)
 fronts_at c front_stage.NewPort v ported = ported
+fronts_at c front_stage.Initialised v ported = tt
 fronts_at c front_stage.Loop v ported = loop_fronts c v (front.next_request v)
 fronts_at c (front_stage.RingWord k) v ported = tt
 fronts_at c front_stage.RingFrame v ported = tt

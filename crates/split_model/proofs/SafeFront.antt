@@ -1,5 +1,5 @@
--- What a step and a submission leave of the front: its disk, and that it made its port once.
-use Rattle.std.proofs.Common.{◌≡◌, ℕ, ◌+◌, ◌*◌, ◌/◌, ◌%◌, ◌^◌, Bool, true, false, not, if◌then◌else◌, List, [], ◌∷◌, length, refl}
+-- What a step, a connection and a submission leave of the front: its disk, and that it made its port once.
+use Rattle.std.proofs.Common.{◌≡◌, ℕ, ◌+◌, ◌*◌, ◌/◌, ◌%◌, ◌^◌, ◌&&◌, Bool, true, false, not, if◌then◌else◌, List, [], ◌∷◌, length, refl}
 use Rattle.std.specs.Prelude.{Option, Some, None, Result, Ok, Err, nat_lt, nat_le, ◌==◌}
 use Rattle.blk_base.specs.Distance.{distance_of}
 use Rattle.blk_base.specs.declared.config.Job.{Job}
@@ -23,13 +23,14 @@ use Rattle.blk_front.specs.declared.told.Refusal.TheVariants as refusal
 use Rattle.blk_front.specs.declared.request.Wish.{Wish}
 use Rattle.blk_front.specs.declared.told.Told.TheVariants as told
 use Rattle.blk_front.specs.Pool.{taking}
-use Rattle.blk_front.specs.Request.{has_data, words_in, frames_for}
+use Rattle.blk_front.specs.Request.{is_write, has_data, words_in, frames_for}
 use Rattle.blk_front.specs.View.{View, next_request, shape}
 use Rattle.blk_front.specs.Ask.{ask_at}
 use Rattle.blk_front.specs.Step.{at, broken, looked, issue_stage, data_stage, granted, loop_step, issued, response_at, is_mapped, ended, revoked, sector_told, data_step, step_at, step_of}
-use Rattle.blk_front.specs.Submit.{is_ready, unfinished, wish_of, submit_with, submit_one, submit_of}
+use Rattle.blk_front.specs.Submit.{is_ready, connected, unfinished, wish_of, submit_with, submit_one, submit_of}
 use Rattle.split_model.specs.Safe.{IsPorted}
 use Rattle.split_model.proofs.SafeActs.{of_front}
+use Rattle.split_model.proofs.Keys.{connects_cases}
 
 -- there is no port yet, but where one is being made or was
 abbrev pub IsUnported : Stage → ChannelState → Type 0
@@ -149,6 +150,13 @@ sectors_front v x = (step_fits v x (record { made = 0; ports = []; front_pending
     unported stage.RingFlags = (refl, refl)
     unported s = tt
 
+-- connected, where it waits for it
+pub connected_ported : (v : View) (c : ChannelState) → IsPorted v.stage c → IsPorted (connected v).stage c
+connected_ported v c ported = connects_cases (λ x shown. IsPorted x.stage c) v (λ waits. tt) ported
+
+pub connected_kept : (v : View) → ((connected v).sectors ≡ v.sectors) × ((connected v).told ≡ v.told)
+connected_kept v = connects_cases (λ x shown. (x.sectors ≡ v.sectors) × (x.told ≡ v.told)) v (λ waits. (refl, refl)) (refl, refl)
+
 -- a submission changes neither what the front does, nor its disk, nor what it is to tell
 pub record IsUndisturbed (v x : View) : Type 0 where
   pub stage : x.stage ≡ v.stage
@@ -171,9 +179,11 @@ submit_wish v None = undisturbed v
 submit_wish v (Some wish) =
     let frames = taking (frames_for wish.count) v.pool [] in
     let unless_full = if nat_le (entries_of shape.order) (unfinished v) then (Err refusal.Full, v) else submit_with v wish frames in
-    either_submit (nat_lt v.sectors (wish.sector + wish.count)) v (Err refusal.Range, v) (if nat_lt 11 (frames_for wish.count) then (Err refusal.Long, v) else unless_full) (undisturbed v)
+    let unless_long = if nat_lt 11 (frames_for wish.count) then (Err refusal.Long, v) else unless_full in
+    either_submit (is_write wish.transfer && v.read_only) v (Err refusal.ReadOnly, v) (if nat_lt v.sectors (wish.sector + wish.count) then (Err refusal.Range, v) else unless_long) (undisturbed v)
+    (either_submit (nat_lt v.sectors (wish.sector + wish.count)) v (Err refusal.Range, v) unless_long (undisturbed v)
     (either_submit (nat_lt 11 (frames_for wish.count)) v (Err refusal.Long, v) unless_full (undisturbed v)
-    (either_submit (nat_le (entries_of shape.order) (unfinished v)) v (Err refusal.Full, v) (submit_with v wish frames) (undisturbed v) (submit_with_frames v wish frames)))
+    (either_submit (nat_le (entries_of shape.order) (unfinished v)) v (Err refusal.Full, v) (submit_with v wish frames) (undisturbed v) (submit_with_frames v wish frames))))
 
 pub submit_kept : (v : View) (job : Job) → IsUndisturbed v (submit_of v job).1
 submit_kept v job =

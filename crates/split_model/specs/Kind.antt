@@ -1,5 +1,5 @@
 -- The happenings that an event of a schedule makes.
-use Rattle.std.specs.Prelude.{◌≡◌, ℕ, zero, suc, ◌+◌, ◌*◌, ◌^◌, ◌≤◌, ◌<◌, ◌⊎◌, Bool, true, false, not, ◌&&◌, List, [], ◌∷◌, ◌++◌, replicate, length, Some, None, if◌then◌else◌, ◌==◌}
+use Rattle.std.specs.Prelude.{◌≡◌, ℕ, zero, suc, ◌+◌, ◌*◌, ◌^◌, ◌≤◌, ◌<◌, ◌⊎◌, Bool, true, false, ◌&&◌, List, [], ◌∷◌, ◌++◌, replicate, length, Some, None, if◌then◌else◌, ◌==◌}
 use Rattle.blk_base.specs.Options.{Options}
 use Rattle.blk_base.specs.declared.operation.Abi.{Abi}
 use Rattle.blk_base.specs.declared.operation.Abi.TheVariants.{X64, X32}
@@ -13,15 +13,15 @@ use Rattle.schedule_text.specs.declared.event.Event.TheVariants as events
 use Rattle.blk_front.specs.Submit.{unfinished, sectors_owed, is_connected}
 use Rattle.blk_back.specs.Step.{next_job_of}
 use Rattle.split_model.specs.World.{World, is_quiet}
-use Rattle.split_model.specs.Happening.{Happening, FrontMoves, BackMoves, JobMoves, Submits, Notifies, Pokes, Dumps, Looks, Settles, is_guest_word, happens, after}
+use Rattle.split_model.specs.Happening.{Happening, FrontMoves, BackMoves, JobMoves, Connects, Submits, Notifies, Pokes, Dumps, Looks, Settles, is_guest_word, happens, after}
 
 abbrev pub is_x64 : Abi → Bool
 is_x64 X64 = true
 is_x64 X32 = false
 
--- the options that are carried out yet: the x86_64 layout, a ring of one page from any start, and a disk of any size that may be written
+-- the options that are carried out yet: the x86_64 layout, a ring of one page from any start, and a disk of any size, read-only or not
 abbrev pub are_carried : Options → Bool
-are_carried o = is_x64 o.abi && (o.order == 0) && (o.persistent == 0) && (o.indirect == 0) && not o.read_only
+are_carried o = is_x64 o.abi && (o.order == 0) && (o.persistent == 0) && (o.indirect == 0)
 
 -- a read or a write, the only submissions that are carried out yet
 abbrev pub is_carried_job : Job → Bool
@@ -43,9 +43,9 @@ is_carried (events.Poke frame word value) = is_guest_word frame word
 is_carried events.Dump = true
 is_carried event = false
 
--- the first move of the front connects both ends: it makes its ring and its port, and the back maps the one and binds the other
+-- the first move of the front connects both ends: it makes its ring and its port, and the back maps the one and binds the other; then the front is ready
 abbrev pub connecting : List Happening
-connecting = replicate 20 FrontMoves ++ replicate 2 BackMoves
+connecting = replicate 20 FrontMoves ++ (replicate 2 BackMoves ++ Connects ∷ [])
 
 abbrev pub front_move : World → List Happening
 front_move w = if is_connected w.front.stage then FrontMoves ∷ [] else connecting
@@ -139,7 +139,7 @@ pub record AreRoundsUntilQuiet (bound : ℕ) (w : World) (hs : List Happening) :
 pub record IsSettling (w : World) (hs : List Happening) : Type 0 where
   pub rounds : List Happening
   pub are_rounds : AreRoundsUntilQuiet (settle_bound w) w rounds
-  pub all : hs ≡ rounds ++ Settles ∷ []
+  pub all : hs ≡ rounds ++ Settles (is_quiet (after rounds w)) ∷ []
 
 -- rounds, the last of them begun
 pub record AreRoundsSoFar (test : World → Bool) (bound : ℕ) (w : World) (hs : List Happening) : Type 0 where
@@ -164,7 +164,7 @@ Makes (events.Back n) w hs = hs ≡ back_moves w n
 Makes (events.Job number n) w hs = AreSomeJobMoves number n hs
 Makes (events.Turn n) w hs = AreRounds never n w hs
 Makes events.Settle w hs = IsSettling w hs
-Makes events.Look w hs = hs ≡ Looks ∷ []
+Makes events.Look w hs = hs ≡ Looks (is_quiet w) ∷ []
 Makes (events.Notify at) w hs = hs ≡ Notifies at ∷ []
 Makes (events.Poke frame word value) w hs = (hs ≡ Pokes frame word value ∷ []) × (value < 2 ^ 32)
 Makes events.Dump w hs = hs ≡ Dumps ∷ []

@@ -1,3 +1,4 @@
+pub mod Keys
 pub mod World
 pub mod Shown
 pub mod Happening

@@ -19,7 +19,6 @@ use Rattle.blk_back.specs.declared.told.Halt.TheVariants as halt
 
 abbrev pub front_lines : Option Told → List Line
 front_lines None = []
-front_lines (Some front_told.Ready) = lines.Ready ∷ []
 front_lines (Some (front_told.Answer id status)) = lines.Answer id status ∷ []
 front_lines (Some (front_told.Sector id index words)) = lines.Data id index words ∷ []
 front_lines (Some (front_told.Broken word)) = lines.Broken word ∷ []
@@ -49,6 +48,7 @@ abbrev pub refusal_word : Refusal → RefusalWord
 refusal_word refusal.Spent = words.Spent
 refusal_word refusal.NotReady = words.NotReady
 refusal_word refusal.Unsupported = words.Unsupported
+refusal_word refusal.ReadOnly = words.ReadOnly
 refusal_word refusal.Range = words.Range
 refusal_word refusal.Long = words.Long
 refusal_word refusal.Full = words.Full

@@ -5,8 +5,7 @@ use Rattle.blk_base.specs.declared.parts.End.TheVariants as end
 use Rattle.hypervisor.specs.Hypervisor.{Hypervisor, fresh}
 use Rattle.hypervisor.specs.Act.{has_to_take}
 use Rattle.blk_front.specs.View as front
-use Rattle.blk_front.specs.Ask as front_ask
-use Rattle.blk_front.specs.Submit.{is_wait}
+use Rattle.blk_front.specs.Submit as front_submit
 use Rattle.blk_back.specs.View as back
 use Rattle.blk_back.specs.Ask.{is_idle}
 
@@ -20,6 +19,6 @@ pub record World : Type 0 where
 abbrev pub start_of : Options → World
 start_of config = record { front = front.start_of config; back = back.start_of config; under = fresh }
 
--- quiet: both ends wait, no job is held, and neither an event nor a watch is pending
+-- quiet: the front was connected, both ends wait, no job is held, and neither an event nor a watch is pending
 abbrev pub is_quiet : World → Bool
-is_quiet w = is_wait (front_ask.ask_of w.front) && is_idle w.back && not (has_to_take w.under end.Front) && not (has_to_take w.under end.Back)
+is_quiet w = front_submit.is_idle w.front && is_idle w.back && not (has_to_take w.under end.Front) && not (has_to_take w.under end.Back)

@@ -31,14 +31,6 @@ impl Front {
         };
     }
 
-    pub(super) fn connected(&mut self)
-        requires { self.old.stage ≡ stage.NewPort }
-        ensures { self.new ≡ step_at stage.NewPort self.old Done }
-    {
-        self.stage = Stage::Loop;
-        self.told = Some(Told::Ready);
-    }
-
     /// Begins the next step of the loop.
     pub(super) fn begin(&mut self, answer: &FrontAnswer)
         requires stage { self.old.stage ≡ stage.Loop }

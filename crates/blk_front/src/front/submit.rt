@@ -4,7 +4,7 @@ ghost use Rattle.arrayvec.specs.ArrayVec.{array_vec_len};
 ghost use Rattle.blk_front.specs.declared.request.Request.{Request};
 ghost use Rattle.blk_front.specs.Request.{IsShaped, frames_for};
 ghost use Rattle.blk_front.specs.Ask.{ask_of};
-ghost use Rattle.blk_front.specs.Submit.{submit_of, submit_one, is_ready, is_connected, wish_of, accepted, unfinished, ending_of, ending_sectors, sectors_owed, is_wait};
+ghost use Rattle.blk_front.specs.Submit.{submit_of, submit_one, is_ready, is_connected, is_initialised, connected, is_idle, wish_of, accepted, unfinished, ending_of, ending_sectors, sectors_owed, is_wait};
 ghost use Rattle.blk_front.specs.Pool.{taking};
 
 use super::Front;
@@ -32,6 +32,9 @@ impl Front {
         let Some(wish) = wish_of(&job) else {
             return Err(Refusal::Unsupported);
         };
+        if self.read_only && matches!(wish.transfer, Transfer::Write(_)) {
+            return Err(Refusal::ReadOnly);
+        }
         let count = u64::from(wish.count);
         if count > self.sectors || wish.sector > self.sectors - count {
             return Err(Refusal::Range);
@@ -97,10 +100,22 @@ impl Front {
         )
     }
 
-    /// Whether it asks for nothing but an event.
+    /// Connects a front that waits for it, and says whether it did. No other front changes.
+    pub fn connect(&mut self) -> bool
+        ensures front { self.new ≡ connected self.old }
+        ensures done { result ≡ is_initialised self.old.stage }
+    {
+        let waits = matches!(self.stage, Stage::Initialised);
+        if waits {
+            self.stage = Stage::Loop;
+        }
+        waits
+    }
+
+    /// Whether it is connected, or broken, and asks for nothing but an event.
     #[inline(always)]
     pub fn idle(&self) -> bool
-        ensures { result ≡ is_wait (ask_of self.now) }
+        ensures { result ≡ is_idle self.now }
     {
         // Most moves are of a sector's words, and no such move waits.
         if let Stage::Data(_) = self.stage {
@@ -115,9 +130,9 @@ impl Front {
     // The same, at any stage.
     #[inline(never)]
     fn waits(&self) -> bool
-        ensures { result ≡ is_wait (ask_of self.now) }
+        ensures { result ≡ is_idle self.now }
     {
-        matches!(self.ask(), FrontAsk::Wait)
+        !matches!(self.stage, Stage::Initialised) && matches!(self.ask(), FrontAsk::Wait)
     }
 
     /// How many requests are unfinished, and how many sectors they move.
@@ -198,6 +213,7 @@ fn is_ready(stage: Stage) -> bool
             | Stage::RingFence
             | Stage::RingFlags
             | Stage::NewPort
+            | Stage::Initialised
             | Stage::Broken(_)
     )
 }

@@ -141,16 +141,24 @@ pub fn front_of(alloc: Global, start: u32) -> Result<Front, Fail> {
 
 /// A front over a disk of so many sectors.
 fn front_over(alloc: Global, start: u32, sectors: u64) -> Result<Front, Fail> {
-    let config = Config {
+    Ok(Front::new(alloc, &config(start, false, sectors))?)
+}
+
+/// A front over a read-only disk of 8 sectors.
+pub fn front_of_read_only(alloc: Global) -> Result<Front, Fail> {
+    Ok(Front::new(alloc, &config(0, true, 8))?)
+}
+
+fn config(start: u32, read_only: bool, sectors: u64) -> Config {
+    Config {
         abi: Abi::X64,
         order: 0,
         persistent: 0,
         indirect: 0,
         start,
-        read_only: false,
+        read_only,
         sectors,
-    };
-    Ok(Front::new(alloc, &config)?)
+    }
 }
 
 /// Whether the next moves ask these, and tell nothing.
@@ -168,11 +176,11 @@ pub fn asks(
     Ok(())
 }
 
-// The moves that connect a front: 16 words of the ring, the 3 of its grant, and the port.
-fn connect(rt: &impl Abort, front: &mut Front, memory: &mut Memory) -> Result<(), Fail> {
+/// The moves after which a front is connected: 16 words of the ring, the 3 of its grant, and the port.
+pub fn connect(rt: &impl Abort, front: &mut Front, memory: &mut Memory) -> Result<(), Fail> {
     quiet_moves(rt, front, memory, 19)?;
-    let port = one_move(rt, front, memory)?;
-    assert_eq!(rt; port, (FrontAsk::NewPort, Some(Told::Ready)));
+    asks(rt, front, memory, &[FrontAsk::NewPort])?;
+    assert!(rt; front.connect());
     Ok(())
 }
 

@@ -2,13 +2,14 @@
 ghost use Rattle.std.specs.Prelude.{◌*◌, ◌∷◌, [], replicate};
 ghost use Rattle.blk_io.specs.Disk.{DiskSeen};
 ghost use Rattle.split_model.specs.World.{is_quiet};
-ghost use Rattle.split_model.specs.Happening.{FrontMoves, BackMoves, Looks};
+ghost use Rattle.split_model.specs.Happening.{FrontMoves, BackMoves, Connects, Looks};
 ghost use Rattle.split_model.specs.Kind.{connecting, front_move, front_moves, back_moves, AreSomeJobMoves, AreFewJobMoves, AreAllJobs, HasEachJobs};
 ghost use Rattle.split_model.specs.Kind.{most_rounds, IsRound, IsRoundSoFar, AreRounds, never, AreRoundsSoFar, AreRoundsUntilQuiet, IsSettling, IsSettlingSoFar};
 ghost use Rattle.split_model.specs.Leads.{Goes, Is, IsReadyFor, moment};
 ghost use Rattle.schedule_run.specs.Going.{GoesThrough};
 
 use super::Split;
+use crate::showing::show_ready;
 use blk_io::SectorDisk;
 use schedule_text::{Line, RecordStop, Recorder};
 
@@ -43,7 +44,17 @@ impl Split {
         Ok(())
     }
 
-    // Connects both ends: the front makes its ring and its port, the back maps the one and binds the other.
+    // The front is connected, and that is said where it waited for it.
+    fn connect_front<R: Recorder>(&mut self, recorder: &mut R) -> Result<(), RecordStop>
+        ensures { (disk : DiskSeen) → GoesThrough (Connects ∷ []) 0 result
+            (moment self.old disk (R.seen recorder.old))
+            (moment self.new disk (R.seen recorder.new)) }
+    {
+        let waited = self.front.connect();
+        show_ready(recorder, waited)
+    }
+
+    // Connects both ends: the front makes its ring and its port, the back maps the one and binds the other; then the front is ready.
     fn connect<D: SectorDisk, R: Recorder>(
         &mut self,
         disk: &mut D,
@@ -55,7 +66,8 @@ impl Split {
             (moment self.new (D.seen disk.new) (R.seen recorder.new)) }
     {
         self.repeat_front(20, recorder)?;
-        self.repeat_back(2, disk, recorder)
+        self.repeat_back(2, disk, recorder)?;
+        self.connect_front(recorder)
     }
 
     // A move of the front; its first one connects both ends.
@@ -233,7 +245,7 @@ impl Split {
 
     /// Whether all is quiet, said in a line.
     pub fn look<R: Recorder>(&mut self, recorder: &mut R) -> Result<(), RecordStop>
-        ensures { (disk : DiskSeen) → Goes (Is (Looks ∷ [])) (Is (Looks ∷ [])) 0 result
+        ensures { (disk : DiskSeen) → Goes (Is (Looks (is_quiet self.old) ∷ [])) (Is (Looks (is_quiet self.old) ∷ [])) 0 result
             (moment self.old disk (R.seen recorder.old))
             (moment self.new disk (R.seen recorder.new)) }
     {

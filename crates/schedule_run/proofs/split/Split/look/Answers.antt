@@ -14,4 +14,4 @@ returns g c = λ disk.
       | then-is_quiet w ↦ chosen_true (is_quiet c.args.self.now) Quiet Busy c.if-is_quiet.line (sym c.is_quiet.ensures ∙ w.if-is_quiet.true) w.line-is
       | else-is_quiet w ↦ chosen_false (is_quiet c.args.self.now) Quiet Busy c.if-is_quiet.line (sym c.is_quiet.ensures ∙ w.if-is_quiet.false) w.line-is
     ] in
-    said_goes Looks _ _ _ _ _ c.if-is_quiet.line refl refl (ap (λ (l : Line). l ∷ []) line) c.add.ensures
+    said_goes (Looks (is_quiet c.args.self.now)) _ _ _ _ _ c.if-is_quiet.line refl refl (ap (λ (l : Line). l ∷ []) line) c.add.ensures

@@ -33,5 +33,5 @@ returns g c =
       | then-is_quiet w ↦ chosen_true quiet Quiet Unsettled c.if-is_quiet.line (sym c.is_quiet.ensures ∙ w.if-is_quiet.true) w.line-is
       | else-is_quiet w ↦ chosen_false quiet Quiet Unsettled c.if-is_quiet.line (sym c.is_quiet.ensures ∙ w.if-is_quiet.false) w.line-is
     ] in
-    let said = said_goes Settles c.rounds_until_quiet.new.self (g.D.SectorDisk.seen c.rounds_until_quiet.new.disk) _ _ _ c.if-is_quiet.line refl refl (ap (λ (l : Line). l ∷ []) line) c.add.ensures in
-    then_goes _ _ _ _ _ _ (35 * (20000 + 2000 * c.from.result + 2000 * c.owed-requests.result.1)) 0 (35 * most_rounds) _ _ _ _ (omega arith) (λ xs ys p here q. settled (20000 + 2000 * c.from.result + 2000 * c.owed-requests.result.1) c.args.self.now xs ys same p q) (λ xs ys p here q. inr (settled (20000 + 2000 * c.from.result + 2000 * c.owed-requests.result.1) c.args.self.now xs ys same p q)) c.in_ok-rounds_until_quiet.ensures said
+    let said = said_goes (Settles quiet) c.rounds_until_quiet.new.self (g.D.SectorDisk.seen c.rounds_until_quiet.new.disk) _ _ _ c.if-is_quiet.line refl refl (ap (λ (l : Line). l ∷ []) line) c.add.ensures in
+    then_goes _ _ _ _ _ _ (35 * (20000 + 2000 * c.from.result + 2000 * c.owed-requests.result.1)) 0 (35 * most_rounds) _ _ _ _ (omega arith) (λ xs ys p here q. settled (20000 + 2000 * c.from.result + 2000 * c.owed-requests.result.1) c.args.self.now c.rounds_until_quiet.new.self xs ys same p here q) (λ xs ys p here q. inr (settled (20000 + 2000 * c.from.result + 2000 * c.owed-requests.result.1) c.args.self.now c.rounds_until_quiet.new.self xs ys same p here q)) c.in_ok-rounds_until_quiet.ensures said

@@ -1,0 +1,225 @@
+-- A dump of the machine shows every word of the ring that isn't 0.
+use Rattle.std.proofs.Common.{◌≡◌, ℕ, zero, suc, ◌+◌, ◌/◌, ◌%◌, ◌≤◌, inl, inr, Bool, true, false, if◌then◌else◌, List, [], ◌∷◌, ◌++◌, refl, sym, ◌∙◌, subst, arith, append_assoc, true≢false}
+use Rattle.std.specs.Prelude.{Option, Some, None, Result, Ok, Err, nat_lt}
+use Rattle.std.specs.List.{AllByRecursion}
+use Rattle.std.proofs.lemmas.Bool.Decides.{nat_tests}
+use Rattle.std.proofs.lemmas.List.{append-nil}
+use Rattle.std.proofs.lemmas.List.Sums.{fold-append}
+use Rattle.blk_base.specs.Options.{Options}
+use Rattle.blk_base.specs.declared.config.Job.{Job}
+use Rattle.blk_base.specs.declared.ask.BackAnswer.{BackAnswer}
+use Rattle.blk_base.specs.declared.ask.BackAnswer.TheVariants as answers
+use Rattle.xen_pages.specs.Pages.{word_of}
+use Rattle.grant_table.specs.Table.{GrantTable}
+use Rattle.schedule_text.specs.declared.line.Line.{Line}
+use Rattle.schedule_text.specs.declared.line.Line.TheVariants as lines
+use Rattle.schedule_text.specs.declared.line.Detail.{Detail}
+use Rattle.hypervisor.specs.Act.{FrontAct, BackAct, Took}
+use Rattle.report_rules.specs.Obeys.{Obeys}
+use Rattle.report_rules.specs.Value.{value_before}
+use Rattle.report_rules.proofs.Obeys.{obeys_none, obeys_more}
+use Rattle.blk_front.specs.declared.told.Told.{Told}
+use Rattle.blk_front.specs.declared.told.Told.TheVariants as front_told
+use Rattle.blk_front.specs.declared.told.Refusal.{Refusal}
+use Rattle.blk_front.specs.View as front
+use Rattle.blk_front.specs.Step as front_step
+use Rattle.blk_front.specs.Submit as front_submit
+use Rattle.blk_back.specs.declared.told.BackTold.{BackTold}
+use Rattle.blk_back.specs.declared.told.BackTold.TheVariants as back_told
+use Rattle.blk_back.specs.declared.told.Halt.{Halt}
+use Rattle.blk_back.specs.View as back
+use Rattle.blk_back.specs.Step as back_step
+use Rattle.split_model.specs.World.{World, start_of}
+use Rattle.split_model.specs.Shown.{front_lines, back_lines, halt_lines, effect_line}
+use Rattle.split_model.specs.Happening.{Happening, FrontMoves, BackMoves, JobMoves, Negotiates, Connects, Submits, Notifies, Pokes, Dumps, Looks, Settles, word_lines, ring_lines, happens, lines_at, lines_of, front_shows, back_shows, job_shows, front_turn, back_turn, job_turn, submit_line}
+use Rattle.split_model.specs.Report.{report_of, ended_report_of}
+use Rattle.split_model.specs.Safe.{IsSafe}
+use Rattle.split_model.proofs.Safe.{safe_start, safe_happens}
+use Rattle.split_model.proofs.Overwriting.{poke_lines_are}
+use Rattle.split_model.proofs.Keys.{negotiated_lines_are, ready_lines_are}
+use Rattle.move_laws.specs.Tells.{Tells}
+use Rattle.move_laws.specs.Permitted.{ArePermitted}
+use Rattle.move_laws.specs.Dumped.{place_in_ring, dump_after, dumped_to, AreZero, MayEnd, GoesOn, ComesTo, IsDumpedAt, AreWholeDumps}
+use Rattle.move_laws.proofs.Always.{always_within}
+use Rattle.move_laws.proofs.Still.{still, tells_still}
+use Rattle.move_laws.proofs.Runs.{FollowsTo, follows_happens, follows_begin}
+
+abbrev pub is_word : Line → Bool
+is_word (lines.Word frame word value) = true
+is_word line = false
+
+abbrev IsNoWord : Line → Type 0
+IsNoWord line = is_word line ≡ false
+
+-- the dumps so far show every word, and the last one is over
+pub record AreDumped (size : ℕ) (before : List Line) : Type 0 where
+  pub obeys : Obeys (IsDumpedAt size) before
+  pub over : MayEnd size before (dumped_to before)
+
+dumped_more : (before : List Line) (line : Line) → dumped_to (before ++ line ∷ []) ≡ dump_after (dumped_to before) line
+dumped_more before line = fold-append dump_after None before (line ∷ [])
+
+-- a line that shows no word ends a dump
+other_allowed : (size : ℕ) (before : List Line) (line : Line) → IsNoWord line → MayEnd size before (dumped_to before) → IsDumpedAt size before line
+other_allowed size before (lines.Word frame word value) wordless over = absurd (true≢false wordless)
+other_allowed size before line wordless over = over
+
+other_ends : (at : Option ℕ) (line : Line) → IsNoWord line → dump_after at line ≡ None
+other_ends at (lines.Word frame word value) wordless = absurd (true≢false wordless)
+other_ends at line wordless = refl
+
+others : (size : ℕ) (more before : List Line) → AllByRecursion IsNoWord more → AreDumped size before → AreDumped size (before ++ more)
+others size [] before none d = subst (λ (ls : List Line). AreDumped size ls) (sym (append-nil before)) d
+others size (line ∷ more) before none d =
+    subst (λ (ls : List Line). AreDumped size ls) (append_assoc before (line ∷ []) more)
+    (others size more (before ++ line ∷ []) none.1 (record {
+      obeys = obeys_more (IsDumpedAt size) before line d.obeys (other_allowed size before line none.0 d.over);
+      over = rw (dumped_more before line ∙ other_ends (dumped_to before) line none.0) tt;
+    }))
+
+-- one word more that is 0
+zero_more : (before : List Line) (first place : ℕ) → AreZero before first place → value_before before (2 + place / 1024) (place % 1024) ≡ 0 → AreZero before first (place + 1)
+zero_more before first place zeros here p low below = by_test (nat_lt p place) refl
+  where
+    by_test : (b : Bool) → nat_lt p place ≡ b → value_before before (2 + p / 1024) (p % 1024) ≡ 0
+    by_test true t = zeros p low (grind (arith, nat_tests))
+    by_test false t = let same : place ≡ p = grind (arith, nat_tests) in subst (λ (q : ℕ). value_before before (2 + q / 1024) (q % 1024) ≡ 0) same here
+
+comes_on : (size : ℕ) (before : List Line) (place : ℕ) → value_before before (2 + place / 1024) (place % 1024) ≡ 0 → ComesTo size before place → ComesTo size before (place + 1)
+comes_on size before place here (inl goes) = inl (on (dumped_to before) goes)
+  where
+    on : (at : Option ℕ) → GoesOn before place at → GoesOn before (place + 1) at
+    on None goes = goes
+    on (Some next) goes = (let low = goes.0 in omega arith, zero_more before next place goes.1 here)
+comes_on size before place here (inr begins) = inr (record { ended = begins.ended; first = zero_more before 0 place begins.first here })
+
+comes_to_end : (size : ℕ) (before : List Line) → ComesTo size before size → MayEnd size before (dumped_to before)
+comes_to_end size before (inl goes) = over (dumped_to before) goes
+  where
+    over : (at : Option ℕ) → GoesOn before size at → MayEnd size before at
+    over None goes = absurd goes
+    over (Some next) goes = goes.1
+comes_to_end size before (inr begins) = begins.ended
+
+-- the dump came to this place, and the lines tell the words that it shows
+record Walks (size : ℕ) (pages : List ℕ) (table : GrantTable) (before : List Line) (place : ℕ) : Type 0 where
+  tells : Tells before pages table
+  obeys : Obeys (IsDumpedAt size) before
+  comes : ComesTo size before place
+
+-- a word is shown
+shows_word : (size : ℕ) (pages : List ℕ) (table : GrantTable) (before : List Line) (place value : ℕ) → Walks size pages table before place
+    → Walks size pages table (before ++ lines.Word (2 + place / 1024) (place % 1024) value ∷ []) (place + 1)
+shows_word size pages table before place value w =
+    let line = lines.Word (2 + place / 1024) (place % 1024) value in
+    let here : place_in_ring (2 + place / 1024) (place % 1024) ≡ place = omega arith in
+    record {
+      tells = tells_still before line pages table (still line refl (λ f v x b. refl) (λ n. refl) refl) w.tells;
+      obeys = obeys_more (IsDumpedAt size) before line w.obeys (subst (λ (p : ℕ). ComesTo size before p) (sym here) w.comes);
+      comes = inl (rw (dumped_more before line, here) (omega arith, λ p low below. absurd (omega arith)));
+    }
+
+walk : (size : ℕ) (pages : List ℕ) (table : GrantTable) (place count : ℕ) → place + count ≡ size → size ≤ 16384 → (before : List Line)
+    → Walks size pages table before place → AreDumped size (before ++ ring_lines pages place count)
+walk size pages table place zero all small before w =
+    subst (λ (ls : List Line). AreDumped size ls) (sym (append-nil before))
+    (record { obeys = w.obeys; over = comes_to_end size before (let there : place ≡ size = omega arith in subst (λ (p : ℕ). ComesTo size before p) there w.comes) })
+walk size pages table place (suc count) all small before w =
+    by_value (λ ls v. walk size pages table (place + 1) count (omega arith) small ls v) (word_of pages (2 + place / 1024) (place % 1024))
+    (sym (w.tells.values (2 + place / 1024) (place % 1024) (omega arith) (omega arith)))
+  where
+    by_value : ((ls : List Line) → Walks size pages table ls (place + 1) → AreDumped size (ls ++ ring_lines pages (place + 1) count))
+        → (value : ℕ) → value ≡ value_before before (2 + place / 1024) (place % 1024) → AreDumped size (before ++ (word_lines place value ++ ring_lines pages (place + 1) count))
+    by_value on zero is = on before (record { tells = w.tells; obeys = w.obeys; comes = comes_on size before place (sym is) w.comes })
+    by_value on (suc value) is =
+        let line = lines.Word (2 + place / 1024) (place % 1024) (suc value) in
+        subst (λ (ls : List Line). AreDumped size ls) (append_assoc before (line ∷ []) (ring_lines pages (place + 1) count))
+        (on (before ++ line ∷ []) (shows_word size pages table before place (suc value) w))
+
+dump_shows : (w : World) (before : List Line) → FollowsTo before w → AreDumped 1024 before → AreDumped 1024 (before ++ lines_at w Dumps)
+dump_shows w before follows d =
+    walk 1024 w.under.pages w.under.grants 0 1024 refl (omega arith) before
+    (record { tells = follows.tells; obeys = d.obeys; comes = inr (record { ended = d.over; first = λ p low below. absurd (omega arith) }) })
+
+-- all other lines show no word of a dump
+both_none : (a b : List Line) → AllByRecursion IsNoWord a → AllByRecursion IsNoWord b → AllByRecursion IsNoWord (a ++ b)
+both_none [] b p q = q
+both_none (line ∷ a) b p q = (p.0, both_none a b p.1 q)
+
+front_none : (t : Option Told) → AllByRecursion IsNoWord (front_lines t)
+front_none None = tt
+front_none (Some (front_told.Answer id status)) = (refl, tt)
+front_none (Some (front_told.Sector id index words)) = (refl, tt)
+front_none (Some (front_told.Broken word)) = (refl, tt)
+
+effect_none : (id index : ℕ) (a : BackAnswer) → IsNoWord (effect_line id index a)
+effect_none id index (answers.Sector words) = refl
+effect_none id index a = refl
+
+back_none : (t : Option BackTold) (a : BackAnswer) → AllByRecursion IsNoWord (back_lines t a)
+back_none None a = tt
+back_none (Some (back_told.Effect id index)) a = (effect_none id index a, tt)
+back_none (Some (back_told.Fault id index)) a = (refl, tt)
+back_none (Some (back_told.Reply id status)) a = (refl, tt)
+
+halt_none : (before now : Option Halt) → AllByRecursion IsNoWord (halt_lines before now)
+halt_none None None = tt
+halt_none None (Some h) = (refl, tt)
+halt_none (Some g) now = tt
+
+front_shows_none : (w : World) (act : Option FrontAct) → AllByRecursion IsNoWord (front_shows w act)
+front_shows_none w None = tt
+front_shows_none w (Some a) = let f : front.View = front_step.step_of w.front a.answer in (refl, front_none f.told)
+
+back_shows_none : (w : World) (act : Option BackAct) → AllByRecursion IsNoWord (back_shows w act)
+back_shows_none w None = tt
+back_shows_none w (Some a) =
+    let b : back.View = back_step.step_of w.back a.answer in
+    (refl, both_none (back_lines b.told a.answer) (halt_lines w.back.halted b.halted) (back_none b.told a.answer) (halt_none w.back.halted b.halted))
+
+job_shows_none : (w : World) (number : ℕ) (act : Option BackAct) → AllByRecursion IsNoWord (job_shows w number act)
+job_shows_none w number None = tt
+job_shows_none w number (Some a) = let b : back.View = back_step.job_step w.back number a.answer in (refl, back_none b.told a.answer)
+
+submit_none : (job : Job) (r : Result ℕ Refusal) → IsNoWord (submit_line job r)
+submit_none job (Ok number) = refl
+submit_none job (Err r) = refl
+
+one_none : (b : Bool) (x y : Line) → IsNoWord x → IsNoWord y → IsNoWord (if b then x else y)
+one_none true x y p q = p
+one_none false x y p q = q
+
+dumped_happens : (w : World) (h : Happening) (before : List Line) → FollowsTo before w → AreDumped 1024 before → AreDumped 1024 (before ++ lines_at w h)
+dumped_happens w FrontMoves before f d = others 1024 _ before (front_shows_none w (front_turn w)) d
+dumped_happens w BackMoves before f d = others 1024 _ before (back_shows_none w (back_turn w Took)) d
+dumped_happens w (JobMoves number outcome) before f d = others 1024 _ before (job_shows_none w number (job_turn w number outcome)) d
+dumped_happens w (Negotiates at move) before f d =
+    others 1024 _ before (negotiated_lines_are IsNoWord w.back.stage at move w.under.keys (λ path. refl) (λ path text. refl) (λ path. refl) (λ path. refl)) d
+dumped_happens w Connects before f d = others 1024 _ before (ready_lines_are IsNoWord w.front.stage (λ waits. refl)) d
+dumped_happens w (Submits job) before f d = others 1024 _ before (submit_none job (front_submit.submit_of w.front job).0, tt) d
+dumped_happens w (Notifies at) before f d = others 1024 [] before tt d
+dumped_happens w (Pokes frame word value) before f d = others 1024 _ before (poke_lines_are IsNoWord frame word value refl) d
+dumped_happens w Dumps before f d = dump_shows w before f d
+dumped_happens w (Looks quiet) before f d = others 1024 _ before (one_none quiet lines.Quiet lines.Busy refl refl, tt) d
+dumped_happens w (Settles quiet) before f d = others 1024 _ before (one_none quiet lines.Quiet lines.Unsettled refl refl, tt) d
+
+dumped_after : (hs : List Happening) (w : World) (before : List Line) → IsSafe w → ArePermitted hs w → FollowsTo before w → AreDumped 1024 before → AreDumped 1024 (before ++ lines_of hs w)
+dumped_after [] w before safe within f d = others 1024 [] before tt d
+dumped_after (h ∷ hs) w before safe within f d =
+    subst (λ (ls : List Line). AreDumped 1024 ls) (append_assoc before (lines_at w h) (lines_of hs (happens w h)))
+    (dumped_after hs (happens w h) (before ++ lines_at w h) (safe_happens w h safe) within.1 (follows_happens w h before safe within.0 f) (dumped_happens w h before f d))
+
+report_dumps : (config : Options) (detail : Detail) (history : List Happening) → AreDumped 1024 (report_of config detail history)
+report_dumps config detail history =
+    let first = lines.Begin config detail in
+    dumped_after history (start_of config) (first ∷ []) (safe_start config) (always_within config history) (follows_begin config detail)
+    (others 1024 (first ∷ []) [] (refl, tt) (record { obeys = obeys_none (IsDumpedAt 1024); over = tt }))
+
+one_page : (config : Options) (report : List Line) → config.order ≡ 0 → Obeys (IsDumpedAt 1024) report → AreWholeDumps config.order report
+one_page config report plain obeys = rw plain obeys
+
+pub report_dumped : (config : Options) (detail : Detail) (history : List Happening) → config.order ≡ 0 → AreWholeDumps config.order (report_of config detail history)
+report_dumped config detail history plain = one_page config _ plain (report_dumps config detail history).obeys
+
+pub ended_dumped : (config : Options) (detail : Detail) (history : List Happening) → config.order ≡ 0 → AreWholeDumps config.order (ended_report_of config detail history)
+ended_dumped config detail history plain = one_page config _ plain (others 1024 (lines.End ∷ []) (report_of config detail history) (refl, tt) (report_dumps config detail history)).obeys

@@ -1,0 +1,228 @@
+-- The jobs of a read-only disk move no word to it, whatever happens.
+use Rattle.std.proofs.Common.{◌≡◌, ℕ, ◌+◌, ◌==◌, suc, Bool, true, false, true≢false, cond, if◌then◌else◌, List, [], ◌∷◌, ◌++◌, take, refl, sym, ap, ◌∙◌, subst, arith}
+use Rattle.std.specs.Prelude.{All, Option, Some, None, is_some, nat_le, position}
+use Rattle.std.proofs.lemmas.Option.{none-some, slice_get_within, get_or_from_slice_get}
+use Rattle.std.proofs.lemmas.List.Elements.{All-nil, All-tail, All-set, All-push, All-append, All-take, All-drop, All-get_or}
+use Rattle.std.proofs.lemmas.Bool.Decides.{nat_tests}
+use Rattle.blk_base.specs.Options.{Options}
+use Rattle.blk_base.specs.declared.operation.Status.TheVariants.{Error}
+use Rattle.blk_base.specs.declared.operation.Abi.TheVariants.{X64}
+use Rattle.blk_base.specs.declared.parts.Mapping.{Mapping}
+use Rattle.blk_base.specs.declared.ask.BackAsk.TheVariants as ask
+use Rattle.blk_base.specs.declared.ask.BackAnswer.{BackAnswer}
+use Rattle.blk_base.specs.declared.ask.BackAnswer.TheVariants as answer
+use Rattle.ring_words.specs.Ring.{requests_of, overruns}
+use Rattle.blk_io.specs.Disk.{DiskSeen}
+use Rattle.blk_layout.specs.declared.segment.Segment.{Segment}
+use Rattle.blk_layout.specs.declared.request.RawRequest.{RawRequest}
+use Rattle.blk_layout.specs.declared.request.RawRequest.TheVariants.{Direct, Discard, Indirect}
+use Rattle.blk_layout.specs.Entry.{request_of}
+use Rattle.segment_list.specs.declared.verdict.DiskInfo.{DiskInfo}
+use Rattle.segment_list.specs.declared.verdict.Verdict.{Verdict}
+use Rattle.segment_list.specs.declared.verdict.Verdict.TheVariants as verdict
+use Rattle.segment_list.specs.Verdict.{verdict_of}
+use Rattle.back_jobs.specs.declared.stage.Stage.{Stage as JobStage}
+use Rattle.back_jobs.specs.declared.stage.Stage.TheVariants as job
+use Rattle.back_jobs.specs.Task.{Work, ask_at, map_ask, step_of, step_at as job_step_at, next_sector, next_segment, counted, rest_of, last_of, begun, moving, ended}
+use Rattle.back_jobs.specs.Jobs.{Held, work_at, work_of, place_of, asked, ask_job, told_at, removed_at, behind_mapping, mapping_at, is_done, start_job}
+use Rattle.blk_back.specs.declared.stage.Reply.{Reply}
+use Rattle.blk_back.specs.declared.stage.Stage.{Stage}
+use Rattle.blk_back.specs.declared.stage.Stage.TheVariants as stage
+use Rattle.blk_back.specs.declared.told.Halt.TheVariants as halt
+use Rattle.blk_back.specs.View.{View}
+use Rattle.blk_back.specs.Ask.{next_reply}
+use Rattle.blk_back.specs.Step.{overrun, looked, loop_step, fetched, next_number, step_at}
+use Rattle.hypervisor.specs.Act.{FrontAct, BackAct, Outcome, Gave, Took, Failed}
+use Rattle.hypervisor.specs.Disk.{DiskDoes, NoCall}
+use Rattle.split_model.specs.World.{World, start_of}
+use Rattle.split_model.specs.Happening.{Happening, FrontMoves, BackMoves, JobMoves, happens, back_after, job_after, front_after, front_turn, back_turn, job_turn, DiskGoes, DiskRuns}
+use Rattle.move_laws.proofs.Jobs.{IsJob, IsPlaced}
+use Rattle.move_laws.proofs.Back.{IsBack}
+use Rattle.move_laws.proofs.Always.{IsOrderly, orderly_start, orderly_happens}
+
+-- a job whose words go from the disk to the guest
+abbrev Reads : Work → Type 0
+Reads t = t.writes ≡ false
+
+-- whatever a job is told, its words go the same way
+sector_same : (b : Bool) (x y : Work) (w : Bool) → x.writes ≡ w → y.writes ≡ w → (let z : Work = (if b then x else y) in z.writes ≡ w)
+sector_same true x y w p q = p
+sector_same false x y w p q = q
+
+next_same : (t : Work) (m : Mapping) → (let z : Work = next_sector t m in z.writes ≡ t.writes)
+next_same t m = sector_same (t.within == last_of t.rest) _ _ t.writes refl refl
+
+segment_same : (t : Work) (rest : List Segment) → (let z : Work = next_segment t rest in z.writes ≡ t.writes)
+segment_same t [] = refl
+segment_same t (s ∷ rest) = refl
+
+way_same : (s : JobStage) (t : Work) (given : BackAnswer) → (let z : Work = job_step_at s t given in z.writes ≡ t.writes)
+way_same job.Map t (answer.Mapped m) = refl
+way_same job.Map t (answer.MapRefused status) = refl
+way_same (job.ReadWord m k) t (answer.Word word) = refl
+way_same (job.DiskWrite m) t answer.Done = next_same (counted t) m
+way_same (job.DiskWrite m) t answer.DiskFailed = refl
+way_same (job.DiskRead m) t (answer.Sector words) = refl
+way_same (job.DiskRead m) t answer.DiskFailed = refl
+way_same (job.WriteWord m k) t answer.Done = sector_same (k == 127) _ _ t.writes (next_same t m) refl
+way_same (job.Unmap m) t answer.Done = segment_same t (rest_of t.rest)
+way_same (job.GiveUp m) t answer.Done = refl
+way_same s t given = refl
+
+-- a request of a read-only disk that is served is a read
+begun_reads : (number : ℕ) (request : RawRequest) (size : ℕ) (info : DiskInfo) → info.read_only ≡ true → Reads (begun number request size (verdict_of request info))
+begun_reads number (Direct code count device id sector segments) size info fixed = by_code (code == 1) refl
+  where
+    served_reads : (few : Bool) → (code == 1) ≡ false
+        → (let z : Work = (if few then moving number (Direct code count device id sector segments) size (code == 1) sector (take count segments) else ended number (Direct code count device id sector segments) size (job.Done Error)) in z.writes ≡ false)
+    served_reads true e = e
+    served_reads false e = refl
+
+    by_verdict : (v : Verdict) → (code == 1) ≡ false → Reads (begun number (Direct code count device id sector segments) size v)
+    by_verdict (verdict.Serve plan) e = served_reads (nat_le code 1) e
+    by_verdict (verdict.Error why) e = refl
+    by_verdict verdict.Unsupported e = refl
+
+    by_code : (b : Bool) → (code == 1) ≡ b → Reads (begun number (Direct code count device id sector segments) size (verdict_of (Direct code count device id sector segments) info))
+    by_code true e =
+        let is : code ≡ 1 = grind (arith, nat_tests) in
+        subst (λ (c : ℕ). Reads (begun number (Direct c count device id sector segments) size (verdict_of (Direct c count device id sector segments) info))) (sym is) (rw fixed refl)
+    by_code false e = by_verdict (verdict_of (Direct code count device id sector segments) info) e
+begun_reads number (Discard flag device id sector count) size info fixed = by_verdict (verdict_of (Discard flag device id sector count) info)
+  where
+    by_verdict : (v : Verdict) → Reads (begun number (Discard flag device id sector count) size v)
+    by_verdict (verdict.Serve plan) = refl
+    by_verdict (verdict.Error why) = refl
+    by_verdict verdict.Unsupported = refl
+begun_reads number (Indirect code count device id sector pages) size info fixed = by_verdict (verdict_of (Indirect code count device id sector pages) info)
+  where
+    by_verdict : (v : Verdict) → Reads (begun number (Indirect code count device id sector pages) size v)
+    by_verdict (verdict.Serve plan) = refl
+    by_verdict (verdict.Error why) = refl
+    by_verdict verdict.Unsupported = refl
+
+-- the back knows that its disk is read-only, and its jobs read
+abbrev pub OnlyReads : Held → Type 0
+OnlyReads h = (h.info.read_only ≡ true) × All Reads h.works
+
+started : (h : Held) (number : ℕ) (request : RawRequest) → OnlyReads h → OnlyReads (start_job h number request)
+started h number request o = (o.0, All-push Reads h.works _ o.1 (begun_reads number request h.info.sectors h.info o.0))
+
+told_reads : (works : List Work) (place : Option ℕ) (found : Option Work) (given : BackAnswer) → work_at works place ≡ found → All Reads works → All Reads (told_at works place found given)
+told_reads works None found given e all = all
+told_reads works (Some place) None given e all = all
+told_reads works (Some place) (Some t) given e all =
+    let within = slice_get_within works place t e in
+    let same = get_or_from_slice_get works place t t e in
+    All-set Reads works place (step_of t given) (way_same t.stage t given ∙ subst Reads same (All-get_or Reads works place t within all)) all
+
+removed_reads : (works : List Work) (place : Option ℕ) → All Reads works → All Reads (removed_at works place)
+removed_reads works None all = all
+removed_reads works (Some place) all = All-append Reads _ _ (All-take Reads place works all) (All-drop Reads (suc place) works all)
+
+behind_reads : (works : List Work) → All Reads works → All Reads (behind_mapping works)
+behind_reads [] all = all
+behind_reads (t ∷ works) all = let rest = All-tail Reads t works all in by_test (is_some (mapping_at t.stage)) works rest (behind_reads works rest)
+  where
+    by_test : (b : Bool) (works : List Work) → All Reads works → All Reads (behind_mapping works) → All Reads (cond b works (behind_mapping works))
+    by_test true works all less = all
+    by_test false works all less = less
+
+abbrev Stays : View → Type 0
+Stays v = OnlyReads v.jobs
+
+either : (b : Bool) (x y : View) → Stays x → Stays y → Stays (if b then x else y)
+either true x y p q = p
+either false x y p q = q
+
+looked_stays : (v : View) (word : ℕ) (otherwise : View) → Stays v → Stays otherwise → Stays (looked v word otherwise)
+looked_stays v word otherwise o other =
+    either (overruns v.ring word) (overrun v word) (if word == v.ring.cons then otherwise else record v { seen = word; stage = stage.Loop })
+    (o.0, behind_reads v.jobs.works o.1)
+    (either (word == v.ring.cons) otherwise (record v { seen = word; stage = stage.Loop }) other o)
+
+loop_stays : (v : View) (r : Option Reply) (given : BackAnswer) → Stays v → Stays (loop_step v r given)
+loop_stays v (Some r) given o = (o.0, removed_reads v.jobs.works (position (λ (t : Work). is_done t) v.jobs.works) o.1)
+loop_stays v None (answer.Word word) o =
+    either (requests_of v.ring v.seen == 0) (looked v word (record v { seen = word; stage = stage.StoreEvent })) (record v { entry = word ∷ []; stage = stage.Fetch 1 })
+    (looked_stays v word (record v { seen = word; stage = stage.StoreEvent }) o o) o
+loop_stays v None given o = o
+
+step_stays : (s : Stage) (v : View) (given : BackAnswer) → Stays v → Stays (step_at s v given)
+step_stays stage.MapRing v (answer.Mapped m) o = o
+step_stays stage.MapRing v (answer.MapRefused status) o = o
+step_stays stage.Bind v answer.Done o = o
+step_stays stage.Bind v answer.BindRefused o = o
+step_stays stage.Loop v given o = loop_stays v (next_reply v) given o
+step_stays (stage.Fetch k) v (answer.Word word) o =
+    either (k == 27) (fetched v (v.entry ++ word ∷ [])) (record v { entry = v.entry ++ word ∷ []; stage = stage.Fetch (k + 1) })
+    (started v.jobs (next_number v) (request_of X64 (v.entry ++ word ∷ [])) o) o
+step_stays stage.LookAgain v (answer.Word word) o = looked_stays v word (record v { seen = word; stage = stage.Loop; asleep = true }) o o
+step_stays (stage.ResponseEvent old) v (answer.Word event) o = o
+step_stays (stage.GiveUp m) v given o = (o.0, behind_reads v.jobs.works o.1)
+step_stays s v given o = o
+
+-- so it is whatever happens
+back_stays : (w : World) (act : Option BackAct) → Stays w.back → (let x : World = back_after w act in Stays x.back)
+back_stays w None o = o
+back_stays w (Some a) o = step_stays w.back.stage w.back a.answer o
+
+job_stays : (w : World) (number : ℕ) (act : Option BackAct) → Stays w.back → (let x : World = job_after w number act in Stays x.back)
+job_stays w number None o = o
+job_stays w number (Some a) o = (o.0, told_reads w.back.jobs.works (place_of w.back.jobs.works number) (work_of w.back.jobs.works number) a.answer refl o.1)
+
+front_stays : (w : World) → Stays w.back → (let x : World = happens w FrontMoves in Stays x.back)
+front_stays w o = by_act (front_turn w)
+  where
+    by_act : (act : Option FrontAct) → (let x : World = front_after w act in Stays x.back)
+    by_act None = o
+    by_act (Some a) = o
+
+world_stays : (w : World) (h : Happening) → Stays w.back → (let x : World = happens w h in Stays x.back)
+world_stays w FrontMoves o = front_stays w o
+world_stays w BackMoves o = back_stays w (back_turn w Took) o
+world_stays w (JobMoves number outcome) o = job_stays w number (job_turn w number outcome) o
+world_stays w h o = o
+
+-- no call changes what the disk holds
+none_called : (outcome : Outcome) (a b : DiskSeen) → NoCall outcome a b → b.content ≡ a.content
+none_called Took a b same = ap (λ (d : DiskSeen). d.content) same
+none_called (Gave words) a b none = absurd none
+none_called Failed a b none = absurd none
+
+map_called : (rest : List Segment) (outcome : Outcome) (a b : DiskSeen) → DiskDoes (map_ask rest false) outcome a b → b.content ≡ a.content
+map_called [] outcome a b does = none_called outcome a b does
+map_called (s ∷ rest) outcome a b does = none_called outcome a b does
+
+stage_called : (s : JobStage) (t : Work) (outcome : Outcome) (a b : DiskSeen) → Reads t → IsPlaced s t → DiskDoes (ask_at s t) outcome a b → b.content ≡ a.content
+stage_called job.Map t outcome a b reads placed does = map_called t.rest outcome a b (subst (λ (w : Bool). DiskDoes (map_ask t.rest w) outcome a b) reads does)
+stage_called (job.DiskWrite m) t outcome a b reads placed does = absurd (true≢false (sym placed.1.1 ∙ reads))
+stage_called (job.DiskRead m) t (Gave words) a b reads placed does = ap (λ (d : DiskSeen). d.content) does.1
+stage_called (job.DiskRead m) t Took a b reads placed does = absurd does
+stage_called (job.DiskRead m) t Failed a b reads placed does = does.content
+stage_called s t outcome a b reads placed does = none_called outcome a b does
+
+asked_called : (works : List Work) (place : Option ℕ) (found : Option Work) (outcome : Outcome) (a b : DiskSeen) → work_at works place ≡ found → All Reads works → All IsJob works → DiskDoes (asked found) outcome a b → b.content ≡ a.content
+asked_called works place None outcome a b e all jobs does = none_called outcome a b does
+asked_called works None (Some t) outcome a b e all jobs does = absurd (none-some t e)
+asked_called works (Some place) (Some t) outcome a b e all jobs does =
+    let within = slice_get_within works place t e in
+    let same = get_or_from_slice_get works place t t e in
+    let is : IsJob t = subst IsJob same (All-get_or IsJob works place t within jobs) in
+    stage_called t.stage t outcome a b (subst Reads same (All-get_or Reads works place t within all)) is.placed does
+
+job_called : (halted : Bool) (h : Held) (number : ℕ) (outcome : Outcome) (a b : DiskSeen) → OnlyReads h → All IsJob h.works → DiskDoes (if halted then ask.Wait else ask_job h number) outcome a b → b.content ≡ a.content
+job_called true h number outcome a b o jobs does = none_called outcome a b does
+job_called false h number outcome a b o jobs does = asked_called h.works (place_of h.works number) (work_of h.works number) outcome a b refl o.1 jobs does
+
+called : (w : World) (h : Happening) (a b : DiskSeen) → Stays w.back → IsBack w.back → DiskGoes w h a b → b.content ≡ a.content
+called w (JobMoves number outcome) a b o back goes = job_called (is_some w.back.halted) w.back.jobs number outcome a b o back.jobs goes
+called w h a b o back goes = ap (λ (d : DiskSeen). d.content) goes
+
+kept_from : (hs : List Happening) (w : World) (a b : DiskSeen) → Stays w.back → IsOrderly w → DiskRuns hs w a b → b.content ≡ a.content
+kept_from [] w a b o is runs = ap (λ (d : DiskSeen). d.content) runs
+kept_from (h ∷ hs) w a b o is runs =
+    kept_from hs (happens w h) runs.0 b (world_stays w h o) (orderly_happens w h is) runs.2 ∙ called w h a runs.0 o is.back runs.1
+
+pub content_kept : (config : Options) (history : List Happening) (before now : DiskSeen) → config.read_only ≡ true → DiskRuns history (start_of config) before now → now.content ≡ before.content
+content_kept config history before now fixed runs = kept_from history (start_of config) before now (fixed, All-nil Reads) (orderly_start config) runs

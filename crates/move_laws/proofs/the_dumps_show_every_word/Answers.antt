@@ -1,0 +1,8 @@
+use Rattle.move_laws.proofs.Dumped.{report_dumped, ended_dumped}
+use Rattle.move_laws.proofs.the_dumps_show_every_word.Goals as goal
+
+pub returns-clause-report : goal.returns-clause-report
+returns-clause-report c config detail history plain = report_dumped config detail history plain
+
+pub returns-clause-ended : goal.returns-clause-ended
+returns-clause-ended c config detail history plain = ended_dumped config detail history plain

@@ -1,0 +1,415 @@
+-- The numbers that the back and its jobs keep have the widths of the grammar, and so has what they tell, whatever words they read.
+use Rattle.std.proofs.Common.{◌≡◌, ℕ, zero, suc, ◌+◌, ◌-◌, ◌%◌, ◌^◌, ◌<◌, ◌≤◌, Bool, true, false, cond, if◌then◌else◌, List, [], ◌∷◌, ◌++◌, length, take, replicate, refl, arith}
+use Rattle.std.specs.Prelude.{All, Option, Some, None, is_some, option_and_then, nat_le, ◌==◌, slice_get, slice_set, slice_index, position, FitsSigned}
+use Rattle.std.specs.Int.{w32}
+use Rattle.std.specs.List.{AllByRecursion}
+use Rattle.std.proofs.lemmas.Bool.Decides.{nat_tests}
+use Rattle.std.proofs.lemmas.List.{length-take}
+use Rattle.std.proofs.lemmas.List.Sums.{sum_by-cons}
+use Rattle.std.proofs.lemmas.List.Elements.{All-nil, All-tail, All-push, All-append, All-take, All-drop, All-set, All-replicate, recursion_from_All, All-from_recursion}
+use Rattle.blk_base.specs.Options.{Options}
+use Rattle.blk_base.specs.declared.operation.Abi.TheVariants.{X64}
+use Rattle.blk_base.specs.declared.operation.Status.TheVariants.{Error}
+use Rattle.blk_base.specs.declared.parts.Mapping.{Mapping}
+use Rattle.blk_base.specs.declared.ask.BackAnswer.{BackAnswer}
+use Rattle.blk_base.specs.declared.ask.BackAnswer.TheVariants as answer
+use Rattle.ring_words.specs.Ring.{requests_of, overruns, notifies}
+use Rattle.blk_layout.specs.Entry.{double_at, segments_at, request_of}
+use Rattle.blk_layout.specs.declared.segment.Segment.{Segment}
+use Rattle.blk_layout.specs.declared.request.RawRequest.{RawRequest}
+use Rattle.blk_layout.specs.declared.request.RawRequest.TheVariants.{Direct, Discard, Indirect}
+use Rattle.segment_list.specs.declared.verdict.DiskInfo.{DiskInfo}
+use Rattle.segment_list.specs.declared.verdict.Plan.{Plan}
+use Rattle.segment_list.specs.declared.verdict.Verdict.{Verdict}
+use Rattle.segment_list.specs.declared.verdict.Verdict.TheVariants as verdict
+use Rattle.segment_list.specs.Segments.{IsSound, length_of, sectors_of}
+use Rattle.segment_list.specs.Verdict.{verdict_of}
+use Rattle.schedule_text.specs.declared.line.Line.TheVariants as lines
+use Rattle.schedule_text.specs.Range.{AreOptions}
+use Rattle.back_jobs.specs.declared.stage.Stage.{Stage as JobStage}
+use Rattle.back_jobs.specs.declared.stage.Stage.TheVariants as job
+use Rattle.back_jobs.specs.Task as task
+use Rattle.back_jobs.specs.Task.{Work, sector_stage, next_sector, next_segment, counted, first_of, last_of, rest_of, id_of, response_op, ended, moving, served, begun}
+use Rattle.back_jobs.specs.Jobs.{place_of, work_at, work_of, told_at, removed_at, behind_mapping, first_mapping, mapping_at, is_done, response_of, response_at, effect_at, effect_of}
+use Rattle.blk_back.specs.declared.stage.Reply.{Reply}
+use Rattle.blk_back.specs.declared.stage.Stage.{Stage}
+use Rattle.blk_back.specs.declared.stage.Stage.TheVariants as stage
+use Rattle.blk_back.specs.declared.told.BackTold.{BackTold}
+use Rattle.blk_back.specs.declared.told.BackTold.TheVariants as told
+use Rattle.blk_back.specs.declared.told.Halt.{Halt}
+use Rattle.blk_back.specs.declared.told.Halt.TheVariants as halt
+use Rattle.blk_back.specs.View.{View, start_of}
+use Rattle.blk_back.specs.Ask.{reply_of, next_reply}
+use Rattle.blk_back.specs.Step.{giving_up, give_up, overrun, looked, loop_step, next_number, fetched, fetch_step, replied, step_at, step_of, told_effect, job_step}
+use Rattle.split_model.specs.Shown.{back_lines, halt_line, halt_lines}
+use Rattle.move_laws.proofs.Jobs.{direct_served}
+use Rattle.machine_pipeline.proofs.Lists.{all_at}
+use Rattle.report_laws.proofs.Told.{AreGood, good}
+use Rattle.report_laws.proofs.Words.{AreWords, index_fits}
+use Rattle.report_laws.proofs.Acts.{BackTells}
+
+abbrev HasGref : Segment → Type 0
+HasGref s = s.gref < 2 ^ 32
+
+-- a job's numbers and words, and the segments that it isn't done with
+pub record HasNumbers (number id op moved : ℕ) (words : List ℕ) (rest : List Segment) : Type 0 where
+  pub positive : 1 ≤ number
+  pub long : number < 2 ^ 64
+  pub named : id < 2 ^ 64
+  pub small : op < 2 ^ 8
+  pub few : moved < 2 ^ 32
+  pub held : AreWords words
+  pub sound : AllByRecursion IsSound rest
+  pub grefs : AllByRecursion HasGref rest
+
+-- the sectors that it comes to lie below 2 ^ 64: after `ahead` more of the present segment, those of the others
+abbrev pub Lies : (disk within ahead : ℕ) → List Segment → Type 0
+Lies disk within ahead [] = ⊥
+Lies disk within ahead (s ∷ rest) = (within ≤ s.last) × (disk + (s.last - within) + ahead + sectors_of rest ≤ 2 ^ 64)
+
+abbrev pub LiesAt : JobStage → (disk within : ℕ) → List Segment → Type 0
+LiesAt job.Map disk within rest = Lies disk within 1 rest
+LiesAt (job.ReadWord m k) disk within rest = Lies disk within 1 rest
+LiesAt (job.DiskWrite m) disk within rest = Lies disk within 1 rest
+LiesAt (job.DiskRead m) disk within rest = Lies disk within 1 rest
+LiesAt (job.WriteWord m k) disk within rest = Lies disk within 0 rest
+LiesAt (job.Unmap m) disk within rest = disk + sectors_of (rest_of rest) ≤ 2 ^ 64
+LiesAt s disk within rest = Unit {0}
+
+abbrev pub IsWork : Work → Type 0
+IsWork t = HasNumbers t.number t.id t.op t.moved t.words t.rest × LiesAt t.stage t.disk t.within t.rest
+
+lies_left : (disk within : ℕ) (rest : List Segment) → Lies disk within 0 rest → disk + sectors_of (rest_of rest) ≤ 2 ^ 64
+lies_left disk within [] h = absurd h
+lies_left disk within (s ∷ rest) h = let fits = h.1 in omega arith
+
+lies_on : (disk within : ℕ) (rest : List Segment) → (within == last_of rest) ≡ false → Lies disk within 0 rest → Lies disk (within + 1) 1 rest
+lies_on disk within [] other h = absurd h
+lies_on disk within (s ∷ rest) other h = further s.last (sectors_of rest) other h.0 h.1
+  where
+    further : (last more : ℕ) → (within == last) ≡ false → within ≤ last → disk + (last - within) + 0 + more ≤ 2 ^ 64 → (within + 1 ≤ last) × (disk + (last - (within + 1)) + 1 + more ≤ 2 ^ 64)
+    further last more other low fits = let above : within + 1 ≤ last = grind (arith, nat_tests) in (above, omega arith)
+
+one_done : (disk within : ℕ) (rest : List Segment) → Lies disk within 1 rest → Lies (disk + 1) within 0 rest
+one_done disk within [] h = absurd h
+one_done disk within (s ∷ rest) h = let fits = h.1 in (h.0, omega arith)
+
+lies_begun : (disk : ℕ) (s : Segment) (rest : List Segment) → s.first ≤ s.last → disk + sectors_of (s ∷ rest) ≤ 2 ^ 64 → Lies disk s.first 1 (s ∷ rest)
+lies_begun disk s rest nonempty fits = let all = sum_by-cons length_of s rest in (nonempty, omega arith)
+
+lies_first : (disk : ℕ) (rest : List Segment) → 0 < length rest → AllByRecursion IsSound rest → disk + sectors_of rest ≤ 2 ^ 64 → Lies disk (first_of rest) 1 rest
+lies_first disk [] some sound fits = absurd (omega arith)
+lies_first disk (s ∷ rest) some sound fits = lies_begun disk s rest sound.0.nonempty fits
+
+sector_lies : (b : Bool) (m : Mapping) (disk within : ℕ) (rest : List Segment) → Lies disk within 1 rest → LiesAt (sector_stage b m) disk within rest
+sector_lies true m disk within rest h = h
+sector_lies false m disk within rest h = h
+
+either_work : (b : Bool) (x y : Work) → (b ≡ true → IsWork x) → (b ≡ false → IsWork y) → IsWork (if b then x else y)
+either_work true x y p q = p refl
+either_work false x y p q = q refl
+
+words_now : {number id op moved : ℕ} {words : List ℕ} {rest : List Segment} (now : ℕ) (read : List ℕ) → now < 2 ^ 32 → AreWords read → HasNumbers number id op moved words rest → HasNumbers number id op now read rest
+words_now now read few held n = record { positive = n.positive; long = n.long; named = n.named; small = n.small; few = few; held = held; sound = n.sound; grefs = n.grefs }
+
+rest_now : {number id op moved : ℕ} {words : List ℕ} (rest : List Segment) → HasNumbers number id op moved words rest → HasNumbers number id op moved words (rest_of rest)
+rest_now [] n = n
+rest_now (s ∷ rest) n = record { positive = n.positive; long = n.long; named = n.named; small = n.small; few = n.few; held = n.held; sound = n.sound.1; grefs = n.grefs.1 }
+
+next_sector_fits : (t : Work) (m : Mapping) → HasNumbers t.number t.id t.op t.moved t.words t.rest → Lies t.disk t.within 0 t.rest → IsWork (next_sector t m)
+next_sector_fits t m n h =
+    either_work (t.within == last_of t.rest) (record t { stage = job.Unmap m }) (record t { within = t.within + 1; stage = sector_stage t.writes m })
+    (λ last. (n, lies_left t.disk t.within t.rest h)) (λ other. (n, sector_lies t.writes m t.disk (t.within + 1) t.rest (lies_on t.disk t.within t.rest other h)))
+
+next_segment_fits : (t : Work) (rest : List Segment) → HasNumbers t.number t.id t.op t.moved t.words rest → t.disk + sectors_of rest ≤ 2 ^ 64 → IsWork (next_segment t rest)
+next_segment_fits t [] n h = (n, tt)
+next_segment_fits t (s ∷ rest) n h = (n, lies_begun t.disk s rest n.sound.0.nonempty h)
+
+step_work : (s : JobStage) (t : Work) (a : BackAnswer) → LiesAt s t.disk t.within t.rest → IsWork t → BackTells a → IsWork (task.step_at s t a)
+step_work job.Map t (answer.Mapped m) h w told = (w.0, sector_lies t.writes m t.disk t.within t.rest h)
+step_work job.Map t (answer.MapRefused status) h w told = (w.0, tt)
+step_work (job.ReadWord m k) t (answer.Word word) h w told = (words_now t.moved (slice_set t.words k word) w.0.few (All-set (λ (v : ℕ). v < 2 ^ 32) t.words k word told w.0.held) w.0, by_last (k == 127))
+  where
+    by_last : (b : Bool) → LiesAt (if b then job.DiskWrite m else job.ReadWord m (k + 1)) t.disk t.within t.rest
+    by_last true = h
+    by_last false = h
+step_work (job.DiskWrite m) t answer.Done h w told = next_sector_fits (counted t) m (words_now ((t.moved + 1) % 2 ^ 32) t.words (omega arith) w.0.held w.0) (one_done t.disk t.within t.rest h)
+step_work (job.DiskWrite m) t answer.DiskFailed h w told = (w.0, tt)
+step_work (job.DiskRead m) t (answer.Sector words) h w told = (words_now ((t.moved + 1) % 2 ^ 32) words (omega arith) told.fits w.0, one_done t.disk t.within t.rest h)
+step_work (job.DiskRead m) t answer.DiskFailed h w told = (w.0, tt)
+step_work (job.WriteWord m k) t answer.Done h w told =
+    either_work (k == 127) (next_sector t m) (record t { stage = job.WriteWord m (k + 1) }) (λ last. next_sector_fits t m w.0 h) (λ more. (w.0, h))
+step_work (job.Unmap m) t answer.Done h w told = next_segment_fits t (rest_of t.rest) (rest_now t.rest w.0) h
+step_work (job.GiveUp m) t answer.Done h w told = (w.0, tt)
+step_work s t a h w told = w
+
+-- a request as words of 32 bits have it
+abbrev IsRead : RawRequest → Type 0
+IsRead (Direct op count device id sector segments) = (op < 2 ^ 8) × (id < 2 ^ 64) × (0 < length segments) × All HasGref segments
+IsRead (Discard flag device id sector count) = id < 2 ^ 64
+IsRead (Indirect op count device id sector pages) = (op < 2 ^ 8) × (id < 2 ^ 64)
+
+double_fits : (words : List ℕ) (at : ℕ) → AreWords words → double_at words at < 2 ^ 64
+double_fits words at all =
+    let low = index_fits words at all in
+    let high = index_fits words (at + 1) all in
+    omega arith
+
+grefs_fit : (words : List ℕ) (at count : ℕ) → AreWords words → AllByRecursion HasGref (segments_at words at count)
+unfolding segments_at
+grefs_fit words at zero all = tt
+grefs_fit words at (suc count) all = (index_fits words at all, grefs_fit words (at + 2) count all)
+
+some_segments : (words : List ℕ) (at : ℕ) → 0 < length (segments_at words at 11)
+unfolding segments_at
+some_segments words at = omega arith
+
+either_read : (a b : Bool) (x y z : RawRequest) → IsRead x → IsRead y → IsRead z → IsRead (if a then x else (if b then y else z))
+either_read true b x y z p q r = p
+either_read false true x y z p q r = q
+either_read false false x y z p q r = r
+
+request_read : (words : List ℕ) → AreWords words → IsRead (request_of X64 words)
+unfolding request_of
+request_read words all =
+    either_read (slice_index words 0 % 2 ^ 8 == 5) (slice_index words 0 % 2 ^ 8 == 6) _ _ _ (double_fits words 2 all) (omega arith, double_fits words 2 all)
+    (omega arith, double_fits words 2 all, some_segments words 6, All-from_recursion HasGref (segments_at words 6 11) (grefs_fit words 6 11 all))
+
+named_read : (request : RawRequest) → IsRead request → (id_of request < 2 ^ 64) × (response_op request < 2 ^ 8)
+named_read (Direct op count device id sector segments) h = (h.1, h.0)
+named_read (Discard flag device id sector count) h = (h, omega arith)
+named_read (Indirect op count device id sector pages) h = (h.1, h.0)
+
+begun_numbers : (number : ℕ) (request : RawRequest) (rest : List Segment) → 1 ≤ number → number < 2 ^ 64 → IsRead request → AllByRecursion IsSound rest → AllByRecursion HasGref rest → HasNumbers number (id_of request) (response_op request) 0 (replicate 128 0) rest
+begun_numbers number request rest positive long read sound grefs =
+    let named = named_read request read in
+    record { positive = positive; long = long; named = named.0; small = named.1; few = omega arith; held = All-replicate (λ (v : ℕ). v < 2 ^ 32) 128 0 (omega arith); sound = sound; grefs = grefs }
+
+served_fits : (number : ℕ) (request : RawRequest) (info : DiskInfo) (plan : Plan) → verdict_of request info ≡ verdict.Serve plan → info.sectors ≤ 2 ^ 64 → 1 ≤ number → number < 2 ^ 64 → IsRead request → IsWork (served number request info.sectors)
+served_fits number (Direct op count device id sector segments) info plan e sized positive long read =
+    either_work (nat_le op 1) (moving number (Direct op count device id sector segments) info.sectors (op == 1) sector (take count segments)) (ended number (Direct op count device id sector segments) info.sectors (job.Done Error))
+    (λ few.
+    let is = direct_served op count device id sector segments info plan few e in
+    let sound = recursion_from_All IsSound (take count segments) is.1.sound in
+    let within = is.1.within in
+    let some = is.0 in
+    let all = read.2 in
+    let long_is = length-take count segments in (
+      begun_numbers number (Direct op count device id sector segments) (take count segments) positive long read sound (recursion_from_All HasGref (take count segments) (All-take HasGref count segments read.3)),
+      lies_first sector (take count segments) (omega arith) sound (omega arith),
+    ))
+    (λ more. (begun_numbers number (Direct op count device id sector segments) [] positive long read tt tt, tt))
+served_fits number (Discard flag device id sector count) info plan e sized positive long read = (begun_numbers number (Discard flag device id sector count) [] positive long read tt tt, tt)
+served_fits number (Indirect op count device id sector pages) info plan e sized positive long read = (begun_numbers number (Indirect op count device id sector pages) [] positive long read tt tt, tt)
+
+begun_fits : (number : ℕ) (request : RawRequest) (info : DiskInfo) (v : Verdict) → verdict_of request info ≡ v → info.sectors ≤ 2 ^ 64 → 1 ≤ number → number < 2 ^ 64 → IsRead request → IsWork (begun number request info.sectors v)
+begun_fits number request info (verdict.Serve plan) e sized positive long read = served_fits number request info plan e sized positive long read
+begun_fits number request info (verdict.Error why) e sized positive long read = (begun_numbers number request [] positive long read tt tt, tt)
+begun_fits number request info verdict.Unsupported e sized positive long read = (begun_numbers number request [] positive long read tt tt, tt)
+
+-- a job that is found is one of them
+abbrev IsWorkFound : Option Work → Type 0
+IsWorkFound None = Unit {0}
+IsWorkFound (Some t) = IsWork t
+
+found_fits : (works : List Work) (place : Option ℕ) → All IsWork works → IsWorkFound (work_at works place)
+found_fits works None all = tt
+found_fits works (Some place) all = by_work (slice_get works place) refl
+  where
+    by_work : (x : Option Work) → slice_get works place ≡ x → IsWorkFound x
+    by_work None e = tt
+    by_work (Some t) e = all_at IsWork works place t all e
+
+told_works : (works : List Work) (place : Option ℕ) (found : Option Work) (a : BackAnswer) → IsWorkFound found → BackTells a → All IsWork works → All IsWork (told_at works place found a)
+told_works works None found a is told all = all
+told_works works (Some place) None a is told all = all
+told_works works (Some place) (Some t) a is told all = All-set IsWork works place (task.step_of t a) (step_work t.stage t a is.1 is told) all
+
+removed_works : (works : List Work) (place : Option ℕ) → All IsWork works → All IsWork (removed_at works place)
+removed_works works None all = all
+removed_works works (Some place) all = All-append IsWork _ _ (All-take IsWork place works all) (All-drop IsWork (suc place) works all)
+
+behind_works : (works : List Work) → All IsWork works → All IsWork (behind_mapping works)
+behind_works [] all = all
+behind_works (t ∷ works) all = let rest = All-tail IsWork t works all in by_hand (is_some (mapping_at t.stage)) rest (behind_works works rest)
+  where
+    by_hand : (b : Bool) → All IsWork works → All IsWork (behind_mapping works) → All IsWork (cond b works (behind_mapping works))
+    by_hand true rest less = rest
+    by_hand false rest less = less
+
+-- what the back carries from stage to stage, tells, and halts with
+abbrev pub IsReply : Reply → Type 0
+IsReply r = (r.id < 2 ^ 64) × (r.op < 2 ^ 8)
+
+abbrev pub HasWords : Stage → Type 0
+HasWords (stage.ReplyHigh r) = IsReply r
+HasWords (stage.ReplyLast r) = IsReply r
+HasWords (stage.Producer r) = IsReply r
+HasWords s = Unit {0}
+
+abbrev pub TellsWords : Option BackTold → Type 0
+TellsWords None = Unit {0}
+TellsWords (Some (told.Effect id index)) = (id < 2 ^ 64) × (index < 2 ^ 32)
+TellsWords (Some (told.Fault id index)) = (id < 2 ^ 64) × (index < 2 ^ 32)
+TellsWords (Some (told.Reply id status)) = id < 2 ^ 64
+
+abbrev pub HaltsWith : Option Halt → Type 0
+HaltsWith None = Unit {0}
+HaltsWith (Some (halt.Overrun produced replied)) = (produced < 2 ^ 32) × (replied < 2 ^ 32)
+HaltsWith (Some (halt.BadPort p)) = p < 2 ^ 32
+HaltsWith (Some (halt.MapRefused gref status)) = (gref < 2 ^ 32) × FitsSigned w32 status
+
+-- no more requests than `most` were fetched
+pub record AreNumbers (most count prod : ℕ) (works : List Work) (info : DiskInfo) (entry : List ℕ) (halted : Option Halt) : Type 0 where
+  pub few : count ≤ most
+  pub produced : prod < 2 ^ 32
+  pub jobs : All IsWork works
+  pub sized : info.sectors ≤ 2 ^ 64
+  pub copied : AreWords entry
+  pub why : HaltsWith halted
+
+abbrev pub IsFit : ℕ → View → Type 0
+IsFit most v = AreNumbers most v.fetched v.ring.prod v.jobs.works v.jobs.info v.entry v.halted × HasWords v.stage × TellsWords v.told
+
+pub back_start : (config : Options) → AreOptions config → IsFit 0 (start_of config)
+back_start config options = (
+  record { few = omega arith; produced = options.3; jobs = All-nil IsWork; sized = (let sectors = options.4 in omega arith); copied = All-nil (λ (v : ℕ). v < 2 ^ 32); why = tt },
+  tt,
+  tt,
+)
+
+pub later : (most more : ℕ) (v : View) → most ≤ more → IsFit most v → IsFit more v
+later most more v less f = let k = f.0 in (record { few = (let few = k.few in omega arith); produced = k.produced; jobs = k.jobs; sized = k.sized; copied = k.copied; why = k.why }, f.1, f.2)
+
+either : (most : ℕ) (b : Bool) (x y : View) → IsFit most x → IsFit most y → IsFit most (if b then x else y)
+either most true x y p q = p
+either most false x y p q = q
+
+jobs_now : {most count prod : ℕ} {works : List Work} {info : DiskInfo} {entry : List ℕ} {halted : Option Halt} (now : List Work) (why : Option Halt) → All IsWork now → HaltsWith why
+    → AreNumbers most count prod works info entry halted → AreNumbers most count prod now info entry why
+jobs_now now why jobs halts k = record { few = k.few; produced = k.produced; jobs = jobs; sized = k.sized; copied = k.copied; why = halts }
+
+entry_now : {most count prod : ℕ} {works : List Work} {info : DiskInfo} {entry : List ℕ} {halted : Option Halt} (now : List ℕ) → AreWords now
+    → AreNumbers most count prod works info entry halted → AreNumbers most count prod works info now halted
+entry_now now copied k = record { few = k.few; produced = k.produced; jobs = k.jobs; sized = k.sized; copied = copied; why = k.why }
+
+giving_words : (m : Option Mapping) → HasWords (giving_up m)
+giving_words None = tt
+giving_words (Some m) = tt
+
+give_up_fits : (most : ℕ) (v : View) (why : Option Halt) → HaltsWith why → IsFit most v → IsFit most (give_up (record v { halted = why }))
+give_up_fits most v why halts f = (jobs_now (behind_mapping v.jobs.works) why (behind_works v.jobs.works f.0.jobs) halts f.0, giving_words (first_mapping v.jobs.works), f.2)
+
+looked_fits : (most : ℕ) (v : View) (word : ℕ) (otherwise : View) → word < 2 ^ 32 → IsFit most v → IsFit most otherwise → IsFit most (looked v word otherwise)
+looked_fits most v word otherwise small f h =
+    either most (overruns v.ring word) (overrun v word) (if word == v.ring.cons then otherwise else record v { seen = word; stage = stage.Loop })
+    (give_up_fits most v (Some (halt.Overrun word v.ring.prod)) (small, f.0.produced) f) (either most (word == v.ring.cons) otherwise (record v { seen = word; stage = stage.Loop }) h (f.0, tt, f.2))
+
+-- the reply to a job that is done
+abbrev pub IsNext : Option Reply → Type 0
+IsNext None = Unit {0}
+IsNext (Some r) = IsReply r
+
+next_at : (found : Option Work) → IsWorkFound found → IsNext (reply_of (option_and_then response_of found))
+next_at None h = tt
+next_at (Some t) h = by_stage t.stage
+  where
+    by_stage : (s : JobStage) → IsNext (reply_of (response_at s t))
+    by_stage (job.Done status) = (h.0.named, h.0.small)
+    by_stage s = tt
+
+pub next_fits : (most : ℕ) (v : View) → IsFit most v → IsNext (next_reply v)
+next_fits most v f = next_at (work_at v.jobs.works (position (λ (t : Work). is_done t) v.jobs.works)) (found_fits v.jobs.works (position (λ (t : Work). is_done t) v.jobs.works) f.0.jobs)
+
+loop_fits : (most : ℕ) (v : View) (next : Option Reply) (a : BackAnswer) → IsNext next → IsFit most v → BackTells a → IsFit most (loop_step v next a)
+loop_fits most v (Some r) a is f small = (jobs_now (removed_at v.jobs.works (position (λ (t : Work). is_done t) v.jobs.works)) v.halted (removed_works v.jobs.works (position (λ (t : Work). is_done t) v.jobs.works) f.0.jobs) f.0.why f.0, is, f.2)
+loop_fits most v None (answer.Word word) is f small =
+    either most (requests_of v.ring v.seen == 0) (looked v word (record v { seen = word; stage = stage.StoreEvent })) (record v { entry = word ∷ []; stage = stage.Fetch 1 })
+    (looked_fits most v word (record v { seen = word; stage = stage.StoreEvent }) small f (f.0, tt, f.2))
+    (entry_now (word ∷ []) (All-from_recursion (λ (n : ℕ). n < 2 ^ 32) (word ∷ []) (small, tt)) f.0, tt, f.2)
+loop_fits most v None a is f small = f
+
+-- a request more is fetched
+fetch_fits : (most : ℕ) (v : View) (k word : ℕ) → v.fetched + 1 ≤ most → most < 2 ^ 64 → word < 2 ^ 32 → IsFit most v → IsFit most (fetch_step v k word)
+fetch_fits most v k word more low small f =
+    either most (k == 27) (fetched v words) (record v { entry = words; stage = stage.Fetch (k + 1) }) (
+      record {
+        few = omega arith;
+        produced = f.0.produced;
+        jobs = All-push IsWork v.jobs.works _ f.0.jobs (begun_fits (next_number v) (request_of X64 words) v.jobs.info (verdict_of (request_of X64 words) v.jobs.info) refl f.0.sized (omega arith) (omega arith) (request_read words copied));
+        sized = f.0.sized;
+        copied = copied;
+        why = f.0.why;
+      },
+      tt,
+      f.2,
+    ) (entry_now words copied f.0, tt, f.2)
+  where
+    words : List ℕ
+    words = v.entry ++ word ∷ []
+
+    copied : AreWords words
+    copied = All-push (λ (n : ℕ). n < 2 ^ 32) v.entry word f.0.copied small
+
+-- an answer of the back's ask
+step_fits : (most : ℕ) (s : Stage) (v : View) (a : BackAnswer) → v.fetched + 1 ≤ most → most < 2 ^ 64 → HasWords s → IsFit most v → BackTells a → IsFit most (step_at s v a)
+step_fits most stage.MapRing v (answer.Mapped m) more low h f small = (f.0, tt, f.2)
+step_fits most stage.MapRing v (answer.MapRefused status) more low h f small = (jobs_now v.jobs.works (Some (halt.MapRefused 8 status)) f.0.jobs (omega arith, small) f.0, tt, f.2)
+step_fits most stage.Bind v answer.Done more low h f small = (f.0, tt, f.2)
+step_fits most stage.Bind v answer.BindRefused more low h f small = (jobs_now v.jobs.works (Some (halt.BadPort 1)) f.0.jobs (omega arith) f.0, tt, f.2)
+step_fits most stage.Loop v a more low h f small = loop_fits most v (next_reply v) a (next_fits most v f) f small
+step_fits most (stage.Fetch k) v (answer.Word word) more low h f small = fetch_fits most v k word more low small f
+step_fits most (stage.ReplyHigh r) v a more low h f small = (f.0, h, f.2)
+step_fits most (stage.ReplyLast r) v a more low h f small = (f.0, h, f.2)
+step_fits most (stage.Producer r) v a more low h f small =
+    let k = f.0 in (record { few = k.few; produced = omega arith; jobs = k.jobs; sized = k.sized; copied = k.copied; why = k.why }, tt, h.0)
+step_fits most (stage.ProducerFence old) v a more low h f small = (f.0, tt, f.2)
+step_fits most (stage.ResponseEvent old) v (answer.Word event) more low h f small = (f.0, sent (notifies old v.ring.prod event), f.2)
+  where
+    sent : (b : Bool) → HasWords (if b then stage.Send else stage.Loop)
+    sent true = tt
+    sent false = tt
+step_fits most stage.Send v a more low h f small = (f.0, tt, f.2)
+step_fits most stage.StoreEvent v a more low h f small = (f.0, tt, f.2)
+step_fits most stage.EventFence v a more low h f small = (f.0, tt, f.2)
+step_fits most stage.LookAgain v (answer.Word word) more low h f small = looked_fits most v word (record v { seen = word; stage = stage.Loop; asleep = true }) small f (f.0, tt, f.2)
+step_fits most (stage.GiveUp m) v a more low h f small = give_up_fits most v v.halted f.0.why f
+step_fits most stage.UnmapRing v a more low h f small = (f.0, tt, f.2)
+step_fits most stage.ClosePort v a more low h f small = (f.0, tt, f.2)
+step_fits most stage.UnmapUnbound v a more low h f small = (f.0, tt, f.2)
+step_fits most s v a more low h f small = f
+
+pub back_fits : (most : ℕ) (v : View) (a : BackAnswer) → most + 1 < 2 ^ 64 → IsFit most v → BackTells a → IsFit (most + 1) (step_of v a)
+back_fits most v a low f small = let few = f.0.few in step_fits (most + 1) v.stage v a (omega arith) low f.1 (later most (most + 1) v (omega arith) f) small
+
+-- an answer of a job's ask
+effect_told : (s : JobStage) (t : Work) (a : BackAnswer) → IsWork t → TellsWords (told_effect (effect_at s t a))
+effect_told (job.DiskWrite m) t answer.Done w = (w.0.named, w.0.few)
+effect_told (job.DiskWrite m) t answer.DiskFailed w = (w.0.named, w.0.few)
+effect_told (job.DiskRead m) t (answer.Sector words) w = (w.0.named, w.0.few)
+effect_told (job.DiskRead m) t answer.DiskFailed w = (w.0.named, w.0.few)
+effect_told s t a w = tt
+
+found_told : (found : Option Work) (a : BackAnswer) → IsWorkFound found → TellsWords (told_effect (effect_of found a))
+found_told None a h = tt
+found_told (Some t) a h = effect_told t.stage t a h
+
+pub job_fits : (most : ℕ) (v : View) (number : ℕ) (a : BackAnswer) → IsFit most v → BackTells a → IsFit most (job_step v number a)
+job_fits most v number a f small =
+    let is = found_fits v.jobs.works (place_of v.jobs.works number) f.0.jobs in
+    (jobs_now (told_at v.jobs.works (place_of v.jobs.works number) (work_of v.jobs.works number) a) v.halted (told_works v.jobs.works (place_of v.jobs.works number) (work_of v.jobs.works number) a is small f.0.jobs) f.0.why f.0, f.1, found_told (work_of v.jobs.works number) a is)
+
+-- what it tells is lines of the grammar
+pub back_good : (t : Option BackTold) (a : BackAnswer) → TellsWords t → BackTells a → AreGood (back_lines t a)
+back_good None a h told = tt
+back_good (Some (told.Effect id index)) (answer.Sector words) h told = (good (lines.EffectRead id index words) (h.0, h.1, told) refl, tt)
+back_good (Some (told.Effect id index)) a h told = (good (lines.Effect id index) h refl, tt)
+back_good (Some (told.Fault id index)) a h told = (good (lines.Fault id index) h refl, tt)
+back_good (Some (told.Reply id status)) a h told = (good (lines.Reply id status) h refl, tt)
+
+pub halt_good : (before now : Option Halt) → HaltsWith now → AreGood (halt_lines before now)
+halt_good None None h = tt
+halt_good None (Some (halt.Overrun produced replied)) h = (good (lines.Halt (halt_line (halt.Overrun produced replied))) h refl, tt)
+halt_good None (Some (halt.BadPort p)) h = (good (lines.Halt (halt_line (halt.BadPort p))) h refl, tt)
+halt_good None (Some (halt.MapRefused gref status)) h = (good (lines.Halt (halt_line (halt.MapRefused gref status))) h refl, tt)
+halt_good (Some g) now h = tt

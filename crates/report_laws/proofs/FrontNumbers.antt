@@ -1,0 +1,438 @@
+-- The numbers that the front keeps have the widths of the grammar, and so has what it tells and answers, whatever word it reads.
+use Rattle.std.proofs.Common.{◌≡◌, ℕ, suc, ◌≤◌, ◌+◌, ◌-◌, ◌*◌, ◌/◌, ◌%◌, ◌^◌, ◌<◌, Bool, true, false, not, if◌then◌else◌, List, [], ◌∷◌, length, take, refl, arith, length-set}
+use Rattle.std.specs.Prelude.{◌&&◌, All, Option, Some, None, Result, Ok, Err, nat_lt, nat_le, ◌==◌, slice_get, slice_set, slice_index, position}
+use Rattle.std.specs.Option.{option_map}
+use Rattle.std.specs.List.{AllByRecursion}
+use Rattle.std.proofs.lemmas.Bool.Decides.{nat_tests}
+use Rattle.std.proofs.lemmas.Option.{none-some}
+use Rattle.std.proofs.lemmas.List.{length-replicate}
+use Rattle.std.proofs.lemmas.List.Elements.{All-nil, All-push, All-append, All-take, All-drop, All-set, All-replicate}
+use Rattle.blk_base.specs.Options.{Options}
+use Rattle.blk_base.specs.Distance.{distance_of}
+use Rattle.blk_base.specs.declared.config.Job.{Job}
+use Rattle.blk_base.specs.declared.config.Job.TheVariants as jobs
+use Rattle.blk_base.specs.declared.operation.Status.{Status}
+use Rattle.blk_base.specs.declared.ask.FrontAnswer.{FrontAnswer}
+use Rattle.blk_base.specs.declared.ask.FrontAnswer.TheVariants as answer
+use Rattle.ring_words.specs.Ring.{responses_of, notifies}
+use Rattle.ring_words.specs.Shape.{entries_of}
+use Rattle.line_text.specs.Sector.{IsSector}
+use Rattle.blk_layout.specs.Entry.{words_of}
+use Rattle.blk_layout.specs.Response.{status_of, response_with, response_of}
+use Rattle.blk_layout.specs.declared.response.Response.{Response}
+use Rattle.blk_layout.specs.declared.segment.Segment.{Segment}
+use Rattle.schedule_text.specs.declared.line.Line.TheVariants as lines
+use Rattle.schedule_text.specs.Range.{IsInRange, JobHasWidths, AreOptions}
+use Rattle.blk_front.specs.declared.request.Request.{Request}
+use Rattle.blk_front.specs.declared.request.Wish.{Wish}
+use Rattle.blk_front.specs.declared.request.Transfer.{Transfer}
+use Rattle.blk_front.specs.declared.request.Transfer.TheVariants as transfer
+use Rattle.blk_front.specs.declared.stage.Stage.{Stage}
+use Rattle.blk_front.specs.declared.stage.Stage.TheVariants as stage
+use Rattle.blk_front.specs.declared.stage.Ending.{Ending}
+use Rattle.blk_front.specs.declared.told.Told.{Told}
+use Rattle.blk_front.specs.declared.told.Told.TheVariants as told
+use Rattle.blk_front.specs.declared.told.Refusal.{Refusal}
+use Rattle.blk_front.specs.declared.told.Refusal.TheVariants as refusal
+use Rattle.blk_front.specs.Pool.{taking}
+use Rattle.blk_front.specs.Request.{operation_of, is_write, grant_flags, has_data, frames_for, words_in, segment_in, segment_at}
+use Rattle.blk_front.specs.View.{View, next_request, shape, start_of}
+use Rattle.blk_front.specs.Step.{at, broken, looked, entry_of, issue_stage, data_stage, granted, loop_step, found_at, issued, response_at, is_mapped, finished, ended, revoked, sector_told, data_step, step_at, step_of}
+use Rattle.blk_front.specs.Submit.{is_ready, connected, unfinished, wish_of, request_with, submit_with, submit_one, submit_of}
+use Rattle.split_model.specs.Shown.{front_lines, refusal_word}
+use Rattle.split_model.specs.Happening.{submit_line}
+use Rattle.split_model.proofs.Keys.{connects_cases}
+use Rattle.machine_pipeline.specs.Allowed.{IsTransfer}
+use Rattle.machine_pipeline.proofs.Lists.{all_at}
+use Rattle.report_laws.proofs.Told.{AreGood, good}
+use Rattle.report_laws.proofs.Acts.{FrontTells}
+
+-- the words of a request's entry
+high_half : (n : ℕ) → n < 2 ^ 64 → n / 2 ^ 32 * 1 + 0 < 2 ^ 32
+high_half n fits = omega arith
+
+low_half : (n : ℕ) → n % 2 ^ 32 * 1 + 0 < 2 ^ 32
+low_half n = omega arith
+
+none_fits : 0 < 2 ^ 32
+none_fits = omega arith
+
+pub flags_few : (way : Transfer) → grant_flags way ≤ 5
+flags_few transfer.Read = omega arith
+flags_few (transfer.Write tag) = omega arith
+
+-- a segment's words, and those of none
+segment_few : (count place : ℕ) (frame : Option ℕ) → ((f : ℕ) → frame ≡ Some f → f < 1018) → (let s : Segment = segment_in count place frame in (s.gref < 1024) × (s.first ≡ 0) × (s.last ≤ 7))
+segment_few count place None shared = (omega arith, refl, omega arith)
+segment_few count place (Some frame) shared = let low = shared frame refl in (omega arith, refl, omega arith)
+
+gref_fits : (r : Request) (place : ℕ) → All (λ (frame : ℕ). frame < 1018) r.frames.items → (let s : Segment = segment_at r place in s.gref * 1 + 0 < 2 ^ 32)
+gref_fits r place all = let few = segment_few r.count place (slice_get r.frames.items place) (λ f e. all_at (λ (frame : ℕ). frame < 1018) r.frames.items place f all e) in omega (arith, few.0)
+
+ends_fit : (r : Request) (place : ℕ) → All (λ (frame : ℕ). frame < 1018) r.frames.items → (let s : Segment = segment_at r place in s.first * 1 + (s.last * 256 + 0) < 2 ^ 32)
+ends_fit r place all = let few = segment_few r.count place (slice_get r.frames.items place) (λ f e. all_at (λ (frame : ℕ). frame < 1018) r.frames.items place f all e) in omega (arith, few.1, few.2)
+
+operation_fits : (way : Transfer) (frames : ℕ) → frames ≤ 11 → operation_of way * 1 + (frames * 256 + 3388997632) < 2 ^ 32
+operation_fits transfer.Read frames few = omega arith
+operation_fits (transfer.Write tag) frames few = omega arith
+
+-- the first six words, and two for each of eleven segments
+entry_words : (r : Request) → r.number < 2 ^ 64 → r.sector < 2 ^ 64 → r.count ≤ 88 → All (λ (frame : ℕ). frame < 1018) r.frames.items → AllByRecursion (λ (v : ℕ). v < 2 ^ 32) (entry_of r)
+unfolding words_of
+entry_words r number sector count all = (
+  operation_fits r.transfer (frames_for r.count) (omega arith),
+  (
+    none_fits,
+    (
+      low_half r.number,
+      (
+        high_half r.number number,
+        (
+          low_half r.sector,
+          (
+            high_half r.sector sector,
+            (
+              gref_fits r 0 all,
+              (
+                ends_fit r 0 all,
+                (
+                  gref_fits r 1 all,
+                  (
+                    ends_fit r 1 all,
+                    (
+                      gref_fits r 2 all,
+                      (
+                        ends_fit r 2 all,
+                        (
+                          gref_fits r 3 all,
+                          (
+                            ends_fit r 3 all,
+                            (
+                              gref_fits r 4 all,
+                              (
+                                ends_fit r 4 all,
+                                (
+                                  gref_fits r 5 all,
+                                  (
+                                    ends_fit r 5 all,
+                                    (
+                                      gref_fits r 6 all,
+                                      (
+                                        ends_fit r 6 all,
+                                        (
+                                          gref_fits r 7 all,
+                                          (
+                                            ends_fit r 7 all,
+                                            (
+                                              gref_fits r 8 all,
+                                              (
+                                                ends_fit r 8 all,
+                                                (
+                                                  gref_fits r 9 all,
+                                                  (ends_fit r 9 all, (gref_fits r 10 all, (ends_fit r 10 all, tt))),
+                                                ),
+                                              ),
+                                            ),
+                                          ),
+                                        ),
+                                      ),
+                                    ),
+                                  ),
+                                ),
+                              ),
+                            ),
+                          ),
+                        ),
+                      ),
+                    ),
+                  ),
+                ),
+              ),
+            ),
+          ),
+        ),
+      ),
+    ),
+  ),
+)
+
+-- a request: one entry names its sectors, and its numbers have the widths of their fields
+pub record IsAsked (r : Request) : Type 0 where
+  pub number : r.number < 2 ^ 32
+  pub sector : r.sector < 2 ^ 64
+  pub few : r.count ≤ 88
+
+abbrev pub IsAskedEnding : Option Ending → Type 0
+IsAskedEnding None = Unit {0}
+IsAskedEnding (Some e) = IsAsked e.request
+
+-- its frames are some that both ends share
+abbrev pub AreShared : List Request → Type 0
+AreShared requests = All (λ (r : Request). All (λ (frame : ℕ). frame < 1018) r.frames.items) requests
+
+pub record AreNumbers (sectors start last : ℕ) (requests : List Request) (ending : Option Ending) (entry words : List ℕ) : Type 0 where
+  pub begins : start < 2 ^ 32
+  pub sized : sectors ≤ 2 ^ 64
+  pub given : last < 2 ^ 32
+  pub asked : All IsAsked requests
+  pub ends : IsAskedEnding ending
+  pub written : AllByRecursion (λ (v : ℕ). v < 2 ^ 32) entry
+  pub read : IsSector words
+
+-- the words that a stage carries have 32 bits, and the word of data that is read is one of 88 sectors
+abbrev pub HasWords : Stage → Type 0
+HasWords (stage.ResponseHigh low) = low < 2 ^ 32
+HasWords (stage.ResponseLast low high) = low < 2 ^ 32
+HasWords (stage.GrantEnd place before) = before < 2 ^ 32
+HasWords (stage.ReadData n) = n < 11264
+HasWords s = Unit {0}
+
+abbrev pub TellsWords : Option Told → Type 0
+TellsWords None = Unit {0}
+TellsWords (Some (told.Answer id status)) = id < 2 ^ 64
+TellsWords (Some (told.Sector id index words)) = (id < 2 ^ 64) × (index < 2 ^ 32) × IsSector words
+TellsWords (Some (told.Broken word)) = word < 2 ^ 32
+
+abbrev pub IsFit : View → Type 0
+IsFit v = AreNumbers v.sectors v.start v.last v.requests v.ending v.entry v.words × HasWords v.stage × TellsWords v.told
+
+pub front_start : (config : Options) → AreOptions config → IsFit (start_of config)
+front_start config options = (
+  record {
+    begins = options.3;
+    sized = let sectors = options.4 in omega arith;
+    given = omega arith;
+    asked = All-nil IsAsked;
+    ends = tt;
+    written = tt;
+    read = record { size = length-replicate {A = ℕ} 128 0; fits = All-replicate (λ (v : ℕ). v < 2 ^ 32) 128 0 (omega arith) };
+  },
+  tt,
+  tt,
+)
+
+either : (b : Bool) (x y : View) → (b ≡ true → IsFit x) → (b ≡ false → IsFit y) → IsFit (if b then x else y)
+either true x y p q = p refl
+either false x y p q = q refl
+
+either_stage : (b : Bool) (x y : Stage) → HasWords x → HasWords y → HasWords (if b then x else y)
+either_stage true x y p q = p
+either_stage false x y p q = q
+
+ending_now : {sectors start last : ℕ} {requests : List Request} {ending : Option Ending} {entry words : List ℕ} (now : Option Ending) → IsAskedEnding now
+    → AreNumbers sectors start last requests ending entry words → AreNumbers sectors start last requests now entry words
+ending_now now ends k = record { begins = k.begins; sized = k.sized; given = k.given; asked = k.asked; ends = ends; written = k.written; read = k.read }
+
+looked_fits : (v : View) (word : ℕ) (otherwise : View) → word < 2 ^ 32 → IsFit v → IsFit otherwise → IsFit (looked v word otherwise)
+looked_fits v word otherwise small f h =
+    either (nat_lt (distance_of v.ring.cons v.ring.prod) (distance_of v.ring.cons word)) (broken word v) (if word == v.ring.cons then otherwise else record v { seen = word; stage = stage.Loop })
+    (λ t. (f.0, tt, small)) (λ t. either (word == v.ring.cons) otherwise (record v { seen = word; stage = stage.Loop }) (λ u. h) (λ u. (f.0, tt, f.2)))
+
+issue_words : (way : Transfer) → HasWords (issue_stage way)
+issue_words transfer.Read = tt
+issue_words (transfer.Write tag) = tt
+
+data_words : (r : Option Request) (n : ℕ) → HasWords (data_stage r n)
+data_words None n = tt
+data_words (Some r) n = either_stage (nat_lt (n + 1) (words_in r)) (stage.Data (n + 1)) (stage.GrantFrame 0) tt tt
+
+-- what holds of each request holds of the one that is issued next
+pub next_holds : (P : Request → Type 0) (v : View) (r : Request) → All P v.requests → next_request v ≡ Some r → P r
+next_holds P v r all e = by_waiting (v.waiting == 0) e
+  where
+    by_waiting : (b : Bool) → (if b then None else slice_get v.requests (length v.requests - v.waiting)) ≡ Some r → P r
+    by_waiting true e = absurd (none-some r e)
+    by_waiting false e = all_at P v.requests (length v.requests - v.waiting) r all e
+
+issued_entry : (v : View) (r : Request) → All IsAsked v.requests → AreShared v.requests → next_request v ≡ Some r → AllByRecursion (λ (n : ℕ). n < 2 ^ 32) (entry_of r)
+issued_entry v r asked shared e =
+    let is = next_holds IsAsked v r asked e in
+    let number = is.number in
+    entry_words r (omega arith) is.sector is.few (next_holds (λ (x : Request). All (λ (frame : ℕ). frame < 1018) x.frames.items) v r shared e)
+
+granted_fits : (v : View) (r : Option Request) (place : ℕ) → ((x : Request) → r ≡ Some x → AllByRecursion (λ (n : ℕ). n < 2 ^ 32) (entry_of x)) → IsFit v → IsFit (granted r place v)
+granted_fits v None place entry f = f
+granted_fits v (Some r) place entry f =
+    let k = f.0 in
+    either (nat_lt (place + 1) (length r.frames.items)) (at (stage.GrantFrame (place + 1)) v) (record v { stage = stage.Slot 0; entry = entry_of r }) (λ t. (f.0, tt, f.2))
+    (λ t. (record { begins = k.begins; sized = k.sized; given = k.given; asked = k.asked; ends = k.ends; written = entry r refl; read = k.read }, tt, f.2))
+
+loop_fits : (v : View) (r : Option Request) (x : FrontAnswer) → IsFit v → FrontTells x → IsFit (loop_step v r x)
+loop_fits v (Some r) x f small = (f.0, issue_words r.transfer, f.2)
+loop_fits v None (answer.Word word) f small =
+    either (responses_of v.ring v.seen == 0) (looked v word (record v { seen = word; stage = stage.StoreEvent })) (at (stage.ResponseHigh word) v)
+    (λ t. looked_fits v word (record v { seen = word; stage = stage.StoreEvent }) small f (f.0, tt, f.2)) (λ t. (f.0, small, f.2))
+loop_fits v None answer.Event f small = f
+loop_fits v None x f small = f
+
+-- a request that is found is one of them
+abbrev IsAskedFound : Option (ℕ × Request) → Type 0
+IsAskedFound None = Unit {0}
+IsAskedFound (Some found) = IsAsked found.1
+
+found_asked : (requests : List Request) (place : Option ℕ) → All IsAsked requests → IsAskedFound (found_at requests place)
+found_asked requests None all = tt
+found_asked requests (Some place) all = by_request (slice_get requests place) refl
+  where
+    by_request : (x : Option Request) → slice_get requests place ≡ x → IsAskedFound (option_map (λ (r : Request). (place, r)) x)
+    by_request None e = tt
+    by_request (Some r) e = all_at IsAsked requests place r all e
+
+-- a response that is none is known by its last word
+abbrev IsWrongWord : Result Response ℕ → Type 0
+IsWrongWord (Ok response) = Unit {0}
+IsWrongWord (Err word) = word < 2 ^ 32
+
+wrong_word : (words : List ℕ) (s : Option Status) → slice_index words 2 < 2 ^ 32 → IsWrongWord (response_with words s)
+wrong_word words None small = small
+wrong_word words (Some status) small = tt
+
+response_fits : (v : View) (response : Result Response ℕ) (low : ℕ) (found : Option (ℕ × Request)) → low < 2 ^ 32 → IsWrongWord response → IsAskedFound found → IsFit v → IsFit (response_at v response low found)
+response_fits v response low None small wrong is f = (f.0, tt, small)
+response_fits v (Err word) low (Some found) small wrong is f = (f.0, tt, wrong)
+response_fits v (Ok response) low (Some found) small wrong is f =
+    let k = f.0 in (
+      record { begins = k.begins; sized = k.sized; given = k.given; asked = All-append IsAsked _ _ (All-take IsAsked found.0 v.requests k.asked) (All-drop IsAsked (suc found.0) v.requests k.asked); ends = is; written = k.written; read = k.read },
+      tt,
+      f.2,
+    )
+
+ended_fits : (v : View) (e : Ending) → IsAsked e.request → IsFit v → IsFit (ended e v)
+ended_fits v e is f =
+    let number = is.number in
+    either (has_data e.request.transfer e.status) (record v { stage = stage.ReadData 0; told = Some (told.Answer e.request.number e.status) }) (record (finished e v) { told = Some (told.Answer e.request.number e.status) })
+    (λ t. (f.0, omega arith, omega arith)) (λ t. (ending_now None tt f.0, tt, omega arith))
+
+revoked_fits : (v : View) (ending : Option Ending) (place : ℕ) → IsAskedEnding ending → IsFit v → IsFit (revoked ending place v)
+revoked_fits v None place is f = f
+revoked_fits v (Some e) place is f = either (nat_lt (place + 1) (length e.request.frames.items)) (at (stage.GrantRead (place + 1)) v) (ended e v) (λ t. (f.0, tt, f.2)) (λ t. ended_fits v e is f)
+
+told_fits : (v : View) (e : Ending) (n : ℕ) (words : List ℕ) → IsAsked e.request → n < 11264 → IsSector words → IsFit v → IsFit (sector_told e n words v)
+told_fits v e n words is below sector f =
+    let number = is.number in
+    let k = f.0 in
+    let now : AreNumbers v.sectors v.start v.last v.requests v.ending v.entry words = record { begins = k.begins; sized = k.sized; given = k.given; asked = k.asked; ends = k.ends; written = k.written; read = sector } in
+    either (n % 128 == 127) (record v { words = words; told = Some (told.Sector e.request.number (n / 128) words) }) (record v { words = words })
+    (λ t. (now, f.1, (omega arith, omega arith, sector))) (λ t. (now, f.1, f.2))
+
+still_below : (n count : ℕ) → count ≤ 88 → nat_lt (n + 1) (128 * count) ≡ true → n + 1 < 11264
+still_below n count few more = grind (arith, nat_tests)
+
+data_fits : (v : View) (ending : Option Ending) (n word : ℕ) → n < 11264 → word < 2 ^ 32 → IsAskedEnding ending → IsFit v → IsFit (data_step ending n word v)
+data_fits v None n word below small is f = f
+data_fits v (Some e) n word below small is f =
+    let words = slice_set v.words (n % 128) word in
+    let read = f.0.read in
+    let length_is = length-set v.words (n % 128) word in
+    let size = read.size in
+    let y : IsFit (sector_told e n words v) = told_fits v e n words is below (record { size = omega arith; fits = All-set (λ (w : ℕ). w < 2 ^ 32) v.words (n % 128) word small read.fits }) f in
+    either (nat_lt (n + 1) (words_in e.request)) (at (stage.ReadData (n + 1)) (sector_told e n words v)) (finished e (sector_told e n words v))
+    (λ more. (y.0, still_below n e.request.count is.few more, y.2)) (λ last. (ending_now None tt y.0, tt, y.2))
+
+-- an answer of the front's ask
+step_fits : (s : Stage) (v : View) (x : FrontAnswer) → AreShared v.requests → HasWords s → IsFit v → FrontTells x → IsFit (step_at s v x)
+step_fits (stage.RingWord k) v x shared h f small = (f.0, either_stage (k == 15) stage.RingFrame (stage.RingWord (k + 1)) tt tt, f.2)
+step_fits stage.RingFrame v x shared h f small = (f.0, tt, f.2)
+step_fits stage.RingFence v x shared h f small = (f.0, tt, f.2)
+step_fits stage.RingFlags v x shared h f small = (f.0, tt, f.2)
+step_fits stage.NewPort v x shared h f small = (f.0, tt, f.2)
+step_fits stage.Loop v x shared h f small = loop_fits v (next_request v) x f small
+step_fits (stage.Data n) v x shared h f small = (f.0, data_words (next_request v) n, f.2)
+step_fits (stage.GrantFrame place) v x shared h f small = (f.0, tt, f.2)
+step_fits (stage.GrantFence place) v x shared h f small = (f.0, tt, f.2)
+step_fits (stage.GrantFlags place) v x shared h f small = granted_fits v (next_request v) place (λ r e. issued_entry v r f.0.asked shared e) f
+step_fits (stage.Slot k) v x shared h f small = (f.0, either_stage (k == 27) stage.Producer (stage.Slot (k + 1)) tt tt, f.2)
+step_fits stage.Producer v x shared h f small = (f.0, tt, f.2)
+step_fits (stage.ProducerFence old) v x shared h f small = (f.0, tt, f.2)
+step_fits (stage.RequestEvent old) v (answer.Word event) shared h f small = (f.0, either_stage (notifies old v.ring.prod event) stage.Send stage.Loop tt tt, f.2)
+step_fits stage.Send v x shared h f small = (f.0, tt, f.2)
+step_fits (stage.ResponseHigh low) v (answer.Word high) shared h f small = (f.0, h, f.2)
+step_fits (stage.ResponseLast low high) v (answer.Word last) shared h f small =
+    response_fits v (response_of (low ∷ high ∷ last ∷ [])) low (issued v (low + high * 2 ^ 32)) h (wrong_word (low ∷ high ∷ last ∷ []) (status_of (last / 2 ^ 16)) small)
+    (found_asked v.requests (position (λ (r : Request). r.number == low + high * 2 ^ 32) (take (length v.requests - v.waiting) v.requests)) f.0.asked) f
+step_fits (stage.GrantRead place) v (answer.Word word) shared h f small = either (is_mapped word) (broken word v) (at (stage.GrantEnd place word) v) (λ t. (f.0, tt, small)) (λ t. (f.0, small, f.2))
+step_fits (stage.GrantEnd place before) v (answer.Word word) shared h f small =
+    either (word == before) (revoked v.ending place v) (broken word v) (λ t. revoked_fits v v.ending place f.0.ends f) (λ t. (f.0, tt, small))
+step_fits (stage.ReadData n) v (answer.Word word) shared h f small = data_fits v v.ending n word h small f.0.ends f
+step_fits stage.StoreEvent v x shared h f small = (f.0, tt, f.2)
+step_fits stage.EventFence v x shared h f small = (f.0, tt, f.2)
+step_fits stage.LookAgain v (answer.Word word) shared h f small = looked_fits v word (record v { seen = word; stage = stage.Loop; asleep = true }) small f (f.0, tt, f.2)
+step_fits s v x shared h f small = f
+
+pub front_fits : (v : View) (x : FrontAnswer) → AreShared v.requests → IsFit v → FrontTells x → IsFit (step_of v x)
+front_fits v x shared f small = step_fits v.stage v x shared f.1 f small
+
+pub connected_fits : (v : View) → IsFit v → IsFit (connected v)
+connected_fits v f = connects_cases (λ x shown. IsFit x) v (λ waits. (f.0, tt, f.2)) f
+
+-- what it tells is lines of the grammar
+pub front_good : (t : Option Told) → TellsWords t → AreGood (front_lines t)
+front_good None h = tt
+front_good (Some (told.Answer id status)) h = (good (lines.Answer id status) h refl, tt)
+front_good (Some (told.Sector id index words)) h = (good (lines.Data id index words) h refl, tt)
+front_good (Some (told.Broken word)) h = (good (lines.Broken word) h refl, tt)
+
+-- and so is the answer to a submission
+abbrev pub IsSubmitted : Job → Result ℕ Refusal × View → Type 0
+IsSubmitted job x = IsInRange (submit_line job x.0) × IsFit x.1
+
+either_submit : (job : Job) (b : Bool) (x y : Result ℕ Refusal × View) → (b ≡ true → IsSubmitted job x) → (b ≡ false → IsSubmitted job y) → IsSubmitted job (if b then x else y)
+either_submit job true x y p q = p refl
+either_submit job false x y p q = q refl
+
+refused : (v : View) (job : Job) (why : Refusal) → IsFit v → IsSubmitted job (Err why, v)
+refused v job why f = (good (lines.Refuse (refusal_word why)) tt refl, f)
+
+accepted_fits : (v : View) (job : Job) (wish : Wish) (frames : Option (List ℕ × List Bool)) → v.last + 1 < 2 ^ 32 → wish.sector < 2 ^ 64 → wish.count ≤ 88 → JobHasWidths job → IsFit v → IsSubmitted job (submit_with v wish frames)
+accepted_fits v job wish None last sector few widths f = refused v job refusal.Buffers f
+accepted_fits v job wish (Some taken) last sector few widths f =
+    let k = f.0 in (
+      good (lines.Submit (v.last + 1) job) (omega arith, widths) refl,
+      (
+        record {
+          begins = k.begins;
+          sized = k.sized;
+          given = last;
+          asked = All-push IsAsked v.requests (request_with v wish taken.0) k.asked (record { number = last; sector = sector; few = few });
+          ends = k.ends;
+          written = k.written;
+          read = k.read;
+        },
+        f.1,
+        f.2,
+      ),
+    )
+
+wish_fits : (v : View) (job : Job) (wish : Wish) → 1 ≤ wish.count → (wish.sector < 2 ^ 64 → wish.count ≤ 88 → JobHasWidths job) → v.last + 1 < 2 ^ 32 → IsFit v → IsSubmitted job (submit_one v (Some wish))
+wish_fits v job wish some widths last f =
+    let sized = f.0.sized in
+    let frames = taking (frames_for wish.count) v.pool [] in
+    let unless_full = if nat_le (entries_of shape.order) (unfinished v) then (Err refusal.Full, v) else submit_with v wish frames in
+    let unless_long = if nat_lt 11 (frames_for wish.count) then (Err refusal.Long, v) else unless_full in
+    let unless_past = if nat_lt v.sectors (wish.sector + wish.count) then (Err refusal.Range, v) else unless_long in
+    either_submit job (is_write wish.transfer && v.read_only) (Err refusal.ReadOnly, v) unless_past (λ t. refused v job refusal.ReadOnly f)
+    (λ free. either_submit job (nat_lt v.sectors (wish.sector + wish.count)) (Err refusal.Range, v) unless_long (λ t. refused v job refusal.Range f)
+    (λ range. either_submit job (nat_lt 11 (frames_for wish.count)) (Err refusal.Long, v) unless_full (λ t. refused v job refusal.Long f)
+    (λ long. either_submit job (nat_le (entries_of shape.order) (unfinished v)) (Err refusal.Full, v) (submit_with v wish frames) (λ t. refused v job refusal.Full f)
+    (λ t. accepted_fits v job wish frames last (low range sized) (short long) (widths (low range sized) (short long)) f))))
+  where
+    low : nat_lt v.sectors (wish.sector + wish.count) ≡ false → v.sectors ≤ 2 ^ 64 → wish.sector < 2 ^ 64
+    low range sized = let fits : wish.sector + wish.count ≤ v.sectors = grind (arith, nat_tests) in omega arith
+
+    short : nat_lt 11 (frames_for wish.count) ≡ false → wish.count ≤ 88
+    short long = let few : frames_for wish.count ≤ 11 = grind (arith, nat_tests) in omega arith
+
+pub submit_fits : (v : View) (job : Job) → IsTransfer job → IsFit v → IsSubmitted job (submit_of v job)
+submit_fits v job may f =
+    either_submit job (v.last == 4294967295) (Err refusal.Spent, v) (if not (is_ready v.stage) then (Err refusal.NotReady, v) else submit_one v (wish_of job)) (λ t. refused v job refusal.Spent f)
+    (λ unspent. either_submit job (not (is_ready v.stage)) (Err refusal.NotReady, v) (submit_one v (wish_of job)) (λ t. refused v job refusal.NotReady f) (λ t. by_job job may (one_more v.last f.0.given unspent)))
+  where
+    one_more : (last : ℕ) → last < 2 ^ 32 → (last == 4294967295) ≡ false → last + 1 < 2 ^ 32
+    one_more last given unspent = grind (arith, nat_tests)
+
+    by_job : (job : Job) → IsTransfer job → v.last + 1 < 2 ^ 32 → IsSubmitted job (submit_one v (wish_of job))
+    by_job (jobs.Read sector count) may last =
+        wish_fits v (jobs.Read sector count) (record { sector = sector; count = count; transfer = transfer.Read }) may (λ low few. (low, (omega arith, omega arith))) last f
+    by_job (jobs.Write sector count tag) may last =
+        wish_fits v (jobs.Write sector count tag) (record { sector = sector; count = count; transfer = transfer.Write tag }) may.0 (λ low few. (low, (let some = may.0 in omega arith, omega arith), may.1)) last f
+    by_job job may last = absurd may

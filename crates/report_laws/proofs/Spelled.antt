@@ -1,0 +1,178 @@
+-- Each key's path and text and each watch's path is one of the grammar, whatever happens with moves that are.
+use Rattle.std.proofs.Common.{◌≡◌, ℕ, ◌&&◌, Bool, true, false, not, cond, if◌then◌else◌, List, [], ◌∷◌, ◌++◌, filter, refl, subst}
+use Rattle.std.specs.Prelude.{Option, Some, None, codes}
+use Rattle.std.specs.List.{AllByRecursion, list_any}
+use Rattle.std.specs.BTreeMap.{is_at}
+use Rattle.std.specs.Ordering.{nat_cmp, match_ordering}
+use Rattle.std.specs.declared.cmp.Ordering.{Ordering}
+use Rattle.std.specs.declared.cmp.Ordering.TheVariants.{Less, Equal, Greater}
+use Rattle.std.specs.Cmp.Lexicographic.{slice_cmp}
+use Rattle.std.proofs.lemmas.Option.{none-some, same_Some}
+use Rattle.std.proofs.lemmas.List.Elements.{recursion_from_All, All-from_recursion, All-filter}
+use Rattle.line_text.specs.Texts.{is_key_path, is_key_text}
+use Rattle.blk_base.specs.declared.parts.End.{End}
+use Rattle.blk_base.specs.declared.parts.End.TheVariants as end
+use Rattle.blk_base.specs.declared.moves.Move.{Move}
+use Rattle.blk_base.specs.declared.moves.Move.TheVariants as moves
+use Rattle.schedule_text.specs.declared.line.Line.TheVariants as lines
+use Rattle.schedule_text.specs.Range.{MoveHasWidths, MoverHasWidths, is_mover_allowed, is_move_allowed}
+use Rattle.key_directory.specs.Paths.{is_at_or_under}
+use Rattle.key_directory.specs.Watches.{Watches, same_path, with_watch, fired, first_of, next_watch, taken, taken_from}
+use Rattle.key_directory.specs.Directory.{Directory, key_of, with_key, written, watches_of, with_watches, fresh_directory}
+use Rattle.split_model.specs.World.{World}
+use Rattle.split_model.specs.Keys.{KeyMove, Gets, Sets, Watches as WatchesPath, mover_at, may_set, negotiated, negotiated_lines}
+use Rattle.split_model.specs.Happening.{Happening, happens}
+use Rattle.split_model.proofs.Keys.{key_cases, negotiated_cases, keys_happen}
+use Rattle.machine_pipeline.specs.Allowed.{IsSpelled, IsPossible}
+use Rattle.report_laws.proofs.Told.{AreGood, good}
+
+abbrev pub IsPath : List ℕ → Type 0
+IsPath path = is_key_path path ≡ true
+
+abbrev IsKey : List ℕ × List ℕ → Type 0
+IsKey key = IsPath key.0 × (is_key_text key.1 ≡ true)
+
+pub record AreWatched (w : Watches) : Type 0 where
+  pub pending : AllByRecursion IsPath w.pending
+  pub idle : AllByRecursion IsPath w.idle
+
+pub record AreSpelled (d : Directory) : Type 0 where
+  pub keys : AllByRecursion IsKey d.keys
+  pub front : AreWatched d.front
+  pub back : AreWatched d.back
+
+-- the text that is found at a path
+text_found : (keys : List (List ℕ × List ℕ)) (path text : List ℕ) → AllByRecursion IsKey keys → key_of keys path ≡ Some text → is_key_text text ≡ true
+text_found [] path text all e = absurd (none-some text e)
+text_found (key ∷ keys) path text all e = by_test (is_at (slice_cmp nat_cmp path) key.0) (text_found keys path text all.1) e
+  where
+    by_test : (b : Bool) → (key_of keys path ≡ Some text → is_key_text text ≡ true) → cond b (Some key.1) (key_of keys path) ≡ Some text → is_key_text text ≡ true
+    by_test true later e = subst (λ (t : List ℕ). is_key_text t ≡ true) (same_Some key.1 text e) all.0.1
+    by_test false later e = later e
+
+key_set : (keys : List (List ℕ × List ℕ)) (path text : List ℕ) → IsPath path → is_key_text text ≡ true → AllByRecursion IsKey keys → AllByRecursion IsKey (with_key keys path text)
+key_set [] path text named said all = ((named, said), tt)
+key_set (key ∷ keys) path text named said all = by_order (slice_cmp nat_cmp path key.0) (key_set keys path text named said all.1)
+  where
+    by_order : (o : Ordering) → AllByRecursion IsKey (with_key keys path text) → AllByRecursion IsKey (match_ordering o ((path, text) ∷ key ∷ keys) ((key.0, text) ∷ keys) (key ∷ with_key keys path text))
+    by_order Less later = ((named, said), all)
+    by_order Equal later = ((all.0.0, said), all.1)
+    by_order Greater later = (all.0, later)
+
+-- paths of watches
+more_paths : (xs ys : List (List ℕ)) → AllByRecursion IsPath xs → AllByRecursion IsPath ys → AllByRecursion IsPath (xs ++ ys)
+more_paths [] ys p q = q
+more_paths (x ∷ xs) ys p q = (p.0, more_paths xs ys p.1 q)
+
+fewer_paths : (p : List ℕ → Bool) (xs : List (List ℕ)) → AllByRecursion IsPath xs → AllByRecursion IsPath (filter p xs)
+fewer_paths p xs all = recursion_from_All IsPath (filter p xs) (All-filter p IsPath xs (All-from_recursion IsPath xs all))
+
+watch_set : (w : Watches) (path : List ℕ) → IsPath path → AreWatched w → AreWatched (with_watch w path)
+watch_set w path named all = by_test (list_any (λ (watch : List ℕ). same_path path watch) w.pending)
+  where
+    by_test : (b : Bool) → AreWatched (if b then w else record { pending = w.pending ++ path ∷ []; idle = filter (λ (watch : List ℕ). not (same_path path watch)) w.idle })
+    by_test true = all
+    by_test false = record { pending = more_paths w.pending (path ∷ []) all.pending (named, tt); idle = fewer_paths (λ (watch : List ℕ). not (same_path path watch)) w.idle all.idle }
+
+watch_fired : (w : Watches) (path : List ℕ) → AreWatched w → AreWatched (fired w path)
+watch_fired w path all = record {
+  pending = more_paths w.pending (filter (λ (watch : List ℕ). is_at_or_under watch path) w.idle) all.pending (fewer_paths (λ (watch : List ℕ). is_at_or_under watch path) w.idle all.idle);
+  idle = fewer_paths (λ (watch : List ℕ). not (is_at_or_under watch path)) w.idle all.idle;
+}
+
+watch_taken : (w : Watches) → AreWatched w → AreWatched (taken w)
+watch_taken w all = by_pending w.pending all.pending
+  where
+    by_pending : (pending : List (List ℕ)) → AllByRecursion IsPath pending → AreWatched (taken_from pending w.idle)
+    by_pending [] none = record { pending = tt; idle = all.idle }
+    by_pending (path ∷ later) some = record { pending = some.1; idle = more_paths w.idle (path ∷ []) all.idle (some.0, tt) }
+
+pub next_path : (w : Watches) (path : List ℕ) → AreWatched w → next_watch w ≡ Some path → IsPath path
+next_path w path all first = by_pending w.pending all.pending first
+  where
+    by_pending : (pending : List (List ℕ)) → AllByRecursion IsPath pending → first_of pending ≡ Some path → IsPath path
+    by_pending [] none e = absurd (none-some path e)
+    by_pending (next ∷ later) some e = subst IsPath (same_Some next path e) some.0
+
+-- both ends' watches
+watched_at : (d : Directory) (at : End) → AreSpelled d → AreWatched (watches_of d at)
+watched_at d end.Front all = all.front
+watched_at d end.Back all = all.back
+
+spelled_watching : (d : Directory) (at : End) (w : Watches) → AreSpelled d → AreWatched w → AreSpelled (with_watches d at w)
+spelled_watching d end.Front w all watched = record { keys = all.keys; front = watched; back = all.back }
+spelled_watching d end.Back w all watched = record { keys = all.keys; front = all.front; back = watched }
+
+spelled_taken : (at : End) (d : Directory) → AreSpelled d → AreSpelled (with_watches d at (taken (watches_of d at)))
+spelled_taken at d all = spelled_watching d at _ all (watch_taken (watches_of d at) (watched_at d at all))
+
+spelled_written : (d : Directory) (path text : List ℕ) → IsPath path → is_key_text text ≡ true → AreSpelled d → AreSpelled (written d path text)
+spelled_written d path text named said all = record { keys = key_set d.keys path text named said all.keys; front = watch_fired d.front path all.front; back = watch_fired d.back path all.back }
+
+-- the lines of what an end does with the keys
+both : (a b : Bool) → a ≡ true → b ≡ true → (a && b) ≡ true
+both true b p q = q
+both false b p q = p
+
+mover_widths : (at : End) → MoverHasWidths (mover_at at)
+mover_widths end.Front = tt
+mover_widths end.Back = tt
+
+mover_allowed : (at : End) → is_mover_allowed (mover_at at) ≡ true
+mover_allowed end.Front = refl
+mover_allowed end.Back = refl
+
+named_allowed : (at : End) (path : List ℕ) → IsPath path → (is_mover_allowed (mover_at at) && is_key_path path) ≡ true
+named_allowed at path named = both (is_mover_allowed (mover_at at)) (is_key_path path) (mover_allowed at) named
+
+said_allowed : (at : End) (path text : List ℕ) → IsPath path → is_key_text text ≡ true → (is_mover_allowed (mover_at at) && is_key_path path && is_key_text text) ≡ true
+said_allowed at path text named said = both (is_mover_allowed (mover_at at) && is_key_path path) (is_key_text text) (named_allowed at path named) said
+
+got_allowed : (at : End) (path : List ℕ) (found : Option (List ℕ)) → IsPath path → ((text : List ℕ) → found ≡ Some text → is_key_text text ≡ true) → is_move_allowed (moves.GetKey (mover_at at) path found) ≡ true
+got_allowed at path None named said = named_allowed at path named
+got_allowed at path (Some text) named said = said_allowed at path text named (said text refl)
+
+-- they are of the grammar, and so are all keys and watches then
+negotiates : (w : World) (at : End) (move : KeyMove) → IsSpelled move → AreSpelled w.under.keys
+    → AreSpelled (negotiated w.back.stage at move w.under.keys) × AreGood (negotiated_lines w.back.stage at move w.under.keys)
+negotiates w at move spelled all =
+    negotiated_cases (λ keys shown. AreSpelled keys × AreGood shown) w.back.stage at move w.under.keys
+    (λ may. key_cases (λ keys shown. AreSpelled keys × AreGood shown) at move w.under.keys got set watches took (all, tt)) (all, tt)
+  where
+    d : Directory
+    d = w.under.keys
+
+    shows : (shown : Move) → MoveHasWidths shown → is_move_allowed shown ≡ true → AreGood (lines.Move shown ∷ [])
+    shows shown widths allowed = (good (lines.Move shown) widths allowed, tt)
+
+    got : (path : List ℕ) → move ≡ Gets path → AreSpelled w.under.keys × AreGood (lines.Move (moves.GetKey (mover_at at) path (key_of d.keys path)) ∷ [])
+    got path same =
+        (all, shows (moves.GetKey (mover_at at) path (key_of d.keys path)) (mover_widths at) (got_allowed at path (key_of d.keys path) (subst IsSpelled same spelled) (λ text. text_found d.keys path text all.keys)))
+
+    set : (path text : List ℕ) → move ≡ Sets path text → may_set at path text ≡ true → AreSpelled (written w.under.keys path text) × AreGood (lines.Move (moves.SetKey (mover_at at) path text) ∷ [])
+    set path text same may =
+        let its : IsSpelled (Sets path text) = subst IsSpelled same spelled in
+        (spelled_written w.under.keys path text its.0 its.1 all, shows (moves.SetKey (mover_at at) path text) (mover_widths at) (said_allowed at path text its.0 its.1))
+
+    watches : (path : List ℕ) → move ≡ WatchesPath path → AreSpelled (with_watches w.under.keys at (with_watch (watches_of w.under.keys at) path)) × AreGood (lines.Move (moves.Watch (mover_at at) path) ∷ [])
+    watches path same =
+        let named : IsPath path = subst IsSpelled same spelled in (
+          spelled_watching w.under.keys at _ all (watch_set (watches_of w.under.keys at) path named (watched_at w.under.keys at all)),
+          shows (moves.Watch (mover_at at) path) (mover_widths at) (named_allowed at path named),
+        )
+
+    took : (path : List ℕ) → next_watch (watches_of w.under.keys at) ≡ Some path
+        → AreSpelled (with_watches w.under.keys at (taken (watches_of w.under.keys at))) × AreGood (lines.Move (moves.Watched (mover_at at) path) ∷ [])
+    took path first =
+        (spelled_taken at w.under.keys all, shows (moves.Watched (mover_at at) path) (mover_widths at) (named_allowed at path (next_path (watches_of w.under.keys at) path (watched_at w.under.keys at all) first)))
+
+pub keys_good : (w : World) (at : End) (move : KeyMove) → IsSpelled move → AreSpelled w.under.keys → AreGood (negotiated_lines w.back.stage at move w.under.keys)
+keys_good w at move spelled all = (negotiates w at move spelled all).1
+
+-- whatever happens
+pub spelled_happens : (w : World) (h : Happening) → IsPossible w h → AreSpelled w.under.keys → (let v : World = happens w h in AreSpelled v.under.keys)
+spelled_happens w h may all = keys_happen AreSpelled spelled_taken w h (λ at move is here. (negotiates w at move (subst (IsPossible w) is may) here).0) all
+
+pub spelled_start : AreSpelled (fresh_directory (codes "1"))
+unfolding is_key_path is_key_text
+spelled_start = record { keys = ((refl, refl), ((refl, refl), tt)); front = record { pending = tt; idle = tt }; back = record { pending = tt; idle = tt } }

@@ -1,0 +1,327 @@
+-- What becomes of the keys: what an end does with them, and that no other layout than that of 64-bit guests is ever named and no feature offered; and what a connection shows.
+use Rattle.std.proofs.Common.{◌≡◌, ◌≢◌, ℕ, Bool, true, false, true≢false, not, ◌&&◌, ◌||◌, if◌then◌else◌, List, [], ◌∷◌, refl, sym, ap, ◌∙◌, subst}
+use Rattle.std.specs.Prelude.{Option, Some, None, Result, Ok, Err, codes}
+use Rattle.std.specs.List.{AllByRecursion}
+use Rattle.std.specs.Str.{bytes_eq}
+use Rattle.std.proofs.lemmas.Option.{none-some}
+use Rattle.std.proofs.lemmas.Slice.Eq.{bytes_eq-Decides}
+use Rattle.blk_base.specs.declared.parts.Mode.{Mode}
+use Rattle.blk_base.specs.declared.parts.End.{End}
+use Rattle.blk_base.specs.declared.parts.End.TheVariants as end
+use Rattle.blk_base.specs.declared.ask.FrontAsk.{FrontAsk}
+use Rattle.blk_base.specs.declared.ask.FrontAsk.TheVariants as front_ask
+use Rattle.blk_base.specs.declared.ask.BackAsk.{BackAsk}
+use Rattle.blk_base.specs.declared.ask.BackAsk.TheVariants as back_ask
+use Rattle.blk_base.specs.declared.moves.BackMover.{BackMover}
+use Rattle.blk_base.specs.declared.moves.BackMover.TheVariants as back_mover
+use Rattle.blk_base.specs.declared.moves.Move.TheVariants as moves
+use Rattle.schedule_text.specs.declared.line.Line.{Line}
+use Rattle.schedule_text.specs.declared.line.Line.TheVariants as lines
+use Rattle.grant_table.specs.declared.entry.MapRefusal.{MapRefusal}
+use Rattle.grant_table.specs.Table.{verdict_at}
+use Rattle.event_channel.specs.declared.channels.PortState.{PortState}
+use Rattle.event_channel.specs.declared.channels.PortState.TheVariants as port
+use Rattle.event_channel.specs.Channels.{state_of}
+use Rattle.key_directory.specs.Watches.{Watches, with_watch, next_watch, first_of, taken, taken_from}
+use Rattle.key_directory.specs.Directory.{Directory, key_of, with_key, written, watches_of, with_watches, fresh_directory}
+use Rattle.key_directory.proofs.Entries.{key_of-with_key_same, key_of-with_key_other}
+use Rattle.hypervisor.specs.Hypervisor.{Hypervisor}
+use Rattle.hypervisor.specs.Act.{FrontAct, BackAct, Outcome, Took, is_own_path, front_act, back_act, map_act, bind_act}
+use Rattle.blk_front.specs.declared.stage.Stage.{Stage}
+use Rattle.blk_front.specs.declared.stage.Stage.TheVariants as front_stage
+use Rattle.blk_front.specs.View as front
+use Rattle.blk_front.specs.Submit.{is_initialised, connected}
+use Rattle.blk_front.specs.Ask as front_ends
+use Rattle.blk_back.specs.declared.stage.Stage.{Stage as BackStage}
+use Rattle.blk_back.specs.Ask as back_ends
+use Rattle.blk_back.specs.Step.{job_ask_of}
+use Rattle.split_model.specs.World.{World}
+use Rattle.split_model.specs.Keys.{KeyMove, Gets, Sets, Watches as WatchesPath, TakesWatch, mover_at, names_layout, is_x64_text, names_feature, is_zero_text, may_set, may_negotiate, keys_after, watched_lines, key_lines, negotiated, negotiated_lines}
+use Rattle.split_model.specs.Happening.{Happening, FrontMoves, BackMoves, JobMoves, Negotiates, Connects, Submits, Notifies, Pokes, Dumps, Looks, Settles, ready_lines, happens, after, front_after, back_after, job_after, front_turn, back_turn, job_turn}
+use Rattle.split_model.proofs.Overwriting.{poke_cases}
+use Rattle.split_model.proofs.SafeActs.{of_front, of_back, of_read, of_disk, AsksBackKey, front_wait, back_wait}
+use Rattle.split_model.proofs.SafeAnswers.{AsksNoKey, fronts_no_key, IsBacks, backs_of, IsJobs, jobs_of}
+
+-- where no watch fired none is taken
+none_taken : (w : Watches) → next_watch w ≡ None → taken w ≡ w
+none_taken w none = by_pending w.pending refl none
+  where
+    by_pending : (pending : List (List ℕ)) → w.pending ≡ pending → first_of pending ≡ None → taken_from pending w.idle ≡ w
+    by_pending [] same e = let as_was : w ≡ record { pending = []; idle = w.idle } = ap (λ (p : List (List ℕ)). record { pending = p; idle = w.idle }) same in sym as_was
+    by_pending (path ∷ later) same e = absurd (none-some path (sym e))
+
+still_at : (d : Directory) (at : End) → next_watch (watches_of d at) ≡ None → with_watches d at (taken (watches_of d at)) ≡ d
+still_at d end.Front none = ap (λ (w : Watches). with_watches d end.Front w) (none_taken d.front none)
+still_at d end.Back none = ap (λ (w : Watches). with_watches d end.Back w) (none_taken d.back none)
+
+-- what an end does with the keys, with the lines that it shows; or nothing happens
+pub key_cases :
+    (P : Directory → List Line → Type 0) (at : End) (move : KeyMove) (d : Directory)
+    → ((path : List ℕ) → move ≡ Gets path → P d (lines.Move (moves.GetKey (mover_at at) path (key_of d.keys path)) ∷ []))
+    → ((path text : List ℕ) → move ≡ Sets path text → may_set at path text ≡ true → P (written d path text) (lines.Move (moves.SetKey (mover_at at) path text) ∷ []))
+    → ((path : List ℕ) → move ≡ WatchesPath path → P (with_watches d at (with_watch (watches_of d at) path)) (lines.Move (moves.Watch (mover_at at) path) ∷ []))
+    → ((path : List ℕ) → next_watch (watches_of d at) ≡ Some path → P (with_watches d at (taken (watches_of d at))) (lines.Move (moves.Watched (mover_at at) path) ∷ []))
+    → P d [] → P (keys_after at move d) (key_lines at move d)
+key_cases P at (Gets path) d got set watch watched none = got path refl
+key_cases P at (Sets path text) d got set watch watched none = by_test (may_set at path text) refl
+  where
+    by_test : (b : Bool) → may_set at path text ≡ b → P (if b then written d path text else d) (if b then lines.Move (moves.SetKey (mover_at at) path text) ∷ [] else [])
+    by_test true may = set path text refl may
+    by_test false may = none
+key_cases P at (WatchesPath path) d got set watch watched none = watch path refl
+key_cases P at TakesWatch d got set watch watched none = by_next (next_watch (watches_of d at)) refl
+  where
+    by_next : (next : Option (List ℕ)) → next_watch (watches_of d at) ≡ next → P (with_watches d at (taken (watches_of d at))) (watched_lines at next)
+    by_next None first = subst (λ (k : Directory). P k []) (sym (still_at d at first)) none
+    by_next (Some path) first = watched path first
+
+-- where the end may turn to its keys; or nothing happens
+pub negotiated_cases : (P : Directory → List Line → Type 0) (s : BackStage) (at : End) (move : KeyMove) (d : Directory)
+    → (may_negotiate s at ≡ true → P (keys_after at move d) (key_lines at move d)) → P d [] → P (negotiated s at move d) (negotiated_lines s at move d)
+negotiated_cases P s at move d does none = by_test (may_negotiate s at) refl
+  where
+    by_test : (b : Bool) → may_negotiate s at ≡ b → P (if b then keys_after at move d else d) (if b then key_lines at move d else [])
+    by_test true may = does may
+    by_test false may = none
+
+-- the front is connected, and that is shown where it waited for it
+pub connects_cases : (P : front.View → List Line → Type 0) (v : front.View) → (is_initialised v.stage ≡ true → P (record v { stage = front_stage.Loop }) (lines.Ready ∷ [])) → P v [] → P (connected v) (ready_lines v.stage)
+connects_cases P v waited none = by_test (is_initialised v.stage) refl
+  where
+    by_test : (b : Bool) → is_initialised v.stage ≡ b → P (if b then record v { stage = front_stage.Loop } else v) (if b then lines.Ready ∷ [] else [])
+    by_test true waits = waited waits
+    by_test false waits = none
+
+-- the lines of each are of this kind, where one is
+pub key_lines_are : (P : Line → Type 0) (at : End) (move : KeyMove) (d : Directory)
+    → ((path : List ℕ) → P (lines.Move (moves.GetKey (mover_at at) path (key_of d.keys path))))
+    → ((path text : List ℕ) → P (lines.Move (moves.SetKey (mover_at at) path text)))
+    → ((path : List ℕ) → P (lines.Move (moves.Watch (mover_at at) path)))
+    → ((path : List ℕ) → P (lines.Move (moves.Watched (mover_at at) path)))
+    → AllByRecursion P (key_lines at move d)
+key_lines_are P at move d got set watch watched =
+    key_cases (λ (after : Directory) (shown : List Line). AllByRecursion P shown) at move d
+    (λ path same. (got path, tt)) (λ path text same may. (set path text, tt)) (λ path same. (watch path, tt)) (λ path first. (watched path, tt)) tt
+
+pub negotiated_lines_are : (P : Line → Type 0) (s : BackStage) (at : End) (move : KeyMove) (d : Directory)
+    → ((path : List ℕ) → P (lines.Move (moves.GetKey (mover_at at) path (key_of d.keys path))))
+    → ((path text : List ℕ) → P (lines.Move (moves.SetKey (mover_at at) path text)))
+    → ((path : List ℕ) → P (lines.Move (moves.Watch (mover_at at) path)))
+    → ((path : List ℕ) → P (lines.Move (moves.Watched (mover_at at) path)))
+    → AllByRecursion P (negotiated_lines s at move d)
+negotiated_lines_are P s at move d got set watch watched =
+    negotiated_cases (λ (after : Directory) (shown : List Line). AllByRecursion P shown) s at move d (λ may. key_lines_are P at move d got set watch watched) tt
+
+pub ready_lines_are : (P : Line → Type 0) (s : Stage) → (is_initialised s ≡ true → P lines.Ready) → AllByRecursion P (ready_lines s)
+ready_lines_are P s is = by_test (is_initialised s) refl
+  where
+    by_test : (b : Bool) → is_initialised s ≡ b → AllByRecursion P (if b then lines.Ready ∷ [] else [])
+    by_test true waits = (is waits, tt)
+    by_test false waits = tt
+
+-- it stays when a watch is taken
+abbrev pub StaysTaken : (Directory → Type 0) → Type 0
+StaysTaken P = (at : End) (d : Directory) → P d → P (with_watches d at (taken (watches_of d at)))
+
+-- an ask for no key leaves the keys, and takes a watch at most
+abbrev FrontStays : (Directory → Type 0) → FrontAct → Type 0
+FrontStays P a = P a.under.keys
+
+abbrev BackStays : (Directory → Type 0) → BackAct → Type 0
+BackStays P a = P a.under.keys
+
+pub front_stays : (P : Directory → Type 0) → StaysTaken P → (h : Hypervisor) (ask : FrontAsk) (a : FrontAct) → AsksNoKey ask → P h.keys → front_act h ask ≡ Some a → P a.under.keys
+front_stays P taking h front_ask.Wait a own u e = front_wait (FrontStays P) h a u (λ path. taking end.Front h.keys u) e
+front_stays P taking h front_ask.Fence a own u e = of_front (FrontStays P) _ a u e
+front_stays P taking h (front_ask.Read frame word) a own u e = of_front (FrontStays P) _ a u e
+front_stays P taking h (front_ask.Write frame word value) a own u e = of_front (FrontStays P) _ a u e
+front_stays P taking h (front_ask.Cas frame word old new) a own u e = of_front (FrontStays P) _ a u e
+front_stays P taking h front_ask.NewPort a own u e = of_front (FrontStays P) _ a u e
+front_stays P taking h front_ask.Send a own u e = of_front (FrontStays P) _ a u e
+front_stays P taking h front_ask.ClosePort a own u e = of_front (FrontStays P) _ a u e
+front_stays P taking h (front_ask.GetKey path) a own u e = absurd own
+front_stays P taking h (front_ask.SetKey path text) a own u e = absurd own
+front_stays P taking h (front_ask.Watch path) a own u e = absurd own
+
+map_stays : (P : Directory → Type 0) (h : Hypervisor) (who : BackMover) (gref : ℕ) (mode : Mode) (verdict : Result ℕ MapRefusal) → P h.keys → BackStays P (map_act h who gref mode verdict)
+map_stays P h who gref mode (Ok frame) u = u
+map_stays P h who gref mode (Err refusal) u = u
+
+bind_stays : (P : Directory → Type 0) (h : Hypervisor) (p : ℕ) (state : PortState) → P h.keys → BackStays P (bind_act h p state)
+bind_stays P h p port.Unbound u = u
+bind_stays P h p port.Closed u = u
+bind_stays P h p port.Bound u = u
+
+same_stays : (P : Directory → Type 0) (h : Hypervisor) → P h.keys → (x : BackAct) → x.under ≡ h → BackStays P x
+same_stays P h u x same = rw same u
+
+pub back_stays : (P : Directory → Type 0) → StaysTaken P → (h : Hypervisor) (who : BackMover) (ask : BackAsk) (o : Outcome) (a : BackAct) → (AsksBackKey ask → ⊥) → P h.keys → back_act h who ask o ≡ Some a → P a.under.keys
+back_stays P taking h who back_ask.Wait o a own u e = back_wait (BackStays P) h who a u (λ path. taking end.Back h.keys u) e
+back_stays P taking h who back_ask.Fence o a own u e = of_back (BackStays P) _ a u e
+back_stays P taking h who (back_ask.Read m word) o a own u e = of_back (BackStays P) _ a u e
+back_stays P taking h who (back_ask.Write m word value) o a own u e = of_back (BackStays P) _ a u e
+back_stays P taking h who (back_ask.Map gref mode) o a own u e = of_back (BackStays P) _ a (map_stays P h who gref mode (verdict_at h.pages gref mode) u) e
+back_stays P taking h who (back_ask.Unmap m) o a own u e = of_back (BackStays P) _ a u e
+back_stays P taking h who (back_ask.Bind p) o a own u e = of_back (BackStays P) _ a (bind_stays P h p (state_of h.channels p) u) e
+back_stays P taking h who back_ask.Send o a own u e = of_back (BackStays P) _ a u e
+back_stays P taking h who back_ask.ClosePort o a own u e = of_back (BackStays P) _ a u e
+back_stays P taking h who (back_ask.GetKey path) o a own u e = absurd (own tt)
+back_stays P taking h who (back_ask.SetKey path text) o a own u e = absurd (own tt)
+back_stays P taking h who (back_ask.Watch path) o a own u e = absurd (own tt)
+back_stays P taking h who (back_ask.DiskRead sector) o a own u e = of_read (BackStays P) h _ o a (same_stays P h u) e
+back_stays P taking h who (back_ask.DiskWrite sector words) o a own u e = of_disk (BackStays P) h _ o a (same_stays P h u) e
+back_stays P taking h who back_ask.Flush o a own u e = of_disk (BackStays P) h _ o a (same_stays P h u) e
+back_stays P taking h who (back_ask.Trim sector count) o a own u e = of_disk (BackStays P) h _ o a (same_stays P h u) e
+
+pub backs_no_key : (ask : BackAsk) → IsBacks ask → AsksBackKey ask → ⊥
+backs_no_key (back_ask.GetKey path) own asks = own
+backs_no_key (back_ask.SetKey path text) own asks = own
+backs_no_key (back_ask.Watch path) own asks = own
+backs_no_key ask own asks = asks
+
+pub jobs_no_key : (ask : BackAsk) → IsJobs ask → AsksBackKey ask → ⊥
+jobs_no_key (back_ask.GetKey path) own asks = own
+jobs_no_key (back_ask.SetKey path text) own asks = own
+jobs_no_key (back_ask.Watch path) own asks = own
+jobs_no_key ask own asks = asks
+
+front_turn_stays : (P : Directory → Type 0) → StaysTaken P → (w : World) (act : Option FrontAct) → front_turn w ≡ act → P w.under.keys → (let v : World = front_after w act in P v.under.keys)
+front_turn_stays P taking w None e u = u
+front_turn_stays P taking w (Some a) e u = front_stays P taking w.under (front_ends.ask_of w.front) a (fronts_no_key w.front) u e
+
+back_turn_stays : (P : Directory → Type 0) → StaysTaken P → (w : World) (act : Option BackAct) → back_turn w Took ≡ act → P w.under.keys → (let v : World = back_after w act in P v.under.keys)
+back_turn_stays P taking w None e u = u
+back_turn_stays P taking w (Some a) e u = back_stays P taking w.under back_mover.Back (back_ends.ask_of w.back) Took a (backs_no_key (back_ends.ask_of w.back) (backs_of w.back)) u e
+
+job_turn_stays : (P : Directory → Type 0) → StaysTaken P → (w : World) (k : ℕ) (o : Outcome) (act : Option BackAct) → job_turn w k o ≡ act → P w.under.keys → (let v : World = job_after w k act in P v.under.keys)
+job_turn_stays P taking w k o None e u = u
+job_turn_stays P taking w k o (Some a) e u = back_stays P taking w.under (back_mover.Job k) (job_ask_of w.back k) o a (jobs_no_key (job_ask_of w.back k) (jobs_of w.back k)) u e
+
+-- whatever happens: what an end does with the keys keeps it, and the taking of a watch
+pub keys_happen :
+    (P : Directory → Type 0) → StaysTaken P → (w : World) (h : Happening) → ((at : End) (move : KeyMove) → h ≡ Negotiates at move → P w.under.keys → P (negotiated w.back.stage at move w.under.keys))
+    → P w.under.keys → (let v : World = happens w h in P v.under.keys)
+keys_happen P taking w FrontMoves kept u = front_turn_stays P taking w (front_turn w) refl u
+keys_happen P taking w BackMoves kept u = back_turn_stays P taking w (back_turn w Took) refl u
+keys_happen P taking w (JobMoves number outcome) kept u = job_turn_stays P taking w number outcome (job_turn w number outcome) refl u
+keys_happen P taking w (Negotiates at move) kept u = kept at move refl u
+keys_happen P taking w Connects kept u = u
+keys_happen P taking w (Submits job) kept u = u
+keys_happen P taking w (Notifies at) kept u = u
+keys_happen P taking w (Pokes frame word value) kept u = poke_cases (λ under shown. P under.keys) w.under frame word value (λ framed worded. u) u
+keys_happen P taking w Dumps kept u = u
+keys_happen P taking w (Looks quiet) kept u = u
+keys_happen P taking w (Settles quiet) kept u = u
+
+-- no text, or one of this kind
+abbrev pub IsOrNone : (List ℕ → Bool) → Option (List ℕ) → Type 0
+IsOrNone kind None = Unit {0}
+IsOrNone kind (Some text) = kind text ≡ true
+
+-- each key that the one test names is so by the other
+abbrev pub SayOnly : (names kind : List ℕ → Bool) → Directory → Type 0
+SayOnly names kind d = (path : List ℕ) → names path ≡ true → IsOrNone kind (key_of d.keys path)
+
+-- no other layout is named, and no feature offered
+abbrev pub NamesNoOther : Directory → Type 0
+NamesNoOther d = SayOnly names_layout is_x64_text d
+
+abbrev pub OffersNothing : Directory → Type 0
+OffersNothing d = SayOnly names_feature is_zero_text d
+
+-- a key that isn't there at the start
+absent : (kind : List ℕ → Bool) (path there : List ℕ) → bytes_eq path there ≡ true → IsOrNone kind (key_of (fresh_directory (codes "1")).keys there) → IsOrNone kind (key_of (fresh_directory (codes "1")).keys path)
+absent kind path there is none = subst (λ (p : List ℕ). IsOrNone kind (key_of (fresh_directory (codes "1")).keys p)) (sym ((bytes_eq-Decides path there).0 is)) none
+
+pub named_start : NamesNoOther (fresh_directory (codes "1"))
+named_start path is = absent is_x64_text path (codes "/local/domain/1/device/vbd/51712/protocol") is tt
+
+pub offered_start : OffersNothing (fresh_directory (codes "1"))
+offered_start path is = by_tests (bytes_eq path barrier) (bytes_eq path flush) (bytes_eq path discard) (bytes_eq path indirect) (bytes_eq path persistent) is refl refl refl refl refl
+  where
+    barrier : List ℕ
+    barrier = codes "/local/domain/0/backend/vbd/1/51712/feature-barrier"
+
+    flush : List ℕ
+    flush = codes "/local/domain/0/backend/vbd/1/51712/feature-flush-cache"
+
+    discard : List ℕ
+    discard = codes "/local/domain/0/backend/vbd/1/51712/feature-discard"
+
+    indirect : List ℕ
+    indirect = codes "/local/domain/0/backend/vbd/1/51712/feature-max-indirect-segments"
+
+    persistent : List ℕ
+    persistent = codes "/local/domain/0/backend/vbd/1/51712/feature-persistent"
+
+    by_tests :
+        (a b c d e : Bool) → (a || b || c || d || e) ≡ true → bytes_eq path barrier ≡ a → bytes_eq path flush ≡ b → bytes_eq path discard ≡ c → bytes_eq path indirect ≡ d → bytes_eq path persistent ≡ e
+        → IsOrNone is_zero_text (key_of (fresh_directory (codes "1")).keys path)
+    by_tests true b c d e some p q r s t = absent is_zero_text path barrier p tt
+    by_tests false true c d e some p q r s t = absent is_zero_text path flush q tt
+    by_tests false false true d e some p q r s t = absent is_zero_text path discard r tt
+    by_tests false false false true e some p q r s t = absent is_zero_text path indirect s tt
+    by_tests false false false false true some p q r s t = absent is_zero_text path persistent t tt
+    by_tests false false false false false some p q r s t = absurd (true≢false (sym some))
+
+say_watching : (names kind : List ℕ → Bool) (d : Directory) (at : End) (w : Watches) → SayOnly names kind d → SayOnly names kind (with_watches d at w)
+say_watching names kind d end.Front w say = say
+say_watching names kind d end.Back w say = say
+
+say_written : (names kind : List ℕ → Bool) (path text : List ℕ) (d : Directory) → (names path ≡ true → kind text ≡ true) → SayOnly names kind d → SayOnly names kind (written d path text)
+say_written names kind path text d may say other is = by_test (bytes_eq path other) refl
+  where
+    by_test : (b : Bool) → bytes_eq path other ≡ b → IsOrNone kind (key_of (with_key d.keys path text) other)
+    by_test true e =
+        let same : path ≡ other = (bytes_eq-Decides path other).0 e in
+        subst (λ (p : List ℕ). IsOrNone kind (key_of (with_key d.keys path text) p)) same (subst (IsOrNone kind) (sym (key_of-with_key_same d.keys path text)) (may (ap names same ∙ is)))
+    by_test false e =
+        let differs : other ≢ path = λ same. true≢false (sym ((bytes_eq-Decides path other).1 (sym same)) ∙ e) in
+        subst (IsOrNone kind) (sym (key_of-with_key_other d.keys path text other differs)) (say other is)
+
+-- what may be set is so by both tests
+x64_set : (own layout x64 feature zero : Bool) → (own && (not layout || x64) && (not feature || zero)) ≡ true → layout ≡ true → x64 ≡ true
+x64_set false layout x64 feature zero may is = absurd (true≢false (sym may))
+x64_set true false x64 feature zero may is = absurd (true≢false (sym is))
+x64_set true true true feature zero may is = refl
+x64_set true true false feature zero may is = absurd (true≢false (sym may))
+
+zero_set : (own layout x64 feature zero : Bool) → (own && (not layout || x64) && (not feature || zero)) ≡ true → feature ≡ true → zero ≡ true
+zero_set false layout x64 feature zero may is = absurd (true≢false (sym may))
+zero_set true layout x64 false zero may is = absurd (true≢false (sym is))
+zero_set true layout x64 true true may is = refl
+zero_set true false x64 true false may is = absurd (true≢false (sym may))
+zero_set true true true true false may is = absurd (true≢false (sym may))
+zero_set true true false true false may is = absurd (true≢false (sym may))
+
+-- what an end does with the keys keeps it, where each text that may be set is so
+say_keys :
+    (names kind : List ℕ → Bool) → ((at : End) (path text : List ℕ) → may_set at path text ≡ true → names path ≡ true → kind text ≡ true)
+    → (s : BackStage) (at : End) (move : KeyMove) (d : Directory) → SayOnly names kind d → SayOnly names kind (negotiated s at move d)
+say_keys names kind set s at move d say =
+    negotiated_cases (λ (k : Directory) (shown : List Line). SayOnly names kind k) s at move d
+    (λ may. key_cases (λ (k : Directory) (shown : List Line). SayOnly names kind k) at move d
+    (λ path same. say) (λ path text same may_set. say_written names kind path text d (set at path text may_set) say)
+    (λ path same. say_watching names kind d at _ say) (λ path first. say_watching names kind d at _ say) say) say
+
+say_happens :
+    (names kind : List ℕ → Bool) → ((at : End) (path text : List ℕ) → may_set at path text ≡ true → names path ≡ true → kind text ≡ true)
+    → (w : World) (h : Happening) → SayOnly names kind w.under.keys → (let v : World = happens w h in SayOnly names kind v.under.keys)
+say_happens names kind set w h say =
+    keys_happen (SayOnly names kind) (λ at d here. say_watching names kind d at _ here) w h (λ at move is here. say_keys names kind set w.back.stage at move w.under.keys here) say
+
+pub named_happens : (w : World) (h : Happening) → NamesNoOther w.under.keys → (let v : World = happens w h in NamesNoOther v.under.keys)
+named_happens w h named =
+    say_happens names_layout is_x64_text (λ at path text may is. x64_set (is_own_path at path) (names_layout path) (is_x64_text text) (names_feature path) (is_zero_text text) may is) w h named
+
+pub offered_happens : (w : World) (h : Happening) → OffersNothing w.under.keys → (let v : World = happens w h in OffersNothing v.under.keys)
+offered_happens w h offered =
+    say_happens names_feature is_zero_text (λ at path text may is. zero_set (is_own_path at path) (names_layout path) (is_x64_text text) (names_feature path) (is_zero_text text) may is) w h offered
+
+pub named_after : (hs : List Happening) (w : World) → NamesNoOther w.under.keys → (let v : World = after hs w in NamesNoOther v.under.keys)
+named_after [] w named = named
+named_after (h ∷ hs) w named = named_after hs (happens w h) (named_happens w h named)
+
+pub offered_after : (hs : List Happening) (w : World) → OffersNothing w.under.keys → (let v : World = after hs w in OffersNothing v.under.keys)
+offered_after [] w offered = offered
+offered_after (h ∷ hs) w offered = offered_after hs (happens w h) (offered_happens w h offered)

@@ -1,0 +1,85 @@
+-- What an end does with the keys of both (`io/xenbus.h`), what that makes of the directory, and the lines that it shows.
+use Rattle.std.specs.Prelude.{ℕ, Bool, true, false, not, ◌&&◌, ◌||◌, List, [], ◌∷◌, Option, Some, None, if◌then◌else◌, codes}
+use Rattle.std.specs.Str.{bytes_eq}
+use Rattle.blk_base.specs.declared.parts.End.{End}
+use Rattle.blk_base.specs.declared.parts.End.TheVariants as end
+use Rattle.blk_base.specs.declared.moves.Mover.{Mover}
+use Rattle.blk_base.specs.declared.moves.Mover.TheVariants as mover
+use Rattle.blk_base.specs.declared.moves.Move.TheVariants as moves
+use Rattle.schedule_text.specs.declared.line.Line.{Line}
+use Rattle.schedule_text.specs.declared.line.Line.TheVariants.{Move}
+use Rattle.key_directory.specs.Directory.{Directory, key_of, written, watches_of, with_watches}
+use Rattle.key_directory.specs.Watches.{with_watch, next_watch, taken}
+use Rattle.hypervisor.specs.Act.{is_own_path}
+use Rattle.blk_back.specs.declared.stage.Stage.{Stage}
+use Rattle.blk_back.specs.declared.stage.Stage.TheVariants as stage
+
+-- it reads a key, sets one, watches a path, or takes the watch that fired first
+pub data KeyMove : Type 0 where
+  Gets : (path : List ℕ) → KeyMove
+  Sets : (path text : List ℕ) → KeyMove
+  Watches : (path : List ℕ) → KeyMove
+  TakesWatch : KeyMove
+
+abbrev pub mover_at : End → Mover
+mover_at end.Front = mover.Front
+mover_at end.Back = mover.Back
+
+-- the front's key for the layout of entries (`protocol` of `io/blkif.h`), and the layout of 64-bit guests
+abbrev pub names_layout : List ℕ → Bool
+names_layout path = bytes_eq path (codes "/local/domain/1/device/vbd/51712/protocol")
+
+abbrev pub is_x64_text : List ℕ → Bool
+is_x64_text text = bytes_eq text (codes "x86_64-abi")
+
+-- the back's keys for what it offers beside reads and writes (`io/blkif.h`), and what they say where it offers nothing
+abbrev pub names_feature : List ℕ → Bool
+names_feature path =
+    bytes_eq path (codes "/local/domain/0/backend/vbd/1/51712/feature-barrier")
+    || bytes_eq path (codes "/local/domain/0/backend/vbd/1/51712/feature-flush-cache")
+    || bytes_eq path (codes "/local/domain/0/backend/vbd/1/51712/feature-discard")
+    || bytes_eq path (codes "/local/domain/0/backend/vbd/1/51712/feature-max-indirect-segments")
+    || bytes_eq path (codes "/local/domain/0/backend/vbd/1/51712/feature-persistent")
+
+abbrev pub is_zero_text : List ℕ → Bool
+is_zero_text text = bytes_eq text (codes "0")
+
+-- an end sets keys under its own directory alone; no other layout is named yet, and no feature is offered
+abbrev pub may_set : End → (path text : List ℕ) → Bool
+may_set at path text = is_own_path at path && (not (names_layout path) || is_x64_text text) && (not (names_feature path) || is_zero_text text)
+
+-- the back is between two entries and two replies: within one it makes no other move
+abbrev pub is_between : Stage → Bool
+is_between (stage.Fetch k) = false
+is_between (stage.ReplyHigh r) = false
+is_between (stage.ReplyLast r) = false
+is_between (stage.Producer r) = false
+is_between s = true
+
+-- an end may turn to its keys, as the back stands
+abbrev pub may_negotiate : Stage → End → Bool
+may_negotiate s end.Front = true
+may_negotiate s end.Back = is_between s
+
+abbrev pub keys_after : End → KeyMove → Directory → Directory
+keys_after at (Gets path) d = d
+keys_after at (Sets path text) d = if may_set at path text then written d path text else d
+keys_after at (Watches path) d = with_watches d at (with_watch (watches_of d at) path)
+keys_after at TakesWatch d = with_watches d at (taken (watches_of d at))
+
+abbrev pub watched_lines : End → Option (List ℕ) → List Line
+watched_lines at None = []
+watched_lines at (Some path) = Move (moves.Watched (mover_at at) path) ∷ []
+
+abbrev pub key_lines : End → KeyMove → Directory → List Line
+key_lines at (Gets path) d = Move (moves.GetKey (mover_at at) path (key_of d.keys path)) ∷ []
+key_lines at (Sets path text) d = if may_set at path text then Move (moves.SetKey (mover_at at) path text) ∷ [] else []
+key_lines at (Watches path) d = Move (moves.Watch (mover_at at) path) ∷ []
+key_lines at TakesWatch d = watched_lines at (next_watch (watches_of d at))
+
+-- where the end may not turn to its keys nothing happens
+abbrev pub negotiated : Stage → End → KeyMove → Directory → Directory
+negotiated s at move d = if may_negotiate s at then keys_after at move d else d
+
+abbrev pub negotiated_lines : Stage → End → KeyMove → Directory → List Line
+negotiated_lines s at move d = if may_negotiate s at then key_lines at move d else []
