@@ -12,6 +12,7 @@
 struct BlockBackend {
     unsigned char *bytes;
     int64_t length;
+    bool writable;
 };
 
 /* The words of the guest's frames, one after another. Frames 0 and 1 are its grant table. */

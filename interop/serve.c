@@ -1,11 +1,12 @@
 /*
  * QEMU's own back of a Xen disk serves a ring in a guest's memory.
  *
- *     serve MEMORY IMAGE 64|32 REFERENCE...
+ *     serve [--read-only] MEMORY IMAGE 64|32 REFERENCE...
  *
  * MEMORY is a file of 1024 frames of 4096 bytes, the guest's memory, with its grant table in frames 0 and 1; IMAGE is the disk, whole
  * sectors of 512 bytes. Both are mapped, so each is read and written in place, also by whoever else has it mapped. 64 or 32 is the
- * layout of the entries, and the references are those of the ring's pages, which must lie one after another.
+ * layout of the entries, and the references are those of the ring's pages, which must lie one after another. With --read-only the disk may
+ * not be written.
  *
  * Each line `event` on standard input is an event at the back's port. What comes of it is written to standard output, and then `done`:
  *
@@ -108,9 +109,15 @@ int main(int count, char **words)
     XenBlockDataPlane *plane;
     unsigned int references[MOST_PAGES];
     off_t length;
-    int pages = count - 4;
+    bool writable = count < 2 || strcmp(words[1], "--read-only");
+    int pages;
+    if (!writable) {
+        words++;
+        count--;
+    }
+    pages = count - 4;
     if (pages < 1 || pages > MOST_PAGES || (strcmp(words[3], "64") && strcmp(words[3], "32"))) {
-        give_up("usage: serve MEMORY IMAGE 64|32 REFERENCE...");
+        give_up("usage: serve [--read-only] MEMORY IMAGE 64|32 REFERENCE...");
     }
     guest = mapped_file(words[1], &length);
     if (length != (off_t)FRAMES * FRAME_WORDS * 4) {
@@ -118,6 +125,7 @@ int main(int count, char **words)
     }
     disk.bytes = mapped_file(words[2], &length);
     disk.length = length - length % SECTOR_BYTES;
+    disk.writable = writable;
     for (int i = 0; i < pages; i++) {
         references[i] = strtoul(words[4 + i], NULL, 10);
     }

@@ -320,8 +320,7 @@ static bool is_within(BlockBackend *disk, int64_t at, int64_t size)
 
 bool blk_is_writable(BlockBackend *disk)
 {
-    (void)disk;
-    return true;
+    return disk->writable;
 }
 
 int64_t blk_getlength(BlockBackend *disk)
