@@ -5,7 +5,7 @@ use Rattle.blk_base.specs.declared.parts.Mapping.{Mapping}
 use Rattle.blk_base.specs.declared.ask.BackAsk.{BackAsk}
 use Rattle.blk_base.specs.declared.ask.BackAsk.TheVariants as ask
 use Rattle.blk_base.specs.declared.ask.BackAnswer.{BackAnswer}
-use Rattle.blk_base.specs.declared.ask.BackAnswer.TheVariants.{Done, Word, Mapped, MapRefused, BindRefused}
+use Rattle.blk_base.specs.declared.ask.BackAnswer.TheVariants.{Event, Done, Word, Mapped, MapRefused, BindRefused}
 use Rattle.ring_words.specs.Ring.{next_of, requests_of, overruns, notifies}
 use Rattle.blk_layout.specs.Entry.{request_of}
 use Rattle.back_jobs.specs.declared.effect.Effect.{Effect}
@@ -47,11 +47,12 @@ loop_word v word =
     then looked v word (record v { seen = word; stage = stage.StoreEvent })
     else record v { entry = word ∷ []; stage = stage.Fetch 1 }
 
--- a reply begins: its job is held no longer
+-- a reply begins: its job is held no longer; an event ends sleep, and a watch, which is the negotiation's, doesn't
 abbrev pub loop_step : View → Option Reply → BackAnswer → View
 loop_step v (Some r) answer = record v { stage = stage.ReplyHigh r; jobs = without_done v.jobs }
 loop_step v None (Word word) = loop_word v word
-loop_step v None answer = record v { asleep = false }
+loop_step v None Event = record v { asleep = false }
+loop_step v None answer = v
 
 -- one more request was fetched
 abbrev pub next_number : View → ℕ

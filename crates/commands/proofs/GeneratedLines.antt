@@ -6,7 +6,7 @@ use Rattle.rand_pcg.specs.Lcg.{Lcg}
 use Rattle.schedule_text.specs.declared.event.Event.{Event}
 use Rattle.schedule_text.specs.declared.event.Event.TheVariants as events
 use Rattle.schedule_text.specs.Event.{event_text}
-use Rattle.split_model.specs.Kind.{is_carried}
+use Rattle.vbd_model.specs.Kind.{is_carried}
 use Rattle.schedule_run.specs.Reading.{text_of, IsLineOf, AreLinesOf, last_line, IsWholeSchedule, HasBadLine}
 use Rattle.bench_load.specs.Generated.{Words, words_of, after_words, event_by, lines_from, generator_of, schedule_of}
 use Rattle.bench_load.specs.Text.{bytes_of, schedule_bytes}

@@ -1,14 +1,15 @@
 -- What a run did to the counts of faults, to what is attached, and to its recorder's sink.
-use Rattle.std.proofs.Common.{◌≡◌, ◌⊎◌, ℕ, ◌-◌, ◌<◌, ◌^◌, List, Option, Result, Ok, Err, inl, inr, sym, ap, ◌∙◌, subst, arith}
+use Rattle.std.proofs.Common.{◌≡◌, ◌⊎◌, ℕ, ◌-◌, ◌<◌, ◌^◌, List, [], ◌∷◌, ◌++◌, Option, Result, Ok, Err, inl, inr, sym, ap, ◌∙◌, subst, arith}
 use Rattle.blk_base.specs.Options.{Options}
 use Rattle.blk_io.specs.Outside.{Rose, SourceSeen}
 use Rattle.schedule_text.specs.declared.event.Event.{Event}
 use Rattle.schedule_text.specs.declared.recorder.RecordStop.{RecordStop}
 use Rattle.schedule_text.specs.declared.recorder.RecordStop.TheVariants as record_stop
 use Rattle.schedule_text.specs.Recorder.{RecorderSeen, Because}
-use Rattle.split_model.specs.World.{start_of}
-use Rattle.split_model.specs.Leads.{Moment}
-use Rattle.split_model.proofs.Running.{runs_attachment}
+use Rattle.vbd_model.specs.World.{start_of}
+use Rattle.vbd_model.specs.Happening.{Happening}
+use Rattle.vbd_model.specs.Leads.{Moment, moment, StopsShowing, LacksMemory}
+use Rattle.vbd_model.proofs.Running.{runs_attachment}
 use Rattle.schedule_run.specs.Outcome.{Outside, outside, HasCarried, EndsWhole, IsCut, HasRead, StandsAtStop, StopsWith, EndsUnsent, Runs}
 use Rattle.schedule_run.specs.declared.schedule.RunStop.{RunStop}
 use Rattle.schedule_run.specs.declared.schedule.RunStop.TheVariants as run
@@ -39,6 +40,27 @@ record StopsFor (why : RecordStop) (old new : Outside) : Type 0 where
   pub stays : Stays old new
   pub because : Because why old.recorder.faults new.recorder.faults
 
+-- what a stop keeps, of whichever kind it is
+record StopStays (why : RecordStop) (a b : Moment) : Type 0 where
+  pub attachment : b.disk.attachment ≡ a.disk.attachment
+  pub detail : b.recorder.detail ≡ a.recorder.detail
+  pub lender : b.recorder.lender ≡ a.recorder.lender
+  pub because : Because why a.recorder.faults b.recorder.faults
+
+stop_stays : (history : List Happening) (last : Happening) (why : RecordStop) (a b : Moment) → StopsShowing history last why a b ⊎ LacksMemory history why a b → StopStays why a b
+stop_stays history last why a b (inl s) = record {
+  attachment = runs_attachment (history ++ last ∷ []) a.world a.disk b.disk s.disk;
+  detail = s.told.detail;
+  lender = s.told.lender;
+  because = s.told.because;
+}
+stop_stays history last why a b (inr s) = record {
+  attachment = runs_attachment history a.world a.disk b.disk s.disk;
+  detail = s.told.detail;
+  lender = s.told.lender;
+  because = subst (λ (w : RecordStop). Because w a.recorder.faults b.recorder.faults) (sym s.lacks) s.told.faults;
+}
+
 cut : (config : Options) (limit : ℕ) (left : Option (List ℕ)) (why : RecordStop) (old new : Outside) → IsCut config limit left why old new → StopsFor why old new
 cut config limit left why old new (inl h) = record {
   stays = record { attachment = ap (λ d. d.attachment) h.disk; detail = h.told.detail; lender = h.told.lender };
@@ -46,14 +68,15 @@ cut config limit left why old new (inl h) = record {
 }
 cut config limit left why old new (inr (inl h)) =
     let before = carried config h.events old h.middle h.carried in
-    let told = h.stopped.told in
+    let stop = h.stopped in
+    let stays = stop_stays stop.history stop.last why h.middle (moment h.last new.disk new.recorder) stop.stopped in
     record {
       stays = record {
-        attachment = runs_attachment _ h.middle.world h.middle.disk new.disk h.stopped.disk ∙ before.stays.attachment;
-        detail = told.detail ∙ before.stays.detail;
-        lender = told.lender ∙ before.stays.lender;
+        attachment = stays.attachment ∙ before.stays.attachment;
+        detail = stays.detail ∙ before.stays.detail;
+        lender = stays.lender ∙ before.stays.lender;
       };
-      because = subst (λ f. Because why f new.recorder.faults) before.faults told.because;
+      because = subst (λ f. Because why f new.recorder.faults) before.faults stays.because;
     }
 cut config limit left why old new (inr (inr h)) =
     let before = carried config h.events old _ h.carried.1 in

@@ -12,6 +12,3 @@ mod words;
 pub use status::{ErrorLine, Stop};
 pub use top::{blkring, stop_with};
 pub use words::{Command, RunOptions, read_command};
-
-#[cfg(test)]
-mod tests;

@@ -4,14 +4,12 @@ use Rattle.std.specs.Prelude.{Option}
 use Rattle.blk_base.specs.Options.{Options}
 use Rattle.blk_base.specs.declared.config.Job.{Job}
 use Rattle.blk_io.specs.Disk.{DiskSeen, HasLength}
-use Rattle.schedule_text.specs.declared.event.Event.{Event}
 use Rattle.schedule_text.specs.declared.line.Detail.{Detail}
 use Rattle.schedule_text.specs.declared.line.Line.{Line}
 use Rattle.schedule_text.specs.declared.line.Line.TheVariants as lines
 use Rattle.schedule_text.specs.Recorder.{kept_of}
 use Rattle.split_model.specs.World.{start_of}
-use Rattle.split_model.specs.Happening.{Happening, DiskRuns, after, lines_of}
-use Rattle.split_model.specs.Kind.{AreOfAll, AreOfSoFar}
+use Rattle.split_model.specs.Happening.{Happening, DiskRuns, lines_of}
 use Rattle.split_model.specs.Report.{report_of, ended_report_of}
 use Rattle.pipeline_laws.specs.Effects.{IsOfADisk}
 use Rattle.pipeline_laws.specs.Run.{IsRun}
@@ -21,11 +19,10 @@ use Rattle.pipeline_laws.specs.States.{AreStates}
 use Rattle.pipeline_laws.proofs.Reports.{report_runs, report_answers, report_unbroken, report_states}
 use Rattle.machine_pipeline.specs.Plain.{IsPlain}
 use Rattle.machine_pipeline.specs.Allowed.{AreServed}
-use Rattle.machine_pipeline.specs.Submissions.{jobs_of, submitted_of}
+use Rattle.machine_pipeline.specs.Submissions.{submitted_of}
 use Rattle.machine_pipeline.proofs.Runs.{is_run}
 use Rattle.disk_laws.proofs.OfADisk.{of_a_disk_before, of_a_disk_kept}
 use Rattle.disk_laws.proofs.Runs.{HasRun, kept_report, kept_ended_report}
-use Rattle.disk_laws.proofs.SubmissionsOf.{events_submit, events_so_far_submit}
 
 -- what a recorder keeps of the report, or of the report with its last line, is that of a run
 pub report_run : (config : Options) (detail : Detail) (history : List Happening) (a b : DiskSeen) → IsPlain config → AreServed history (start_of config) → HasLength a.content config.sectors → DiskRuns history (start_of config) a b
@@ -73,22 +70,6 @@ pub ended_answered : (config : Options) (detail : Detail) (history : List Happen
     → IsOfADisk config.sectors a.content (kept_of detail (ended_report_of config detail history))
     → AreAnswered (submitted_of history) (kept_of detail (ended_report_of config detail history))
 ended_answered config detail history a b plain may long runs of = answered config history a.content b.content (kept_of detail (ended_report_of config detail history)) (ended_run config detail history a b plain may long runs of)
-
--- so the events of a schedule are answered, and one more as far as it came
-pub schedule_answered : (config : Options) (detail : Detail) (es : List Event) (hs : List Happening) (a b : DiskSeen) → IsPlain config → AreServed hs (start_of config) → HasLength a.content config.sectors → DiskRuns hs (start_of config) a b
-    → IsOfADisk config.sectors a.content (kept_of detail (report_of config detail hs))
-    → AreOfAll es (start_of config) hs
-    → AreAnswered (jobs_of es) (kept_of detail (report_of config detail hs))
-schedule_answered config detail es hs a b plain may long runs of are =
-    subst (λ (jobs : List Job). AreAnswered jobs (kept_of detail (report_of config detail hs))) (events_submit es (start_of config) hs are) (reports_answered config detail hs a b plain may long runs of)
-
-pub schedule_so_far_answered : (config : Options) (detail : Detail) (es : List Event) (e : Event) (hs more : List Happening) (a b : DiskSeen) → IsPlain config → AreServed (hs ++ more) (start_of config) → HasLength a.content config.sectors → DiskRuns (hs ++ more) (start_of config) a b
-    → IsOfADisk config.sectors a.content (kept_of detail (report_of config detail (hs ++ more)))
-    → AreOfAll es (start_of config) hs
-    → AreOfSoFar e (after hs (start_of config)) more
-    → AreAnswered (jobs_of (es ++ e ∷ [])) (kept_of detail (report_of config detail (hs ++ more)))
-schedule_so_far_answered config detail es e hs more a b plain may long runs of are last =
-    subst (λ (jobs : List Job). AreAnswered jobs (kept_of detail (report_of config detail (hs ++ more)))) (events_so_far_submit es e (start_of config) hs more are last) (reports_answered config detail (hs ++ more) a b plain may long runs of)
 
 pub reports_unbroken : (config : Options) (detail : Detail) (history : List Happening) (a b : DiskSeen) → IsPlain config → AreServed history (start_of config) → HasLength a.content config.sectors → DiskRuns history (start_of config) a b
     → IsOfADisk config.sectors a.content (kept_of detail (report_of config detail history))

@@ -7,9 +7,9 @@
 //! The premises: a ring of one page and a disk that may be written (`IsPlain`); the back moves only
 //! once the front made its ring and its port, what is submitted are reads and writes, keys are spelled
 //! as the grammar has them, and all is quiet where it is found so (`AreServed`).
-//! The happenings that the events of a schedule make are such. Where the disk doesn't tell what it
-//! holds, the laws speak of a report whose effects are the calls of some disk (`IsOfADisk`): two reads
-//! of a sector with no write between them give the same words.
+//! What a schedule makes happen (`vbd_model`) is such until a word is overwritten. Where the disk
+//! doesn't tell what it holds, the laws speak of a report whose effects are the calls of some disk
+//! (`IsOfADisk`): two reads of a sector with no write between them give the same words.
 #![tactic(auto)]
 
 ghost use Rattle.std.specs.Prelude.{List};

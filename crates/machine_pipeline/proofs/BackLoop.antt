@@ -1,5 +1,5 @@
 -- The back's loop: it replies to what is done, or sleeps, or looks for more, or begins to copy the next entry.
-use Rattle.std.proofs.Common.{◌≡◌, ℕ, ◌==◌, Bool, true, false, if◌then◌else◌, List, [], ◌∷◌, ◌++◌, refl, sym, subst}
+use Rattle.std.proofs.Common.{◌≡◌, ℕ, ◌==◌, Bool, true, false, if◌then◌else◌, inr, List, [], ◌∷◌, ◌++◌, refl, sym, subst}
 use Rattle.std.specs.Prelude.{Option, Some, None}
 use Rattle.std.proofs.lemmas.Bool.{false≢true}
 use Rattle.blk_base.specs.Options.{Options}
@@ -34,7 +34,7 @@ use Rattle.machine_pipeline.proofs.Holds.{Holds, IsFrontSleep}
 use Rattle.machine_pipeline.proofs.Turns.{BackGoes, Goes, no_move}
 use Rattle.machine_pipeline.proofs.Keyed.{goes_keyed}
 use Rattle.machine_pipeline.proofs.BackStill.{BackStands}
-use Rattle.machine_pipeline.proofs.BackQuiet.{IsBetween, goes_still, quiet_with}
+use Rattle.machine_pipeline.proofs.BackQuiet.{IsBetween, goes_still, quiet_with, quiet}
 use Rattle.machine_pipeline.proofs.BackFences.{page_frame, between}
 use Rattle.blk_base.specs.declared.ask.BackAsk.{BackAsk}
 use Rattle.blk_base.specs.declared.ask.BackAsk.TheVariants as ask
@@ -62,7 +62,7 @@ ActGoes config w d step act = Goes config (says_by w step act) (next_by w step a
 stays : (config : Options) (w : World) (g : Flow) (d : Pipeline) (b : BackStage) → BackStands config w g d b → Goes config [] w d
 stays config w g d b p = record { flow = g; step = None; does = no_move IsSame d (λ a b same. same); holds = subst (λ (s : BackStage). Holds config w g d w.front.stage s) (sym p.at) p.holds }
 
--- an event wakes the back, and so does a watch
+-- an event wakes the back
 goes_woken : (config : Options) (w : World) (g : Flow) (d : Pipeline) (shown : Shown) (given : BackAnswer) (c : ChannelState)
     → c.front_pending ≡ w.under.channels.front_pending
     → c.made ≡ w.under.channels.made
@@ -79,13 +79,23 @@ goes_woken config w g d shown given c pending made ports p =
     (record { arming = λ t. absurd (false≢true t); armed = λ t. absurd (false≢true t); may = λ t. refl; woken = λ t. absurd (false≢true t) })
     made ports))
 
+-- a watch leaves it as it is
+goes_watched : (config : Options) (w : World) (g : Flow) (d : Pipeline) (shown : Shown) (given : BackAnswer) → BackStands config w g d stage.Loop
+    → Goes config (Move shown ∷ back_lines w.back.told given ++ halt_lines w.back.halted w.back.halted) (record { front = w.front; back = record w.back { told = None }; under = w.under }) d
+goes_watched config w g d shown given p =
+    let h : Holds config w g d w.front.stage stage.Loop = p.holds in
+    let i : IsBetween stage.Loop w.back = between stage.Loop w.back refl refl refl refl in
+    subst (λ (s : BackStage). Goes config (Move shown ∷ back_lines w.back.told given ++ halt_lines w.back.halted w.back.halted) (record { front = w.front; back = record w.back { stage = s; told = None }; under = w.under }) d) (sym p.at)
+    (goes_still config w g d stage.Loop stage.Loop w.back w.under.pages w.under.channels g.back_seen shown given p
+    (quiet config w g d stage.Loop stage.Loop h i i h.stations tt (λ t r. inr (inr r)) (λ t. t) (λ t. cc)))
+
 waits : (config : Options) (w : World) (g : Flow) (d : Pipeline) (pending : Bool) (next : Option (List ℕ)) → BackStands config w g d stage.Loop
     → ActGoes config w d (loop_step w.back None) (if pending then Some (record { answer = answer.Event; under = (let u : Hypervisor = w.under in record u { channels = taken w.under.channels end.Back }); shown = moves.Event mover.Back }) else back_watched w.under next)
 waits config w g d true next p = goes_woken config w g d (moves.Event mover.Back) answer.Event (taken w.under.channels end.Back) refl refl refl p
 waits config w g d false None p = stays config w g d stage.Loop p
 waits config w g d false (Some path) p =
     let left : Hypervisor = watch_taken w.under end.Back in
-    goes_keyed config _ _ d left.keys (goes_woken config w g d (moves.Watched mover.Back path) (answer.Watched path) w.under.channels refl refl refl p)
+    goes_keyed config _ _ d left.keys (goes_watched config w g d (moves.Watched mover.Back path) (answer.Watched path) p)
 
 -- the producer, or the next entry's first word
 abbrev read_ask : Bool → View → BackAsk
@@ -93,7 +103,8 @@ read_ask none v = if none then ask.Read v.page 0 else ask.Read v.page (back_slot
 
 abbrev read_step : Bool → View → BackAnswer → View
 read_step none v (answer.Word word) = if none then looked v word (record v { seen = word; stage = stage.StoreEvent }) else record v { entry = word ∷ []; stage = stage.Fetch 1 }
-read_step none v given = record v { asleep = false }
+read_step none v answer.Event = record v { asleep = false }
+read_step none v given = v
 
 reads : (config : Options) (w : World) (g : Flow) (d : Pipeline) (none : Bool) → (requests_of w.back.ring w.back.seen == 0) ≡ none → w.back.asleep ≡ false → BackStands config w g d stage.Loop
     → ActGoes config w d (read_step none w.back) (back_act w.under back_mover.Back (read_ask none w.back) Took)

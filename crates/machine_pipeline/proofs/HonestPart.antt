@@ -24,7 +24,7 @@ use Rattle.split_model.specs.Report.{report_of, ended_report_of}
 use Rattle.split_model.proofs.Running.{kept_of-append}
 use Rattle.split_model.proofs.Echo.{echo_of, move_silent}
 use Rattle.split_model.proofs.Overwriting.{dump_lines_are}
-use Rattle.machine_pipeline.proofs.KindsEvents.{served_append, possible_first}
+use Rattle.machine_pipeline.proofs.Allowed.{served_append, possible_first}
 use Rattle.machine_pipeline.specs.Submissions.{submitted_at, submitted_of}
 use Rattle.machine_pipeline.specs.Allowed.{IsServed, AreServed, IsPossible, ArePossible}
 

@@ -70,8 +70,8 @@ pub mod Notified
 pub mod Connecting
 pub mod Quiet
 pub mod Together
-pub mod KindsFront
-pub mod KindsEvents
+pub mod Connected
+pub mod Allowed
 pub mod HonestPart
 pub mod Runs
 pub mod Begun

@@ -6,7 +6,7 @@
 //! The premises: a ring of one page (`IsPlain`); the back moves only
 //! once the front made its ring and its port, what is submitted are reads and writes, keys are spelled
 //! as the grammar has them, and all is quiet where it is found so (`AreServed`).
-//! The happenings that the events of a schedule make are such.
+//! What a schedule makes happen (`vbd_model`) is such until a word is overwritten.
 #![tactic(auto)]
 
 ghost use Rattle.std.specs.Prelude.{List};

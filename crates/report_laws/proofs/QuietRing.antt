@@ -20,7 +20,7 @@ use Rattle.move_laws.proofs.Recorded.{report_kept, ended_kept}
 use Rattle.machine_pipeline.specs.Plain.{IsPlain}
 use Rattle.machine_pipeline.specs.Allowed.{AreServed}
 use Rattle.machine_pipeline.proofs.Flow.{wrapped}
-use Rattle.machine_pipeline.proofs.KindsEvents.{served_first, served_possible}
+use Rattle.machine_pipeline.proofs.Allowed.{served_first, served_possible}
 use Rattle.machine_pipeline.proofs.Quiet.{IsCaughtUp, caught_up_at}
 use Rattle.machine_pipeline.proofs.Together.{IsStanding, always_stands}
 use Rattle.report_laws.specs.Begun.{is_begin}

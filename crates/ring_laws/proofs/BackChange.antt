@@ -82,7 +82,8 @@ loop_change words v None (answers.Word word) t =
     either words v (requests_of v.ring v.seen == 0) (looked v word (record v { seen = word; stage = stage.StoreEvent })) (record v { entry = word ∷ []; stage = stage.Fetch 1 })
     (looked_change words v word (record v { seen = word; stage = stage.StoreEvent }) t (changed words v (record v { seen = word; stage = stage.StoreEvent }) refl refl refl t (λ r. r)))
     (changed words v (record v { entry = word ∷ []; stage = stage.Fetch 1 }) refl refl refl t (λ r. r))
-loop_change words v None a t = changed words v (record v { asleep = false }) refl refl refl t (λ r. r)
+loop_change words v None answers.Event t = changed words v (record v { asleep = false }) refl refl refl t (λ r. r)
+loop_change words v None a t = changed words v v refl refl refl t (λ r. r)
 
 fetch_change : (words : ℕ) (v : View) (k word : ℕ) → 1 ≤ words → IsBackTold v.told → Changed words v (fetch_step v k word)
 fetch_change words v k word some t =

@@ -145,7 +145,8 @@ loop_owes config values epoch answered k v None (answers.Word word) here e finds
     stays config values epoch answered k _
     (either config values epoch answered k (requests_of v.ring v.seen == 0) (looked v word (record v { seen = word; stage = stage.StoreEvent })) (record v { entry = word ∷ []; stage = stage.Fetch 1 })
     (looked_owes config values epoch answered k v word (record v { seen = word; stage = stage.StoreEvent }) o (λ runs. o runs)) (λ runs. o runs))
-loop_owes config values epoch answered k v None a here e finds o = stays config values epoch answered k (record v { asleep = false }) (λ runs. as_it_was config values epoch answered k stage.Loop v here (o runs))
+loop_owes config values epoch answered k v None answers.Event here e finds o = stays config values epoch answered k (record v { asleep = false }) (λ runs. as_it_was config values epoch answered k stage.Loop v here (o runs))
+loop_owes config values epoch answered k v None a here e finds o = stays config values epoch answered k v (λ runs. as_it_was config values epoch answered k stage.Loop v here (o runs))
 
 fetch_owes : (config : Options) (values : List ℕ) (epoch : List Line) (answered : List Answered) (k n word : ℕ) (v : View) (last : Bool) → (is_some v.halted ≡ false → Finds config values epoch v (if last then fetched v (v.entry ++ word ∷ []) else record v { entry = v.entry ++ word ∷ []; stage = stage.Fetch (n + 1) }))
     → IsResting config values epoch answered v → IsOwing config values epoch answered k (if last then fetched v (v.entry ++ word ∷ []) else record v { entry = v.entry ++ word ∷ []; stage = stage.Fetch (n + 1) })

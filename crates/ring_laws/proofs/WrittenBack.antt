@@ -151,7 +151,7 @@ watch_writes before answered s old new answer path w none told same = quiet befo
 
 idle_writes : (before : List Line) (h : Hypervisor) (v : View) (o : Outcome) (a : BackAct) (answered : List Answered) (asleep none : Bool) → under_way v.stage ≡ [] → v.told ≡ None → Writes before stage.Loop answered
     → back_act h back.Back (if asleep then ask.Wait else (if none then ask.Read v.page 0 else ask.Read v.page (slot_word v.ring.cons 0))) o ≡ Some a → Loops before answered None v a
-idle_writes before h v o a answered true none same told w e = back_wait (Loops before answered None v) h back.Back a (wait_writes before answered stage.Loop v (record v { asleep = false }) answers.Event w refl told same) (λ path. watch_writes before answered stage.Loop v (record v { asleep = false }) (answers.Watched path) path w refl told same) e
+idle_writes before h v o a answered true none same told w e = back_wait (Loops before answered None v) h back.Back a (wait_writes before answered stage.Loop v (record v { asleep = false }) answers.Event w refl told same) (λ path. watch_writes before answered stage.Loop v v (answers.Watched path) path w refl told same) e
 idle_writes before h v o a answered false true same told w e = of_back (Loops before answered None v) _ a (loop_word_writes before answered v _ (frame_of h.grants v.page) 0 _ w told) e
 idle_writes before h v o a answered false false same told w e = of_back (Loops before answered None v) _ a (loop_word_writes before answered v _ (frame_of h.grants v.page) (slot_word v.ring.cons 0) _ w told) e
 

@@ -6,10 +6,10 @@ use Rattle.blk_io.specs.Disk.{DiskSeen}
 use Rattle.schedule_text.specs.declared.line.Detail.{Detail}
 use Rattle.schedule_text.specs.declared.line.Line.TheVariants.{Begin}
 use Rattle.schedule_text.specs.Recorder.{RecorderSeen, Gained}
-use Rattle.split_model.specs.World.{start_of}
-use Rattle.split_model.specs.Kind.{AreOfAll}
-use Rattle.split_model.specs.Leads.{moment}
-use Rattle.split_model.proofs.Running.{leads_nowhere}
+use Rattle.vbd_model.specs.World.{start_of}
+use Rattle.vbd_model.specs.Kind.{AreOfAll}
+use Rattle.vbd_model.specs.Leads.{moment}
+use Rattle.vbd_model.proofs.Running.{leads_nowhere}
 use Rattle.machine_pipeline.specs.Plain.{IsPlain}
 use Rattle.schedule_run.specs.Outcome.{IsServed, HasCarried, outside}
 

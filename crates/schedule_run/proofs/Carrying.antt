@@ -6,17 +6,17 @@ use Rattle.blk_io.specs.Disk.{attached_of, sectors_of}
 use Rattle.schedule_text.specs.declared.event.Event.{Event}
 use Rattle.schedule_text.specs.declared.recorder.RecordStop.{RecordStop}
 use Rattle.schedule_text.specs.declared.recorder.RecordStop.TheVariants as record_stop
-use Rattle.split_model.specs.World.{World}
-use Rattle.split_model.specs.Happening.{Happening, after}
-use Rattle.split_model.specs.Kind.{AreOf, AreOfAll, AreOfSoFar}
-use Rattle.split_model.specs.Leads.{Leads, LeadsToStop, Goes, Moment}
-use Rattle.split_model.proofs.Running.{after-append, runs_attachment, leads_nowhere, leads_on, leads_as}
+use Rattle.vbd_model.specs.World.{World}
+use Rattle.vbd_model.specs.Happening.{Happening, after}
+use Rattle.vbd_model.specs.Kind.{AreOf, AreOfAll, AreOfSoFar}
+use Rattle.vbd_model.specs.Leads.{Leads, LeadsToStop, Goes, Moment}
+use Rattle.vbd_model.proofs.Running.{after-append, runs_attachment, leads_nowhere, leads_on, leads_as}
 use Rattle.schedule_run.specs.Outcome.{stop_of}
 use Rattle.schedule_run.specs.Reading.{text_of, HasNoLineFeed, first_line, IsLineOf, IsBadLine, AreLinesOf, last_line}
 use Rattle.schedule_run.specs.Carrying.{ReadSoFar, IsReadyToTake, EventsLead, CarriesLine, StopsInLine, StopsAtLine, Feeds, Finishes, CarriesLast, Carries, IsSurelyBad, MeetsBad, MeetsStop, Halts, Takes}
 use Rattle.schedule_run.specs.declared.schedule.RunStop.{RunStop}
 use Rattle.schedule_run.specs.declared.schedule.RunStop.TheVariants as stop
-use Rattle.schedule_run.proofs.Attached.{sectors_after}
+use Rattle.vbd_model.proofs.Keeping.{sectors_after}
 use Rattle.schedule_run.proofs.Lines.{long_is_bad, events_few, lines_few, lines_on, text_on, lines_one, first_line_long, first_line_whole}
 
 -- a line's event was carried out
@@ -322,10 +322,10 @@ halts_in piece i s t why new lt carried h =
     subst (λ (p : List ℕ). Halts p s why new) whole (halts_more (take i piece ++ get_or piece i 0 ∷ []) (drop (i + 1) piece) s why new so_far)
 
 -- what is attached stays, and so do the front's sectors
-pub leads_attached : (kind : List Happening → Type 0) (a b : Moment) → Leads kind a b → attached_of a.disk ≡ Some a.world.front.sectors → attached_of b.disk ≡ Some b.world.front.sectors
+pub leads_attached : (kind : List Happening → Type 0) (a b : Moment) → Leads kind a b → attached_of a.disk ≡ Some a.world.rings.front.sectors → attached_of b.disk ≡ Some b.world.rings.front.sectors
 leads_attached kind a b p attached =
     ap sectors_of (runs_attachment p.history a.world a.disk b.disk p.disk)
-    ∙ (attached ∙ ap Some (sym (ap (λ (w : World). w.front.sectors) p.world ∙ sectors_after p.history a.world)))
+    ∙ (attached ∙ ap Some (sym (ap (λ (w : World). w.rings.front.sectors) p.world ∙ sectors_after p.history a.world)))
 
 -- the reader is ready for more bytes where it was ready for all
 pub ready_after : (p : List ℕ) (n m : ℕ) (s t : ReadSoFar) → length p + n ≤ m → IsReadyToTake m s → Carries p s t → IsReadyToTake n t

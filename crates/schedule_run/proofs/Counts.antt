@@ -9,17 +9,17 @@ use Rattle.schedule_text.specs.declared.event.Event.{Event}
 use Rattle.schedule_text.specs.declared.event.Event.TheVariants as events
 use Rattle.blk_front.specs.declared.request.Request.{Request}
 use Rattle.blk_front.specs.declared.stage.Ending.{Ending}
-use Rattle.blk_front.specs.Submit.{unfinished, sectors_owed, ending_of, ending_sectors, is_connected}
-use Rattle.split_model.specs.World.{World, start_of, is_quiet}
-use Rattle.split_model.specs.Happening.{Happening, FrontMoves, BackMoves, Settles, happens, after, job_turn}
-use Rattle.split_model.specs.Kind.{is_carried, connecting, front_move, front_moves, back_moves, AreEachJobs, round_start, IsBeginning, IsRoundSoFar, AreRounds, never, settle_bound, most_rounds, AreRoundsSoFar, IsSettling, IsSettlingSoFar, Makes, MakesSoFar, AreOf, AreOfSoFar, AreOfAll}
+use Rattle.blk_front.specs.Submit.{unfinished, sectors_owed, ending_of, ending_sectors}
+use Rattle.vbd_model.specs.World.{World, start_of, is_quiet}
+use Rattle.split_model.specs.Happening.{job_turn}
+use Rattle.vbd_model.specs.Happening.{Happening, FrontMoves, BackMoves, JobMoves, Settles, happens, after}
+use Rattle.vbd_model.specs.Kind.{is_carried, AreEachJobs, round_start, IsBeginning, IsRoundSoFar, AreRounds, never, settle_bound, most_rounds, AreRoundsSoFar, IsSettling, IsSettlingSoFar, Makes, MakesSoFar, AreOf, AreOfSoFar, AreOfAll}
 use Rattle.split_model.specs.Safe.{above}
-use Rattle.split_model.proofs.Running.{after-append}
-use Rattle.split_model.proofs.Joining.{job_above, next_above}
-use Rattle.split_model.proofs.SafeGrowth.{above_few}
+use Rattle.vbd_model.proofs.Running.{after-append}
+use Rattle.split_model.proofs.SafeGrowth.{above_few, job_above, next_above}
 use Rattle.split_model.proofs.FewFront.{IsShortEnding}
 use Rattle.split_model.proofs.FewJobs.{few_jobs}
-use Rattle.split_model.proofs.Tight.{tight_start, tight_after}
+use Rattle.vbd_model.proofs.Tight.{tight_start, tight_after}
 use Rattle.machine_pipeline.specs.Plain.{IsPlain}
 
 -- happenings led to this machine
@@ -42,9 +42,9 @@ reached_on w hs r = record {
 
 -- its ring has 32 entries, so there are no more jobs, nor unfinished requests, nor sectors that they move
 record IsFew (w : World) : Type 0 where
-  works : length w.back.jobs.works ≤ 32
-  requests : unfinished w.front ≤ 32
-  sectors : sectors_owed w.front ≤ 33 * 88
+  works : length w.rings.back.jobs.works ≤ 32
+  requests : unfinished w.rings.front ≤ 32
+  sectors : sectors_owed w.rings.front ≤ 33 * 88
 
 ending_few : (n : ℕ) (ending : Option Ending) → IsShortEnding ending → (if n == 0 then 0 else ending_sectors ending) ≤ 88
 ending_few n ending short = by_test (n == 0) ending short
@@ -60,41 +60,30 @@ few_after config history plain =
     let tight = tight_after history (start_of config) (tight_start config plain.start) in
     let modest = tight.front in
     let room = modest.room in
-    let all = sum_by-le (λ (r : Request). r.count) 88 w.front.requests modest.short in
-    let last = ending_few (ending_of w.front.stage) w.front.ending modest.ending in
-    record { works = few_jobs w.back tight.back; requests = room; sectors = omega arith }
+    let all = sum_by-le (λ (r : Request). r.count) 88 w.rings.front.requests modest.short in
+    let last = ending_few (ending_of w.rings.front.stage) w.rings.front.ending modest.ending in
+    record { works = few_jobs w.rings.back tight.back; requests = room; sectors = omega arith }
 
 few_here : (w : World) → IsReached w → IsFew w
 few_here w r = subst IsFew (sym r.here) (few_after r.config r.history r.plain)
 
 -- a move of each job is one for each job
-each_few : (from to : ℕ) (w : World) (hs : List Happening) → AreEachJobs from to w hs → length hs ≤ above from w.back
+each_few : (from to : ℕ) (w : World) (hs : List Happening) → AreEachJobs from to w hs → length hs ≤ above from w.rings.back
 each_few from to w [] e = omega arith
 each_few from to w (h ∷ hs) e =
     let rest = each_few e.0 to (happens w h) hs e.5 in
-    let fewer = next_above w.back from e.0 e.4 in
-    let same : above e.0 (let v : World = happens w h in v.back) ≡ above e.0 w.back = ap (λ (x : Happening). above e.0 (let v : World = happens w x in v.back)) e.2 ∙ job_above e.0 e.0 w (job_turn w e.0 e.1) in
+    let fewer = next_above w.rings.back from e.0 e.4 in
+    let same : above e.0 (let v : World = happens w h in v.rings.back) ≡ above e.0 w.rings.back = ap (λ (x : Happening). above e.0 (let v : World = happens w x in v.rings.back)) e.2 ∙ job_above e.0 e.0 w.rings (job_turn w.rings e.0 e.1) in
     omega arith
 
-front_few : (w : World) → length (front_move w) ≤ 23
-front_few w = by_test (is_connected w.front.stage)
-  where
-    by_test : (b : Bool) → length (if b then FrontMoves ∷ [] else connecting) ≤ 23
-    by_test true = omega arith
-    by_test false = omega arith
-
-start_few : (w : World) → length (round_start w) ≤ 24
-start_few w = let first = front_few w in let both = length-append (front_move w) (BackMoves ∷ []) in omega arith
-
 -- a round, as far as its jobs
-begun_few : (w : World) (hs jobs : List Happening) (to : ℕ) → IsReached w → hs ≡ round_start w ++ jobs → AreEachJobs 0 to (after (round_start w) w) jobs → length hs ≤ 56
+begun_few : (w : World) (hs jobs : List Happening) (to : ℕ) → IsReached w → hs ≡ round_start ++ jobs → AreEachJobs 0 to (after round_start w) jobs → length hs ≤ 34
 begun_few w hs jobs to r all each =
-    let start = start_few w in
-    let both : length hs ≡ length (round_start w) + length jobs = ap length all ∙ length-append (round_start w) jobs in
-    let v : World = after (round_start w) w in
-    let few = few_here v (reached_on w (round_start w) r) in
+    let both : length hs ≡ length round_start + length jobs = ap length all ∙ length-append round_start jobs in
+    let v : World = after round_start w in
+    let few = few_here v (reached_on w round_start r) in
     let works = few.works in
-    let held = above_few 0 v.back in
+    let held = above_few 0 v.rings.back in
     let moved = each_few 0 to v jobs each in
     omega arith
 
@@ -103,11 +92,11 @@ beginning_few hs all n b le =
     let both : length all ≡ length hs + length b.0 = ap length b.1 ∙ length-append hs b.0 in
     omega arith
 
-round_so_far_few : (w : World) (hs : List Happening) → IsReached w → IsRoundSoFar w hs → length hs ≤ 56
-round_so_far_few w hs r (inl b) = let start = start_few w in beginning_few hs (round_start w) 56 b (omega arith)
+round_so_far_few : (w : World) (hs : List Happening) → IsReached w → IsRoundSoFar w hs → length hs ≤ 34
+round_so_far_few w hs r (inl b) = beginning_few hs round_start 34 b (omega arith)
 round_so_far_few w hs r (inr b) = let jobs = b.are_jobs in begun_few w hs b.jobs jobs.0 r b.all jobs.1
 
-rounds_few : (test : World → Bool) (n : ℕ) (w : World) (hs : List Happening) → IsReached w → AreRounds test n w hs → length hs ≤ 56 * n
+rounds_few : (test : World → Bool) (n : ℕ) (w : World) (hs : List Happening) → IsReached w → AreRounds test n w hs → length hs ≤ 34 * n
 rounds_few test zero w hs r are = let none : length hs ≡ 0 = ap length are in omega arith
 rounds_few test (suc n) w hs r are =
     let p = are.1 in
@@ -118,7 +107,7 @@ rounds_few test (suc n) w hs r are =
     let both : length hs ≡ length p.0 + length p.1 = ap length p.2 ∙ length-append p.0 p.1 in
     omega arith
 
-rounds_so_far_few : (test : World → Bool) (bound : ℕ) (w : World) (hs : List Happening) → IsReached w → AreRoundsSoFar test bound w hs → length hs ≤ 56 * bound
+rounds_so_far_few : (test : World → Bool) (bound : ℕ) (w : World) (hs : List Happening) → IsReached w → AreRoundsSoFar test bound w hs → length hs ≤ 34 * bound
 rounds_so_far_few test bound w hs r are =
     let before = are.before in
     let whole = rounds_few test are.count w are.whole r are.are_rounds in
@@ -152,25 +141,13 @@ same_length : (n : ℕ) (h : Happening) → length (replicate n h) ≡ n
 same_length zero h = refl
 same_length (suc n) h = let rest = same_length n h in omega arith
 
-front_moves_few : (w : World) (n : ℕ) → n ≤ 1000000 → length (front_moves w n) ≤ 10 ^ 9
-front_moves_few w zero le = omega arith
-front_moves_few w (suc n) le =
-    let first = front_few w in
-    let rest = same_length n FrontMoves in
-    let both = length-append (front_move w) (replicate n FrontMoves) in
-    omega arith
-
-back_moves_few : (w : World) (n : ℕ) → n ≤ 1000000 → length (back_moves w n) ≤ 10 ^ 9
-back_moves_few w n le = by_test (is_connected w.front.stage)
-  where
-    by_test : (b : Bool) → length (if b then replicate n BackMoves else []) ≤ 10 ^ 9
-    by_test true = let same = same_length n BackMoves in omega arith
-    by_test false = omega arith
+moves_few : (n : ℕ) (h : Happening) → n ≤ 1000000 → length (replicate n h) ≤ 10 ^ 9
+moves_few n h le = let same = same_length n h in omega arith
 
 made_few : (e : Event) (w : World) (hs : List Happening) → IsReached w → is_carried e ≡ true → Makes e w hs → length hs ≤ 10 ^ 9
 made_few (events.Submit job) w hs r carried k = let one : length hs ≡ 1 = ap length k.0 in omega arith
-made_few (events.Front n) w hs r carried k = subst (λ (l : List Happening). length l ≤ 10 ^ 9) (sym k) (front_moves_few w n (number_few n carried))
-made_few (events.Back n) w hs r carried k = subst (λ (l : List Happening). length l ≤ 10 ^ 9) (sym k) (back_moves_few w n (number_few n carried))
+made_few (events.Front n) w hs r carried k = subst (λ (l : List Happening). length l ≤ 10 ^ 9) (sym k) (moves_few n FrontMoves (number_few n carried))
+made_few (events.Back n) w hs r carried k = subst (λ (l : List Happening). length l ≤ 10 ^ 9) (sym k) (moves_few n BackMoves (number_few n carried))
 made_few (events.Job number n) w hs r carried k = let few = second_number number n carried in let all : length hs ≡ n = k.1 in omega arith
 made_few (events.Turn n) w hs r carried k = let few = number_few n carried in let rounds = rounds_few never n w hs r k in omega arith
 made_few events.Settle w hs r carried k = settling_few w hs r k
@@ -181,8 +158,8 @@ made_few events.Dump w hs r carried k = let one : length hs ≡ 1 = ap length k 
 made_few e w hs r carried k = absurd k
 
 made_so_far_few : (e : Event) (w : World) (hs : List Happening) → IsReached w → is_carried e ≡ true → MakesSoFar e w hs → length hs ≤ 10 ^ 9
-made_so_far_few (events.Front n) w hs r carried k = beginning_few hs (front_moves w n) (10 ^ 9) k (front_moves_few w n (number_few n carried))
-made_so_far_few (events.Back n) w hs r carried k = beginning_few hs (back_moves w n) (10 ^ 9) k (back_moves_few w n (number_few n carried))
+made_so_far_few (events.Front n) w hs r carried k = beginning_few hs (replicate n FrontMoves) (10 ^ 9) k (moves_few n FrontMoves (number_few n carried))
+made_so_far_few (events.Back n) w hs r carried k = beginning_few hs (replicate n BackMoves) (10 ^ 9) k (moves_few n BackMoves (number_few n carried))
 made_so_far_few (events.Job number n) w hs r carried k = let few = second_number number n carried in let all : length hs ≤ n = k.1 in omega arith
 made_so_far_few (events.Turn n) w hs r carried k = let few = number_few n carried in let rounds = rounds_so_far_few never n w hs r k in omega arith
 made_so_far_few events.Settle w hs r carried k = settling_so_far_few w hs r k

@@ -9,8 +9,8 @@ use Rattle.schedule_text.specs.declared.line.Line.TheVariants.{Begin, End}
 use Rattle.schedule_text.specs.declared.recorder.RecordStop.{RecordStop}
 use Rattle.schedule_text.specs.declared.recorder.RecordStop.TheVariants as record_stop
 use Rattle.schedule_text.specs.Recorder.{RecorderSeen, Gained, StopsAmong, HandsOnLines, FailsHandingOn}
-use Rattle.split_model.specs.World.{World, start_of}
-use Rattle.split_model.specs.Leads.{Moment, moment}
+use Rattle.vbd_model.specs.World.{World, start_of}
+use Rattle.vbd_model.specs.Leads.{Moment, moment}
 use Rattle.schedule_run.specs.Carrying.{EventsLead, Reads, ReadsToStop, ReadsUnsent, ReadStops, ReadsAll}
 use Rattle.schedule_run.specs.Outcome.{Outside, outside, IsServed, HasCarried, HasRead, EndsWhole, IsCut, IsUnsent, IsAllTold, RunsTo, StandsAtStop, TriesToHandOn, FailsWith, Runs, StopsInEvent, StopsAtEnd, stop_of}
 use Rattle.schedule_run.specs.declared.schedule.RunStop.{RunStop}

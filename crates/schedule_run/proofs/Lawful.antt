@@ -34,7 +34,7 @@ use Rattle.split_model.proofs.Running.{kept_of-append}
 use Rattle.machine_pipeline.specs.Plain.{IsPlain}
 use Rattle.machine_pipeline.specs.Allowed.{AreServed, ArePossible}
 use Rattle.machine_pipeline.specs.Submissions.{submitted_at, submitted_of}
-use Rattle.machine_pipeline.proofs.KindsEvents.{possible_first}
+use Rattle.machine_pipeline.proofs.Allowed.{possible_first}
 use Rattle.machine_pipeline.proofs.HonestPart.{HostileAfter, HonestWith, HonestEnded, honest_with, honest_kept, honest_report, honest_ended, served_part, disk_runs_first, disk_part, submitted_part, kept_after, not_honest, CutOrWhole, cut_or_whole}
 use Rattle.pipeline_laws.specs.Submissions.{IsAnswerAt}
 use Rattle.pipeline_laws.specs.Unbroken.{is_breach}
@@ -174,7 +174,7 @@ so_far_served jobs before report h = record {
 }
 
 -- more may be submitted later
-later_run : (jobs more all : List Job) (before : Option (List (List ℕ))) (report : List Line) → jobs ++ more ≡ all → HasRunSoFar jobs before report → HasRunSoFar all before report
+pub later_run : (jobs more all : List Job) (before : Option (List (List ℕ))) (report : List Line) → jobs ++ more ≡ all → HasRunSoFar jobs before report → HasRunSoFar all before report
 later_run jobs more all before report e h = record {
   run = h.run;
   report_same = h.report_same;

@@ -12,20 +12,20 @@ use Rattle.schedule_text.specs.declared.recorder.RecordStop.TheVariants as recor
 use Rattle.schedule_text.specs.Recorder.{Told, RecorderSeen, gained, kept_of}
 use Rattle.schedule_text.proofs.Gaining.{gained_none, gained_twice}
 use Rattle.plain_disk.specs.Echo.{AnswersAll, Echoes}
-use Rattle.split_model.specs.World.{start_of}
-use Rattle.split_model.specs.Happening.{lines_of}
-use Rattle.split_model.specs.Leads.{moment}
-use Rattle.split_model.specs.Report.{report_of, ended_report_of}
-use Rattle.split_model.proofs.Running.{kept_of-append}
-use Rattle.split_model.proofs.Echo.{echo_of, schedule_echo, kept_echo}
-use Rattle.disk_laws.proofs.SubmissionsOf.{events_submit}
+use Rattle.vbd_model.specs.World.{start_of}
+use Rattle.vbd_model.specs.Happening.{lines_of}
+use Rattle.vbd_model.specs.Leads.{moment}
+use Rattle.vbd_model.specs.Report.{report_of, ended_report_of}
+use Rattle.vbd_model.proofs.Running.{kept_of-append}
+use Rattle.vbd_model.proofs.Echo.{echo_of, schedule_echo, kept_echo}
+use Rattle.vbd_model.proofs.Submitting.{events_submit}
 use Rattle.schedule_run.specs.Outcome.{Outside, outside, HasCarriedOut, EndsWhole, IsCut, IsUnsent, HasRead, StandsAtStop, StopsWith, EndsUnsent, Runs}
 use Rattle.schedule_run.specs.Reading.{IsWholeSchedule, HasBegun, HasComeTo, IsReadSoFar, Tells}
-use Rattle.move_laws.proofs.ReadOnly.{content_kept}
 use Rattle.schedule_run.specs.Lawful.{IsLawful, IsLawfulSoFar, HasLawfulReport, IsToldSoFar, HasLawfulBeginning, IsLawfulRun, ToldOf, IsLawfulStop, RunsLawfully}
 use Rattle.schedule_run.specs.declared.schedule.RunStop.{RunStop}
 use Rattle.schedule_run.specs.declared.schedule.RunStop.TheVariants as stop
-use Rattle.schedule_run.proofs.Lawful.{ended_lawful, begun_lawful, nothing_lawful, ended_honest_run}
+use Rattle.schedule_run.proofs.Lawful.{nothing_lawful}
+use Rattle.schedule_run.proofs.Whole.{ended_lawful, begun_lawful, ended_honest_run, content_kept}
 use Rattle.schedule_run.proofs.Told.{told_of, is_told, carried_lawful, carried_so_far, stopped_at_first, stopped_in_event, stopped_at_end}
 
 -- what was read, as it is told where the recorder stopped the run

@@ -1,6 +1,6 @@
 -- How many lines a happening shows, and how long a report is at most.
 use Rattle.std.proofs.Common.{◌≡◌, ℕ, zero, suc, Bool, true, false, if◌then◌else◌, refl, ap, ◌∙◌, ◌+◌, ◌*◌, ◌^◌, ◌<◌, ◌≤◌, List, [], ◌∷◌, ◌++◌, length, Option, Some, None, arith, length-append}
-use Rattle.std.specs.Prelude.{◌/◌, ◌%◌, sum_by}
+use Rattle.std.specs.Prelude.{◌/◌, ◌%◌, sum_by, replicate}
 use Rattle.std.specs.List.{AllByRecursion}
 use Rattle.std.proofs.lemmas.List.Sums.{sum_by-cons, sum_by-append}
 use Rattle.xen_pages.specs.Pages.{word_of}
@@ -23,16 +23,24 @@ use Rattle.blk_back.specs.declared.told.BackTold.TheVariants as back_told
 use Rattle.blk_back.specs.declared.told.Halt.{Halt}
 use Rattle.blk_back.specs.View as back
 use Rattle.blk_back.specs.Step as back_step
-use Rattle.blk_front.specs.Submit.{is_connected}
-use Rattle.split_model.specs.World.{World, start_of, is_quiet}
+use Rattle.split_model.specs.World as rings
+use Rattle.vbd_model.specs.World.{World, start_of, is_quiet, frontend_of, backend_of}
 use Rattle.split_model.specs.Shown.{front_lines, back_lines, halt_lines}
-use Rattle.split_model.specs.Happening.{Happening, FrontMoves, BackMoves, JobMoves, Negotiates, Connects, Submits, Notifies, Pokes, Dumps, Looks, Settles, is_guest_word, word_lines, ring_lines, ready_lines, happens, lines_at, after, lines_of, front_shows, back_shows, job_shows, front_turn, back_turn, job_turn}
+use Rattle.split_model.specs.Happening.{is_guest_word, word_lines, ring_lines, ready_lines, front_shows, back_shows, job_shows, front_turn, back_turn, job_turn}
+use Rattle.split_model.specs.Happening as ring
+use Rattle.vbd_model.specs.Happening.{Happening, FrontMoves, BackMoves, JobMoves, Submits, Notifies, Pokes, Dumps, Looks, Settles, does, front_key, back_key, connecting, is_fronts_ring, is_backs_ring, happens, lines_at, after, lines_of}
 use Rattle.blk_back.specs.declared.stage.Stage.{Stage as BackStage}
 use Rattle.split_model.specs.Keys.{KeyMove, negotiated_lines}
-use Rattle.split_model.specs.Kind.{Makes, AreOfAll, AreOfSoFar, front_moves, back_moves, never}
-use Rattle.split_model.proofs.Echo.{is_move, front_are_moves, back_are_moves, job_are_moves, rounds_are_moves}
+use Rattle.vbd_model.specs.Kind.{Makes, AreOfAll, AreOfSoFar, never}
+use Rattle.vbd_model.proofs.Echo.{is_move, job_are_moves, rounds_are_moves}
 use Rattle.split_model.proofs.Keys.{key_cases, negotiated_cases, connects_cases}
-use Rattle.split_model.specs.Report.{report_of}
+use Rattle.vbd_model.specs.Report.{report_of}
+use Rattle.blk_base.specs.declared.parts.End.TheVariants as end
+use Rattle.xenbus_state.specs.declared.state.BusState.TheVariants as state
+use Rattle.xenbus_state.specs.declared.front.FrontBusAsk.{FrontBusAsk}
+use Rattle.xenbus_state.specs.declared.front.FrontBusAsk.TheVariants as front_ask
+use Rattle.vbd_front.specs.Ask as front_asks
+use Rattle.vbd_back.specs.Ask as back_asks
 use Rattle.machine_pipeline.specs.Plain.{IsPlain}
 use Rattle.schedule_run.proofs.Counts.{event_so_far_few, events_few}
 
@@ -53,14 +61,14 @@ halt_few None None = omega arith
 halt_few None (Some why) = omega arith
 halt_few (Some was) now = omega arith
 
-front_shows_few : (w : World) (act : Option FrontAct) → length (front_shows w act) ≤ 3
+front_shows_few : (w : rings.World) (act : Option FrontAct) → length (front_shows w act) ≤ 3
 front_shows_few w None = omega arith
 front_shows_few w (Some a) =
     let f : front.View = front_step.step_of w.front a.answer in
     let few = front_few f.told in
     omega arith
 
-back_shows_few : (w : World) (act : Option BackAct) → length (back_shows w act) ≤ 3
+back_shows_few : (w : rings.World) (act : Option BackAct) → length (back_shows w act) ≤ 3
 back_shows_few w None = omega arith
 back_shows_few w (Some a) =
     let b : back.View = back_step.step_of w.back a.answer in
@@ -69,7 +77,7 @@ back_shows_few w (Some a) =
     let both = length-append (back_lines b.told a.answer) (halt_lines w.back.halted b.halted) in
     omega arith
 
-job_shows_few : (w : World) (number : ℕ) (act : Option BackAct) → length (job_shows w number act) ≤ 3
+job_shows_few : (w : rings.World) (number : ℕ) (act : Option BackAct) → length (job_shows w number act) ≤ 3
 job_shows_few w number None = omega arith
 job_shows_few w number (Some a) =
     let b : back.View = back_step.job_step w.back number a.answer in
@@ -99,6 +107,36 @@ ready_few : (v : front.View) → length (ready_lines v.stage) ≤ 3
 ready_few v = connects_cases (λ after (shown : List Line). length shown ≤ 3) v (λ waits. omega arith) (omega arith)
 
 -- a dump shows 1024 lines at most, and any other happening three
+abbrev ring_dumps_at : ring.Happening → ℕ
+ring_dumps_at ring.Dumps = 1
+ring_dumps_at h = 0
+
+abbrev ring_dumps_of : List ring.Happening → ℕ
+ring_dumps_of hs = sum_by ring_dumps_at hs
+
+ring_few : (w : rings.World) (h : ring.Happening) → length (ring.lines_at w h) ≤ 3 + 1024 * ring_dumps_at h
+ring_few w ring.FrontMoves = front_shows_few w (front_turn w)
+ring_few w ring.BackMoves = back_shows_few w (back_turn w Took)
+ring_few w (ring.JobMoves number outcome) = job_shows_few w number (job_turn w number outcome)
+ring_few w (ring.Negotiates at move) = key_few w.back.stage at move w.under.keys
+ring_few w ring.Connects = ready_few w.front
+ring_few w (ring.Submits job) = omega arith
+ring_few w (ring.Notifies at) = omega arith
+ring_few w (ring.Pokes frame word value) = poke_few (is_guest_word frame word) frame word value
+ring_few w ring.Dumps = let few = words_few w.under.pages 0 1024 in omega arith
+ring_few w (ring.Looks quiet) = omega arith
+ring_few w (ring.Settles quiet) = omega arith
+
+ring_by : (hs : List ring.Happening) (w : rings.World) → length (ring.lines_of hs w) ≤ 3 * length hs + 1024 * ring_dumps_of hs
+ring_by [] w = omega arith
+ring_by (h ∷ hs) w =
+    let one = ring_few w h in
+    let rest = ring_by hs (ring.happens w h) in
+    let both = length-append (ring.lines_at w h) (ring.lines_of hs (ring.happens w h)) in
+    let dumps = sum_by-cons ring_dumps_at h hs in
+    omega arith
+
+-- one happening of the machine is two of the ring's at most
 abbrev pub dumps_at : Happening → ℕ
 dumps_at Dumps = 1
 dumps_at h = 0
@@ -106,20 +144,42 @@ dumps_at h = 0
 abbrev pub dumps_of : List Happening → ℕ
 dumps_of hs = sum_by dumps_at hs
 
-lines_few : (w : World) (h : Happening) → length (lines_at w h) ≤ 3 + 1024 * dumps_at h
-lines_few w FrontMoves = front_shows_few w (front_turn w)
-lines_few w BackMoves = back_shows_few w (back_turn w Took)
-lines_few w (JobMoves number outcome) = job_shows_few w number (job_turn w number outcome)
-lines_few w (Negotiates at move) = key_few w.back.stage at move w.under.keys
-lines_few w Connects = ready_few w.front
-lines_few w (Submits job) = omega arith
-lines_few w (Notifies at) = omega arith
-lines_few w (Pokes frame word value) = poke_few (is_guest_word frame word) frame word value
-lines_few w Dumps = let few = words_few w.under.pages 0 1024 in omega arith
-lines_few w (Looks quiet) = omega arith
-lines_few w (Settles quiet) = omega arith
+record IsSmall (hs : List ring.Happening) (dumps : ℕ) : Type 0 where
+  few : length hs ≤ 2
+  dumps_few : ring_dumps_of hs ≡ dumps
 
-lines_by : (hs : List Happening) (w : World) → length (lines_of hs w) ≤ 3 * length hs + 1024 * dumps_of hs
+connects_small : (key : ring.Happening) (a : FrontBusAsk) → ring_dumps_at key ≡ 0 → IsSmall (key ∷ connecting a) 0
+connects_small key (front_ask.SetState state.Connected) none = record { few = omega arith; dumps_few = sum_by-cons ring_dumps_at key (ring.Connects ∷ []) ∙ omega arith }
+connects_small key a none = record { few = omega arith; dumps_few = sum_by-cons ring_dumps_at key [] ∙ omega arith }
+
+front_small : (b : Bool) (a : FrontBusAsk) → IsSmall (if b then ring.FrontMoves ∷ [] else ring.Negotiates end.Front (front_key a) ∷ connecting a) 0
+front_small true a = record { few = omega arith; dumps_few = refl }
+front_small false a = connects_small (ring.Negotiates end.Front (front_key a)) a refl
+
+back_small : (b : Bool) (key : ring.Happening) → ring_dumps_at key ≡ 0 → IsSmall (if b then ring.BackMoves ∷ [] else key ∷ []) 0
+back_small true key none = record { few = omega arith; dumps_few = refl }
+back_small false key none = record { few = omega arith; dumps_few = sum_by-cons ring_dumps_at key [] ∙ omega arith }
+
+small : (w : World) (h : Happening) → IsSmall (does w h) (dumps_at h)
+small w FrontMoves = front_small (is_fronts_ring w) (front_asks.bus_ask_of (frontend_of w))
+small w BackMoves = back_small (is_backs_ring w) (ring.Negotiates end.Back (back_key (back_asks.bus_ask_of (backend_of w)))) refl
+small w (JobMoves number outcome) = record { few = omega arith; dumps_few = refl }
+small w (Submits job) = record { few = omega arith; dumps_few = refl }
+small w (Notifies at) = record { few = omega arith; dumps_few = refl }
+small w (Pokes frame word value) = record { few = omega arith; dumps_few = refl }
+small w Dumps = record { few = omega arith; dumps_few = refl }
+small w (Looks quiet) = record { few = omega arith; dumps_few = refl }
+small w (Settles quiet) = record { few = omega arith; dumps_few = refl }
+
+lines_few : (w : World) (h : Happening) → length (lines_at w h) ≤ 6 + 1024 * dumps_at h
+lines_few w h =
+    let all = ring_by (does w h) w.rings in
+    let is = small w h in
+    let few = is.few in
+    let dumps = is.dumps_few in
+    omega arith
+
+lines_by : (hs : List Happening) (w : World) → length (lines_of hs w) ≤ 6 * length hs + 1024 * dumps_of hs
 lines_by [] w = omega arith
 lines_by (h ∷ hs) w =
     let one = lines_few w h in
@@ -132,13 +192,15 @@ lines_by (h ∷ hs) w =
 none_more : (h : Happening) (hs : List Happening) → dumps_at h ≡ 0 → dumps_of hs ≡ 0 → dumps_of (h ∷ hs) ≡ 0
 none_more h hs none rest = let both = sum_by-cons dumps_at h hs in omega (arith, both, none, rest)
 
+repeated : (n : ℕ) (h : Happening) → is_move h ≡ true → AllByRecursion (λ h. is_move h ≡ true) (replicate n h)
+repeated zero h m = tt
+repeated (suc n) h m = (m, repeated n h m)
+
 moves_dump : (hs : List Happening) → AllByRecursion (λ h. is_move h ≡ true) hs → dumps_of hs ≡ 0
 moves_dump [] m = refl
 moves_dump (FrontMoves ∷ hs) m = none_more FrontMoves hs refl (moves_dump hs m.1)
 moves_dump (BackMoves ∷ hs) m = none_more BackMoves hs refl (moves_dump hs m.1)
 moves_dump (JobMoves number outcome ∷ hs) m = none_more (JobMoves number outcome) hs refl (moves_dump hs m.1)
-moves_dump (Negotiates at move ∷ hs) m = none_more (Negotiates at move) hs refl (moves_dump hs m.1)
-moves_dump (Connects ∷ hs) m = none_more Connects hs refl (moves_dump hs m.1)
 moves_dump (Notifies at ∷ hs) m = none_more (Notifies at) hs refl (moves_dump hs m.1)
 moves_dump (h ∷ hs) m = absurd (cc)
 
@@ -154,8 +216,8 @@ no_dumps hs all e m = let none : dumps_of hs ≡ 0 = ap dumps_of e ∙ moves_dum
 
 made_dumps : (e : Event) (w : World) (hs : List Happening) → Makes e w hs → dumps_of hs ≤ 1
 made_dumps (events.Submit job) w hs k = only_dumps hs (Submits job) k.0
-made_dumps (events.Front n) w hs k = no_dumps hs (front_moves w n) k (front_are_moves w n)
-made_dumps (events.Back n) w hs k = no_dumps hs (back_moves w n) k (back_are_moves (is_connected w.front.stage) n)
+made_dumps (events.Front n) w hs k = no_dumps hs (replicate n FrontMoves) k (repeated n FrontMoves refl)
+made_dumps (events.Back n) w hs k = no_dumps hs (replicate n BackMoves) k (repeated n BackMoves refl)
 made_dumps (events.Job number n) w hs k = no_dumps hs hs refl (job_are_moves number hs k.0)
 made_dumps (events.Turn n) w hs k = no_dumps hs hs refl (rounds_are_moves never n w hs k)
 made_dumps events.Settle w hs k =
@@ -184,7 +246,7 @@ dumps_few : (hs : List Happening) → dumps_of hs ≤ length hs
 dumps_few [] = omega arith
 dumps_few (h ∷ hs) = let one = one_dump h in let rest = dumps_few hs in let both = sum_by-cons dumps_at h hs in omega arith
 
-begun_by : (config : Options) (detail : Detail) (history : List Happening) (n dumps : ℕ) → length history ≤ n → dumps_of history ≤ dumps → length (report_of config detail history) ≤ 3 * n + 1024 * dumps + 1
+begun_by : (config : Options) (detail : Detail) (history : List Happening) (n dumps : ℕ) → length history ≤ n → dumps_of history ≤ dumps → length (report_of config detail history) ≤ 6 * n + 1024 * dumps + 1
 begun_by config detail history n dumps few shown = let lines = lines_by history (start_of config) in omega arith
 
 -- the report of 10^9 events is short

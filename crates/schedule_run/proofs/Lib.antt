@@ -1,6 +1,7 @@
 pub mod Asked
-pub mod Attached
 pub mod Within
+pub mod Answered
+pub mod Moving
 pub mod Lines
 pub mod Carrying
 pub mod Taking
@@ -9,6 +10,7 @@ pub mod Jobs
 pub mod Counts
 pub mod Lengths
 pub mod Lawful
+pub mod Whole
 pub mod Begins
 pub mod Told
 pub mod LawfulEnds

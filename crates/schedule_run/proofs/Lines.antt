@@ -14,7 +14,7 @@ use Rattle.schedule_text.specs.declared.event.Event.{Event}
 use Rattle.schedule_text.specs.declared.event.Event.TheVariants as events
 use Rattle.schedule_text.specs.Line.{job_words}
 use Rattle.schedule_text.specs.Event.{event_text, end_word, EventHasWidths}
-use Rattle.split_model.specs.Kind.{is_carried}
+use Rattle.vbd_model.specs.Kind.{is_carried}
 use Rattle.schedule_run.specs.Reading.{text_of, HasNoLineFeed, first_line, IsLineOf, IsBadLine, AreLinesOf}
 
 is_no_feed : (b : ℕ) → b ≢ 10 → not (b == 10) ≡ true

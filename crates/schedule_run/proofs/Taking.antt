@@ -9,8 +9,8 @@ use Rattle.schedule_text.specs.declared.line.Line.{Line}
 use Rattle.schedule_text.specs.declared.recorder.RecordStop.{RecordStop}
 use Rattle.schedule_text.specs.declared.recorder.RecordStop.TheVariants as record_stop
 use Rattle.schedule_text.specs.Recorder.{RecorderSeen, Gained, HandsOnLines, FailsHandingOn}
-use Rattle.split_model.specs.Happening.{lines_of, DiskRuns}
-use Rattle.split_model.specs.Leads.{Moment, moment}
+use Rattle.vbd_model.specs.Happening.{lines_of, DiskRuns}
+use Rattle.vbd_model.specs.Leads.{Moment, moment}
 use Rattle.schedule_run.specs.Machine.{Run}
 use Rattle.schedule_run.specs.Reading.{text_of, HasNoLineFeed, IsBadLine, AreLinesOf, last_line, IsWholeSchedule, HasBadLine, IsTooLong, HasBegun, HasComeTo, HasReadTo, Tells, TellsRest}
 use Rattle.schedule_run.specs.Carrying.{ReadSoFar, read_so_far, IsFresh, IsReadyToTake, EventsLead, StopsInLine, StopsAtLine, CarriesLast, Finishes, Carries, MeetsBad, MeetsStop, Halts, Reads, ReadsToStop, ReadsUnsent, ReadStops, ReadsAll}
@@ -357,7 +357,7 @@ at_end now limit room n buffer s t u a b (Err why) first zero some room_left unf
     read_stopped_last a.left now limit room n buffer s t a b why u.at refl first zero some room_left last.0 unfailed read h last.1
 
 -- the reader is ready for what is left of the limit
-pub ready_taken : (left now : Option (List ℕ)) (limit room n : ℕ) (s t : ReadSoFar) → IsFirst limit s → n ≤ room → attached_of s.at.disk ≡ Some s.at.world.front.sectors → HasTaken left now limit room s t → IsReadyToTake n t
+pub ready_taken : (left now : Option (List ℕ)) (limit room n : ℕ) (s t : ReadSoFar) → IsFirst limit s → n ≤ room → attached_of s.at.disk ≡ Some s.at.world.rings.front.sectors → HasTaken left now limit room s t → IsReadyToTake n t
 ready_taken left now limit room n s t first le attached h =
     let size = h.size in
     let small = first.small in

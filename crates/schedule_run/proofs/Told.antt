@@ -1,5 +1,5 @@
 -- What was told of events that were carried out is lawful; so is what was told until the recorder stopped.
-use Rattle.std.proofs.Common.{◌≡◌, ℕ, ◌^◌, ◌<◌, ◌≤◌, List, [], ◌∷◌, ◌++◌, length, Result, Ok, Err, inl, inr, refl, ap, sym, ◌∙◌, subst, append_assoc, append-nil, length-append, arith}
+use Rattle.std.proofs.Common.{◌≡◌, ℕ, ◌^◌, ◌<◌, ◌≤◌, ◌⊎◌, List, [], ◌∷◌, ◌++◌, length, Result, Ok, Err, inl, inr, refl, ap, sym, ◌∙◌, subst, append_assoc, append-nil, length-append, arith}
 use Rattle.blk_base.specs.Options.{Options}
 use Rattle.blk_base.specs.declared.config.Job.{Job}
 use Rattle.blk_io.specs.Disk.{DiskSeen, HasLength}
@@ -8,28 +8,29 @@ use Rattle.schedule_text.specs.declared.line.Detail.{Detail}
 use Rattle.schedule_text.specs.declared.line.Line.{Line}
 use Rattle.schedule_text.specs.declared.line.Line.TheVariants.{Begin, End}
 use Rattle.schedule_text.specs.declared.recorder.RecordStop.{RecordStop}
-use Rattle.schedule_text.specs.Recorder.{kept_of, recorded, gained, Gained, StopsWithin, StopsAmong}
+use Rattle.schedule_text.specs.Recorder.{RecorderSeen, kept_of, recorded, gained, Gained, StopsWithin, StopsAmong}
 use Rattle.schedule_text.proofs.Adding.{gained_twice, stopped_later}
 use Rattle.plain_disk.specs.Echo.{AnswersAll}
-use Rattle.split_model.specs.World.{World, start_of}
-use Rattle.split_model.specs.Happening.{Happening, after, lines_at, lines_of}
-use Rattle.split_model.specs.Kind.{AreOf, AreOfAll, AreOfSoFar}
-use Rattle.split_model.specs.Leads.{Moment, moment, Leads, LeadsToStop, Goes}
-use Rattle.split_model.specs.Report.{report_of, ended_report_of}
-use Rattle.split_model.proofs.Running.{lines_of-append, leads_as, stops_on}
-use Rattle.split_model.proofs.Echo.{schedule_echo, kept_echo}
-use Rattle.machine_pipeline.specs.Submissions.{submitted_of}
-use Rattle.machine_pipeline.proofs.KindsFront.{start_connects, connects_after}
-use Rattle.machine_pipeline.proofs.KindsEvents.{possible_append, event_so_far_possible, events_possible}
-use Rattle.disk_laws.proofs.SubmissionsOf.{events_submit, events_so_far_submit}
+use Rattle.vbd_model.specs.World.{World, start_of}
+use Rattle.vbd_model.specs.Happening.{Happening, after, lines_at, lines_of}
+use Rattle.vbd_model.specs.Kind.{AreOf, AreOfAll, AreOfSoFar}
+use Rattle.vbd_model.specs.Leads.{Moment, moment, Leads, StopsShowing, LacksMemory, LeadsToStop, Goes}
+use Rattle.split_model.specs.Report as ring_report
+use Rattle.vbd_model.specs.Report.{report_of, ended_report_of}
+use Rattle.vbd_model.proofs.Running.{lines_of-append, report_lift, leads_as, stops_on}
+use Rattle.vbd_model.proofs.Echo.{schedule_echo, kept_echo}
+use Rattle.vbd_model.proofs.Possible.{events_possible, events_so_far_possible}
+use Rattle.machine_pipeline.specs.Submissions.{jobs_of}
+use Rattle.vbd_model.proofs.Submitting.{events_submit, events_so_far_submit}
+use Rattle.vbd_laws.proofs.Served.{rings_possible}
 use Rattle.disk_laws.proofs.Before.{HasRunSoFar}
 use Rattle.plain_disk.specs.Honest.{honest_part}
 use Rattle.pipeline_laws.specs.Effects.{IsOfADisk}
 use Rattle.schedule_run.specs.Outcome.{Outside, outside, IsServed, HasCarried}
-use Rattle.move_laws.proofs.ReadOnly.{content_kept}
 use Rattle.schedule_run.specs.Lawful.{IsLawful, IsLawfulSoFar, HasLawfulReport, HasLawfulBeginning, EventLeaves}
 use Rattle.schedule_run.proofs.Lengths.{report_short, report_so_far_short}
-use Rattle.schedule_run.proofs.Lawful.{IsTold, report_lawful, report_honest_run, begun_honest, begun_lawful, nothing_lawful}
+use Rattle.schedule_run.proofs.Lawful.{nothing_lawful}
+use Rattle.schedule_run.proofs.Whole.{to_rings, submitted, IsTold, history_first, content_kept, report_lawful, report_honest_run, begun_honest, begun_lawful, run_later}
 use Rattle.schedule_run.proofs.Begins.{plain_of}
 use Rattle.schedule_run.proofs.Carrying.{events_lead_on}
 
@@ -39,6 +40,10 @@ told_of config events old now h =
     let leads = h.leads in
     gained_twice (Begin config old.recorder.detail ∷ []) (lines_of leads.history (start_of config)) old.recorder h.began now.recorder h.first leads.told
 
+-- its report is as short as the ring's machine's
+short_lift : (config : Options) (detail : Detail) (history : List Happening) → length (report_of config detail history) < 2 ^ 64 → length (ring_report.report_of config detail (to_rings config history)) < 2 ^ 64
+short_lift config detail history short = subst (λ (l : List Line). length l < 2 ^ 64) (report_lift config detail history) short
+
 pub is_told : (config : Options) (events : List Event) (old : Outside) (now : Moment) (h : HasCarried config events old now) → (let leads = h.leads in IsTold config old.recorder.detail leads.history)
 is_told config events old now h =
     let leads = h.leads in
@@ -46,8 +51,8 @@ is_told config events old now h =
     record {
       plain = plain_of config served;
       options = served.options;
-      possible = events_possible events (start_of config) leads.history (start_connects config) leads.is_kind;
-      short = report_short config old.recorder.detail events leads.history (plain_of config served) leads.is_kind h.few;
+      possible = rings_possible config leads.history served.carried served.options (events_possible events (start_of config) leads.history leads.is_kind);
+      short = short_lift config old.recorder.detail leads.history (report_short config old.recorder.detail events leads.history (plain_of config served) leads.is_kind h.few);
     }
 
 -- a whole report
@@ -117,35 +122,74 @@ both_told : (config : Options) (detail : Detail) (events : List Event) (event : 
 both_told config detail events event hs served few k =
     let start = start_of config in
     let plain = plain_of config served in
-    let first = events_possible events start k.0 (start_connects config) k.3 in
-    let next = event_so_far_possible event (after k.0 start) k.1 (connects_after k.0 start (start_connects config)) k.4 in
     subst (IsTold config detail) (sym k.2) (record {
       plain = plain;
       options = served.options;
-      possible = possible_append k.0 k.1 start first next;
-      short = report_so_far_short config detail events event k.0 k.1 plain k.3 k.4 few;
+      possible = rings_possible config (k.0 ++ k.1) served.carried served.options (events_so_far_possible events event start k.0 k.1 k.3 k.4);
+      short = short_lift config detail (k.0 ++ k.1) (report_so_far_short config detail events event k.0 k.1 plain k.3 k.4 few);
     })
 
--- the recorder stopped in an event
-pub stopped_in_event : (config : Options) (events : List Event) (event : Event) (why : RecordStop) (old : Outside) (middle new : Moment) → HasLength old.disk.content config.sectors → HasCarried config events old middle → LeadsToStop (AreOfSoFar event middle.world) why middle new → HasLawfulBeginning config (events ++ event ∷ []) old (outside new.disk new.recorder)
-stopped_in_event config events event why old middle new long h stopped =
+-- the recorder stopped at a line of the last thing that happened
+stopped_showing : (config : Options) (events : List Event) (event : Event) (why : RecordStop) (old : Outside) (began : RecorderSeen) (new : Moment) (history : List Happening) (last : Happening) → HasLength old.disk.content config.sectors → Gained (Begin config old.recorder.detail ∷ []) old.recorder began → IsTold config old.recorder.detail (history ++ last ∷ []) → submitted config (history ++ last ∷ []) ≡ jobs_of (events ++ event ∷ []) → StopsShowing history last why (moment (start_of config) old.disk began) new → HasLawfulBeginning config (events ++ event ∷ []) old (outside new.disk new.recorder)
+stopped_showing config events event why old began new history last long first both jobs s =
     let start = start_of config in
     let detail = old.recorder.detail in
-    let whole = stops_on (AreOfAll events start) (AreOfSoFar event middle.world) (AreOfBoth events event start) why (moment start old.disk h.began) middle new (λ xs ys k here f. (xs, ys, refl, k, subst (λ (w : World). AreOfSoFar event w ys) here f)) h.leads stopped in
-    let told = stopped_later (Begin config detail ∷ []) (lines_of whole.history start) (lines_at (after whole.history start) whole.last) why old.recorder h.began new.recorder h.first whole.told in
-    let k = whole.is_kind in
-    let all = whole.history ++ whole.last ∷ [] in
-    let said = report_of config detail whole.history ++ told.said in
-    let both = both_told config detail events event all h.served h.few k in
+    let told = stopped_later (Begin config detail ∷ []) (lines_of history start) (lines_at (after history start) last) why old.recorder began new.recorder first s.told in
+    let all = history ++ last ∷ [] in
+    let said = report_of config detail history ++ told.said in
     record {
       report = kept_of detail said;
       told = inr (told.cut, told.stops);
-      lawful = subst (λ (jobs : List Job). IsLawfulSoFar config detail jobs old.disk.content (kept_of detail said)) (ap submitted_of k.2 ∙ events_so_far_submit events event start k.0 k.1 k.3 k.4)
+      lawful = subst (λ (js : List Job). IsLawfulSoFar config detail js old.disk.content (kept_of detail said)) jobs
           (begun_lawful config detail all old.disk.content said ((told.cut ∷ told.rest) ++ End ∷ []) both
-          (cut_report config detail whole.history whole.last told.said told.rest told.cut told.all)
-          (begun_honest config detail whole.history whole.last told.said (told.cut ∷ told.rest) old.disk new.disk both long whole.disk (sym told.all)));
-      kept = λ fixed. content_kept config all old.disk new.disk fixed whole.disk;
+          (cut_report config detail history last told.said told.rest told.cut told.all)
+          (begun_honest config detail history last told.said told.cut told.rest old.disk new.disk both long s.disk (sym told.all)));
+      kept = λ fixed. content_kept config all old.disk new.disk fixed s.disk;
     }
+
+-- the lines of all that happened, before the last one's
+before_last : (config : Options) (detail : Detail) (history : List Happening) (last : Happening) → report_of config detail history ++ (lines_at (after history (start_of config)) last ++ End ∷ []) ≡ ended_report_of config detail (history ++ last ∷ [])
+before_last config detail history last =
+    let start = start_of config in
+    let line = lines_at (after history start) last in
+    let lines : lines_of (history ++ last ∷ []) start ≡ lines_of history start ++ line = lines_of-append history (last ∷ []) start ∙ ap (λ (x : List Line). lines_of history start ++ x) (append-nil line) in
+    sym (append_assoc (report_of config detail history) line (End ∷ [])) ∙ ap (λ (x : List Line). (Begin config detail ∷ x) ++ End ∷ []) (sym lines)
+
+-- or there was no memory for it
+lacked_memory : (config : Options) (events : List Event) (event : Event) (why : RecordStop) (old : Outside) (began : RecorderSeen) (new : Moment) (history : List Happening) (last : Happening) → HasLength old.disk.content config.sectors → Gained (Begin config old.recorder.detail ∷ []) old.recorder began → IsTold config old.recorder.detail (history ++ last ∷ []) → submitted config (history ++ last ∷ []) ≡ jobs_of (events ++ event ∷ []) → LacksMemory history why (moment (start_of config) old.disk began) new → HasLawfulBeginning config (events ++ event ∷ []) old (outside new.disk new.recorder)
+lacked_memory config events event why old began new history last long first both jobs s =
+    let start = start_of config in
+    let detail = old.recorder.detail in
+    let told = gained_twice (Begin config detail ∷ []) (lines_of history start) old.recorder began new.recorder first s.told in
+    let said = report_of config detail history in
+    record {
+      report = kept_of detail said;
+      told = inl told.told;
+      lawful = subst (λ (js : List Job). IsLawfulSoFar config detail js old.disk.content (kept_of detail said)) jobs
+          (begun_lawful config detail (history ++ last ∷ []) old.disk.content said (lines_at (after history start) last ++ End ∷ []) both (before_last config detail history last)
+          (λ of. run_later config history last old.disk.content (honest_part (kept_of detail said)) (report_honest_run config detail history old.disk new.disk (history_first config detail history last both) long s.disk of)));
+      kept = λ fixed. content_kept config history old.disk new.disk fixed s.disk;
+    }
+
+-- an event was stopped
+pub stopped_in_event : (config : Options) (events : List Event) (event : Event) (why : RecordStop) (old : Outside) (middle new : Moment) → HasLength old.disk.content config.sectors → HasCarried config events old middle → LeadsToStop (AreOfSoFar event middle.world) why middle new → HasLawfulBeginning config (events ++ event ∷ []) old (outside new.disk new.recorder)
+stopped_in_event config events event why old middle new long h stopped = by_stop whole.stopped
+  where
+    start : World
+    start = start_of config
+
+    whole : LeadsToStop (AreOfBoth events event (start_of config)) why (moment (start_of config) old.disk h.began) new
+    whole = stops_on (AreOfAll events start) (AreOfSoFar event middle.world) (AreOfBoth events event start) why (moment start old.disk h.began) middle new (λ xs ys k here f. (xs, ys, refl, k, subst (λ (w : World). AreOfSoFar event w ys) here f)) h.leads stopped
+
+    both : IsTold config old.recorder.detail (whole.history ++ whole.last ∷ [])
+    both = both_told config old.recorder.detail events event (whole.history ++ whole.last ∷ []) h.served h.few whole.is_kind
+
+    jobs : submitted config (whole.history ++ whole.last ∷ []) ≡ jobs_of (events ++ event ∷ [])
+    jobs = let k = whole.is_kind in ap (submitted config) k.2 ∙ events_so_far_submit events event start k.0 k.1 k.3 k.4
+
+    by_stop : StopsShowing whole.history whole.last why (moment (start_of config) old.disk h.began) new ⊎ LacksMemory whole.history why (moment (start_of config) old.disk h.began) new → HasLawfulBeginning config (events ++ event ∷ []) old (outside new.disk new.recorder)
+    by_stop (inl s) = stopped_showing config events event why old h.began new whole.history whole.last long h.first both jobs s
+    by_stop (inr s) = lacked_memory config events event why old h.began new whole.history whole.last long h.first both jobs s
 
 -- or at the last line
 pub stopped_at_end : (config : Options) (events : List Event) (why : RecordStop) (old : Outside) (before : Moment) (new : Outside) → new.disk ≡ before.disk → HasLength old.disk.content config.sectors → HasCarried config events old before → StopsAmong [] (End ∷ []) why before.recorder new.recorder → HasLawfulBeginning config events old new
@@ -166,7 +210,7 @@ stopped_at_end config events why old before new same_disk long h s =
       told = inr (told.cut, told.stops);
       lawful = subst (λ (jobs : List Job). IsLawfulSoFar config detail jobs old.disk.content (kept_of detail said)) (events_submit events (start_of config) leads.history leads.is_kind)
           (begun_lawful config detail leads.history old.disk.content said (told.cut ∷ told.rest) whole all
-          (subst (λ (ls : List Line). IsOfADisk config.sectors old.disk.content (honest_part (kept_of detail ls)) → HasRunSoFar (submitted_of leads.history) old.disk.content (honest_part (kept_of detail ls))) (sym same)
+          (subst (λ (ls : List Line). IsOfADisk config.sectors old.disk.content (honest_part (kept_of detail ls)) → HasRunSoFar (submitted config leads.history) old.disk.content (honest_part (kept_of detail ls))) (sym same)
           (report_honest_run config detail leads.history old.disk before.disk whole long leads.disk)));
       kept = λ fixed. ap (λ (d : DiskSeen). d.content) same_disk ∙ content_kept config leads.history old.disk before.disk fixed leads.disk;
     }

@@ -6,8 +6,8 @@ use Rattle.schedule_text.specs.declared.event.Event.{Event}
 use Rattle.schedule_text.specs.declared.recorder.RecordStop.{RecordStop}
 use Rattle.schedule_text.specs.declared.recorder.RecordStop.TheVariants as record_stop
 use Rattle.schedule_text.specs.Recorder.{RecorderSeen, FailsHandingOn}
-use Rattle.split_model.specs.Kind.{AreOfAll, AreOfSoFar}
-use Rattle.split_model.specs.Leads.{Leads, LeadsToStop, Moment, moment}
+use Rattle.vbd_model.specs.Kind.{AreOfAll, AreOfSoFar}
+use Rattle.vbd_model.specs.Leads.{Leads, LeadsToStop, Moment, moment}
 use Rattle.schedule_run.specs.Machine.{Run}
 use Rattle.schedule_run.specs.Reading.{text_of, HasNoLineFeed, first_line, IsLineOf, IsBadLine, AreLinesOf, last_line, IsWholeSchedule, HasBadLine, IsTooLong, HasBegun, HasComeTo, HasReadTo, Tells, TellsRest}
 use Rattle.schedule_run.specs.declared.schedule.RunStop.{RunStop}
@@ -35,7 +35,7 @@ pub record IsReadyToTake (n : ℕ) (s : ReadSoFar) : Type 0 where
   pub fits : length s.part ≤ 128
   pub few : 5 * s.events + length s.part + n ≤ 4294967296
   pub lines : s.lines + length s.part + n ≤ 4294967296
-  pub attached : attached_of s.at.disk ≡ Some s.at.world.front.sectors
+  pub attached : attached_of s.at.disk ≡ Some s.at.world.rings.front.sectors
 
 -- the happenings of these events lead there
 abbrev pub EventsLead : List Event → Moment → Moment → Type 0

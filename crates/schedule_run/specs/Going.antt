@@ -3,10 +3,10 @@ use Rattle.std.specs.Prelude.{ℕ, List, [], ◌∷◌, Result}
 use Rattle.blk_io.specs.Disk.{DiskSeen}
 use Rattle.schedule_text.specs.declared.recorder.RecordStop.{RecordStop}
 use Rattle.schedule_text.specs.Recorder.{RecorderSeen}
-use Rattle.split_model.specs.World.{World}
-use Rattle.split_model.specs.Happening.{Happening, FrontMoves, BackMoves}
-use Rattle.split_model.specs.Kind.{IsBeginning, IsJobMove}
-use Rattle.split_model.specs.Leads.{Goes, Is, Moment, moment}
+use Rattle.vbd_model.specs.World.{World}
+use Rattle.vbd_model.specs.Happening.{Happening, FrontMoves, BackMoves}
+use Rattle.vbd_model.specs.Kind.{IsBeginning, IsJobMove}
+use Rattle.vbd_model.specs.Leads.{Goes, Is, Moment, moment}
 
 -- a move of the front, which needs no mapping and no disk
 abbrev pub FrontGoes : Result (Unit {0}) RecordStop → World → World → RecorderSeen → RecorderSeen → Type 0

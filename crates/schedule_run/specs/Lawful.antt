@@ -38,7 +38,7 @@ use Rattle.report_laws.specs.Begun.{IsBegun, IsBegunSoFar}
 use Rattle.report_laws.specs.Grammar.{IsInGrammar}
 use Rattle.report_laws.specs.Ready.{IsReadyFirst}
 use Rattle.report_laws.specs.QuietRing.{IsQuietRing}
-use Rattle.split_model.specs.Leads.{Moment}
+use Rattle.vbd_model.specs.Leads.{Moment}
 use Rattle.schedule_run.specs.Reading.{IsWholeSchedule, HasBadLine, IsTooLong, HasReadTo, IsReadSoFar, Tells, TellsRest}
 use Rattle.schedule_run.specs.Outcome.{Outside, HasCarried}
 use Rattle.schedule_run.specs.declared.schedule.RunStop.{RunStop}

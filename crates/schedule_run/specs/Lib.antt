@@ -1,3 +1,4 @@
+pub mod Inside
 pub mod Machine
 pub mod Reading
 pub mod Outcome

@@ -10,9 +10,9 @@ use Rattle.schedule_text.specs.declared.recorder.RecordStop.{RecordStop}
 use Rattle.schedule_text.specs.declared.recorder.RecordStop.TheVariants as record_stop
 use Rattle.schedule_text.specs.Recorder.{RecorderSeen, Gained, StopsAmong, FailsHandingOn, gained, kept_of}
 use Rattle.schedule_text.specs.Range.{AreOptions}
-use Rattle.split_model.specs.World.{World, start_of}
-use Rattle.split_model.specs.Kind.{AreOfAll, AreOfSoFar, are_carried}
-use Rattle.split_model.specs.Leads.{Leads, LeadsToStop, Moment, moment}
+use Rattle.vbd_model.specs.World.{World, start_of}
+use Rattle.vbd_model.specs.Kind.{AreOfAll, AreOfSoFar, are_carried}
+use Rattle.vbd_model.specs.Leads.{Leads, LeadsToStop, Moment, moment}
 use Rattle.schedule_run.specs.Reading.{IsWholeSchedule, HasBadLine, IsTooLong, HasBegun, HasComeTo, HasReadTo, Tells, TellsRest}
 use Rattle.schedule_run.specs.declared.schedule.RunStop.{RunStop}
 use Rattle.schedule_run.specs.declared.schedule.RunStop.TheVariants as stop

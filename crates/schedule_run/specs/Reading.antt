@@ -2,7 +2,7 @@
 use Rattle.std.specs.Prelude.{◌≡◌, ◌≢◌, ℕ, ◌+◌, ◌<◌, ◌≤◌, ◌⊎◌, min, true, not, ◌==◌, List, [], ◌∷◌, ◌++◌, length, take, take_while, flat_map, option_to_list, All, Option, Some, None}
 use Rattle.schedule_text.specs.declared.event.Event.{Event}
 use Rattle.schedule_text.specs.Event.{IsEventOf, IsSilent}
-use Rattle.split_model.specs.Kind.{is_carried}
+use Rattle.vbd_model.specs.Kind.{is_carried}
 
 -- a line with its line feed
 abbrev pub with_feed : List ℕ → List ℕ

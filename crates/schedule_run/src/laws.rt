@@ -5,8 +5,8 @@ ghost use Rattle.blk_io.specs.Disk.{DiskSeen};
 ghost use Rattle.schedule_text.specs.Recorder.{RecorderSeen, Gained};
 ghost use Rattle.schedule_text.specs.declared.line.Detail.{Detail};
 ghost use Rattle.schedule_text.specs.declared.line.Line.TheVariants.{Begin};
-ghost use Rattle.split_model.specs.World.{start_of};
-ghost use Rattle.split_model.specs.Leads.{moment};
+ghost use Rattle.vbd_model.specs.World.{start_of};
+ghost use Rattle.vbd_model.specs.Leads.{moment};
 ghost use Rattle.schedule_run.specs.Outcome.{IsServed, HasCarried, outside};
 
 /// A machine just made carried out no events, once the recorder took a `begin` line with its options.

@@ -8,8 +8,6 @@ mod machine;
 mod schedule;
 mod showing;
 mod split;
-#[cfg(test)]
-mod tests;
 
 pub use laws::a_run_begins;
 pub use machine::{Machine, can_carry_out, can_serve};

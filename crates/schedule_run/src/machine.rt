@@ -4,9 +4,9 @@ ghost use Rattle.blk_base.specs.Options.{Options};
 ghost use Rattle.blk_io.specs.Disk.{HasLength, attached_of};
 ghost use Rattle.schedule_text.specs.Event.{is_number};
 ghost use Rattle.schedule_text.specs.declared.event.Event.{Event};
-ghost use Rattle.split_model.specs.World.{start_of};
-ghost use Rattle.split_model.specs.Kind.{AreOf, AreOfSoFar, Makes, MakesSoFar, is_carried, is_carried_job, are_carried};
-ghost use Rattle.split_model.specs.Leads.{Goes, moment};
+ghost use Rattle.vbd_model.specs.World.{start_of};
+ghost use Rattle.vbd_model.specs.Kind.{AreOf, AreOfSoFar, Makes, MakesSoFar, is_carried, is_carried_job, are_carried};
+ghost use Rattle.vbd_model.specs.Leads.{Goes, moment};
 ghost use Rattle.schedule_run.specs.Outcome.{Outside, HasCarried, IsServed, content_of};
 ghost use Rattle.schedule_run.specs.Lawful.{EventLeaves};
 
@@ -36,7 +36,7 @@ impl Model for Machine {
 }
 
 impl Machine {
-    /// A machine whose ends aren't connected yet, with options for which `can_serve` holds. It fails
+    /// A machine whose ends haven't negotiated yet, with options for which `can_serve` holds. It fails
     /// only where there is not enough memory.
     pub fn new(alloc: Global, config: &Config) -> Result<Machine, OutOfMemory>
         requires { are_carried config.now ≡ true }
@@ -75,7 +75,7 @@ impl Machine {
     ) -> Result<(), RecordStop>
         requires carried { is_carried event ≡ true }
         requires few { self.old.events < 10 ^ 9 }
-        requires attached { attached_of (D.seen disk.old) ≡ Some self.old.world.front.sectors }
+        requires attached { attached_of (D.seen disk.old) ≡ Some self.old.world.rings.front.sectors }
         ensures goes { Goes (AreOf event self.old.world) (AreOfSoFar event self.old.world) (10 ^ 10) result
             (moment self.old.world (D.seen disk.old) (R.seen recorder.old))
             (moment self.new.world (D.seen disk.new) (R.seen recorder.new)) }
@@ -97,7 +97,7 @@ impl Machine {
     ) -> Result<(), RecordStop>
         requires carried { is_carried event ≡ true }
         requires few { self.old.events < 10 ^ 9 }
-        requires attached { attached_of (D.seen disk.old) ≡ Some self.old.world.front.sectors }
+        requires attached { attached_of (D.seen disk.old) ≡ Some self.old.world.rings.front.sectors }
         ensures goes { Goes (Makes event self.old.world) (MakesSoFar event self.old.world) (10 ^ 10) result
             (moment self.old.world (D.seen disk.old) (R.seen recorder.old))
             (moment self.new.world (D.seen disk.new) (R.seen recorder.new)) }
@@ -106,7 +106,7 @@ impl Machine {
         self.events += 1;
         match event {
             Event::Submit(job) => self.split.submit(job, recorder),
-            Event::Front(count) => self.split.front_moves(count, disk, recorder),
+            Event::Front(count) => self.split.front_moves(count, recorder),
             Event::Back(count) => self.split.back_moves(count, disk, recorder),
             Event::Job { number, moves } => self.split.job_moves(number, moves, disk, recorder),
             Event::Turn(count) => self.split.turn(count, disk, recorder),

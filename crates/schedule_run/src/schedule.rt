@@ -1,7 +1,7 @@
 // A whole schedule.
 ghost use Rattle.std.specs.Prelude.{◌≡◌, ◌≤◌, Some, true};
 ghost use Rattle.blk_io.specs.Disk.{HasLength, attached_of};
-ghost use Rattle.split_model.specs.Kind.{are_carried};
+ghost use Rattle.vbd_model.specs.Kind.{are_carried};
 ghost use Rattle.schedule_run.specs.Outcome.{MayRun, Runs, RunsTo, outside, content_of, stop_of};
 ghost use Rattle.schedule_run.specs.Lawful.{RunsLawfully};
 

@@ -4,14 +4,16 @@ ghost use Rattle.schedule_text.specs.Recorder.{Adds};
 ghost use Rattle.split_model.specs.Happening.{submit_line};
 ghost use Rattle.hypervisor.specs.Act.{front_shown, back_shown};
 ghost use Rattle.hypervisor.specs.May.{MayShow};
-ghost use Rattle.schedule_run.specs.Following.{Follows};
+ghost use Rattle.schedule_run.specs.Following.{Follows, frontend_lines};
+ghost use Rattle.vbd_front.specs.View.{heard};
 ghost use Rattle.split_model.specs.Shown.{front_lines, back_lines, halt_lines, halt_line, effect_line, refusal_word};
 
 use blk_back::{BackTold, Halt};
 use blk_base::{BackAnswer, BackAsk, BackMover, FrontAnswer, FrontAsk, Job, Move};
-use blk_front::{Front, Refusal, Told};
+use blk_front::{Refusal, Told};
 use hypervisor::{Hypervisor, front_shown};
 use schedule_text::{Halt as HaltLine, Line, RecordStop, Recorder, Refusal as RefusalWord, Shown};
+use vbd_front::Frontend;
 
 /// What the line of a move of the front is made of.
 #[derive(Drop)]
@@ -86,7 +88,7 @@ pub fn show_back<R: Recorder>(
     })
 }
 
-// Shows what a move of the front made happen there, after the move.
+// Shows what a move of the front made happen at its end of the ring, after the move.
 fn follow_front<R: Recorder>(
     recorder: &mut R,
     shown: Result<(), RecordStop>,
@@ -101,16 +103,31 @@ fn follow_front<R: Recorder>(
     }
 }
 
+// Says that the front became ready in a move, after what was shown of it.
+fn follow_ready<R: Recorder>(
+    recorder: &mut R,
+    shown: Result<(), RecordStop>,
+    ready: bool,
+) -> Result<(), RecordStop>
+    ensures { Follows (if ready then Line.Ready ∷ [] else []) shown result (R.seen recorder.old) (R.seen recorder.new) }
+{
+    shown?;
+    if ready {
+        return recorder.add(&Line::Ready);
+    }
+    Ok(())
+}
+
 /// Shows what a move of the front made happen there, where it told something: a sector that is told is
 /// long, so it is handed over by few moves.
 #[inline(always)]
 pub fn follow_told<R: Recorder>(
-    front: &mut Front,
+    front: &mut Frontend,
     recorder: &mut R,
     shown: Result<(), RecordStop>,
 ) -> Result<(), RecordStop>
-    ensures taken { front.new ≡ record front.old { told = None } }
-    ensures lines { Follows (front_lines front.old.told) shown result (R.seen recorder.old) (R.seen recorder.new) }
+    ensures taken { front.new ≡ heard front.old }
+    ensures lines { Follows (frontend_lines front.old) shown result (R.seen recorder.old) (R.seen recorder.new) }
 {
     if front.has_told() {
         return take_told(front, recorder, shown);
@@ -120,26 +137,16 @@ pub fn follow_told<R: Recorder>(
 
 #[inline(never)]
 fn take_told<R: Recorder>(
-    front: &mut Front,
+    front: &mut Frontend,
     recorder: &mut R,
     shown: Result<(), RecordStop>,
 ) -> Result<(), RecordStop>
-    ensures taken { front.new ≡ record front.old { told = None } }
-    ensures lines { Follows (front_lines front.old.told) shown result (R.seen recorder.old) (R.seen recorder.new) }
+    ensures taken { front.new ≡ heard front.old }
+    ensures lines { Follows (frontend_lines front.old) shown result (R.seen recorder.old) (R.seen recorder.new) }
 {
-    let told = front.take_told();
-    follow_front(recorder, shown, told)
-}
-
-/// Says that the front is ready, where it waited to be connected.
-#[inline(never)]
-pub fn show_ready<R: Recorder>(recorder: &mut R, waited: bool) -> Result<(), RecordStop>
-    ensures { Adds (if waited then Line.Ready ∷ [] else []) result (R.seen recorder.old) (R.seen recorder.new) }
-{
-    if waited {
-        return recorder.add(&Line::Ready);
-    }
-    Ok(())
+    let (told, ready) = front.take_told();
+    let said = follow_front(recorder, shown, told);
+    follow_ready(recorder, said, ready)
 }
 
 /// Shows what a move of the back made happen there, after the move, and the halt where it made the

@@ -1,63 +1,65 @@
 // Both ends in their machine, and the moves of each.
-ghost use Rattle.std.specs.Prelude.{◌≡◌, ◌<◌, ◌∷◌, [], IfOk};
+ghost use Rattle.std.specs.Prelude.{◌≡◌, ◌<◌, ◌∷◌, [], true, IfOk};
 ghost use Rattle.blk_base.specs.declared.parts.Mode.TheVariants.{ReadWrite};
 ghost use Rattle.blk_io.specs.Disk.{DiskSeen};
 ghost use Rattle.schedule_text.specs.Range.{JobHasWidths};
 ghost use Rattle.grant_table.specs.Table.{IsLive};
 ghost use Rattle.hypervisor.specs.May.{IsPlace};
-ghost use Rattle.blk_front.specs.Ask.{ask_of as front_asks};
 ghost use Rattle.blk_back.specs.Step.{job_ask_of};
-ghost use Rattle.split_model.specs.World.{start_of, is_quiet};
-ghost use Rattle.split_model.specs.Happening.{Submits, Notifies, happens};
-ghost use Rattle.split_model.specs.Kind.{IsJobMove};
-ghost use Rattle.split_model.specs.Leads.{Goes, Is, IsReadyFor, moment};
+ghost use Rattle.vbd_front.specs.Ask.{ask_of as front_asks};
+ghost use Rattle.vbd_model.specs.World.{start_of, is_quiet, frontend_of};
+ghost use Rattle.vbd_model.specs.Happening.{Submits, Notifies, happens};
+ghost use Rattle.vbd_model.specs.Kind.{IsJobMove, are_carried};
+ghost use Rattle.vbd_model.specs.Leads.{Goes, Is, IsReadyFor, moment};
 ghost use Rattle.schedule_run.specs.Going.{FrontGoes, BackGoes, JobGoes};
 
 use crate::showing::{follow_back, follow_job, follow_told, show_back, show_front, submit_line};
-use blk_back::Back;
 use blk_base::{
     BackAnswer, BackAsk, BackMover, Config, End, Endpoint, FrontAnswer, FrontAsk, Job, Mapping,
     OutOfMemory,
 };
-use blk_front::Front;
 use blk_io::SectorDisk;
 use hypervisor::{Hypervisor, Room};
 use schedule_text::{Line, RecordStop, Recorder};
 use std::alloc::Global;
 use std::marker::Model;
+use vbd_back::Backend;
+use vbd_front::Frontend;
 
 mod memory;
 mod rounds;
 
-/// The front in its domain, the back with its jobs in another, and what lies under both.
+/// The frontend in its domain, the backend with its jobs in another, and what lies under both.
 #[derive(Drop)]
 pub struct Split {
-    front: Front,
-    back: Back,
+    front: Frontend,
+    back: Backend,
     under: Hypervisor,
     // where what an answer lends lies until it is told
     room: Room,
 }
 
 impl Model for Split {
-    ghost use Rattle.split_model.specs.World.{World};
-    ghost use Rattle.split_model.specs.Safe.{IsSafe};
+    ghost use Rattle.vbd_model.specs.World.{World};
+    ghost use Rattle.schedule_run.specs.Inside.{world_of, HasHeard};
+    ghost use Rattle.vbd_model.specs.Fit.{IsFit};
 
     ghost Value = { World };
 
-    ghost view = { λ s. record { front = s.front; back = s.back; under = s.under } };
+    ghost view = { λ s. world_of s.front s.back s.under };
 
-    ghost invariant = { λ s. IsSafe (record { front = s.front; back = s.back; under = s.under }) };
+    ghost invariant = { λ s. HasHeard s.front × IsFit (world_of s.front s.back s.under) };
 }
 
 impl Split {
-    /// Both ends before they are connected. It fails only where there is not enough memory.
+    /// Both ends before they negotiate. It fails only where there is not enough memory.
     pub fn new(alloc: Global, config: &Config) -> Result<Split, OutOfMemory>
+        requires { are_carried config.now ≡ true }
         ensures { IfOk result (λ split. split ≡ start_of config.now) }
     {
         Ok(Split {
-            front: Front::new(alloc, config)?,
-            back: Back::new(alloc, config)?,
+            front: Frontend::new(alloc, config)?,
+            back: Backend::new(alloc, config)?,
             under: Hypervisor::new(alloc)?,
             room: Room::new(),
         })
@@ -86,12 +88,12 @@ impl Split {
         value: u32,
         recorder: &mut R,
     ) -> Result<(), RecordStop>
-        requires asked { FrontAsk.Write frame word value ≡ front_asks self.old.front }
+        requires asked { FrontAsk.Write frame word value ≡ front_asks (frontend_of self.old) }
         requires place { IsPlace frame word }
         ensures { FrontGoes result self.old self.new (R.seen recorder.old) (R.seen recorder.new) }
     {
         let answer = FrontAnswer::Done;
-        // A front takes no memory once it is made.
+        // A frontend takes no memory once it is made.
         let _ = self.front.tell(&answer);
         self.under.write_front(frame, word, value);
         let shown = show_front(recorder, &FrontAsk::Write { frame, word, value }, &answer);
@@ -106,12 +108,12 @@ impl Split {
         word: u32,
         recorder: &mut R,
     ) -> Result<(), RecordStop>
-        requires asked { FrontAsk.Read frame word ≡ front_asks self.old.front }
+        requires asked { FrontAsk.Read frame word ≡ front_asks (frontend_of self.old) }
         requires place { IsPlace frame word }
         ensures { FrontGoes result self.old self.new (R.seen recorder.old) (R.seen recorder.new) }
     {
         let answer = FrontAnswer::Word(self.under.read_front(frame, word));
-        // A front takes no memory once it is made.
+        // A frontend takes no memory once it is made.
         let _ = self.front.tell(&answer);
         let shown = show_front(recorder, &FrontAsk::Read { frame, word }, &answer);
         follow_told(&mut self.front, recorder, shown)
@@ -130,7 +132,7 @@ impl Split {
             return Ok(());
         };
         let shown = show_front(recorder, &ask, &answer);
-        // A front takes no memory once it is made.
+        // A frontend takes no memory once it is made.
         let _ = self.front.tell(&answer);
         follow_told(&mut self.front, recorder, shown)
     }
@@ -212,8 +214,8 @@ impl Split {
         word: u32,
         recorder: &mut R,
     ) -> Result<(), RecordStop>
-        requires asked { BackAsk.Read mapping word ≡ job_ask_of self.old.back number }
-        requires live { IsLive self.old.under.grants mapping }
+        requires asked { BackAsk.Read mapping word ≡ job_ask_of self.old.rings.back number }
+        requires live { IsLive self.old.rings.under.grants mapping }
         requires word_in { word < 1024 }
         ensures { (disk : DiskSeen) → Goes (IsJobMove number) (IsJobMove number) 0 result
             (moment self.old disk (R.seen recorder.old))
@@ -238,8 +240,8 @@ impl Split {
         value: u32,
         recorder: &mut R,
     ) -> Result<(), RecordStop>
-        requires asked { BackAsk.Write mapping word value ≡ job_ask_of self.old.back number }
-        requires live { IsLive self.old.under.grants mapping }
+        requires asked { BackAsk.Write mapping word value ≡ job_ask_of self.old.rings.back number }
+        requires live { IsLive self.old.rings.under.grants mapping }
         requires writable { mapping.mode ≡ ReadWrite }
         requires word_in { word < 1024 }
         ensures { (disk : DiskSeen) → Goes (IsJobMove number) (IsJobMove number) 0 result

@@ -1,6 +1,6 @@
--- What happens echoes the schedule: an event's lines of the kinds that echo are those that answer it.
+-- The lines that echo a schedule: moves show none; and what a submission, an overwritten word and a look at the ring's words show answers them.
 use Rattle.std.proofs.Common.{◌≡◌, ℕ, zero, suc, List, [], ◌∷◌, ◌++◌, Option, Some, None, Result, Ok, Err, Bool, true, false, refl, ap, sym, ◌∙◌, subst, arith}
-use Rattle.std.specs.Prelude.{◌+◌, ◌*◌, ◌/◌, ◌%◌, ◌^◌, ◌<◌, ◌≤◌, filter, replicate, if◌then◌else◌}
+use Rattle.std.specs.Prelude.{◌+◌, ◌*◌, ◌/◌, ◌%◌, ◌^◌, ◌<◌, ◌≤◌, filter}
 use Rattle.std.specs.List.{AllByRecursion}
 use Rattle.std.proofs.lemmas.List.{append-nil}
 use Rattle.std.proofs.lemmas.Nat.{pow_pos}
@@ -12,8 +12,6 @@ use Rattle.blk_back.specs.Step as back_step
 use Rattle.blk_base.specs.declared.config.Job.{Job}
 use Rattle.blk_base.specs.declared.ask.BackAnswer.{BackAnswer}
 use Rattle.blk_base.specs.declared.ask.BackAnswer.TheVariants as answers
-use Rattle.schedule_text.specs.declared.event.Event.{Event}
-use Rattle.schedule_text.specs.declared.event.Event.TheVariants as events
 use Rattle.schedule_text.specs.declared.line.Detail.{Detail}
 use Rattle.schedule_text.specs.declared.line.Detail.TheVariants.{Lines, Moves}
 use Rattle.schedule_text.specs.declared.line.Line.{Line}
@@ -25,16 +23,12 @@ use Rattle.blk_back.specs.declared.told.BackTold.{BackTold}
 use Rattle.blk_back.specs.declared.told.BackTold.TheVariants as back_told
 use Rattle.blk_back.specs.declared.told.Halt.{Halt}
 use Rattle.hypervisor.specs.Act.{FrontAct, BackAct, Took}
-use Rattle.plain_disk.specs.Echo.{is_echo, Answers, AnswersAll, AnswersSubmit, AnswersSettle, AnswersLook, AreRingWords}
-use Rattle.blk_front.specs.Submit as front_submit
+use Rattle.plain_disk.specs.Echo.{is_echo, AnswersSubmit, AreRingWords}
 use Rattle.xen_pages.specs.Pages.{word_of}
-use Rattle.split_model.specs.World.{World, is_quiet}
+use Rattle.split_model.specs.World.{World}
 use Rattle.split_model.specs.Shown.{front_lines, back_lines, halt_lines, effect_line}
-use Rattle.split_model.specs.Happening.{Happening, FrontMoves, BackMoves, JobMoves, Negotiates, Connects, Submits, Notifies, Pokes, Dumps, Looks, Settles, is_guest_word, word_lines, ring_lines, happens, lines_at, after, lines_of, front_shows, back_shows, job_shows, front_turn, back_turn, job_turn, submit_line}
-use Rattle.split_model.specs.Kind.{is_carried, Makes, AreOf, AreOfAll, connecting, front_move, front_moves, back_moves, AreJobMoves, AreEachJobs, round_start, IsRound, AreRounds, never}
-use Rattle.schedule_text.specs.Recorder.{recorded}
-use Rattle.schedule_text.specs.Recorder.{kept_of}
-use Rattle.split_model.proofs.Running.{lines_of-append}
+use Rattle.split_model.specs.Happening.{Happening, FrontMoves, BackMoves, JobMoves, Negotiates, Connects, Submits, Notifies, Pokes, Dumps, Looks, Settles, is_guest_word, word_lines, ring_lines, happens, lines_at, lines_of, front_shows, back_shows, job_shows, front_turn, back_turn, job_turn, submit_line}
+use Rattle.schedule_text.specs.Recorder.{recorded, kept_of}
 use Rattle.split_model.proofs.Keys.{negotiated_lines_are, ready_lines_are}
 
 -- the lines that echo
@@ -133,70 +127,13 @@ pub are_moves-append : (a b : List Happening) → AllByRecursion (λ h. is_move 
 are_moves-append [] b p q = q
 are_moves-append (h ∷ a) b p q = (p.0, are_moves-append a b p.1 q)
 
-repeated : (n : ℕ) (h : Happening) → is_move h ≡ true → AllByRecursion (λ h. is_move h ≡ true) (replicate n h)
-repeated zero h m = tt
-repeated (suc n) h m = (m, repeated n h m)
+-- the line of a submission answers it
+pub submit_answers : (job : Job) (result : Result ℕ Refusal) → (line : Line) × (echo_of (submit_line job result ∷ []) ≡ line ∷ []) × AnswersSubmit job line
+submit_answers job (Ok number) = (lines.Submit number job, refl, refl)
+submit_answers job (Err r) = (submit_line job (Err r), refl, tt)
 
-connecting_moves : AllByRecursion (λ h. is_move h ≡ true) connecting
-connecting_moves =
-    are_moves-append (replicate 20 FrontMoves) (replicate 2 BackMoves ++ Connects ∷ []) (repeated 20 FrontMoves refl)
-    (are_moves-append (replicate 2 BackMoves) (Connects ∷ []) (repeated 2 BackMoves refl) (refl, tt))
-
-turn_moves : (connected : Bool) → AllByRecursion (λ h. is_move h ≡ true) (if connected then FrontMoves ∷ [] else connecting)
-turn_moves true = (refl, tt)
-turn_moves false = connecting_moves
-
-pub front_are_moves : (w : World) (n : ℕ) → AllByRecursion (λ h. is_move h ≡ true) (front_moves w n)
-front_are_moves w zero = tt
-front_are_moves w (suc n) = are_moves-append (front_move w) (replicate n FrontMoves) (turn_moves (front_submit.is_connected w.front.stage)) (repeated n FrontMoves refl)
-
-pub back_are_moves : (connected : Bool) (n : ℕ) → AllByRecursion (λ h. is_move h ≡ true) (if connected then replicate n BackMoves else [])
-back_are_moves true n = repeated n BackMoves refl
-back_are_moves false n = tt
-
-pub job_are_moves : (number : ℕ) (hs : List Happening) → AreJobMoves number hs → AllByRecursion (λ h. is_move h ≡ true) hs
-job_are_moves number [] j = tt
-job_are_moves number (h ∷ hs) j = (ap is_move j.1, job_are_moves number hs j.3)
-
-pub each_are_moves : (from to : ℕ) (w : World) (hs : List Happening) → AreEachJobs from to w hs → AllByRecursion (λ h. is_move h ≡ true) hs
-each_are_moves from to w [] j = tt
-each_are_moves from to w (h ∷ hs) j = (ap is_move j.2, each_are_moves j.0 to (happens w h) hs j.5)
-
-pub start_are_moves : (w : World) → AllByRecursion (λ h. is_move h ≡ true) (round_start w)
-start_are_moves w = are_moves-append (front_move w) (BackMoves ∷ []) (turn_moves (front_submit.is_connected w.front.stage)) (refl, tt)
-
-pub round_are_moves : (w : World) (hs : List Happening) → IsRound w hs → AllByRecursion (λ h. is_move h ≡ true) hs
-round_are_moves w hs r = subst (λ l. AllByRecursion (λ h. is_move h ≡ true) l) (sym r.all) (are_moves-append (round_start w) r.jobs (start_are_moves w) (each_are_moves 0 r.are_jobs.to (after (round_start w) w) r.jobs r.are_jobs.each))
-
-pub rounds_are_moves : (test : World → Bool) (n : ℕ) (w : World) (hs : List Happening) → AreRounds test n w hs → AllByRecursion (λ h. is_move h ≡ true) hs
-rounds_are_moves test zero w hs r = subst (λ l. AllByRecursion (λ h. is_move h ≡ true) l) (sym r) tt
-rounds_are_moves test (suc n) w hs r =
-    let p = r.1 in
-    subst (λ l. AllByRecursion (λ h. is_move h ≡ true) l) (sym p.2) (are_moves-append p.0 p.1 (round_are_moves w p.0 p.3) (rounds_are_moves test n (after p.0 w) p.1 p.4))
-
--- an event of which only moves come echoes in nothing
-silent_event : (w : World) (hs : List Happening) → AllByRecursion (λ h. is_move h ≡ true) hs → echo_of (lines_of hs w) ≡ []
-silent_event w hs m = moves_silent hs w m
-
-submit_answers : (w : World) (job : Job) (result : Result ℕ Refusal) → (line : Line) × (echo_of (submit_line job result ∷ []) ≡ line ∷ []) × AnswersSubmit job line
-submit_answers w job (Ok number) = (lines.Submit number job, refl, refl)
-submit_answers w job (Err r) = (submit_line job (Err r), refl, tt)
-
-look_answers : (quiet : Bool) → (line : Line) × (echo_of ((if quiet then lines.Quiet else lines.Busy) ∷ []) ≡ line ∷ []) × AnswersLook line
-look_answers true = (lines.Quiet, refl, tt)
-look_answers false = (lines.Busy, refl, tt)
-
-settle_answers : (quiet : Bool) → (line : Line) × (echo_of ((if quiet then lines.Quiet else lines.Unsettled) ∷ []) ≡ line ∷ []) × AnswersSettle line
-settle_answers true = (lines.Quiet, refl, tt)
-settle_answers false = (lines.Unsettled, refl, tt)
-
-settle_echo : (w : World) (rounds : List Happening) (quiet : Bool) → AllByRecursion (λ h. is_move h ≡ true) rounds → echo_of (lines_of (rounds ++ Settles quiet ∷ []) w) ≡ echo_of ((if quiet then lines.Quiet else lines.Unsettled) ∷ [])
-settle_echo w rounds quiet m =
-    ap echo_of (lines_of-append rounds (Settles quiet ∷ []) w)
-    ∙ (echo-append (lines_of rounds w) (lines_of (Settles quiet ∷ []) (after rounds w))
-    ∙ (ap (λ l. l ++ echo_of (lines_of (Settles quiet ∷ []) (after rounds w))) (moves_silent rounds w m)))
-
-poke_echo : (w : World) (frame word value : ℕ) → is_guest_word frame word ≡ true → echo_of (lines_of (Pokes frame word value ∷ []) w) ≡ lines.Poke frame word value ∷ []
+-- a word that was overwritten is shown
+pub poke_echo : (w : World) (frame word value : ℕ) → is_guest_word frame word ≡ true → echo_of (lines_of (Pokes frame word value ∷ []) w) ≡ lines.Poke frame word value ∷ []
 poke_echo w frame word value allowed = rw allowed refl
 
 -- places from further on, and below a bound that is further on, are as good
@@ -215,7 +152,7 @@ word_then : (place bound value : ℕ) (rest : List Line) → place < bound → A
 word_then place bound zero rest within are = later_words place (place + 1) bound rest (omega arith) are
 word_then place bound (suc value) rest within are = (place, refl, refl, omega arith, within, (λ e. absurd (cc)), are)
 
-pub are_ring_words : (pages : List ℕ) (place count : ℕ) → AreRingWords place (place + count) (ring_lines pages place count)
+are_ring_words : (pages : List ℕ) (place count : ℕ) → AreRingWords place (place + count) (ring_lines pages place count)
 are_ring_words pages place zero = tt
 are_ring_words pages place (suc count) =
     word_then place (place + suc count) (word_of pages (2 + place / 1024) (place % 1024)) (ring_lines pages (place + 1) count) (omega arith)
@@ -240,43 +177,11 @@ dump_echo w = ap echo_of (append-nil (ring_lines w.under.pages 0 1024)) ∙ word
 one_page : (order : ℕ) → 1024 ≤ 1024 * 2 ^ order
 one_page order = let some : 0 < 2 ^ order = pow_pos order in omega arith
 
--- the lines of an event that echo are those that answer it
-made_echo : (order : ℕ) (e : Event) (w : World) (hs : List Happening) → is_carried e ≡ true → Makes e w hs → Answers order e (echo_of (lines_of hs w))
-made_echo order (events.Submit job) w hs c k =
-    let a = submit_answers w job (front_submit.submit_of w.front job).0 in
-    (a.0, ap (λ l. echo_of (lines_of l w)) k.0 ∙ a.1, a.2)
-made_echo order (events.Front n) w hs c k = ap (λ l. echo_of (lines_of l w)) k ∙ silent_event w (front_moves w n) (front_are_moves w n)
-made_echo order (events.Back n) w hs c k = ap (λ l. echo_of (lines_of l w)) k ∙ silent_event w (back_moves w n) (back_are_moves (front_submit.is_connected w.front.stage) n)
-made_echo order (events.Job number n) w hs c k = silent_event w hs (job_are_moves number hs k.0)
-made_echo order (events.Turn n) w hs c k = silent_event w hs (rounds_are_moves never n w hs k)
-made_echo order events.Settle w hs c k =
-    let a = settle_answers (is_quiet (after k.rounds w)) in
-    (a.0, ap (λ l. echo_of (lines_of l w)) k.all ∙ (settle_echo w k.rounds (is_quiet (after k.rounds w)) (rounds_are_moves is_quiet k.are_rounds.count w k.rounds k.are_rounds.are_rounds) ∙ a.1), a.2)
-made_echo order events.Look w hs c k =
-    let a = look_answers (is_quiet w) in
-    (a.0, ap (λ l. echo_of (lines_of l w)) k ∙ a.1, a.2)
-made_echo order (events.Notify at) w hs c k = ap (λ l. echo_of (lines_of l w)) k
-made_echo order events.Suspend w hs c k = absurd k
-made_echo order (events.Close at) w hs c k = absurd k
-made_echo order (events.Poke frame word value) w hs c k = ap (λ l. echo_of (lines_of l w)) k.0 ∙ poke_echo w frame word value c
-made_echo order (events.Key name text) w hs c k = absurd k
-made_echo order events.Dump w hs c k =
-    wider 0 1024 (1024 * 2 ^ order) (echo_of (lines_of hs w)) (one_page order)
-    (subst (AreRingWords 0 1024) (sym (ap (λ l. echo_of (lines_of l w)) k ∙ dump_echo w)) (are_ring_words w.under.pages 0 1024))
-
-pub event_echo : (order : ℕ) (e : Event) (w : World) (hs : List Happening) → AreOf e w hs → Answers order e (echo_of (lines_of hs w))
-event_echo order e w hs k = made_echo order e w hs k.0 k.1
-
--- what the events make happen answers them, one after another
-pub schedule_echo : (order : ℕ) (es : List Event) (w : World) (hs : List Happening) → AreOfAll es w hs → AnswersAll order es (echo_of (lines_of hs w))
-schedule_echo order [] w hs k = ap (λ l. echo_of (lines_of l w)) k
-schedule_echo order (e ∷ es) w hs k = (
-  echo_of (lines_of k.0 w),
-  echo_of (lines_of k.1 (after k.0 w)),
-  ap (λ l. echo_of (lines_of l w)) k.2 ∙ (ap echo_of (lines_of-append k.0 k.1 w) ∙ echo-append (lines_of k.0 w) (lines_of k.1 (after k.0 w))),
-  event_echo order e w k.0 k.3,
-  schedule_echo order es (after k.0 w) k.1 k.4,
-)
+-- the lines of a look at the ring's words answer it
+pub dump_answers : (order : ℕ) (w : World) → AreRingWords 0 (1024 * 2 ^ order) (echo_of (lines_of (Dumps ∷ []) w))
+dump_answers order w =
+    wider 0 1024 (1024 * 2 ^ order) (echo_of (lines_of (Dumps ∷ []) w)) (one_page order)
+    (subst (AreRingWords 0 1024) (sym (dump_echo w)) (are_ring_words w.under.pages 0 1024))
 
 kept_echo_one : (d : Detail) (l : Line) → echo_of (recorded d l) ≡ echo_of (l ∷ [])
 kept_echo_one Lines (lines.Begin config other) = refl

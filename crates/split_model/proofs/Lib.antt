@@ -1,6 +1,5 @@
 pub mod Keeping
 pub mod Running
-pub mod Joining
 pub mod Moving
 pub mod SafeHands
 pub mod SafeActs

@@ -1,17 +1,15 @@
 -- What happens after more has happened.
-use Rattle.std.proofs.Common.{◌≡◌, ℕ, ◌+◌, ◌*◌, ◌<◌, ◌≤◌, List, [], ◌∷◌, ◌++◌, Some, Result, Ok, Err, refl, ap, sym, ◌∙◌, subst, append_assoc, arith}
+use Rattle.std.proofs.Common.{◌≡◌, ℕ, ◌+◌, ◌≤◌, List, [], ◌∷◌, ◌++◌, Result, Ok, Err, refl, ap, sym, ◌∙◌, subst, append_assoc}
 use Rattle.std.proofs.lemmas.List.{append-nil}
 use Rattle.std.proofs.lemmas.List.Concat.{flat_map-append}
-use Rattle.std.proofs.Math.Nat.{mul-le-mul_left}
-use Rattle.blk_io.specs.Disk.{DiskSeen, sectors_of}
+use Rattle.blk_io.specs.Disk.{DiskSeen}
 use Rattle.schedule_text.specs.declared.line.Detail.{Detail}
 use Rattle.schedule_text.specs.declared.line.Line.{Line}
 use Rattle.schedule_text.specs.declared.recorder.RecordStop.{RecordStop}
-use Rattle.schedule_text.specs.Recorder.{recorded, kept_of, RecorderSeen, Gained, StopsAmong, Adds}
-use Rattle.schedule_text.proofs.Adding.{gained_none, gained_twice, stopped_later}
+use Rattle.schedule_text.specs.Recorder.{recorded, kept_of, Gained, StopsAmong, Adds}
 use Rattle.split_model.specs.World.{World}
 use Rattle.split_model.specs.Happening.{Happening, happens, lines_at, after, lines_of, DiskRuns, DiskGoes}
-use Rattle.split_model.specs.Leads.{Moment, IsReadyFor, Keeps, Leads, LeadsToStop, Ends, Goes}
+use Rattle.split_model.specs.Leads.{Moment, Leads, LeadsToStop, Ends, Goes}
 use Rattle.split_model.proofs.Keeping.{disk_attachment}
 
 pub after-append : (first rest : List Happening) (w : World) → after (first ++ rest) w ≡ after rest (after first w)
@@ -36,26 +34,6 @@ runs_attachment (h ∷ hs) w a b p = runs_attachment hs (happens w h) p.0 b p.2 
 pub kept_of-append : (detail : Detail) (a b : List Line) → kept_of detail (a ++ b) ≡ kept_of detail a ++ kept_of detail b
 kept_of-append detail a b = flat_map-append (recorded detail) a b
 
--- the lines that a recorder keeps of what happened and then happened on
-pub kept-append : (detail : Detail) (first rest : List Happening) (w : World) → kept_of detail (lines_of (first ++ rest) w) ≡ kept_of detail (lines_of first w) ++ kept_of detail (lines_of rest (after first w))
-kept-append detail first rest w = ap (kept_of detail) (lines_of-append first rest w) ∙ kept_of-append detail (lines_of first w) (lines_of rest (after first w))
-
--- nothing happened
-pub leads_nowhere : (kind : List Happening → Type 0) (m : Moment) → kind [] → Leads kind m m
-leads_nowhere kind m k = record { history = []; is_kind = k; world = refl; disk = refl; told = gained_none m.recorder }
-
--- what happened, and then more
-pub leads_on : (one other both : List Happening → Type 0) (a b c : Moment) → ((xs ys : List Happening) → one xs → b.world ≡ after xs a.world → other ys → both (xs ++ ys)) → Leads one a b → Leads other b c → Leads both a c
-leads_on one other both a b c join p q = record {
-  history = p.history ++ q.history;
-  is_kind = join p.history q.history p.is_kind p.world q.is_kind;
-  world = q.world ∙ (ap (after q.history) p.world ∙ sym (after-append p.history q.history a.world));
-  disk = disk_runs-append p.history q.history a.world a.disk b.disk c.disk p.disk (subst (λ w. DiskRuns q.history w b.disk c.disk) p.world q.disk);
-  told = subst (λ l. Gained l a.recorder c.recorder) (sym (lines_of-append p.history q.history a.world))
-      (gained_twice (lines_of p.history a.world) (lines_of q.history (after p.history a.world)) a.recorder b.recorder c.recorder p.told
-      (subst (λ w. Gained (lines_of q.history w) b.recorder c.recorder) p.world q.told));
-}
-
 -- it is of another kind too, as the machine then stands
 pub leads_into : (one other : List Happening → Type 0) (a b : Moment) → ((xs : List Happening) → one xs → b.world ≡ after xs a.world → other xs) → Leads one a b → Leads other a b
 leads_into one other a b into p = record { history = p.history; is_kind = into p.history p.is_kind p.world; world = p.world; disk = p.disk; told = p.told }
@@ -65,28 +43,6 @@ leads_as one other a b into p = leads_into one other a b (λ xs k here. into xs 
 
 pub stops_as : (one other : List Happening → Type 0) (stop : RecordStop) (a b : Moment) → ((xs : List Happening) → one xs → other xs) → LeadsToStop one stop a b → LeadsToStop other stop a b
 stops_as one other stop a b into p = record { history = p.history; last = p.last; is_kind = into (p.history ++ p.last ∷ []) p.is_kind; world = p.world; disk = p.disk; told = p.told }
-
--- the lines before a stop, where the machine had gone on
-stopped_on : (xs ys : List Happening) (last : Happening) (stop : RecordStop) (w v : World) (r s t : RecorderSeen) → v ≡ after xs w → Gained (lines_of xs w) r s → StopsAmong (lines_of ys v) (lines_at (after ys v) last) stop s t → StopsAmong (lines_of (xs ++ ys) w) (lines_at (after (xs ++ ys) w) last) stop r t
-stopped_on xs ys last stop w v r s t here p q =
-    let there : after (xs ++ ys) w ≡ after ys (after xs w) = after-append xs ys w in
-    let moved : StopsAmong (lines_of ys (after xs w)) (lines_at (after ys (after xs w)) last) stop s t = subst (λ u. StopsAmong (lines_of ys u) (lines_at (after ys u) last) stop s t) here q in
-    subst (λ l. StopsAmong l (lines_at (after (xs ++ ys) w) last) stop r t) (sym (lines_of-append xs ys w))
-    (subst (λ u. StopsAmong (lines_of xs w ++ lines_of ys (after xs w)) (lines_at u last) stop r t) (sym there)
-    (stopped_later (lines_of xs w) (lines_of ys (after xs w)) (lines_at (after ys (after xs w)) last) stop r s t p moved))
-
--- what happened, and then more, of which the last made the recorder stop
-pub stops_on : (one other both : List Happening → Type 0) (stop : RecordStop) (a b c : Moment) → ((xs ys : List Happening) → one xs → b.world ≡ after xs a.world → other ys → both (xs ++ ys)) → Leads one a b → LeadsToStop other stop b c → LeadsToStop both stop a c
-stops_on one other both stop a b c join p q =
-    let same : (p.history ++ q.history) ++ q.last ∷ [] ≡ p.history ++ (q.history ++ q.last ∷ []) = append_assoc p.history q.history (q.last ∷ []) in
-    record {
-      history = p.history ++ q.history;
-      last = q.last;
-      is_kind = subst both (sym same) (join p.history (q.history ++ q.last ∷ []) p.is_kind p.world q.is_kind);
-      world = q.world ∙ (ap (after (q.history ++ q.last ∷ [])) p.world ∙ (sym (after-append p.history (q.history ++ q.last ∷ []) a.world) ∙ ap (λ hs. after hs a.world) (sym same)));
-      disk = subst (λ hs. DiskRuns hs a.world a.disk c.disk) (sym same) (disk_runs-append p.history (q.history ++ q.last ∷ []) a.world a.disk b.disk c.disk p.disk (subst (λ w. DiskRuns (q.history ++ q.last ∷ []) w b.disk c.disk) p.world q.disk));
-      told = stopped_on p.history q.history q.last stop a.world b.world a.recorder b.recorder c.recorder p.world p.told q.told;
-    }
 
 -- one thing happened
 pub leads_one : (h : Happening) (a b : Moment) → b.world ≡ happens a.world h → DiskGoes a.world h a.disk b.disk → Gained (lines_at a.world h) a.recorder b.recorder → Leads (λ hs. hs ≡ h ∷ []) a b
@@ -116,96 +72,3 @@ goes_one kind so_far n h result a b is far world made sectors disk told = record
   ends = ends_as (λ hs. hs ≡ h ∷ []) (λ hs. hs ≡ h ∷ []) kind so_far result a b (λ xs e. subst kind (sym e) is) (λ xs e. subst so_far (sym e) far) (ends_one h result a b world disk told);
   keeps = record { made = made; sectors = sectors; attachment = disk_attachment a.world h a.disk b.disk disk };
 }
-
--- nothing happened, which is of this kind
-pub goes_nowhere : (kind so_far : List Happening → Type 0) (n : ℕ) (m : Moment) → kind [] → Goes kind so_far n (Ok tt) m m
-goes_nowhere kind so_far n m k = record { ends = leads_nowhere kind m k; keeps = record { made = omega arith; sectors = refl; attachment = refl } }
-
--- both keep, with the mappings of both
-pub keeps_on : (n m k : ℕ) (a b c : Moment) → n + m ≤ k → Keeps n a b → Keeps m b c → Keeps k a c
-keeps_on n m k a b c le p q =
-    let one = p.made in
-    let two = q.made in
-    record { made = omega arith; sectors = q.sectors ∙ p.sectors; attachment = q.attachment ∙ p.attachment }
-
--- a call was done, and then another was made
-pub then_goes : (one one_far other other_far both both_far : List Happening → Type 0) (n m k : ℕ) (result : Result (Unit {0}) RecordStop) (a b c : Moment) → n + m ≤ k → ((xs ys : List Happening) → one xs → b.world ≡ after xs a.world → other ys → both (xs ++ ys)) → ((xs ys : List Happening) → one xs → b.world ≡ after xs a.world → other_far ys → both_far (xs ++ ys)) → Goes one one_far n (Ok tt) a b → Goes other other_far m result b c → Goes both both_far k result a c
-then_goes one one_far other other_far both both_far n m k (Ok done) a b c le join far p q = record { ends = leads_on one other both a b c join p.ends q.ends; keeps = keeps_on n m k a b c le p.keeps q.keeps }
-then_goes one one_far other other_far both both_far n m k (Err stop) a b c le join far p q = record { ends = stops_on one other_far both_far stop a b c far p.ends q.ends; keeps = keeps_on n m k a b c le p.keeps q.keeps }
-
--- it is of another kind too, with more room
-pub goes_as : (one one_far other other_far : List Happening → Type 0) (n m : ℕ) (result : Result (Unit {0}) RecordStop) (a b : Moment) → n ≤ m → ((xs : List Happening) → one xs → other xs) → ((xs : List Happening) → one_far xs → other_far xs) → Goes one one_far n result a b → Goes other other_far m result a b
-goes_as one one_far other other_far n m result a b le into far p =
-    let made = p.keeps.made in
-    record { ends = ends_as one one_far other other_far result a b into far p.ends; keeps = record { made = omega arith; sectors = p.keeps.sectors; attachment = p.keeps.attachment } }
-
--- a call was done, and the recorder stopped the next
-pub then_stops : (one one_far other other_far both both_far : List Happening → Type 0) (n m k : ℕ) (stop : RecordStop) (a b c : Moment) → n + m ≤ k → ((xs ys : List Happening) → one xs → b.world ≡ after xs a.world → other_far ys → both_far (xs ++ ys)) → Goes one one_far n (Ok tt) a b → Goes other other_far m (Err stop) b c → Goes both both_far k (Err stop) a c
-then_stops one one_far other other_far both both_far n m k stop a b c le far p q =
-    record { ends = stops_on one other_far both_far stop a b c far p.ends q.ends; keeps = keeps_on n m k a b c le p.keeps q.keeps }
-
--- it is of another kind, as the machine then stands
-pub goes_into : (one one_far other other_far : List Happening → Type 0) (n m : ℕ) (a b : Moment) → n ≤ m → ((xs : List Happening) → one xs → b.world ≡ after xs a.world → other xs) → Goes one one_far n (Ok tt) a b → Goes other other_far m (Ok tt) a b
-goes_into one one_far other other_far n m a b le into p =
-    let made = p.keeps.made in
-    record { ends = leads_into one other a b into p.ends; keeps = record { made = omega arith; sectors = p.keeps.sectors; attachment = p.keeps.attachment } }
-
--- what is left after a call is enough for the next
-pub ready_on : (n m k : ℕ) (a b : Moment) → n + m ≤ k → IsReadyFor k a.world a.disk → Keeps n a b → IsReadyFor m b.world b.disk
-ready_on n m k a b le p q =
-    let left = p.left in
-    let made = q.made in
-    record { attached = ap sectors_of q.attachment ∙ (p.attached ∙ ap Some (sym q.sectors)); left = omega arith }
-
-pub ready_less : (n k : ℕ) (w : World) (d : DiskSeen) → n ≤ k → IsReadyFor k w d → IsReadyFor n w d
-ready_less n k w d le p =
-    let left = p.left in
-    record { attached = p.attached; left = omega arith }
-
--- the recorder stopped the first call
-pub stops_first : (one one_far other other_far : List Happening → Type 0) (n m : ℕ) (stop : RecordStop) (a b : Moment) → n ≤ m → ((xs : List Happening) → one_far xs → other_far xs) → Goes one one_far n (Err stop) a b → Goes other other_far m (Err stop) a b
-stops_first one one_far other other_far n m stop a b le far p =
-    let made = p.keeps.made in
-    record { ends = stops_as one_far other_far stop a b far p.ends; keeps = record { made = omega arith; sectors = p.keeps.sectors; attachment = p.keeps.attachment } }
-
--- in a loop: so many times, of so many, and happenings of this kind led here
-pub record HasGone (kind : List Happening → Type 0) (each times count : ℕ) (a b : Moment) : Type 0 where
-  pub went : Goes kind kind (each * times) (Ok tt) a b
-  pub within : times ≤ count
-
-each_more : (each n count : ℕ) → n < count → each * n + each ≤ each * count
-each_more each n count less =
-    let one : n + 1 ≤ count = omega arith in
-    let most = mul-le-mul_left each one in
-    let more : each * (n + 1) ≡ each * n + each = omega arith in
-    omega arith
-
--- a loop begins
-pub not_gone : (kind : List Happening → Type 0) (each count : ℕ) (a : Moment) → kind [] → HasGone kind each 0 count a a
-not_gone kind each count a k = record { went = goes_nowhere kind kind (each * 0) a k; within = omega arith }
-
--- once more
-pub gone_on : (one next other other_far : List Happening → Type 0) (each n count : ℕ) (a b c : Moment) → n < count → ((xs ys : List Happening) → one xs → b.world ≡ after xs a.world → other ys → next (xs ++ ys)) → HasGone one each n count a b → Goes other other_far each (Ok tt) b c → HasGone next each (n + 1) count a c
-gone_on one next other other_far each n count a b c less join p q =
-    let more : each * n + each ≤ each * (n + 1) = each_more each n (n + 1) (omega arith) in
-    record {
-      went = record { ends = leads_on one other next a b c join p.went.ends q.ends; keeps = keeps_on (each * n) each (each * (n + 1)) a b c more p.went.keeps q.keeps };
-      within = omega arith;
-    }
-
--- the recorder stopped the loop
-pub gone_to_stop : (one other other_far both both_far : List Happening → Type 0) (each n count most : ℕ) (stop : RecordStop) (a b c : Moment) → n < count → each * count ≤ most → ((xs ys : List Happening) → one xs → b.world ≡ after xs a.world → other_far ys → both_far (xs ++ ys)) → HasGone one each n count a b → Goes other other_far each (Err stop) b c → Goes both both_far most (Err stop) a c
-gone_to_stop one other other_far both both_far each n count most stop a b c less le far p q =
-    let more = each_more each n count less in
-    then_stops one one other other_far both both_far (each * n) each most stop a b c (omega arith) far p.went q
-
--- what is left for the next time
-pub ready_again : (kind : List Happening → Type 0) (each n count : ℕ) (a b : Moment) → n < count → IsReadyFor (each * count) a.world a.disk → HasGone kind each n count a b → IsReadyFor each b.world b.disk
-ready_again kind each n count a b less ready p = ready_on (each * n) each (each * count) a b (each_more each n count less) ready p.went.keeps
-
--- the loop is done
-pub gone : (kind other other_far : List Happening → Type 0) (each n count most : ℕ) (a b : Moment) → each * count ≤ most → ((xs : List Happening) → kind xs → b.world ≡ after xs a.world → other xs) → HasGone kind each n count a b → Goes other other_far most (Ok tt) a b
-gone kind other other_far each n count most a b le into p =
-    let within = p.within in
-    let all = mul-le-mul_left each within in
-    goes_into kind kind other other_far (each * n) most a b (omega arith) into p.went

@@ -19,6 +19,9 @@ use Rattle.back_jobs.proofs.Hands.{place_among}
 use Rattle.blk_back.specs.View.{View}
 use Rattle.blk_back.specs.Step.{job_step, next_job_of}
 use Rattle.blk_back.proofs.Hands.{next_job_above}
+use Rattle.hypervisor.specs.Act.{BackAct}
+use Rattle.split_model.specs.World.{World}
+use Rattle.split_model.specs.Happening.{job_after}
 use Rattle.split_model.specs.Safe.{above}
 
 -- a job keeps its number, whatever it is told
@@ -111,3 +114,26 @@ jobs_kept v last k a h =
 
 pub above_few : (last : ℕ) (v : View) → above last v ≤ length v.jobs.works
 above_few last v = count_by-le-length (λ (t : Work). nat_lt last t.number) v.jobs.works
+
+-- so it does in the machine
+pub job_above : (last number : ℕ) (w : World) (act : Option BackAct) → above last (let v : World = job_after w number act in v.back) ≡ above last w.back
+job_above last number w None = refl
+job_above last number w (Some a) = above_kept last w.back number a.answer
+
+-- above the next job there are fewer
+pub next_above : (v : View) (last next : ℕ) → next_job_of v last ≡ Some next → above next v < above last v
+next_above v last next n =
+    let less = jobs_kept v last next answer.Done n in
+    let same = above_kept next v next answer.Done in
+    omega arith
+
+-- a job that is next is one of at most 32, each of which made a map at most
+pub job_left : (v : View) (last next made made_first above_first : ℕ) → next_job_of v last ≡ Some next → length v.jobs.works ≤ 32 → above 0 v ≡ above_first → made + above last v ≤ made_first + above_first → made + 1 ≤ made_first + 32
+job_left v last next made made_first above_first n few same le =
+    let less = next_above v last next n in
+    let within = above_few 0 v in
+    omega arith
+
+-- and so is what it made, and those that are left
+pub job_made : (now later : View) (last next made made_then made_first above_first : ℕ) → above next later < above last now → made + above last now ≤ made_first + above_first → made_then ≤ made + 1 → made_then + above next later ≤ made_first + above_first
+job_made now later last next made made_then made_first above_first less le one = omega arith

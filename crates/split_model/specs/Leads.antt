@@ -1,10 +1,11 @@
 -- What happened between two moments: the machine, the disk and the recorder went along.
-use Rattle.std.specs.Prelude.{◌≡◌, ℕ, ◌+◌, ◌<◌, ◌≤◌, ◌^◌, List, [], ◌∷◌, ◌++◌, Some, Result, Ok, Err}
-use Rattle.blk_io.specs.Disk.{DiskSeen, attached_of}
+use Rattle.std.specs.Prelude.{◌≡◌, ℕ, ◌+◌, ◌≤◌, List, [], ◌∷◌, ◌++◌, Result, Ok, Err}
+use Rattle.blk_io.specs.Disk.{DiskSeen}
 use Rattle.schedule_text.specs.declared.recorder.RecordStop.{RecordStop}
 use Rattle.schedule_text.specs.Recorder.{RecorderSeen, Gained, StopsAmong}
+use Rattle.hypervisor.specs.Act.{Outcome, IsGiven}
 use Rattle.split_model.specs.World.{World}
-use Rattle.split_model.specs.Happening.{Happening, lines_at, after, lines_of, DiskRuns}
+use Rattle.split_model.specs.Happening.{Happening, JobMoves, lines_at, after, lines_of, DiskRuns}
 
 -- a moment: the machine, and what the disk and the recorder expose
 pub record Moment : Type 0 where
@@ -14,11 +15,6 @@ pub record Moment : Type 0 where
 
 abbrev pub moment : World → DiskSeen → RecorderSeen → Moment
 moment w disk recorder = record { world = w; disk = disk; recorder = recorder }
-
--- the disk is attached with the front's sectors, and there are numbers for so many mappings more
-pub record IsReadyFor (n : ℕ) (w : World) (disk : DiskSeen) : Type 0 where
-  pub attached : attached_of disk ≡ Some w.front.sectors
-  pub left : w.under.grants.made + n < 2 ^ 64
 
 -- so many mappings more were made at most; what is attached stays
 pub record Keeps (n : ℕ) (a b : Moment) : Type 0 where
@@ -56,3 +52,7 @@ pub record Goes (kind so_far : List Happening → Type 0) (n : ℕ) (result : Re
 -- exactly this happened
 abbrev pub Is : List Happening → List Happening → Type 0
 Is happenings hs = hs ≡ happenings
+
+-- one move of the job of a number
+abbrev pub IsJobMove : ℕ → List Happening → Type 0
+IsJobMove number hs = (outcome : Outcome) × (hs ≡ JobMoves number outcome ∷ []) × IsGiven outcome

@@ -2,7 +2,6 @@ pub mod Keys
 pub mod World
 pub mod Shown
 pub mod Happening
-pub mod Kind
 pub mod Leads
 pub mod Safe
 pub mod Report

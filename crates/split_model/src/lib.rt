@@ -1,10 +1,10 @@
 //! The machine of both domains as a pure function over what happens to it: moves of an end or of a
-//! job with their answers, submissions and spurious events; its report, the lines that each
-//! happening shows (`grant_table.h`, `io/ring.h`, `io/blkif.h`); and the happenings that each event
-//! of a schedule makes. The runner stands on it.
+//! job with their answers, submissions and spurious events; and its report, the lines that each
+//! happening shows (`grant_table.h`, `io/ring.h`, `io/blkif.h`). The machine with the negotiation of
+//! its ends (`vbd_model`) stands on it.
 #![tactic(auto)]
 
-ghost use Rattle.std.specs.Prelude.{◌≡◌, ℕ, ◌+◌, ◌^◌, ◌<◌, ◌≤◌, List, ◌++◌, length, Some, filter};
+ghost use Rattle.std.specs.Prelude.{◌≡◌, ℕ, ◌+◌, ◌^◌, ◌<◌, ◌≤◌, List, ◌++◌, length, Some};
 ghost use Rattle.blk_base.specs.Options.{Options};
 ghost use Rattle.hypervisor.specs.May.{FrontMay, BackMay};
 ghost use Rattle.blk_front.specs.Ask.{ask_of as front_ask, StaysInMemory};
@@ -13,9 +13,6 @@ ghost use Rattle.back_jobs.specs.Sound.{StaysInPageAndDisk};
 ghost use Rattle.blk_back.specs.Ask.{ask_of as back_ask};
 ghost use Rattle.blk_back.specs.Step.{job_ask_of};
 ghost use Rattle.blk_back.specs.Hands.{hands_of};
-ghost use Rattle.schedule_text.specs.declared.event.Event.{Event};
-ghost use Rattle.plain_disk.specs.Echo.{AnswersAll, is_echo};
-ghost use Rattle.split_model.specs.Kind.{AreOfAll};
 ghost use Rattle.split_model.specs.World.{World, start_of};
 ghost use Rattle.split_model.specs.Happening.{Happening, happens, after, lines_of};
 ghost use Rattle.split_model.specs.Safe.{IsSafe};
@@ -41,11 +38,4 @@ pub fn every_ask_may_be_carried_out()
     ensures job { (w : World) (number : ℕ) → IsSafe w → Names (hands_of w.back) (job_ask_of w.back number)
         → StaysInPageAndDisk w.back.jobs.info.sectors (job_ask_of w.back number) → w.under.grants.made + 1 < 2 ^ 64 → length (hands_of w.back) ≤ 34
         → BackMay w.under (Some w.front.sectors) (job_ask_of w.back number) }
-{}
-
-/// What the events of a schedule make happen echoes them: the lines of the kinds that echo are, one
-/// for one and in order, those that answer the events.
-pub fn a_schedule_is_echoed()
-    ensures { (order : ℕ) (events : List Event) (w : World) (history : List Happening) → AreOfAll events w history
-        → AnswersAll order events (filter is_echo (lines_of history w)) }
 {}

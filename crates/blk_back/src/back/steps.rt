@@ -49,7 +49,9 @@ impl Back {
         match (self.next_reply(), answer) {
             (Some(r), _) => self.begin_reply(r),
             (None, BackAnswer::Word(word)) => self.read_in_loop(*word),
-            (None, _) => self.asleep = false,
+            (None, BackAnswer::Event) => self.asleep = false,
+            // A watch is looked at by the negotiation, and doesn't end sleep.
+            (None, _) => {}
         }
     }
 

@@ -1,7 +1,7 @@
 // The schedule's bytes as they come.
 ghost use Rattle.std.specs.Prelude.{◌≡◌, ◌≤◌, ◌∷◌, [], OnErr, IfOk, Some, length};
 ghost use Rattle.blk_io.specs.Disk.{attached_of};
-ghost use Rattle.split_model.specs.Leads.{moment};
+ghost use Rattle.vbd_model.specs.Leads.{moment};
 ghost use Rattle.schedule_run.specs.Reading.{IsLineOf, IsBadLine};
 ghost use Rattle.schedule_run.specs.Carrying.{read_so_far, IsFresh, IsReadyToTake, Feeds, Finishes, Takes, ReadsAll};
 
@@ -33,7 +33,7 @@ impl Reader {
     ) -> Result<(), RunStop>
         requires limit { bytes_limit ≤ 4294967296 }
         requires fresh { IsFresh (read_so_far self.old.machine self.old.part.items self.old.lines (D.seen disk.old) (R.seen recorder.old)) }
-        requires attached { attached_of (D.seen disk.old) ≡ Some self.old.machine.world.front.sectors }
+        requires attached { attached_of (D.seen disk.old) ≡ Some self.old.machine.world.rings.front.sectors }
         ensures { ReadsAll bytes_limit result (S.seen source.old) (S.seen source.new)
             (moment self.old.machine.world (D.seen disk.old) (R.seen recorder.old))
             (moment self.new.machine.world (D.seen disk.new) (R.seen recorder.new)) }

@@ -3,8 +3,9 @@ ghost use Rattle.std.specs.Prelude.{◌≡◌, ◌<◌, ◌^◌, ◌∷◌, [], 
 ghost use Rattle.blk_io.specs.Disk.{DiskSeen};
 ghost use Rattle.schedule_text.specs.Recorder.{Adds};
 ghost use Rattle.xen_pages.specs.Pages.{word_of};
-ghost use Rattle.split_model.specs.Happening.{Pokes, Dumps, is_guest_word, word_lines};
-ghost use Rattle.split_model.specs.Leads.{Goes, Is, moment};
+ghost use Rattle.split_model.specs.Happening.{is_guest_word, word_lines};
+ghost use Rattle.vbd_model.specs.Happening.{Pokes, Dumps};
+ghost use Rattle.vbd_model.specs.Leads.{Goes, Is, moment};
 
 use super::Split;
 use schedule_text::{Line, RecordStop, Recorder};
@@ -49,7 +50,7 @@ impl Split {
     // Shows a word of the ring, unless it is 0.
     fn show_word<R: Recorder>(&self, word: u32, recorder: &mut R) -> Result<(), RecordStop>
         requires { word < 1024 }
-        ensures { Adds (word_lines word (word_of self.now.under.pages 2 word)) result (R.seen recorder.old) (R.seen recorder.new) }
+        ensures { Adds (word_lines word (word_of self.now.rings.under.pages 2 word)) result (R.seen recorder.old) (R.seen recorder.new) }
     {
         let value = self.under.read_front(RING_FRAME, word);
         if value == 0 {

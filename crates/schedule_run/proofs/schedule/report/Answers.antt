@@ -1,8 +1,8 @@
 use Rattle.std.proofs.Common.{◌≡◌, Ok, Err, ap, subst}
 use Rattle.std.proofs.lemmas.Result.{err_from_is_err_and}
 use Rattle.schedule_text.specs.declared.line.Detail.TheVariants.{Moves}
-use Rattle.split_model.specs.World.{World, start_of}
-use Rattle.split_model.specs.Leads.{moment}
+use Rattle.vbd_model.specs.World.{World, start_of}
+use Rattle.vbd_model.specs.Leads.{moment}
 use Rattle.schedule_run.specs.Machine.{Run}
 use Rattle.schedule_run.specs.Carrying.{ReadsAll}
 use Rattle.schedule_run.specs.Outcome.{outside}

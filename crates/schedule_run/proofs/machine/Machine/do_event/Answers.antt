@@ -1,7 +1,7 @@
 use Rattle.std.proofs.Common.{◌*◌, ◌<◌, ◌^◌, refl, sym, subst, arith}
-use Rattle.split_model.specs.Happening.{Notifies}
-use Rattle.split_model.specs.Kind.{most_rounds}
-use Rattle.split_model.proofs.Running.{goes_as, goes_one}
+use Rattle.vbd_model.specs.Happening.{Notifies}
+use Rattle.vbd_model.specs.Kind.{most_rounds}
+use Rattle.vbd_model.proofs.Running.{goes_as, goes_one}
 use Rattle.schedule_text.proofs.Adding.{gained_none}
 use Rattle.schedule_run.specs.Machine.{Run}
 use Rattle.schedule_run.proofs.Within.{within_on}
@@ -23,8 +23,17 @@ pub returns-in-Submit-clause-goes : goal.returns-in-Submit-clause-goes
 returns-in-Submit-clause-goes g c =
     rw (c.in-Submit.is, ← c.self.view_is) (goes_as _ _ _ _ 0 (10 ^ 10) _ _ _ (omega arith) (λ hs k. (k, c.submit.ensures.widths)) (λ hs k. (k, c.submit.ensures.widths)) (c.submit.ensures.goes (g.D.SectorDisk.seen c.args.disk.now)))
 
+pub invariant_of-self-in-Front : goal.invariant_of-self-in-Front
+invariant_of-self-in-Front g c =
+    let few : c.self.inside.events < 10 ^ 9 = subst (λ (m : Run). m.events < 10 ^ 9) (sym c.self.view_is) c.requires.few in
+    let went = c.front_moves.ensures (g.D.SectorDisk.seen c.args.disk.now) in
+    within_on c.self.inside.split c.front_moves.new.self c.self.inside.events 0 (omega arith) few went.keeps.made c.self.invariant
+
+pub returns-in-Front-clause-goes : goal.returns-in-Front-clause-goes
+returns-in-Front-clause-goes g c = rw (c.in-Front.is, ← c.self.view_is) (goes_as _ _ _ _ 0 (10 ^ 10) _ _ _ (omega arith) (λ hs k. k) (λ hs k. k) (c.front_moves.ensures (g.D.SectorDisk.seen c.args.disk.now)))
+
 pub returns-in-Settle-clause-goes : goal.returns-in-Settle-clause-goes
-returns-in-Settle-clause-goes g c = rw (c.in-Settle.is, ← c.self.view_is) (goes_as _ _ _ _ (35 * most_rounds) (10 ^ 10) _ _ _ (omega arith) (λ hs k. k) (λ hs k. k) c.settle.ensures)
+returns-in-Settle-clause-goes g c = rw (c.in-Settle.is, ← c.self.view_is) (goes_as _ _ _ _ (33 * most_rounds) (10 ^ 10) _ _ _ (omega arith) (λ hs k. k) (λ hs k. k) c.settle.ensures)
 
 pub returns-in-Look-clause-goes : goal.returns-in-Look-clause-goes
 returns-in-Look-clause-goes g c = rw (c.in-Look.is, ← c.self.view_is) (goes_as _ _ _ _ 0 (10 ^ 10) _ _ _ (omega arith) (λ hs k. k) (λ hs k. k) (c.look.ensures (g.D.SectorDisk.seen c.args.disk.now)))
@@ -44,4 +53,4 @@ invariant_of-self-in-Poke g c =
 
 pub returns-in-Notify-clause-goes : goal.returns-in-Notify-clause-goes
 returns-in-Notify-clause-goes g c =
-    rw (c.in-Notify.is, ← c.self.view_is) (goes_one _ _ (10 ^ 10) (Notifies c.in-Notify.at) _ _ _ refl refl c.notify.ensures (rw c.notify.ensures (omega arith)) (rw c.notify.ensures refl) refl (gained_none _))
+    rw (c.in-Notify.is, ← c.self.view_is) (goes_one _ _ (10 ^ 10) (Notifies c.in-Notify.at) _ _ _ refl refl c.notify.ensures (rw c.notify.ensures (omega arith)) (rw c.notify.ensures refl) (_, refl, refl) (gained_none _))

@@ -1,5 +1,5 @@
 use Rattle.std.proofs.Common.{◌^◌, arith}
-use Rattle.split_model.proofs.Running.{goes_as}
+use Rattle.vbd_model.proofs.Running.{goes_as}
 use Rattle.schedule_run.proofs.Told.{event_lawful}
 use Rattle.schedule_run.proofs.machine.Machine.event.Goals as goal
 

@@ -1,17 +1,25 @@
-use Rattle.std.proofs.Common.{◌≡◌, true, false, sym, ◌∙◌, subst, arith}
-use Rattle.blk_front.specs.Submit.{is_connected}
-use Rattle.split_model.specs.Kind.{IsBeginning}
-use Rattle.split_model.proofs.Running.{goes_nowhere, goes_as}
-use Rattle.split_model.proofs.Joining.{back_moves_none, back_moves_all}
+use Rattle.std.proofs.Common.{◌≡◌, ◌<◌, replicate, ap, ◌∙◌, arith}
+use Rattle.std.proofs.lemmas.Result.{err_from_is_err_and}
+use Rattle.std.proofs.Math.Nat.{one-mul}
+use Rattle.vbd_model.specs.Happening.{BackMoves}
+use Rattle.vbd_model.proofs.Running.{ready_again, gone_on, gone_to_stop, gone}
+use Rattle.vbd_model.proofs.Joining.{once_more, once_more_begins}
 use Rattle.schedule_run.proofs.split.Split.back_moves.Goals as goal
 
-pub returns-then-not-is_connected : goal.returns-then-not-is_connected
-returns-then-not-is_connected g c =
-    let connected : is_connected c.args.self.now.front.stage ≡ false = rw (← c.self.view_is) (sym c.is_connected.ensures ∙ c.if-not-is_connected.true) in
-    goes_nowhere _ _ _ _ (back_moves_none c.args.self.now c.args.count connected)
+pub back_move-requires : goal.back_move-requires
+back_move-requires g c = ready_again _ 1 _ _ _ _ c.loop-test.true (rw (one-mul c.args.count) c.requires) c.loop.invariant
+
+pub returns-in_err-back_move : goal.returns-in_err-back_move
+returns-in_err-back_move g c =
+    let less : c.loop.counter < c.args.count = c.loop-test.true in
+    let stopped = err_from_is_err_and c.from_residual.result c.from_residual.ensures.1 in
+    rw (stopped.1, stopped.2) (gone_to_stop _ _ _ _ _ 1 _ _ c.args.count _ _ _ _ less (omega arith) (λ xs ys p here q. once_more_begins c.loop.counter c.args.count BackMoves xs ys less p q) c.loop.invariant c.in_err-back_move.ensures)
+
+pub loop-preserved : goal.loop-preserved
+loop-preserved g c =
+    gone_on _ _ _ _ 1 _ _ _ _ _ c.loop-test.true (λ xs ys p here q. once_more c.loop.counter BackMoves xs ys p q) c.loop.invariant c.in_ok-back_move.ensures
 
 pub returns : goal.returns
 returns g c =
-    let connected : is_connected c.args.self.now.front.stage ≡ true = rw (← c.self.view_is) (sym c.is_connected.ensures ∙ c.if-not-is_connected.false) in
-    let all = back_moves_all c.args.self.now c.args.count connected in
-    goes_as _ _ _ _ c.args.count c.args.count _ _ _ (omega arith) (λ xs p. p ∙ sym all) (λ xs p. subst (IsBeginning xs) (sym all) p) c.repeat_back.ensures
+    let all : c.loop.counter ≡ c.args.count = omega arith in
+    gone _ _ _ 1 _ _ c.args.count _ _ (omega arith) (λ xs p here. p ∙ ap (λ n. replicate n BackMoves) all) c.loop.invariant

@@ -9,7 +9,7 @@ pub record HasShown (pages : List ℕ) (word : ℕ) (before now : RecorderSeen) 
   pub told : Gained (ring_lines pages 0 word) before now
 
 abbrev pub invariant-loop-word : goal.invariant-loop-word
-invariant-loop-word g l = HasShown l.self.under.pages l.word (g.R.Recorder.seen l.fn.recorder) (g.R.Recorder.seen l.recorder)
+invariant-loop-word g l = HasShown l.self.rings.under.pages l.word (g.R.Recorder.seen l.fn.recorder) (g.R.Recorder.seen l.recorder)
 
 abbrev pub decreases-loop-word : goal.decreases-loop-word
 decreases-loop-word g l = 1024 - l.word

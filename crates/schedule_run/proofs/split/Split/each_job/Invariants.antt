@@ -1,4 +1,4 @@
-use Rattle.split_model.specs.Leads.{moment}
+use Rattle.vbd_model.specs.Leads.{moment}
 use Rattle.split_model.specs.Safe.{above}
 use Rattle.schedule_run.proofs.Jobs.{HasMovedJobs}
 use Rattle.schedule_run.proofs.split.Split.each_job.Given as goal
@@ -10,4 +10,4 @@ invariant-loop-number g l =
 
 -- the jobs above it
 abbrev pub decreases-loop-number : goal.decreases-loop-number
-decreases-loop-number g l = above l.last l.self.back
+decreases-loop-number g l = above l.last l.self.rings.back

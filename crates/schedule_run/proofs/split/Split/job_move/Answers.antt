@@ -1,5 +1,5 @@
 use Rattle.std.proofs.Common.{arith}
-use Rattle.split_model.proofs.Running.{goes_as}
+use Rattle.vbd_model.proofs.Running.{goes_as}
 use Rattle.schedule_run.proofs.split.Split.job_move.Goals as goal
 
 pub returns-in-Read : goal.returns-in-Read

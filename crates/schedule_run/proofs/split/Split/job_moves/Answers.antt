@@ -1,9 +1,9 @@
 use Rattle.std.proofs.Common.{◌≡◌, ◌<◌, ◌≤◌, ◌+◌, ◌++◌, subst, arith}
 use Rattle.std.proofs.lemmas.Result.{err_from_is_err_and}
 use Rattle.std.proofs.Math.Nat.{one-mul}
-use Rattle.split_model.specs.Kind.{AreSomeJobMoves}
-use Rattle.split_model.proofs.Running.{ready_again, gone_on, gone_to_stop, gone}
-use Rattle.split_model.proofs.Joining.{job_moves_more, few_job_moves}
+use Rattle.vbd_model.specs.Kind.{AreSomeJobMoves}
+use Rattle.vbd_model.proofs.Running.{ready_again, gone_on, gone_to_stop, gone}
+use Rattle.vbd_model.proofs.Joining.{job_moves_more, few_job_moves}
 use Rattle.schedule_run.proofs.split.Split.job_moves.Goals as goal
 
 pub job_move-requires : goal.job_move-requires

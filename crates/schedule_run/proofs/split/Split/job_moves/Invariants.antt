@@ -1,6 +1,6 @@
-use Rattle.split_model.specs.Kind.{AreSomeJobMoves}
-use Rattle.split_model.specs.Leads.{moment}
-use Rattle.split_model.proofs.Running.{HasGone}
+use Rattle.vbd_model.specs.Kind.{AreSomeJobMoves}
+use Rattle.vbd_model.specs.Leads.{moment}
+use Rattle.vbd_model.proofs.Running.{HasGone}
 use Rattle.schedule_run.proofs.split.Split.job_moves.Given as goal
 
 -- so many moves of the job led here

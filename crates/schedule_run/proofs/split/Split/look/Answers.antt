@@ -1,10 +1,11 @@
 use Rattle.std.proofs.Common.{◌≡◌, ◌∷◌, [], refl, sym, ap, ◌∙◌, if◌then◌else◌}
 use Rattle.schedule_text.specs.declared.line.Line.{Line}
 use Rattle.schedule_text.specs.declared.line.Line.TheVariants.{Quiet, Busy}
-use Rattle.split_model.specs.World.{is_quiet}
-use Rattle.split_model.specs.Happening.{Looks}
-use Rattle.split_model.proofs.Joining.{chosen_true, chosen_false}
-use Rattle.split_model.proofs.Moving.{said_goes}
+use Rattle.vbd_model.specs.World.{is_quiet}
+use Rattle.split_model.specs.Happening as ring
+use Rattle.vbd_model.specs.Happening.{Looks}
+use Rattle.vbd_model.proofs.Joining.{chosen_true, chosen_false}
+use Rattle.schedule_run.proofs.Moving.{said_goes}
 use Rattle.schedule_run.proofs.split.Split.look.Goals.{then-is_quiet, else-is_quiet}
 use Rattle.schedule_run.proofs.split.Split.look.Goals as goal
 
@@ -14,4 +15,4 @@ returns g c = λ disk.
       | then-is_quiet w ↦ chosen_true (is_quiet c.args.self.now) Quiet Busy c.if-is_quiet.line (sym c.is_quiet.ensures ∙ w.if-is_quiet.true) w.line-is
       | else-is_quiet w ↦ chosen_false (is_quiet c.args.self.now) Quiet Busy c.if-is_quiet.line (sym c.is_quiet.ensures ∙ w.if-is_quiet.false) w.line-is
     ] in
-    said_goes (Looks (is_quiet c.args.self.now)) _ _ _ _ _ c.if-is_quiet.line refl refl (ap (λ (l : Line). l ∷ []) line) c.add.ensures
+    said_goes (Looks (is_quiet c.args.self.now)) (ring.Looks (is_quiet c.args.self.now)) _ _ _ _ _ c.if-is_quiet.line refl refl refl (ap (λ (l : Line). l ∷ []) line) c.add.ensures

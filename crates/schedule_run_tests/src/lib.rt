@@ -1,0 +1,5 @@
+//! Tests of the runner (`schedule_run`), by its public calls.
+#![tactic(auto)]
+
+#[cfg(test)]
+mod tests;

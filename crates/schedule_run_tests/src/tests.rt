@@ -1,0 +1,504 @@
+// The runner over an outside in memory, as the program holds it.
+ghost use Rattle.std.specs.Prelude.{◌≡◌, [], ◌∷◌, length, true, Some, OnOk, IfOk};
+ghost use Rattle.blk_io.specs.Disk.{HasLength, attached_of};
+ghost use Rattle.image_disk.specs.Image.{image_seen};
+ghost use Rattle.schedule_text.specs.declared.line.Detail.TheVariants.{Lines};
+ghost use Rattle.schedule_text.specs.declared.event.Event.TheVariants.{Settle, Submit, Look};
+ghost use Rattle.vbd_model.specs.Kind.{are_carried, is_carried_job};
+ghost use Rattle.schedule_run.specs.Outcome.{outside, content_of};
+ghost use Rattle.schedule_run.specs.Lawful.{HasLawfulReport, IsLawful};
+
+use blk_base::{Abi, Config, End, Job, SectorCount};
+use blk_io::{FailsAt, MemorySink, MemorySource, SectorDisk};
+use image_disk::{FailsAtCalls, ListedCalls, MemoryDisk};
+use line_text::LineText;
+use schedule_run::{Machine, RunStop, a_run_begins, can_carry_out, run};
+use schedule_text::{Detail, Event, Line, LineList, LineSink, RecordStop, Recorder};
+use std::alloc::Global;
+use std::test::Fail;
+
+// What a stranger does with a machine: it tells the first line, and carries out events one by one.
+// What was told is a lawful report, by what the calls promise.
+fn writes_a_sector<D: SectorDisk, R: Recorder>(
+    alloc: Global,
+    config: Config,
+    write: Job,
+    disk: &mut D,
+    recorder: &mut R,
+) -> Result<(), RecordStop>
+    requires carried { are_carried config ≡ true }
+    requires transfer { is_carried_job write ≡ true }
+    requires attached { attached_of (D.seen disk.old) ≡ Some config.sectors }
+    requires sectors { HasLength (content_of (outside (D.seen disk.old) (R.seen recorder.old))) config.sectors }
+    ensures { OnOk result (HasLawfulReport config (Settle ∷ Submit write ∷ Settle ∷ Look ∷ [])
+        (outside (D.seen disk.old) (R.seen recorder.old)) (outside (D.seen disk.new) (R.seen recorder.new))) }
+{
+    let Ok(mut machine) = Machine::new(alloc, &config) else {
+        return Err(RecordStop::OutOfMemory);
+    };
+    let detail = Detail::Moves;
+    recorder.add(&Line::Begin { config, detail })?;
+    a_run_begins();
+    machine.event(Event::Settle, disk, recorder)?;
+    machine.event(Event::Submit(write), disk, recorder)?;
+    machine.event(Event::Settle, disk, recorder)?;
+    machine.event(Event::Look, disk, recorder)
+}
+
+// So it is over a disk in memory, with a list of lines: the list is that report.
+fn lists_a_write(
+    alloc: Global,
+    config: Config,
+    write: Job,
+    disk: &mut MemoryDisk,
+) -> Result<LineList, RecordStop>
+    requires carried { are_carried config ≡ true }
+    requires transfer { is_carried_job write ≡ true }
+    requires attached { attached_of (image_seen disk.old) ≡ Some config.sectors }
+    requires sectors { length disk.old.content ≡ config.sectors }
+    ensures { IfOk result (λ list. IsLawful config Lines (write ∷ []) (Some disk.old.content) (Some disk.new.content) list.lines.items) }
+{
+    let mut list = LineList::new(alloc, Detail::Lines);
+    writes_a_sector(alloc, config, write, disk, &mut list)?;
+    Ok(list)
+}
+
+#[test]
+fn a_list_holds_a_lawful_report(rt: HostRuntime) -> Result<(), Fail> {
+    let alloc = rt.alloc();
+    let mut disk = zeros(alloc)?;
+    let Ok(sectors) = disk.attach("image", true) else {
+        return Err(Fail::from("attach"));
+    };
+    let Some(count) = SectorCount::new(1) else {
+        return Err(Fail::from("count"));
+    };
+    let write = Job::Write {
+        sector: 3,
+        count,
+        tag: 7,
+    };
+    let list = lists_a_write(alloc, config(sectors), write, &mut disk).map_err(
+        |_| "out of memory",
+    )?;
+    assert_eq!(rt; list.lines.len(), 9);
+    assert_eq!(rt; list.lines.last(), Some(&Line::Quiet));
+    assert_eq!(rt; disk.content().get(3), Some(&[7; 128]));
+    Ok(())
+}
+
+// The words of nine sectors that are written with the tag fffffffe.
+const FILLED: [&str; 9] = [
+    "fffffffe", "ffffffff", "00000000", "00000001", "00000002", "00000003", "00000004", "00000005",
+    "00000006",
+];
+
+// The options of a run with none of its own.
+fn config(sectors: u64) -> Config
+    ensures carried { are_carried result ≡ true }
+    ensures sectors { result.sectors ≡ sectors }
+{
+    config_from(sectors, 0)
+}
+
+// The same, with a ring whose indices start there.
+fn config_from(sectors: u64, start: u32) -> Config
+    ensures carried { are_carried result ≡ true }
+    ensures sectors { result.sectors ≡ sectors }
+{
+    Config {
+        abi: Abi::X64,
+        order: 0,
+        persistent: 0,
+        indirect: 0,
+        start,
+        read_only: false,
+        sectors,
+    }
+}
+
+// A disk of 8 zero sectors.
+fn zeros(alloc: Global) -> Result<MemoryDisk, Fail> {
+    Ok(MemoryDisk::new(alloc, vec![in alloc; [0; 128]; 8]?)?)
+}
+
+// Runs a schedule, and gives the report.
+fn report<D: SectorDisk + Drop>(
+    alloc: Global,
+    schedule: &str,
+    disk: D,
+    detail: Detail,
+) -> Result<MemorySink, Fail> {
+    report_from(alloc, 0, schedule, disk, detail)
+}
+
+// The same, of a ring whose indices start there.
+fn report_from<D: SectorDisk + Drop>(
+    alloc: Global,
+    start: u32,
+    schedule: &str,
+    mut disk: D,
+    detail: Detail,
+) -> Result<MemorySink, Fail> {
+    let mut source = MemorySource::new(schedule.as_bytes().to_vec(alloc)?);
+    let sectors = match disk.attach("image", true) {
+        Ok(sectors) => sectors,
+        Err(_) => return Err(Fail::from("attach")),
+    };
+    let mut sink = MemorySink::with_room(alloc, 65536)?;
+    let mut recorder = LineSink {
+        sink: &mut sink,
+        detail,
+        room: LineText::new(),
+    };
+    run(
+        alloc,
+        config_from(sectors, start),
+        4294967296,
+        &mut source,
+        &mut disk,
+        &mut recorder,
+    )
+    .map_err(|_| "stopped")?;
+    Ok(sink)
+}
+
+#[test]
+fn one_sector_is_written_and_answered(rt: HostRuntime) -> Result<(), Fail> {
+    let alloc = rt.alloc();
+    let schedule = "settle\nsubmit write 0 1 00000007\nsettle\n";
+    let sink = report(alloc, schedule, zeros(alloc)?, Detail::Lines)?;
+    assert_eq!(rt;
+        sink.bytes(),
+        b"begin 64 0 0 0 0 rw 8 lines\nready\nquiet\nsubmit 1 write 0 1 00000007\neffect 1 0\nreply 1 ok\nanswer 1 ok\nquiet\nend\n".as_slice()
+    );
+    Ok(())
+}
+
+#[test]
+fn a_write_that_the_disk_fails_is_answered_with_an_error(rt: HostRuntime) -> Result<(), Fail> {
+    let alloc = rt.alloc();
+    let listed = ListedCalls {
+        attaches: Vec::new(alloc),
+        reads: Vec::new(alloc),
+        writes: [2].to_vec(alloc)?,
+        flushes: Vec::new(alloc),
+        trims: Vec::new(alloc),
+    };
+    let disk = FailsAtCalls::new(zeros(alloc)?, listed);
+    let schedule = "settle\nsubmit write 0 1 00000001\nsettle\nsubmit write 1 1 00000002\nsettle\n";
+    let sink = report(alloc, schedule, disk, Detail::Lines)?;
+    assert_eq!(rt;
+        sink.bytes().ends_with(
+            b"\nsubmit 2 write 1 1 00000002\nfault 2 0\nreply 2 error\nanswer 2 error\nquiet\nend\n"
+        ),
+        true
+    );
+    Ok(())
+}
+
+#[test]
+fn a_read_shows_what_the_disk_holds(rt: HostRuntime) -> Result<(), Fail> {
+    let alloc = rt.alloc();
+    let schedule = "settle\nsubmit write 0 1 00000007\nsettle\nsubmit read 0 1\nsettle\n";
+    let sink = report(alloc, schedule, zeros(alloc)?, Detail::Lines)?;
+    assert_eq!(rt;
+        sink.bytes().ends_with(
+            b"\nquiet\nsubmit 2 read 0 1\neffect 2 0 fill 00000007\nreply 2 ok\nanswer 2 ok\ndata 2 0 fill 00000007\nquiet\nend\n"
+        ),
+        true
+    );
+    Ok(())
+}
+
+#[test]
+fn a_read_shows_each_byte_of_its_sector(rt: HostRuntime) -> Result<(), Fail> {
+    let alloc = rt.alloc();
+    let mut words = [0; 128];
+    words[0] = 1;
+    let disk = MemoryDisk::new(alloc, [words].to_vec(alloc)?)?;
+    let schedule = "settle\nsubmit read 0 1\nsettle\n";
+    let sink = report(alloc, schedule, disk, Detail::Lines)?;
+    let sector = format!(in alloc; "01{:0>1022}", "")?;
+    let wanted = format!(in alloc;
+        "begin 64 0 0 0 0 rw 1 lines\nready\nquiet\nsubmit 1 read 0 1\neffect 1 0 {sector}\nreply 1 ok\nanswer 1 ok\ndata 1 0 {sector}\nquiet\nend\n"
+    )?;
+    assert_eq!(rt; sink.bytes(), wanted.as_bytes());
+    Ok(())
+}
+
+#[test]
+fn a_read_past_the_end_of_the_disk_is_refused(rt: HostRuntime) -> Result<(), Fail> {
+    let alloc = rt.alloc();
+    let schedule = "settle\nsubmit read 7 1\nsubmit read 8 1\nsettle\n";
+    let sink = report(alloc, schedule, zeros(alloc)?, Detail::Lines)?;
+    assert_eq!(rt;
+        sink.bytes(),
+        b"begin 64 0 0 0 0 rw 8 lines\nready\nquiet\nsubmit 1 read 7 1\nrefuse range\neffect 1 0 fill 00000000\nreply 1 ok\nanswer 1 ok\ndata 1 0 fill 00000000\nquiet\nend\n".as_slice()
+    );
+    Ok(())
+}
+
+#[test]
+fn nine_sectors_are_written_and_read_back(rt: HostRuntime) -> Result<(), Fail> {
+    let alloc = rt.alloc();
+    let disk = MemoryDisk::new(alloc, vec![in alloc; [0; 128]; 9]?)?;
+    let schedule = "settle\nsubmit write 0 9 fffffffe\nsettle\nsubmit read 0 9\nsettle\n";
+    let sink = report(alloc, schedule, disk, Detail::Lines)?;
+    let mut wanted =
+        "begin 64 0 0 0 0 rw 9 lines\nready\nquiet\nsubmit 1 write 0 9 fffffffe\n".to_string(
+            alloc,
+        )?;
+    for index in 0..9 {
+        wanted.push_str(&format!(in alloc; "effect 1 {index}\n")?)?;
+    }
+    wanted.push_str("reply 1 ok\nanswer 1 ok\nquiet\nsubmit 2 read 0 9\n")?;
+    for index in 0..9 {
+        let word = FILLED[index];
+        wanted.push_str(&format!(in alloc; "effect 2 {index} fill {word}\n")?)?;
+    }
+    wanted.push_str("reply 2 ok\nanswer 2 ok\n")?;
+    for index in 0..9 {
+        let word = FILLED[index];
+        wanted.push_str(&format!(in alloc; "data 2 {index} fill {word}\n")?)?;
+    }
+    wanted.push_str("quiet\nend\n")?;
+    assert_eq!(rt; sink.bytes(), wanted.as_bytes());
+    Ok(())
+}
+
+#[test]
+fn a_read_of_three_sectors_ends_where_the_disk_fails(rt: HostRuntime) -> Result<(), Fail> {
+    let alloc = rt.alloc();
+    let listed = ListedCalls {
+        attaches: Vec::new(alloc),
+        reads: [2].to_vec(alloc)?,
+        writes: Vec::new(alloc),
+        flushes: Vec::new(alloc),
+        trims: Vec::new(alloc),
+    };
+    let disk = FailsAtCalls::new(zeros(alloc)?, listed);
+    let schedule = "settle\nsubmit read 0 3\nsettle\n";
+    let sink = report(alloc, schedule, disk, Detail::Lines)?;
+    assert_eq!(rt;
+        sink.bytes(),
+        b"begin 64 0 0 0 0 rw 8 lines\nready\nquiet\nsubmit 1 read 0 3\neffect 1 0 fill 00000000\nfault 1 1\nreply 1 error\nanswer 1 error\nquiet\nend\n".as_slice()
+    );
+    Ok(())
+}
+
+#[test]
+fn more_sectors_than_an_entry_names_are_refused(rt: HostRuntime) -> Result<(), Fail> {
+    let alloc = rt.alloc();
+    let disk = MemoryDisk::new(alloc, vec![in alloc; [0; 128]; 200]?)?;
+    let schedule =
+        "settle\nsubmit read 0 89\nsubmit write 112 89 00000000\nsubmit read 0 201\nsubmit read 112 88\n";
+    let sink = report(alloc, schedule, disk, Detail::Lines)?;
+    assert_eq!(rt;
+        sink.bytes(),
+        b"begin 64 0 0 0 0 rw 200 lines\nready\nquiet\nrefuse long\nrefuse range\nrefuse range\nsubmit 1 read 112 88\nend\n".as_slice()
+    );
+    Ok(())
+}
+
+#[test]
+fn jobs_of_several_segments_are_served_in_another_order(rt: HostRuntime) -> Result<(), Fail> {
+    let alloc = rt.alloc();
+    let disk = MemoryDisk::new(alloc, vec![in alloc; [0; 128]; 9]?)?;
+    let schedule =
+        "settle\nsubmit write 0 9 00000001\nsubmit write 7 2 00000010\nfront 4000\nback 4000\njob 2 4000\njob 1 4000\nback 4000\nsubmit read 7 2\nsettle\n";
+    let sink = report(alloc, schedule, disk, Detail::Lines)?;
+    assert_eq!(rt;
+        sink.bytes().ends_with(
+            b"\neffect 1 8\nreply 1 ok\nreply 2 ok\nsubmit 3 read 7 2\nanswer 1 ok\nanswer 2 ok\neffect 3 0 fill 00000008\neffect 3 1 fill 00000009\nreply 3 ok\nanswer 3 ok\ndata 3 0 fill 00000008\ndata 3 1 fill 00000009\nquiet\nend\n"
+        ),
+        true
+    );
+    Ok(())
+}
+
+#[test]
+fn a_read_that_the_disk_fails_shows_no_data(rt: HostRuntime) -> Result<(), Fail> {
+    let alloc = rt.alloc();
+    let listed = ListedCalls {
+        attaches: Vec::new(alloc),
+        reads: [1].to_vec(alloc)?,
+        writes: Vec::new(alloc),
+        flushes: Vec::new(alloc),
+        trims: Vec::new(alloc),
+    };
+    let disk = FailsAtCalls::new(zeros(alloc)?, listed);
+    let schedule = "settle\nsubmit read 0 1\nsettle\nsubmit read 0 1\nsettle\n";
+    let sink = report(alloc, schedule, disk, Detail::Lines)?;
+    assert_eq!(rt;
+        sink.bytes(),
+        b"begin 64 0 0 0 0 rw 8 lines\nready\nquiet\nsubmit 1 read 0 1\nfault 1 0\nreply 1 error\nanswer 1 error\nquiet\nsubmit 2 read 0 1\neffect 2 0 fill 00000000\nreply 2 ok\nanswer 2 ok\ndata 2 0 fill 00000000\nquiet\nend\n".as_slice()
+    );
+    Ok(())
+}
+
+#[test]
+fn the_first_push_sends_an_event_and_the_second_none(rt: HostRuntime) -> Result<(), Fail> {
+    let alloc = rt.alloc();
+    let schedule = "settle\nsubmit write 0 1 00000001\nfront 163\n";
+    let sink = report(alloc, schedule, zeros(alloc)?, Detail::Moves)?;
+    assert_eq!(rt;
+        sink.bytes()
+            .ends_with(b"\nm front read 2 1 00000001\nm front send\nend\n"),
+        true
+    );
+    let schedule =
+        "settle\nsubmit write 0 1 00000001\nfront 163\nback 2\nsubmit write 1 1 00000002\nfront 162\n";
+    let sink = report(alloc, schedule, zeros(alloc)?, Detail::Moves)?;
+    assert_eq!(rt;
+        sink.bytes().ends_with(
+            b"\nm front write 2 0 00000002\nm front fence\nm front read 2 1 00000001\nend\n"
+        ),
+        true
+    );
+    Ok(())
+}
+
+#[test]
+fn a_run_stops_where_its_source_fails(rt: HostRuntime) -> Result<(), Fail> {
+    let alloc = rt.alloc();
+    let mut disk = zeros(alloc)?;
+    let sectors = match disk.attach("image", true) {
+        Ok(sectors) => sectors,
+        Err(_) => return Err(Fail::from("attach")),
+    };
+    let mut lines = LineList::new(alloc, Detail::Lines);
+    let schedule = MemorySource::new(b"settle\nlook\n".to_vec(alloc)?);
+    let mut source = FailsAt::new(schedule, [2].to_vec(alloc)?);
+    let stop = run(
+        alloc,
+        config(sectors),
+        4294967296,
+        &mut source,
+        &mut disk,
+        &mut lines,
+    );
+    assert_eq!(rt; stop, Err(RunStop::Source));
+    assert_eq!(rt; lines.lines.len(), 4);
+    assert_eq!(rt; lines.lines.last(), Some(&Line::Quiet));
+    Ok(())
+}
+
+#[test]
+fn a_run_stops_at_its_limit(rt: HostRuntime) -> Result<(), Fail> {
+    let alloc = rt.alloc();
+    let mut disk = zeros(alloc)?;
+    let sectors = match disk.attach("image", true) {
+        Ok(sectors) => sectors,
+        Err(_) => return Err(Fail::from("attach")),
+    };
+    let mut lines = LineList::new(alloc, Detail::Lines);
+    let mut source = MemorySource::new(b"settle\n".to_vec(alloc)?);
+    let stop = run(
+        alloc,
+        config(sectors),
+        7,
+        &mut source,
+        &mut disk,
+        &mut lines,
+    );
+    assert_eq!(rt; stop, Err(RunStop::TooLong));
+    assert_eq!(rt; lines.lines.last(), Some(&Line::Quiet));
+    Ok(())
+}
+
+#[test]
+fn a_machine_carries_out_events_and_counts_them(rt: HostRuntime) -> Result<(), Fail> {
+    let alloc = rt.alloc();
+    let mut disk = zeros(alloc)?;
+    let sectors = match disk.attach("image", true) {
+        Ok(sectors) => sectors,
+        Err(_) => return Err(Fail::from("attach")),
+    };
+    let mut lines = LineList::new(alloc, Detail::Lines);
+    let mut machine = Machine::new(alloc, &config(sectors))?;
+    let done = machine.event(Event::Look, &mut disk, &mut lines);
+    assert_eq!(rt; done, Ok(()));
+    let done = machine.event(Event::Settle, &mut disk, &mut lines);
+    assert_eq!(rt; done, Ok(()));
+    let done = machine.event(Event::Notify(End::Back), &mut disk, &mut lines);
+    assert_eq!(rt; done, Ok(()));
+    assert_eq!(rt; machine.events(), 3);
+    assert_eq!(rt;
+        lines.lines.as_slice(),
+        [Line::Busy, Line::Ready, Line::Quiet].as_slice()
+    );
+    let Some(count) = SectorCount::new(4294967295) else {
+        return Err(Fail::from("count"));
+    };
+    let read = Job::Read { sector: 0, count };
+    let discard = Job::Discard { sector: 0, count };
+    assert_eq!(rt; can_carry_out(&Event::Submit(read)), true);
+    assert_eq!(rt; can_carry_out(&Event::Submit(discard)), false);
+    assert_eq!(rt; can_carry_out(&Event::Submit(Job::Flush)), false);
+    assert_eq!(rt; can_carry_out(&Event::Turn(1000001)), false);
+    Ok(())
+}
+
+#[test]
+fn a_producer_that_overruns_halts_the_back(rt: HostRuntime) -> Result<(), Fail> {
+    let alloc = rt.alloc();
+    let schedule = "settle\npoke 2 0 33\nnotify back\nsettle\n";
+    let sink = report(alloc, schedule, zeros(alloc)?, Detail::Lines)?;
+    assert_eq!(rt;
+        sink.bytes(),
+        b"begin 64 0 0 0 0 rw 8 lines\nready\nquiet\npoke 2 0 33\nhalt overrun 33 0\nquiet\nend\n".as_slice()
+    );
+    Ok(())
+}
+
+#[test]
+fn an_operation_changed_while_its_entry_is_fetched_is_served_as_first_read(
+    rt: HostRuntime,
+) -> Result<(), Fail> {
+    let alloc = rt.alloc();
+    let schedule =
+        "settle\nsubmit write 0 1 00000007\nfront 163\nback 3\npoke 2 16 3388997888\nsettle\n";
+    let sink = report(alloc, schedule, zeros(alloc)?, Detail::Lines)?;
+    assert_eq!(rt;
+        sink.bytes(),
+        b"begin 64 0 0 0 0 rw 8 lines\nready\nquiet\nsubmit 1 write 0 1 00000007\npoke 2 16 3388997888\neffect 1 0\nreply 1 ok\nanswer 1 ok\nquiet\nend\n".as_slice()
+    );
+    Ok(())
+}
+
+#[test]
+fn an_id_that_nobody_has_breaks_the_front(rt: HostRuntime) -> Result<(), Fail> {
+    let alloc = rt.alloc();
+    let schedule = "settle\nsubmit write 0 1 00000007\nfront 1000\npoke 2 18 9\nsettle\n";
+    let sink = report(alloc, schedule, zeros(alloc)?, Detail::Lines)?;
+    assert_eq!(rt;
+        sink.bytes(),
+        b"begin 64 0 0 0 0 rw 8 lines\nready\nquiet\nsubmit 1 write 0 1 00000007\npoke 2 18 9\neffect 9 0\nreply 9 ok\nbroken 00000009\nquiet\nend\n".as_slice()
+    );
+    Ok(())
+}
+
+#[test]
+fn a_grant_taken_away_before_the_map_is_an_error(rt: HostRuntime) -> Result<(), Fail> {
+    let alloc = rt.alloc();
+    let schedule = "settle\nsubmit write 0 1 00000007\nfront 1000\npoke 0 48 0\nsettle\n";
+    let sink = report(alloc, schedule, zeros(alloc)?, Detail::Lines)?;
+    assert_eq!(rt;
+        sink.bytes(),
+        b"begin 64 0 0 0 0 rw 8 lines\nready\nquiet\nsubmit 1 write 0 1 00000007\npoke 0 48 0\nreply 1 error\nanswer 1 error\nquiet\nend\n".as_slice()
+    );
+    Ok(())
+}
+
+#[test]
+fn a_dump_shows_the_words_of_the_ring_in_order(rt: HostRuntime) -> Result<(), Fail> {
+    let alloc = rt.alloc();
+    let one = "submit write 0 1 00000007\nsettle\n";
+    let schedule = format!(in alloc; "settle\n{one}{one}{one}dump\n")?;
+    let sink = report_from(alloc, 4294967295, &schedule, zeros(alloc)?, Detail::Lines)?;
+    let wanted =
+        b"begin 64 0 0 0 4294967295 rw 8 lines\nready\nquiet\nsubmit 1 write 0 1 00000007\neffect 1 0\nreply 1 ok\nanswer 1 ok\nquiet\nsubmit 2 write 0 1 00000007\neffect 2 0\nreply 2 ok\nanswer 2 ok\nquiet\nsubmit 3 write 0 1 00000007\neffect 3 0\nreply 3 ok\nanswer 3 ok\nquiet\nword 2 0 00000002\nword 2 1 00000003\nword 2 2 00000002\nword 2 3 00000003\n";
+    assert!(rt; sink.bytes().starts_with(wanted));
+    Ok(())
+}

@@ -1,5 +1,0 @@
-use Rattle.split_model.proofs.Echo.{schedule_echo}
-use Rattle.split_model.proofs.a_schedule_is_echoed.Goals as goal
-
-pub returns : goal.returns
-returns c order events w history k = schedule_echo order events w history k

@@ -1,0 +1,106 @@
+-- An end of the ring whose port is bound stays past that, and so it keeps its turn.
+use Rattle.std.proofs.Common.{◌≡◌, ℕ, ◌+◌, Bool, true, false, if◌then◌else◌, [], ◌∷◌, ◌++◌, refl, sym, ap, ◌∙◌}
+use Rattle.std.specs.Prelude.{Option, Some, None, ◌==◌}
+use Rattle.blk_base.specs.declared.parts.Mapping.{Mapping}
+use Rattle.blk_base.specs.declared.ask.BackAnswer.{BackAnswer}
+use Rattle.blk_base.specs.declared.ask.BackAnswer.TheVariants as answer
+use Rattle.ring_words.specs.Ring.{requests_of, overruns, notifies}
+use Rattle.back_jobs.specs.Jobs.{first_mapping}
+use Rattle.blk_back.specs.declared.stage.Reply.{Reply}
+use Rattle.blk_back.specs.declared.stage.Stage.{Stage}
+use Rattle.blk_back.specs.declared.stage.Stage.TheVariants as stage
+use Rattle.blk_back.specs.View as ring
+use Rattle.blk_back.specs.Ask.{next_reply}
+use Rattle.blk_back.specs.Step.{giving_up, overrun, looked, loop_step, fetched, step_at, step_of}
+use Rattle.xenbus_state.specs.declared.back.BackBusAsk.{BackBusAsk}
+use Rattle.xenbus_state.specs.declared.back.BackBusAsk.TheVariants as bus_ask
+use Rattle.vbd_back.specs.declared.turn.Turn.{Turn}
+use Rattle.vbd_back.specs.declared.turn.Turn.TheVariants as turn
+use Rattle.vbd_back.specs.View.{View}
+use Rattle.vbd_back.specs.Ask.{bus_ask_of}
+use Rattle.vbd_back.specs.Turn.{turn_at, turn_of}
+
+abbrev is_open : Stage → Bool
+is_open stage.MapRing = false
+is_open stage.Bind = false
+is_open s = true
+
+either : (c : Bool) (x y : ring.View) → is_open x.stage ≡ true → is_open y.stage ≡ true → is_open (if c then x else y).stage ≡ true
+either true x y p q = p
+either false x y p q = q
+
+either_stage : (c : Bool) (x y : Stage) → is_open x ≡ true → is_open y ≡ true → is_open (if c then x else y) ≡ true
+either_stage true x y p q = p
+either_stage false x y p q = q
+
+giving_open : (m : Option Mapping) → is_open (giving_up m) ≡ true
+giving_open None = refl
+giving_open (Some m) = refl
+
+looked_open : (v : ring.View) (word : ℕ) (otherwise : ring.View) → is_open otherwise.stage ≡ true → is_open (looked v word otherwise).stage ≡ true
+looked_open v word otherwise h =
+    either (overruns v.ring word) (overrun v word) (if word == v.ring.cons then otherwise else record v { seen = word; stage = stage.Loop })
+    (giving_open (first_mapping v.jobs.works))
+    (either (word == v.ring.cons) otherwise (record v { seen = word; stage = stage.Loop }) h refl)
+
+loop_open : (v : ring.View) (r : Option Reply) (given : BackAnswer) → is_open v.stage ≡ true → is_open (loop_step v r given).stage ≡ true
+loop_open v (Some r) given h = refl
+loop_open v None (answer.Word word) h =
+    either (requests_of v.ring v.seen == 0) (looked v word (record v { seen = word; stage = stage.StoreEvent })) (record v { entry = word ∷ []; stage = stage.Fetch 1 })
+    (looked_open v word (record v { seen = word; stage = stage.StoreEvent }) refl)
+    refl
+loop_open v None given h = h
+
+opened : (s : Stage) (v : ring.View) (given : BackAnswer) → is_open v.stage ≡ true → is_open s ≡ true → is_open (step_at s v given).stage ≡ true
+opened stage.MapRing v given o h = absurd (cc)
+opened stage.Bind v given o h = absurd (cc)
+opened stage.Loop v given o h = loop_open v (next_reply v) given o
+opened (stage.Fetch k) v (answer.Word word) o h = either (k == 27) (fetched v (v.entry ++ word ∷ [])) (record v { entry = v.entry ++ word ∷ []; stage = stage.Fetch (k + 1) }) refl refl
+opened (stage.Fetch k) v given o h = o
+opened (stage.ResponseEvent old) v (answer.Word event) o h = either_stage (notifies old v.ring.prod event) stage.Send stage.Loop refl refl
+opened (stage.ResponseEvent old) v given o h = o
+opened stage.LookAgain v (answer.Word word) o h = looked_open v word (record v { seen = word; stage = stage.Loop; asleep = true }) refl
+opened stage.LookAgain v given o h = o
+opened (stage.GiveUp m) v given o h = giving_open (first_mapping v.jobs.works)
+opened stage.Halted v given o h = o
+opened s v given o h = refl
+
+open_at : (b : BackBusAsk) (s : Stage) → turn_at b s ≡ turn.Ring → is_open s ≡ true
+open_at bus_ask.Watch s t = absurd (cc)
+open_at bus_ask.GetState s t = absurd (cc)
+open_at (bus_ask.GetKey key) s t = absurd (cc)
+open_at (bus_ask.SetState state) s t = absurd (cc)
+open_at (bus_ask.SetKey key value) s t = absurd (cc)
+open_at (bus_ask.Map gref) stage.MapRing t = absurd (cc)
+open_at (bus_ask.Map gref) s t = absurd (cc)
+open_at (bus_ask.Bind port) stage.Bind t = absurd (cc)
+open_at (bus_ask.Bind port) s t = absurd (cc)
+open_at b stage.MapRing t = absurd (cc)
+open_at b stage.Bind t = absurd (cc)
+open_at b s t = refl
+
+moves_on : (b : BackBusAsk) (s later : Stage) → turn_at b s ≡ turn.Ring → is_open later ≡ true → turn_at b later ≡ turn.Ring
+moves_on bus_ask.Watch s later t h = t
+moves_on bus_ask.GetState s later t h = t
+moves_on (bus_ask.GetKey key) s later t h = t
+moves_on (bus_ask.SetState state) s later t h = t
+moves_on (bus_ask.SetKey key value) s later t h = t
+moves_on (bus_ask.Map gref) stage.MapRing later t h = absurd (cc)
+moves_on (bus_ask.Map gref) s later t h = absurd (cc)
+moves_on (bus_ask.Bind port) stage.Bind later t h = absurd (cc)
+moves_on (bus_ask.Bind port) s later t h = absurd (cc)
+moves_on b s stage.MapRing t h = absurd (cc)
+moves_on b s stage.Bind t h = absurd (cc)
+moves_on b s later t h = refl
+
+-- the ring's end has the move again, until the negotiation takes its watch
+keeps_turn : (v : View) (given : BackAnswer) → turn_of v ≡ turn.Ring → turn_at (bus_ask_of v) (step_of v.ring given).stage ≡ turn.Ring
+keeps_turn v given t =
+    let o : is_open v.ring.stage ≡ true = open_at (bus_ask_of v) v.ring.stage t in
+    moves_on (bus_ask_of v) v.ring.stage (step_of v.ring given).stage t (opened v.ring.stage v.ring given o o)
+
+pub knows_turn : (u : Turn) (v w : View) (r : ring.View) (given : BackAnswer) → u ≡ turn_of w → w ≡ v → turn_of v ≡ turn.Ring → r ≡ step_of w.ring given → u ≡ turn_at (bus_ask_of w) r.stage
+knows_turn u v w r given known same t moved =
+    let before : turn_of w ≡ turn.Ring = ap (λ (x : View). turn_of x) same ∙ t in
+    let after : turn_at (bus_ask_of w) r.stage ≡ turn.Ring = ap (λ (x : ring.View). turn_at (bus_ask_of w) x.stage) moved ∙ keeps_turn w given before in
+    known ∙ (before ∙ sym after)

@@ -1,0 +1,5 @@
+pub mod View
+pub mod Ask
+pub mod Step
+pub mod Turn
+pub mod Inside

@@ -1,0 +1,38 @@
+-- What contracts see of the backend.
+use Rattle.std.specs.Prelude.{Bool, true, false, ◌&&◌, None}
+use Rattle.blk_base.specs.Options.{Options}
+use Rattle.blk_back.specs.View as ring
+use Rattle.blk_back.specs.Ask.{is_idle as ring_is_idle}
+use Rattle.xenbus_state.specs.declared.offer.Features.{Features}
+use Rattle.xenbus_state.specs.Offer.{facts_of}
+use Rattle.xenbus_state.specs.BackView as bus
+use Rattle.xenbus_state.specs.BackAsk.{ask_of as bus_ask_of}
+use Rattle.xenbus_state.specs.declared.back.BackBusAsk.{BackBusAsk}
+use Rattle.xenbus_state.specs.declared.back.BackBusAsk.TheVariants as bus_ask
+
+-- The backend: its end of the ring with its jobs, and its end of the negotiation.
+pub record View : Type 0 where
+  pub ring : ring.View
+  pub bus : bus.BackView
+
+-- what this backend offers beside reads and writes: nothing, and rings of up to 16 pages
+abbrev pub offer : Features
+offer = record { barrier = false; flush = false; discard = false; persistent = false; indirect = 0; order = 4 }
+
+-- a backend that publishes what it offers first
+abbrev pub start_of : Options → View
+start_of config = record { ring = ring.start_of config; bus = bus.start_of offer (facts_of config) }
+
+-- what is told was taken
+abbrev pub heard : View → View
+heard v = let r : ring.View = v.ring in record v { ring = record r { told = None } }
+
+-- the negotiation has begun nothing, or the front is given up
+abbrev pub rests : BackBusAsk → Bool
+rests bus_ask.Wait = true
+rests bus_ask.UnmapOthers = true
+rests ask = false
+
+-- it waits for an event, and no job is held
+abbrev pub is_idle : View → Bool
+is_idle v = rests (bus_ask_of v.bus) && ring_is_idle v.ring

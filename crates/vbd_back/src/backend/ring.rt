@@ -1,0 +1,87 @@
+// What the backend passes on to its end of the ring, and whether it waits.
+ghost use Rattle.std.specs.Prelude.{◌≡◌, ◌<◌, ◌≤◌, None, IfSome, length};
+ghost use Rattle.blk_back.specs.Hands.{hands_of};
+ghost use Rattle.back_jobs.specs.Task.{IsAnswer};
+ghost use Rattle.back_jobs.specs.Sound.{StaysInPageAndDisk};
+ghost use Rattle.back_jobs.specs.Hands.{Names, HandsAfter};
+ghost use Rattle.vbd_back.specs.View.{heard, is_idle};
+ghost use Rattle.vbd_back.specs.Ask.{is_waiting};
+ghost use Rattle.vbd_back.specs.Step.{job_ask_of, job_step, next_job_of};
+
+use super::Backend;
+use crate::turn::Turn;
+use blk_back::{BackTold, Halt};
+use blk_base::{BackAnswer, BackAsk};
+use xenbus_state::BackBusAsk;
+
+impl Backend {
+    /// What the job of the `number`-th request that was fetched in this epoch asks next; `Wait` also
+    /// where there is none, and for every job after a halt.
+    #[inline(always)]
+    pub fn job_ask(&self, number: u64) -> BackAsk<'_>
+        ensures value { result ≡ job_ask_of self.now number }
+        ensures within { StaysInPageAndDisk self.now.ring.jobs.info.sectors result }
+        ensures names { Names (hands_of self.now.ring) result }
+        ensures few { length (hands_of self.now.ring) ≤ 34 }
+    {
+        self.ring.job_ask(number)
+    }
+
+    /// Tells the job of a number the answer to what it asks.
+    #[inline(always)]
+    pub fn job_tell(&mut self, number: u64, answer: &BackAnswer)
+        requires answer { IsAnswer (job_ask_of self.old number) answer.now }
+        requires told { self.old.ring.told ≡ None }
+        ensures stepped { self.new ≡ job_step self.old number answer.now }
+        ensures hands { HandsAfter (job_ask_of self.old number) answer.now (hands_of self.old.ring) (hands_of self.new.ring) }
+    {
+        self.ring.job_tell(number, answer);
+    }
+
+    /// The least number above this one of a job that is held; `None` exactly where there is none, and
+    /// always after a halt. At most 32 are held.
+    #[inline(always)]
+    pub fn next_job(&self, after: u64) -> Option<u64>
+        ensures value { result ≡ next_job_of self.now after }
+        ensures above { IfSome result (λ next. after < next) }
+        ensures few { length self.now.ring.jobs.works ≤ 32 }
+    {
+        self.ring.next_job(after)
+    }
+
+    /// Whether it asks for nothing but an event or a watch.
+    #[inline(always)]
+    pub fn waits(&self) -> bool
+        ensures { result ≡ is_waiting self.now }
+    {
+        match self.turn() {
+            Turn::Ring => self.ring.waits(),
+            Turn::Keys | Turn::Connect => false,
+            Turn::Neither => true,
+        }
+    }
+
+    /// Whether the ring's end asks for nothing but an event, no job is held, and the negotiation has
+    /// begun nothing or has given the front up.
+    pub fn idle(&self) -> bool
+        ensures { result ≡ is_idle self.now }
+    {
+        matches!(self.bus.ask(), BackBusAsk::Wait | BackBusAsk::UnmapOthers) && self.ring.idle()
+    }
+
+    /// What happened at the ring in the last move, once; `None` exactly where nothing is left to tell.
+    #[inline(always)]
+    pub fn take_told(&mut self) -> Option<BackTold>
+        ensures told { result ≡ self.old.ring.told }
+        ensures taken { self.new ≡ heard self.old }
+    {
+        self.ring.take_told()
+    }
+
+    /// Why the ring's end halted; `None` exactly where it didn't.
+    pub fn halted(&self) -> Option<Halt>
+        ensures { result ≡ self.now.ring.halted }
+    {
+        self.ring.halted()
+    }
+}

@@ -1,0 +1,14 @@
+//! The back end of a virtual block device, as the host's driver is: its end of the ring
+//! (`io/ring.h`, `io/blkif.h`) and its end of the negotiation over the keys of xenstore
+//! (`io/xenbus.h`), one machine that asks for one thing and is told the answer. The negotiation says
+//! when the ring is mapped and its port bound. The machine of both domains stands on it.
+#![tactic(auto)]
+
+mod backend;
+mod key;
+mod turn;
+
+pub use backend::Backend;
+
+#[cfg(test)]
+mod tests;

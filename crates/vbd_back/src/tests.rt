@@ -1,0 +1,257 @@
+// A backend by hand. Its calls go through functions that promise nothing, so that the tests are
+// proved without what their contracts say; long tests are cut, since a small body is proved sooner.
+use crate::Backend;
+use blk_back::Halt;
+use blk_base::{
+    Abi, BackAnswer, BackAsk, Config, Endpoint, Lent, Mapping, Mode, OutOfMemory, ShortText,
+};
+use std::alloc::Global;
+use std::process::Abort;
+use std::test::Fail;
+
+const RING: Mapping = Mapping {
+    number: 1,
+    gref: 8,
+    mode: Mode::ReadWrite,
+};
+
+const STATE: &str = "/local/domain/0/backend/vbd/1/51712/state";
+
+const FRONT_STATE: &str = "/local/domain/1/device/vbd/51712/state";
+
+// A backend of a disk of eight sectors.
+fn backend(alloc: Global) -> Result<Backend, OutOfMemory> {
+    let config = Config {
+        abi: Abi::X64,
+        order: 0,
+        persistent: 0,
+        indirect: 0,
+        start: 0,
+        read_only: false,
+        sectors: 8,
+    };
+    Backend::new(alloc, &config)
+}
+
+fn short<const N: usize>(text: &str) -> ShortText<N> {
+    if text.len() <= N {
+        ShortText::of(text)
+    } else {
+        ShortText::new()
+    }
+}
+
+fn ask(backend: &Backend) -> BackAsk<'_> {
+    backend.ask()
+}
+
+fn waits(backend: &Backend) -> bool {
+    backend.waits()
+}
+
+fn idle(backend: &Backend) -> bool {
+    backend.idle()
+}
+
+fn halted(backend: &Backend) -> Option<Halt> {
+    backend.halted()
+}
+
+// Tells the backend an answer, if it is of the kind that it asks for.
+fn tell(backend: &mut Backend, given: BackAnswer) -> Result<(), OutOfMemory> {
+    let _ = backend.take_told();
+    let allowed = match (backend.ask(), &given) {
+        (BackAsk::Wait, BackAnswer::Event | BackAnswer::Watched(_)) => true,
+        (BackAsk::Fence, BackAnswer::Done) => true,
+        (BackAsk::Read { .. }, BackAnswer::Word(_)) => true,
+        (BackAsk::Write { .. }, BackAnswer::Done) => true,
+        (BackAsk::Map { gref, mode }, BackAnswer::Mapped(m)) => m.gref == gref && m.mode == mode,
+        (BackAsk::Map { .. }, BackAnswer::MapRefused(_)) => true,
+        (BackAsk::Bind(_), BackAnswer::Done) => true,
+        (BackAsk::GetKey(_), BackAnswer::Key(_)) => true,
+        (BackAsk::SetKey(..), BackAnswer::Done) => true,
+        (BackAsk::Watch(_), BackAnswer::Done) => true,
+        _ => false,
+    };
+    if allowed {
+        backend.tell(&given)?;
+    }
+    Ok(())
+}
+
+// Whether it sets this key to this text.
+fn is_set(backend: &Backend, path: &str, text: &str) -> bool {
+    match ask(backend) {
+        BackAsk::SetKey(key, value) => {
+            key.get().as_str() == path && value.get().as_str() == text
+        }
+        _ => false,
+    }
+}
+
+// It sets a key.
+fn sets(rt: &impl Abort, backend: &mut Backend, path: &str, text: &str) -> Result<(), OutOfMemory> {
+    assert!(rt; is_set(backend, path, text), "{path}");
+    tell(backend, BackAnswer::Done)
+}
+
+// It reads a key, which has this text.
+fn gets(rt: &impl Abort, backend: &mut Backend, path: &str, text: &str) -> Result<(), OutOfMemory> {
+    let (path, text) = (short(path), short(text));
+    assert_eq!(rt; ask(backend), BackAsk::GetKey(Lent::at(&path)));
+    tell(backend, BackAnswer::Key(Some(Lent::at(&text))))
+}
+
+// It reads a key, which isn't there.
+fn misses(rt: &impl Abort, backend: &mut Backend, path: &str) -> Result<(), OutOfMemory> {
+    let path = short(path);
+    assert_eq!(rt; ask(backend), BackAsk::GetKey(Lent::at(&path)));
+    tell(backend, BackAnswer::Key(None))
+}
+
+// Its watch is taken.
+fn watched(backend: &mut Backend) -> Result<(), OutOfMemory> {
+    tell(backend, BackAnswer::Watched(Lent::at(&short(FRONT_STATE))))
+}
+
+// It publishes what it offers.
+fn offer(rt: &impl Abort, backend: &mut Backend) -> Result<(), OutOfMemory> {
+    for (path, text) in [
+        ("/local/domain/0/backend/vbd/1/51712/feature-barrier", "0"),
+        (
+            "/local/domain/0/backend/vbd/1/51712/feature-flush-cache",
+            "0",
+        ),
+        ("/local/domain/0/backend/vbd/1/51712/feature-discard", "0"),
+        (
+            "/local/domain/0/backend/vbd/1/51712/feature-persistent",
+            "0",
+        ),
+        (
+            "/local/domain/0/backend/vbd/1/51712/feature-max-indirect-segments",
+            "0",
+        ),
+        (
+            "/local/domain/0/backend/vbd/1/51712/max-ring-page-order",
+            "4",
+        ),
+        (STATE, "2"),
+    ] {
+        sets(rt, backend, path, text)?;
+    }
+    Ok(())
+}
+
+// It sets its watch, and waits.
+fn begin(rt: &impl Abort, backend: &mut Backend) -> Result<(), OutOfMemory> {
+    offer(rt, backend)?;
+    let path = short(FRONT_STATE);
+    assert_eq!(rt; ask(backend), BackAsk::Watch(Lent::at(&path)));
+    assert!(rt; !waits(backend));
+    tell(backend, BackAnswer::Done)?;
+    assert!(rt; waits(backend));
+    assert_eq!(rt; ask(backend), BackAsk::Wait);
+    Ok(())
+}
+
+// It reads what the front says.
+fn read(rt: &impl Abort, backend: &mut Backend) -> Result<(), OutOfMemory> {
+    watched(backend)?;
+    gets(rt, backend, FRONT_STATE, "3")?;
+    misses(
+        rt,
+        backend,
+        "/local/domain/1/device/vbd/51712/ring-page-order",
+    )?;
+    for (path, text) in [
+        ("/local/domain/1/device/vbd/51712/ring-ref", "8"),
+        ("/local/domain/1/device/vbd/51712/event-channel", "1"),
+        ("/local/domain/1/device/vbd/51712/protocol", "x86_64-abi"),
+        ("/local/domain/1/device/vbd/51712/feature-persistent", "0"),
+    ] {
+        gets(rt, backend, path, text)?;
+    }
+    assert_eq!(rt;
+        ask(backend),
+        BackAsk::Map {
+            gref: 8,
+            mode: Mode::ReadWrite
+        }
+    );
+    Ok(())
+}
+
+// It maps the ring and binds the port.
+fn connect(rt: &impl Abort, backend: &mut Backend) -> Result<(), OutOfMemory> {
+    tell(backend, BackAnswer::Mapped(RING))?;
+    assert_eq!(rt; ask(backend), BackAsk::Bind(1));
+    tell(backend, BackAnswer::Done)?;
+    for (path, text) in [
+        ("/local/domain/0/backend/vbd/1/51712/sectors", "8"),
+        ("/local/domain/0/backend/vbd/1/51712/sector-size", "512"),
+        ("/local/domain/0/backend/vbd/1/51712/info", "0"),
+        (STATE, "4"),
+    ] {
+        sets(rt, backend, path, text)?;
+    }
+    Ok(())
+}
+
+#[test]
+fn it_offers_and_waits_and_connects_as_the_front_says(rt: HostRuntime) -> Result<(), Fail> {
+    let mut backend = backend(rt.alloc())?;
+    begin(&rt, &mut backend)?;
+    read(&rt, &mut backend)?;
+    connect(&rt, &mut backend)?;
+    assert_eq!(rt;
+        ask(&backend),
+        BackAsk::Read {
+            mapping: RING,
+            word: 0
+        }
+    );
+    Ok(())
+}
+
+// It finds no request, and sleeps.
+fn sleep(rt: &impl Abort, backend: &mut Backend) -> Result<(), OutOfMemory> {
+    tell(backend, BackAnswer::Word(0))?;
+    tell(backend, BackAnswer::Done)?;
+    tell(backend, BackAnswer::Done)?;
+    assert!(rt; !idle(backend));
+    tell(backend, BackAnswer::Word(0))?;
+    assert!(rt; idle(backend));
+    Ok(())
+}
+
+#[test]
+fn a_watch_is_looked_at_and_leaves_it_asleep(rt: HostRuntime) -> Result<(), Fail> {
+    let mut backend = backend(rt.alloc())?;
+    begin(&rt, &mut backend)?;
+    read(&rt, &mut backend)?;
+    connect(&rt, &mut backend)?;
+    sleep(&rt, &mut backend)?;
+    watched(&mut backend)?;
+    gets(&rt, &mut backend, FRONT_STATE, "4")?;
+    assert!(rt; idle(&backend));
+    Ok(())
+}
+
+#[test]
+fn a_ring_that_cant_be_mapped_halts_it(rt: HostRuntime) -> Result<(), Fail> {
+    let mut backend = backend(rt.alloc())?;
+    begin(&rt, &mut backend)?;
+    read(&rt, &mut backend)?;
+    assert_eq!(rt; halted(&backend), None);
+    tell(&mut backend, BackAnswer::MapRefused(-1))?;
+    assert_eq!(rt;
+        halted(&backend),
+        Some(Halt::MapRefused {
+            gref: 8,
+            status: -1
+        })
+    );
+    watched(&mut backend)?;
+    assert!(rt; idle(&backend));
+    Ok(())
+}

@@ -1,0 +1,13 @@
+//! The front end of a block device: its end of the ring and its end of the negotiation as one end
+//! (`io/xenbus.h`, `io/ring.h`, `io/blkif.h`), a machine that asks for one thing and is told the
+//! answer. The machine of both domains stands on it.
+#![tactic(auto)]
+
+mod frontend;
+mod making;
+mod negotiation;
+#[cfg(test)]
+mod tests;
+mod turn;
+
+pub use frontend::Frontend;

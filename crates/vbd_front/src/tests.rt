@@ -1,0 +1,308 @@
+// A frontend over a back by hand, from its first watch to its first request.
+ghost use Rattle.std.specs.Prelude.{IfSome};
+ghost use Rattle.vbd_front.specs.Ask.{IsAnswer};
+
+use crate::Frontend;
+use arrayvec::ArrayString;
+use blk_base::{
+    Abi, Config, End, Endpoint, FrontAnswer, FrontAsk, Job, Lent, Path, SectorCount, Text,
+};
+use blk_front::{Refusal, Told};
+use std::alloc::Global;
+use std::process::Abort;
+use std::test::Fail;
+use xenbus_state::state_path;
+
+const FRONT: &str = "/local/domain/1/device/vbd/51712/";
+
+const BACK: &str = "/local/domain/0/backend/vbd/1/51712/";
+
+// What lies at the other end: each key says this text, and each word of the ring this word.
+#[derive(Drop)]
+struct Other {
+    text: Text,
+    word: u32,
+    watched: Path,
+}
+
+impl Other {
+    fn new(text: &str, word: u32) -> Other {
+        Other {
+            text: short(text),
+            word,
+            watched: state_path(End::Back),
+        }
+    }
+
+    // The answer to what is asked: a front that waits takes its watch. `None` for what this front
+    // never asks.
+    fn answer(&self, ask: &FrontAsk) -> Option<FrontAnswer<'_>>
+        ensures { IfSome result (λ answer. IsAnswer ask.now answer) }
+    {
+        match ask {
+            FrontAsk::Wait => Some(FrontAnswer::Watched(Lent::at(&self.watched))),
+            FrontAsk::Read { .. } | FrontAsk::Cas { .. } => Some(FrontAnswer::Word(self.word)),
+            FrontAsk::NewPort => Some(FrontAnswer::Port(1)),
+            FrontAsk::GetKey(_) => Some(FrontAnswer::Key(Some(Lent::at(&self.text)))),
+            FrontAsk::ClosePort => None,
+            _ => Some(FrontAnswer::Done),
+        }
+    }
+}
+
+// What answers an ask that reads nothing.
+fn nothing() -> Other {
+    Other::new("", 0)
+}
+
+fn short(text: &str) -> Text {
+    if text.len() <= 64 {
+        Text::of(text)
+    } else {
+        Text::new()
+    }
+}
+
+// A key's path in an end's directory.
+fn path(directory: &str, name: &str) -> Path {
+    let mut text: ArrayString<80> = ArrayString::new();
+    match (text.try_push_str(directory), text.try_push_str(name)) {
+        (Ok(()), Ok(())) => Path::of(text.as_str()),
+        _ => Path::new(),
+    }
+}
+
+// One move, which asks this: what is told then.
+fn move_at(
+    rt: &impl Abort,
+    front: &mut Frontend,
+    asked: &FrontAsk,
+    other: &Other,
+) -> Result<(Option<Told>, bool), Fail> {
+    assert_eq!(rt; front.take_told(), (None, false));
+    let ask = front.ask();
+    assert_eq!(rt; ask, *asked);
+    let answer = other.answer(&ask).ok_or("never asked")?;
+    front.tell(&answer)?;
+    Ok(front.take_told())
+}
+
+// The same, which tells nothing.
+fn asks(
+    rt: &impl Abort,
+    front: &mut Frontend,
+    asked: &FrontAsk,
+    other: &Other,
+) -> Result<(), Fail> {
+    assert_eq!(rt; move_at(rt, front, asked, other)?, (None, false));
+    Ok(())
+}
+
+// It reads these keys of the back, which say these texts.
+fn gets(rt: &impl Abort, front: &mut Frontend, keys: &[(&str, &str)]) -> Result<(), Fail> {
+    for (name, text) in keys {
+        let path = path(BACK, name);
+        asks(
+            rt,
+            front,
+            &FrontAsk::GetKey(Lent::at(&path)),
+            &Other::new(text, 0),
+        )?;
+    }
+    Ok(())
+}
+
+// It writes these keys of its own.
+fn sets(rt: &impl Abort, front: &mut Frontend, keys: &[(&str, &str)]) -> Result<(), Fail> {
+    for (name, text) in keys {
+        let (path, text) = (path(FRONT, name), short(text));
+        asks(
+            rt,
+            front,
+            &FrontAsk::SetKey(Lent::at(&path), Lent::at(&text)),
+            &nothing(),
+        )?;
+    }
+    Ok(())
+}
+
+// It takes its watch, and reads that the back is in this state.
+fn sees(rt: &impl Abort, front: &mut Frontend, state: &str) -> Result<(), Fail> {
+    asks(rt, front, &FrontAsk::Wait, &nothing())?;
+    gets(rt, front, &[("state", state)])
+}
+
+// A frontend that has set its watch, over a disk of 8 sectors.
+fn watching(rt: &impl Abort, alloc: Global) -> Result<Frontend, Fail> {
+    let mut front = Frontend::new(
+        alloc,
+        &Config {
+            abi: Abi::X64,
+            order: 0,
+            persistent: 0,
+            indirect: 0,
+            start: 7,
+            read_only: false,
+            sectors: 8,
+        },
+    )?;
+    let path = path(BACK, "state");
+    asks(
+        rt,
+        &mut front,
+        &FrontAsk::Watch(Lent::at(&path)),
+        &nothing(),
+    )?;
+    Ok(front)
+}
+
+// It reads what a back of state InitWait offers.
+fn reads_offer(rt: &impl Abort, front: &mut Frontend) -> Result<(), Fail> {
+    sees(rt, front, "2")?;
+    gets(
+        rt,
+        front,
+        &[
+            ("feature-barrier", "0"),
+            ("feature-flush-cache", "0"),
+            ("feature-discard", "0"),
+            ("feature-persistent", "0"),
+            ("feature-max-indirect-segments", "0"),
+            ("max-ring-page-order", "4"),
+        ],
+    )
+}
+
+// A word of the guest's memory is written.
+fn writes(
+    rt: &impl Abort,
+    front: &mut Frontend,
+    frame: u32,
+    word: u32,
+    value: u32,
+) -> Result<(), Fail> {
+    asks(
+        rt,
+        front,
+        &FrontAsk::Write { frame, word, value },
+        &nothing(),
+    )
+}
+
+// It makes its ring and its port, and publishes them.
+fn publishes(rt: &impl Abort, front: &mut Frontend) -> Result<(), Fail> {
+    for (word, value) in [(0, 7), (1, 8), (2, 7), (3, 8)] {
+        writes(rt, front, 2, word, value)?;
+    }
+    for word in 4..16 {
+        writes(rt, front, 2, word, 0)?;
+    }
+    writes(rt, front, 0, 17, 2)?;
+    asks(rt, front, &FrontAsk::Fence, &nothing())?;
+    writes(rt, front, 0, 16, 1)?;
+    asks(rt, front, &FrontAsk::NewPort, &nothing())?;
+    sets(
+        rt,
+        front,
+        &[
+            ("ring-ref", "8"),
+            ("event-channel", "1"),
+            ("protocol", "x86_64-abi"),
+            ("feature-persistent", "0"),
+            ("state", "3"),
+        ],
+    )
+}
+
+// A write of one sector is submitted.
+fn submit(front: &mut Frontend) -> Result<Result<u32, Refusal>, Fail> {
+    let count = SectorCount::new(1).ok_or("a count above 0")?;
+    Ok(front.submit(Job::Write {
+        sector: 0,
+        count,
+        tag: 7,
+    }))
+}
+
+// It reads what the disk is and writes Connected; whether it is ready then.
+fn connects(rt: &impl Abort, front: &mut Frontend) -> Result<bool, Fail> {
+    sees(rt, front, "4")?;
+    gets(
+        rt,
+        front,
+        &[("sectors", "8"), ("sector-size", "512"), ("info", "0")],
+    )?;
+    assert_eq!(rt; submit(front)?, Err(Refusal::NotReady));
+    let (path, text) = (path(FRONT, "state"), short("4"));
+    let connected = FrontAsk::SetKey(Lent::at(&path), Lent::at(&text));
+    let told = move_at(rt, front, &connected, &nothing())?;
+    assert_eq!(rt; told.0, None);
+    Ok(told.1)
+}
+
+// A frontend that is ready.
+fn ready(rt: &impl Abort, alloc: Global) -> Result<Frontend, Fail> {
+    let mut front = watching(rt, alloc)?;
+    reads_offer(rt, &mut front)?;
+    publishes(rt, &mut front)?;
+    assert!(rt; connects(rt, &mut front)?);
+    Ok(front)
+}
+
+// It reads the responses' producer, which is this.
+fn looks(
+    rt: &impl Abort,
+    front: &mut Frontend,
+    producer: u32,
+) -> Result<(Option<Told>, bool), Fail> {
+    let look = FrontAsk::Read { frame: 2, word: 2 };
+    move_at(rt, front, &look, &Other::new("", producer))
+}
+
+#[test]
+fn the_state_is_read_after_each_watch_until_the_back_offers(rt: HostRuntime) -> Result<(), Fail> {
+    let mut front = watching(&rt, rt.alloc())?;
+    sees(&rt, &mut front, "1")?;
+    assert!(rt; !front.idle());
+    reads_offer(&rt, &mut front)?;
+    writes(&rt, &mut front, 2, 0, 7)
+}
+
+#[test]
+fn the_ring_is_published_and_waits_for_the_back(rt: HostRuntime) -> Result<(), Fail> {
+    let mut front = watching(&rt, rt.alloc())?;
+    reads_offer(&rt, &mut front)?;
+    publishes(&rt, &mut front)?;
+    sees(&rt, &mut front, "2")?;
+    assert_eq!(rt; front.ask(), FrontAsk::Wait);
+    assert!(rt; !front.idle());
+    Ok(())
+}
+
+#[test]
+fn a_ready_front_issues_sleeps_and_takes_its_watch(rt: HostRuntime) -> Result<(), Fail> {
+    let mut front = ready(&rt, rt.alloc())?;
+    assert_eq!(rt; looks(&rt, &mut front, 7)?, (None, false));
+    writes(&rt, &mut front, 2, 3, 8)?;
+    asks(&rt, &mut front, &FrontAsk::Fence, &nothing())?;
+    assert!(rt; !front.idle());
+    assert_eq!(rt; looks(&rt, &mut front, 7)?, (None, false));
+    assert!(rt; front.idle());
+    sees(&rt, &mut front, "4")?;
+    assert!(rt; front.idle());
+    assert_eq!(rt; submit(&mut front)?, Ok(1));
+    assert_eq!(rt; front.owed(), (1, 1));
+    writes(&rt, &mut front, 18, 0, 7)
+}
+
+#[test]
+fn a_broken_front_takes_its_watch_and_reads_nothing(rt: HostRuntime) -> Result<(), Fail> {
+    let mut front = ready(&rt, rt.alloc())?;
+    assert!(rt; !front.has_told());
+    assert_eq!(rt; looks(&rt, &mut front, 8)?, (Some(Told::Broken(8)), false));
+    for _ in 0..2 {
+        assert!(rt; front.idle());
+        asks(&rt, &mut front, &FrontAsk::Wait, &nothing())?;
+    }
+    Ok(())
+}

@@ -1,0 +1,196 @@
+-- No event is pending where no port is made, nor at the back before it binds one.
+use Rattle.std.proofs.Common.{◌≡◌, ℕ, Bool, true, false, true≢false, ◌||◌, if◌then◌else◌, List, [], ◌∷◌, ◌++◌, length, map, refl, sym, ap, ◌∙◌, subst, arith, length-append}
+use Rattle.std.specs.Prelude.{Some, Result, Ok, Err, slice_set}
+use Rattle.std.specs.List.{list_any}
+use Rattle.std.proofs.lemmas.List.{length-set}
+use Rattle.std.proofs.lemmas.List.Folds.{list_any-append}
+use Rattle.std.proofs.lemmas.Option.{none-some}
+use Rattle.blk_base.specs.declared.parts.Mode.{Mode}
+use Rattle.blk_base.specs.declared.parts.Mode.TheVariants.{ReadWrite}
+use Rattle.blk_base.specs.declared.parts.End.{End}
+use Rattle.blk_base.specs.declared.parts.End.TheVariants as end
+use Rattle.blk_base.specs.declared.ask.FrontAsk.{FrontAsk}
+use Rattle.blk_base.specs.declared.ask.FrontAsk.TheVariants as front_ask
+use Rattle.blk_base.specs.declared.ask.BackAsk.{BackAsk}
+use Rattle.blk_base.specs.declared.ask.BackAsk.TheVariants as back_ask
+use Rattle.blk_base.specs.declared.moves.BackMover.{BackMover}
+use Rattle.blk_base.specs.declared.moves.BackMover.TheVariants as back_mover
+use Rattle.grant_table.specs.declared.entry.MapRefusal.{MapRefusal}
+use Rattle.grant_table.specs.Table.{verdict_at}
+use Rattle.event_channel.specs.declared.channels.PortState.{PortState}
+use Rattle.event_channel.specs.declared.channels.PortState.TheVariants as port
+use Rattle.event_channel.specs.Channels.{ChannelState, state_of, place_of, with_port, bound, is_bound_port, is_bound, sent, taken, closed, unbound_port}
+use Rattle.hypervisor.specs.Hypervisor.{Hypervisor}
+use Rattle.hypervisor.specs.Act.{FrontAct, BackAct, Outcome, front_act, back_act, map_act, bind_act}
+use Rattle.blk_back.specs.declared.stage.Stage.{Stage}
+use Rattle.blk_back.specs.declared.stage.Stage.TheVariants as stage
+use Rattle.blk_back.specs.View.{View}
+use Rattle.blk_back.specs.Ask.{ask_at, ask_of}
+use Rattle.blk_back.specs.Step.{step_at, step_of}
+use Rattle.split_model.specs.Happening.{other_end}
+use Rattle.split_model.proofs.SafeActs.{of_front, of_back, of_read, of_disk, front_wait, back_wait}
+use Rattle.split_model.proofs.SafeAnswers.{IsFronts, IsBacks, IsJobs}
+use Rattle.vbd_model.specs.Fit.{IsUnbound}
+use Rattle.vbd_laws.proofs.FitBackRing.{is_past, past_step}
+
+-- no event is pending at a front that made no port
+abbrev pub IsUnported : ChannelState → Type 0
+IsUnported c = c.ports ≡ [] → c.front_pending ≡ false
+
+-- what becomes of the channels at a move of the front's end of the ring
+front_channels : (P : ChannelState → Type 0) (h : Hypervisor) (c : ChannelState) (ask : FrontAsk) (a : FrontAct) → IsFronts c ask
+    → P h.channels → P (taken h.channels end.Front) → P (with_port h.channels) → P (sent h.channels end.Front) → front_act h ask ≡ Some a → P a.under.channels
+front_channels P h c front_ask.Wait a own same takes ports sends e = front_wait (λ (x : FrontAct). P x.under.channels) h a takes (λ path. same) e
+front_channels P h c front_ask.Fence a own same takes ports sends e = of_front (λ (x : FrontAct). P x.under.channels) _ a same e
+front_channels P h c (front_ask.Read frame word) a own same takes ports sends e = of_front (λ (x : FrontAct). P x.under.channels) _ a same e
+front_channels P h c (front_ask.Write frame word value) a own same takes ports sends e = of_front (λ (x : FrontAct). P x.under.channels) _ a same e
+front_channels P h c (front_ask.Cas frame word old new) a own same takes ports sends e = of_front (λ (x : FrontAct). P x.under.channels) _ a same e
+front_channels P h c front_ask.NewPort a own same takes ports sends e = of_front (λ (x : FrontAct). P x.under.channels) _ a ports e
+front_channels P h c front_ask.Send a own same takes ports sends e = of_front (λ (x : FrontAct). P x.under.channels) _ a sends e
+front_channels P h c front_ask.ClosePort a own same takes ports sends e = absurd own
+front_channels P h c (front_ask.GetKey path) a own same takes ports sends e = absurd own
+front_channels P h c (front_ask.SetKey path text) a own same takes ports sends e = absurd own
+front_channels P h c (front_ask.Watch path) a own same takes ports sends e = absurd own
+
+one_more : (ports : List PortState) → ports ++ port.Unbound ∷ [] ≡ [] → ⊥
+one_more ports e = let more = length-append ports (port.Unbound ∷ []) in let none = ap (λ (l : List PortState). length l) e in omega arith
+
+pub unported_front : (h : Hypervisor) (c : ChannelState) (ask : FrontAsk) (a : FrontAct) → IsFronts c ask → IsUnported h.channels → front_act h ask ≡ Some a → IsUnported a.under.channels
+unported_front h c ask a own was e = front_channels IsUnported h c ask a own was (λ none. refl) (λ none. absurd (one_more h.channels.ports none)) was e
+
+-- no port is bound, and no event is pending at the back
+abbrev IsQuiet : ChannelState → Type 0
+IsQuiet c = (is_bound c ≡ false) × (c.back_pending ≡ false)
+
+quiet_sent : (c : ChannelState) → IsQuiet c → IsQuiet (sent c end.Front)
+quiet_sent c was = (was.0, by_test (is_bound c) was.0)
+  where
+    by_test : (b : Bool) → b ≡ false → (if b then true else c.back_pending) ≡ false
+    by_test true h = absurd (true≢false h)
+    by_test false h = was.1
+
+quiet_port : (c : ChannelState) → IsQuiet c → IsQuiet (with_port c)
+quiet_port c was = (list_any-append is_bound_port c.ports (port.Unbound ∷ []) ∙ ap (λ (b : Bool). b || false) was.0, was.1)
+
+unbound_as : (s : Stage) (c d : ChannelState) → (IsQuiet c → IsQuiet d) → IsUnbound s c → IsUnbound s d
+unbound_as stage.MapRing c d into was = into was
+unbound_as stage.Bind c d into was = into was
+unbound_as s c d into was = tt
+
+pub unbound_front : (s : Stage) (h : Hypervisor) (c : ChannelState) (ask : FrontAsk) (a : FrontAct) → IsFronts c ask → IsUnbound s h.channels → front_act h ask ≡ Some a
+    → IsUnbound s a.under.channels
+unbound_front s h c ask a own was e =
+    front_channels (λ (d : ChannelState). IsUnbound s d) h c ask a own was (unbound_as s h.channels (taken h.channels end.Front) (λ q. q) was)
+    (unbound_as s h.channels (with_port h.channels) (quiet_port h.channels) was) (unbound_as s h.channels (sent h.channels end.Front) (quiet_sent h.channels) was) e
+
+-- what becomes of the channels at a move of the back's end of the ring
+bind_channels : (P : ChannelState → Type 0) (h : Hypervisor) (p : ℕ) (state : PortState) → P h.channels → P (bound h.channels p) → P (bind_act h p state).under.channels
+bind_channels P h p port.Unbound same binds = binds
+bind_channels P h p port.Closed same binds = same
+bind_channels P h p port.Bound same binds = same
+
+map_channels : (P : ChannelState → Type 0) (h : Hypervisor) (who : BackMover) (gref : ℕ) (mode : Mode) (verdict : Result ℕ MapRefusal) → P h.channels
+    → P (map_act h who gref mode verdict).under.channels
+map_channels P h who gref mode (Ok frame) same = same
+map_channels P h who gref mode (Err refusal) same = same
+
+back_channels : (P : ChannelState → Type 0) (h : Hypervisor) (ask : BackAsk) (o : Outcome) (a : BackAct) → IsBacks ask
+    → P h.channels → P (taken h.channels end.Back) → ((p : ℕ) → P (bound h.channels p)) → P (sent h.channels end.Back) → P (closed h.channels end.Back)
+    → back_act h back_mover.Back ask o ≡ Some a → P a.under.channels
+back_channels P h back_ask.Wait o a own same takes binds sends closes e = back_wait (λ (x : BackAct). P x.under.channels) h back_mover.Back a takes (λ path. same) e
+back_channels P h back_ask.Fence o a own same takes binds sends closes e = of_back (λ (x : BackAct). P x.under.channels) _ a same e
+back_channels P h (back_ask.Read m word) o a own same takes binds sends closes e = of_back (λ (x : BackAct). P x.under.channels) _ a same e
+back_channels P h (back_ask.Write m word value) o a own same takes binds sends closes e = of_back (λ (x : BackAct). P x.under.channels) _ a same e
+back_channels P h (back_ask.Map gref mode) o a own same takes binds sends closes e =
+    of_back (λ (x : BackAct). P x.under.channels) _ a (map_channels P h back_mover.Back gref mode (verdict_at h.pages gref mode) same) e
+back_channels P h (back_ask.Unmap m) o a own same takes binds sends closes e = of_back (λ (x : BackAct). P x.under.channels) _ a same e
+back_channels P h (back_ask.Bind p) o a own same takes binds sends closes e =
+    of_back (λ (x : BackAct). P x.under.channels) _ a (bind_channels P h p (state_of h.channels p) same (binds p)) e
+back_channels P h back_ask.Send o a own same takes binds sends closes e = of_back (λ (x : BackAct). P x.under.channels) _ a sends e
+back_channels P h back_ask.ClosePort o a own same takes binds sends closes e = of_back (λ (x : BackAct). P x.under.channels) _ a closes e
+back_channels P h (back_ask.GetKey path) o a own same takes binds sends closes e = absurd own
+back_channels P h (back_ask.SetKey path text) o a own same takes binds sends closes e = absurd own
+back_channels P h (back_ask.Watch path) o a own same takes binds sends closes e = absurd own
+back_channels P h (back_ask.DiskRead sector) o a own same takes binds sends closes e = absurd own
+back_channels P h (back_ask.DiskWrite sector words) o a own same takes binds sends closes e = absurd own
+back_channels P h back_ask.Flush o a own same takes binds sends closes e = absurd own
+back_channels P h (back_ask.Trim sector count) o a own same takes binds sends closes e = absurd own
+
+set_empty : (ports : List PortState) (i : ℕ) (p : PortState) → slice_set ports i p ≡ [] → ports ≡ []
+set_empty [] i p e = refl
+set_empty (x ∷ ports) i p e = let as_many = length-set (x ∷ ports) i p in let none = ap (λ (l : List PortState). length l) e in absurd (omega arith)
+
+map_empty : (f : PortState → PortState) (ports : List PortState) → map f ports ≡ [] → ports ≡ []
+map_empty f [] e = refl
+map_empty f (x ∷ ports) e = let none = ap (λ (l : List PortState). length l) e in absurd (omega arith)
+
+-- an event that is sent where no port is made is lost
+sent_unported : (c : ChannelState) → IsUnported c → IsUnported (sent c end.Back)
+sent_unported c was none = by_test (is_bound c) (ap (list_any is_bound_port) none)
+  where
+    by_test : (b : Bool) → b ≡ false → (if b then true else c.front_pending) ≡ false
+    by_test true h = absurd (true≢false h)
+    by_test false h = was none
+
+pub unported_back : (h : Hypervisor) (ask : BackAsk) (o : Outcome) (a : BackAct) → IsBacks ask → IsUnported h.channels → back_act h back_mover.Back ask o ≡ Some a → IsUnported a.under.channels
+unported_back h ask o a own was e =
+    back_channels IsUnported h ask o a own was was (λ p none. was (set_empty h.channels.ports (place_of h.channels p) port.Bound none)) (sent_unported h.channels was)
+    (λ none. was (map_empty unbound_port h.channels.ports none)) e
+
+-- past its port's bind nothing is said of the back's channels
+past_unbound : (s : Stage) (c : ChannelState) → is_past s ≡ true → IsUnbound s c
+past_unbound stage.MapRing c past = absurd (true≢false (sym past))
+past_unbound stage.Bind c past = absurd (true≢false (sym past))
+past_unbound s c past = tt
+
+map_unbound : (v : View) (h : Hypervisor) (verdict : Result ℕ MapRefusal) → IsQuiet h.channels
+    → let a = map_act h back_mover.Back 8 ReadWrite verdict in IsUnbound (step_at stage.MapRing v a.answer).stage a.under.channels
+map_unbound v h (Ok frame) was = was
+map_unbound v h (Err refusal) was = tt
+
+bind_unbound : (v : View) (h : Hypervisor) (state : PortState) → let a = bind_act h 1 state in IsUnbound (step_at stage.Bind v a.answer).stage a.under.channels
+bind_unbound v h port.Unbound = tt
+bind_unbound v h port.Closed = tt
+bind_unbound v h port.Bound = tt
+
+unbound_at : (s : Stage) (v : View) (h : Hypervisor) (o : Outcome) (a : BackAct) → v.stage ≡ s → IsUnbound s h.channels → back_act h back_mover.Back (ask_at s v) o ≡ Some a
+    → IsUnbound (step_at s v a.answer).stage a.under.channels
+unbound_at stage.MapRing v h o a here was e =
+    of_back (λ (x : BackAct). IsUnbound (step_at stage.MapRing v x.answer).stage x.under.channels) _ a (map_unbound v h (verdict_at h.pages 8 ReadWrite) was) e
+unbound_at stage.Bind v h o a here was e =
+    of_back (λ (x : BackAct). IsUnbound (step_at stage.Bind v x.answer).stage x.under.channels) _ a (bind_unbound v h (state_of h.channels 1)) e
+unbound_at s v h o a here was e =
+    past_unbound (step_at s v a.answer).stage a.under.channels (subst (λ (t : Stage). is_past (step_at t v a.answer).stage ≡ true) here (past_step v a.answer (ap is_past here)))
+
+pub unbound_back : (v : View) (h : Hypervisor) (o : Outcome) (a : BackAct) → IsUnbound v.stage h.channels → back_act h back_mover.Back (ask_of v) o ≡ Some a
+    → IsUnbound (step_of v a.answer).stage a.under.channels
+unbound_back v h o a was e = unbound_at v.stage v h o a refl was e
+
+-- a job leaves the channels
+job_channels : (P : ChannelState → Type 0) (h : Hypervisor) (k : ℕ) (ask : BackAsk) (o : Outcome) (a : BackAct) → IsJobs ask → P h.channels
+    → back_act h (back_mover.Job k) ask o ≡ Some a → P a.under.channels
+job_channels P h k back_ask.Wait o a own same e = absurd (none-some a e)
+job_channels P h k back_ask.Fence o a own same e = absurd own
+job_channels P h k (back_ask.Read m word) o a own same e = of_back (λ (x : BackAct). P x.under.channels) _ a same e
+job_channels P h k (back_ask.Write m word value) o a own same e = of_back (λ (x : BackAct). P x.under.channels) _ a same e
+job_channels P h k (back_ask.Map gref mode) o a own same e =
+    of_back (λ (x : BackAct). P x.under.channels) _ a (map_channels P h (back_mover.Job k) gref mode (verdict_at h.pages gref mode) same) e
+job_channels P h k (back_ask.Unmap m) o a own same e = of_back (λ (x : BackAct). P x.under.channels) _ a same e
+job_channels P h k (back_ask.Bind p) o a own same e = absurd own
+job_channels P h k back_ask.Send o a own same e = absurd own
+job_channels P h k back_ask.ClosePort o a own same e = absurd own
+job_channels P h k (back_ask.GetKey path) o a own same e = absurd own
+job_channels P h k (back_ask.SetKey path text) o a own same e = absurd own
+job_channels P h k (back_ask.Watch path) o a own same e = absurd own
+job_channels P h k (back_ask.DiskRead sector) o a own same e = of_read (λ (x : BackAct). P x.under.channels) h _ o a (λ x is. rw is same) e
+job_channels P h k (back_ask.DiskWrite sector words) o a own same e = of_disk (λ (x : BackAct). P x.under.channels) h _ o a (λ x is. rw is same) e
+job_channels P h k back_ask.Flush o a own same e = absurd own
+job_channels P h k (back_ask.Trim sector count) o a own same e = absurd own
+
+pub job_leaves : (h : Hypervisor) (k : ℕ) (ask : BackAsk) (o : Outcome) (a : BackAct) → IsJobs ask → back_act h (back_mover.Job k) ask o ≡ Some a → a.under.channels ≡ h.channels
+job_leaves h k ask o a own e = job_channels (λ (c : ChannelState). c ≡ h.channels) h k ask o a own refl e
+
+-- a spurious event comes at a bound port alone
+pub notified : (at : End) (s : Stage) (c : ChannelState) → IsUnported c → IsUnbound s c → IsUnported (sent c (other_end at)) × IsUnbound s (sent c (other_end at))
+notified end.Front s c unported unbound = (sent_unported c unported, unbound_as s c (sent c end.Back) (λ q. q) unbound)
+notified end.Back s c unported unbound = (unported, unbound_as s c (sent c end.Front) (quiet_sent c) unbound)

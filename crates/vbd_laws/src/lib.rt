@@ -1,0 +1,61 @@
+//! Laws of the machine whose ends negotiate (`io/xenbus.h`) and then serve a ring (`io/blkif.h`): it
+//! is fit whatever happens, each move of an end is what that end asks and is answered, and whatever
+//! happens is possible for the machine of the ring, of whose reports the other laws speak. The runner
+//! stands on it.
+#![tactic(auto)]
+
+ghost use Rattle.std.specs.Prelude.{◌≡◌, ◌+◌, ◌^◌, ◌<◌, ◌≤◌, List, length, true, Some, None};
+ghost use Rattle.blk_base.specs.Options.{Options};
+ghost use Rattle.hypervisor.specs.Act.{FrontAct, BackAct};
+ghost use Rattle.hypervisor.specs.May.{FrontMay, BackMay};
+ghost use Rattle.back_jobs.specs.Hands.{Names};
+ghost use Rattle.blk_back.specs.Hands.{hands_of};
+ghost use Rattle.vbd_front.specs.Ask.{ask_of as front_ask, StaysInMemory};
+ghost use Rattle.vbd_back.specs.Ask.{ask_of as back_ask};
+ghost use Rattle.vbd_model.specs.World.{World, start_of, frontend_of, backend_of};
+ghost use Rattle.vbd_model.specs.Happening.{Happening, FrontMoves, BackMoves, front_turn, back_turn, happens, after};
+ghost use Rattle.vbd_model.specs.Kind.{are_carried};
+ghost use Rattle.vbd_model.specs.Fit.{IsFit};
+ghost use Rattle.vbd_laws.specs.Moves.{IsFrontMove, IsBackMove, IsNoMove};
+ghost use Rattle.vbd_laws.specs.Served.{RingsPossible, RingGoesByTheTerms};
+
+/// The machine is fit at the start, under options that are carried out, and stays so, whatever
+/// happens: its rings are safe, each negotiation goes with its end of the ring, and no event is
+/// pending where no port is made or bound.
+pub fn the_machine_stays_fit()
+    ensures start { (config : Options) → are_carried config ≡ true → IsFit (start_of config) }
+    ensures kept { (w : World) (h : Happening) → IsFit w → IsFit (happens w h) }
+    ensures after { (hs : List Happening) (w : World) → IsFit w → IsFit (after hs w) }
+{}
+
+/// A move of an end of a fit machine is the act that the end asks for, told to it, with the lines of
+/// the move and of what it made happen. Where there is no act, nothing happens. Neither calls the
+/// disk; the front makes no mapping, the back one at most.
+pub fn a_move_is_what_its_end_asks()
+    ensures front { (w : World) (a : FrontAct) → IsFit w → front_turn w ≡ Some a → IsFrontMove w a }
+    ensures front_none { (w : World) → IsFit w → front_turn w ≡ None → IsNoMove w FrontMoves }
+    ensures back { (w : World) (a : BackAct) → IsFit w → back_turn w ≡ Some a → IsBackMove w a }
+    ensures back_none { (w : World) → IsFit w → back_turn w ≡ None → IsNoMove w BackMoves }
+{}
+
+/// While the machine is fit, what its ends ask may be carried out: by the front, a port, each word of
+/// its memory, and its keys; by the back, each word through a mapping that it holds, and its keys;
+/// and a further mapping while at most 34 are held and its number is below 2^64.
+pub fn every_ask_may_be_carried_out()
+    ensures front { (w : World) → IsFit w → StaysInMemory (front_ask (frontend_of w)) → FrontMay w.rings.under (front_ask (frontend_of w)) }
+    ensures back { (w : World) → IsFit w → Names (hands_of w.rings.back) (back_ask (backend_of w)) → w.rings.under.grants.made + 1 < 2 ^ 64
+        → length (hands_of w.rings.back) ≤ 34 → BackMay w.rings.under (Some w.rings.front.sectors) (back_ask (backend_of w)) }
+{}
+
+/// Whatever a schedule makes happen is possible for the machine of the ring: the back's end of the
+/// ring moves only once the front has made its ring and its port, and each path and text of a key is
+/// of the grammar.
+pub fn whatever_happens_is_possible()
+    ensures { RingsPossible }
+{}
+
+/// The back's end of the ring maps the reference and binds the port that its negotiation read of the
+/// front's keys (`ring-ref` and `event-channel` of `io/blkif.h`), once the front has made both.
+pub fn the_back_maps_what_the_front_granted()
+    ensures { RingGoesByTheTerms }
+{}

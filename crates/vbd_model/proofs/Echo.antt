@@ -1,0 +1,157 @@
+-- What happens echoes the schedule: an event's lines of the kinds that echo are those that answer it.
+use Rattle.std.proofs.Common.{◌≡◌, ℕ, zero, suc, List, [], ◌∷◌, ◌++◌, Bool, true, false, if◌then◌else◌, refl, ap, sym, ◌∙◌, subst}
+use Rattle.std.specs.Prelude.{◌*◌, ◌^◌, replicate}
+use Rattle.std.specs.List.{AllByRecursion}
+use Rattle.blk_base.specs.declared.parts.End.TheVariants as end
+use Rattle.blk_front.specs.Submit as front_submit
+use Rattle.schedule_text.specs.declared.event.Event.{Event}
+use Rattle.schedule_text.specs.declared.event.Event.TheVariants as events
+use Rattle.schedule_text.specs.declared.line.Line.{Line}
+use Rattle.schedule_text.specs.declared.line.Line.TheVariants as lines
+use Rattle.plain_disk.specs.Echo.{Answers, AnswersAll, AnswersSettle, AnswersLook, AreRingWords}
+use Rattle.xenbus_state.specs.declared.state.BusState.TheVariants as state
+use Rattle.xenbus_state.specs.declared.front.FrontBusAsk.{FrontBusAsk}
+use Rattle.xenbus_state.specs.declared.front.FrontBusAsk.TheVariants as front_ask
+use Rattle.split_model.specs.Happening as ring
+use Rattle.split_model.proofs.Echo.{echo_of, echo-append, is_move as is_ring_move, moves_silent as ring_moves_silent, are_moves-append as ring_moves-append, submit_answers, poke_echo, dump_answers}
+use Rattle.vbd_front.specs.Ask as front
+use Rattle.vbd_back.specs.Ask as back
+use Rattle.vbd_model.specs.World.{World, is_quiet, frontend_of, backend_of}
+use Rattle.vbd_model.specs.Happening.{Happening, FrontMoves, BackMoves, JobMoves, Submits, Notifies, Pokes, Dumps, Looks, Settles, front_key, back_key, connecting, is_fronts_ring, is_backs_ring, does, happens, lines_at, after, lines_of, all_does}
+use Rattle.vbd_model.specs.Kind.{is_carried, Makes, AreOf, AreOfAll, AreJobMoves, AreEachJobs, round_start, IsRound, AreRounds, never}
+use Rattle.vbd_model.proofs.Running.{lines_of-append, lines_lift}
+pub use Rattle.split_model.proofs.Echo.{echo_of, kept_echo}
+
+-- a move of an end or of a job, or a spurious event
+abbrev pub is_move : Happening → Bool
+is_move FrontMoves = true
+is_move BackMoves = true
+is_move (JobMoves number outcome) = true
+is_move (Notifies at) = true
+is_move h = false
+
+-- what a move is to the ring's machine are moves too
+connecting_moves : (a : FrontBusAsk) → AllByRecursion (λ (h : ring.Happening). is_ring_move h ≡ true) (connecting a)
+connecting_moves (front_ask.SetState state.Connected) = (refl, tt)
+connecting_moves a = tt
+
+front_does_moves : (ringed : Bool) (a : FrontBusAsk) → AllByRecursion (λ (h : ring.Happening). is_ring_move h ≡ true) (if ringed then ring.FrontMoves ∷ [] else ring.Negotiates end.Front (front_key a) ∷ connecting a)
+front_does_moves true a = (refl, tt)
+front_does_moves false a = (refl, connecting_moves a)
+
+does_moves : (w : World) (h : Happening) → is_move h ≡ true → AllByRecursion (λ (x : ring.Happening). is_ring_move x ≡ true) (does w h)
+does_moves w FrontMoves m = front_does_moves (is_fronts_ring w) (front.bus_ask_of (frontend_of w))
+does_moves w BackMoves m = back_does_moves (is_backs_ring w)
+  where
+    back_does_moves : (ringed : Bool) → AllByRecursion (λ (x : ring.Happening). is_ring_move x ≡ true) (if ringed then ring.BackMoves ∷ [] else ring.Negotiates end.Back (back_key (back.bus_ask_of (backend_of w))) ∷ [])
+    back_does_moves true = (refl, tt)
+    back_does_moves false = (refl, tt)
+does_moves w (JobMoves number outcome) m = (refl, tt)
+does_moves w (Notifies at) m = (refl, tt)
+does_moves w (Submits job) m = absurd (cc)
+does_moves w (Pokes frame word value) m = absurd (cc)
+does_moves w Dumps m = absurd (cc)
+does_moves w (Looks quiet) m = absurd (cc)
+does_moves w (Settles quiet) m = absurd (cc)
+
+pub all_do_moves : (hs : List Happening) (w : World) → AllByRecursion (λ (h : Happening). is_move h ≡ true) hs → AllByRecursion (λ (x : ring.Happening). is_ring_move x ≡ true) (all_does hs w)
+all_do_moves [] w m = tt
+all_do_moves (h ∷ hs) w m = ring_moves-append (does w h) (all_does hs (happens w h)) (does_moves w h m.0) (all_do_moves hs (happens w h) m.1)
+
+-- moves show no line that echoes
+pub moves_silent : (hs : List Happening) (w : World) → AllByRecursion (λ (h : Happening). is_move h ≡ true) hs → echo_of (lines_of hs w) ≡ []
+moves_silent hs w m = ap echo_of (lines_lift hs w) ∙ ring_moves_silent (all_does hs w) w.rings (all_do_moves hs w m)
+
+pub move_silent : (w : World) (h : Happening) → is_move h ≡ true → echo_of (lines_at w h) ≡ []
+move_silent w h m = ring_moves_silent (does w h) w.rings (does_moves w h m)
+
+pub are_moves-append : (a b : List Happening) → AllByRecursion (λ (h : Happening). is_move h ≡ true) a → AllByRecursion (λ (h : Happening). is_move h ≡ true) b → AllByRecursion (λ (h : Happening). is_move h ≡ true) (a ++ b)
+are_moves-append [] b p q = q
+are_moves-append (h ∷ a) b p q = (p.0, are_moves-append a b p.1 q)
+
+repeated : (n : ℕ) (h : Happening) → is_move h ≡ true → AllByRecursion (λ (x : Happening). is_move x ≡ true) (replicate n h)
+repeated zero h m = tt
+repeated (suc n) h m = (m, repeated n h m)
+
+pub front_are_moves : (n : ℕ) → AllByRecursion (λ (h : Happening). is_move h ≡ true) (replicate n FrontMoves)
+front_are_moves n = repeated n FrontMoves refl
+
+pub back_are_moves : (n : ℕ) → AllByRecursion (λ (h : Happening). is_move h ≡ true) (replicate n BackMoves)
+back_are_moves n = repeated n BackMoves refl
+
+pub job_are_moves : (number : ℕ) (hs : List Happening) → AreJobMoves number hs → AllByRecursion (λ (h : Happening). is_move h ≡ true) hs
+job_are_moves number [] j = tt
+job_are_moves number (h ∷ hs) j = (ap is_move j.1, job_are_moves number hs j.3)
+
+pub each_are_moves : (from to : ℕ) (w : World) (hs : List Happening) → AreEachJobs from to w hs → AllByRecursion (λ (h : Happening). is_move h ≡ true) hs
+each_are_moves from to w [] j = tt
+each_are_moves from to w (h ∷ hs) j = (ap is_move j.2, each_are_moves j.0 to (happens w h) hs j.5)
+
+pub start_are_moves : AllByRecursion (λ (h : Happening). is_move h ≡ true) round_start
+start_are_moves = (refl, (refl, tt))
+
+pub round_are_moves : (w : World) (hs : List Happening) → IsRound w hs → AllByRecursion (λ (h : Happening). is_move h ≡ true) hs
+round_are_moves w hs r =
+    subst (λ (l : List Happening). AllByRecursion (λ (h : Happening). is_move h ≡ true) l) (sym r.all)
+    (are_moves-append round_start r.jobs start_are_moves (each_are_moves 0 r.are_jobs.to (after round_start w) r.jobs r.are_jobs.each))
+
+pub rounds_are_moves : (test : World → Bool) (n : ℕ) (w : World) (hs : List Happening) → AreRounds test n w hs → AllByRecursion (λ (h : Happening). is_move h ≡ true) hs
+rounds_are_moves test zero w hs r = subst (λ (l : List Happening). AllByRecursion (λ (h : Happening). is_move h ≡ true) l) (sym r) tt
+rounds_are_moves test (suc n) w hs r =
+    let p = r.1 in
+    subst (λ (l : List Happening). AllByRecursion (λ (h : Happening). is_move h ≡ true) l) (sym p.2) (are_moves-append p.0 p.1 (round_are_moves w p.0 p.3) (rounds_are_moves test n (after p.0 w) p.1 p.4))
+
+look_answers : (quiet : Bool) → (line : Line) × (echo_of ((if quiet then lines.Quiet else lines.Busy) ∷ []) ≡ line ∷ []) × AnswersLook line
+look_answers true = (lines.Quiet, refl, tt)
+look_answers false = (lines.Busy, refl, tt)
+
+settle_answers : (quiet : Bool) → (line : Line) × (echo_of ((if quiet then lines.Quiet else lines.Unsettled) ∷ []) ≡ line ∷ []) × AnswersSettle line
+settle_answers true = (lines.Quiet, refl, tt)
+settle_answers false = (lines.Unsettled, refl, tt)
+
+settle_echo : (w : World) (rounds : List Happening) (quiet : Bool) → AllByRecursion (λ (h : Happening). is_move h ≡ true) rounds → echo_of (lines_of (rounds ++ Settles quiet ∷ []) w) ≡ echo_of ((if quiet then lines.Quiet else lines.Unsettled) ∷ [])
+settle_echo w rounds quiet m =
+    ap echo_of (lines_of-append rounds (Settles quiet ∷ []) w)
+    ∙ (echo-append (lines_of rounds w) (lines_of (Settles quiet ∷ []) (after rounds w))
+    ∙ (ap (λ (l : List Line). l ++ echo_of (lines_of (Settles quiet ∷ []) (after rounds w))) (moves_silent rounds w m)))
+
+-- one thing that happens shows what it shows of the ring's machine
+shows_same : (w : World) (h : Happening) (x : ring.Happening) (hs : List Happening) → does w h ≡ x ∷ [] → hs ≡ h ∷ [] → lines_of hs w ≡ ring.lines_of (x ∷ []) w.rings
+shows_same w h x hs same all = ap (λ (l : List Happening). lines_of l w) all ∙ (lines_lift (h ∷ []) w ∙ ap (λ (l : List ring.Happening). ring.lines_of (l ++ []) w.rings) same)
+
+-- the lines of an event that echo are those that answer it
+made_echo : (order : ℕ) (e : Event) (w : World) (hs : List Happening) → is_carried e ≡ true → Makes e w hs → Answers order e (echo_of (lines_of hs w))
+made_echo order (events.Submit job) w hs c k =
+    let a = submit_answers job (front_submit.submit_of w.rings.front job).0 in
+    (a.0, ap echo_of (shows_same w (Submits job) (ring.Submits job) hs refl k.0) ∙ a.1, a.2)
+made_echo order (events.Front n) w hs c k = ap (λ (l : List Happening). echo_of (lines_of l w)) k ∙ moves_silent (replicate n FrontMoves) w (front_are_moves n)
+made_echo order (events.Back n) w hs c k = ap (λ (l : List Happening). echo_of (lines_of l w)) k ∙ moves_silent (replicate n BackMoves) w (back_are_moves n)
+made_echo order (events.Job number n) w hs c k = moves_silent hs w (job_are_moves number hs k.0)
+made_echo order (events.Turn n) w hs c k = moves_silent hs w (rounds_are_moves never n w hs k)
+made_echo order events.Settle w hs c k =
+    let a = settle_answers (is_quiet (after k.rounds w)) in
+    (a.0, ap (λ (l : List Happening). echo_of (lines_of l w)) k.all ∙ (settle_echo w k.rounds (is_quiet (after k.rounds w)) (rounds_are_moves is_quiet k.are_rounds.count w k.rounds k.are_rounds.are_rounds) ∙ a.1), a.2)
+made_echo order events.Look w hs c k =
+    let a = look_answers (is_quiet w) in
+    (a.0, ap (λ (l : List Happening). echo_of (lines_of l w)) k ∙ a.1, a.2)
+made_echo order (events.Notify at) w hs c k = ap (λ (l : List Happening). echo_of (lines_of l w)) k
+made_echo order events.Suspend w hs c k = absurd k
+made_echo order (events.Close at) w hs c k = absurd k
+made_echo order (events.Poke frame word value) w hs c k = ap echo_of (shows_same w (Pokes frame word value) (ring.Pokes frame word value) hs refl k.0) ∙ poke_echo w.rings frame word value c
+made_echo order (events.Key name text) w hs c k = absurd k
+made_echo order events.Dump w hs c k =
+    subst (AreRingWords 0 (1024 * 2 ^ order)) (sym (ap echo_of (shows_same w Dumps ring.Dumps hs refl k))) (dump_answers order w.rings)
+
+pub event_echo : (order : ℕ) (e : Event) (w : World) (hs : List Happening) → AreOf e w hs → Answers order e (echo_of (lines_of hs w))
+event_echo order e w hs k = made_echo order e w hs k.0 k.1
+
+-- what the events make happen answers them, one after another
+pub schedule_echo : (order : ℕ) (es : List Event) (w : World) (hs : List Happening) → AreOfAll es w hs → AnswersAll order es (echo_of (lines_of hs w))
+schedule_echo order [] w hs k = ap (λ (l : List Happening). echo_of (lines_of l w)) k
+schedule_echo order (e ∷ es) w hs k = (
+  echo_of (lines_of k.0 w),
+  echo_of (lines_of k.1 (after k.0 w)),
+  ap (λ (l : List Happening). echo_of (lines_of l w)) k.2 ∙ (ap echo_of (lines_of-append k.0 k.1 w) ∙ echo-append (lines_of k.0 w) (lines_of k.1 (after k.0 w))),
+  event_echo order e w k.0 k.3,
+  schedule_echo order es (after k.0 w) k.1 k.4,
+)

@@ -1,0 +1,7 @@
+pub mod Keeping
+pub mod Running
+pub mod Joining
+pub mod Echo
+pub mod Possible
+pub mod Submitting
+pub mod Tight

@@ -1,0 +1,7 @@
+pub mod World
+pub mod Happening
+pub mod Possible
+pub mod Fit
+pub mod Kind
+pub mod Leads
+pub mod Report
