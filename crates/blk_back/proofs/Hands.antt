@@ -1,5 +1,5 @@
 -- The mappings that the back and its jobs hold.
-use Rattle.std.proofs.Common.{◌≡◌, ℕ, ◌+◌, ◌<◌, ◌≤◌, Bool, true, false, if◌then◌else◌, List, [], ◌∷◌, ◌++◌, length, refl, ap, ◌∙◌, arith, length-append}
+use Rattle.std.proofs.Common.{◌≡◌, ℕ, ◌+◌, ◌<◌, ◌≤◌, Bool, true, false, if◌then◌else◌, List, [], ◌∷◌, ◌++◌, length, refl, sym, ap, ◌∙◌, arith, length-append}
 use Rattle.std.specs.Prelude.{Option, Some, None, Contains, option_to_list, is_some, ◌==◌}
 use Rattle.std.proofs.lemmas.Option.{none-some}
 use Rattle.std.proofs.lemmas.List.Elements.{Contains-push}
@@ -17,13 +17,14 @@ use Rattle.back_jobs.specs.Hands.{hands_in, Names, HasOneMore, HandsAfter}
 use Rattle.back_jobs.proofs.Hands.{framed, named_among, told_hands, done_hands, started_hands, behind_hands, few_in_hands}
 use Rattle.back_jobs.proofs.Order.{next_above}
 use Rattle.segment_list.specs.declared.verdict.DiskInfo.{DiskInfo}
+use Rattle.blk_back.specs.declared.told.Halt.{Halt}
 use Rattle.blk_back.specs.declared.told.Halt.TheVariants as halt
 use Rattle.blk_back.specs.declared.stage.Reply.{Reply}
 use Rattle.blk_back.specs.declared.stage.Stage.{Stage}
 use Rattle.blk_back.specs.declared.stage.Stage.TheVariants as stage
 use Rattle.blk_back.specs.View.{View, slot_word}
 use Rattle.blk_back.specs.Ask.{ask_at, ask_of, loop_ask, next_reply, IsAnswer, StaysInPage}
-use Rattle.blk_back.specs.Step.{giving_up, give_up, overrun, looked, loop_word, loop_step, fetched, fetch_step, next_number, step_at, step_of, job_ask_of, job_step, next_job_of}
+use Rattle.blk_back.specs.Step.{giving_up, give_up, halts_at, may_halt, halts, overrun, looked, loop_word, loop_step, fetched, fetch_step, next_number, step_at, step_of, job_ask_of, job_step, next_job_of}
 use Rattle.blk_back.specs.Sound.{IsMapped}
 use Rattle.blk_back.specs.Hands.{given_up, page_at, hands_at, hands_of}
 
@@ -113,6 +114,15 @@ hands_after_at s v given here h = absurd h
 -- what an answer to the back makes of what is held
 pub hands_after : (v : View) (given : BackAnswer) → IsAnswer (ask_of v) given → HandsAfter (ask_of v) given (hands_of v) (hands_of (step_of v given))
 hands_after v given h = hands_after_at v.stage v given refl h
+
+-- a halt gives up none of it at once
+pub halted_hands : (why : Halt) (v : View) → hands_of (halts why v) ≡ hands_of v
+halted_hands why v = either (may_halt why) (halts_at v.stage why v) v (hands_of v) (by_stage v.stage refl) refl
+  where
+    by_stage : (s : Stage) → v.stage ≡ s → hands_of (halts_at s why v) ≡ hands_of v
+    by_stage stage.MapRing here = ap (λ (s : Stage). hands_at s v) (sym here)
+    by_stage stage.Loop here = give_up_hands (record v { halted = Some why }) ∙ ap (λ (s : Stage). hands_at s v) (sym here)
+    by_stage s here = refl
 
 -- the jobs' hands among all
 framed_job : (a : BackAsk) (v : View) (given : BackAnswer) (number : ℕ) → a ≡ ask_job v.jobs number → IsJobAnswer a given → HandsAfter a given (hands_of v) (hands_of (job_step v number given))

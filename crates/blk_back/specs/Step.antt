@@ -1,5 +1,5 @@
 -- What an answer makes of the back, and of one of its jobs.
-use Rattle.std.specs.Prelude.{ℕ, ◌+◌, ◌%◌, ◌^◌, true, false, List, [], ◌∷◌, ◌++◌, Option, Some, None, is_some, if◌then◌else◌, ◌==◌}
+use Rattle.std.specs.Prelude.{ℕ, ◌+◌, ◌%◌, ◌^◌, Bool, true, false, List, [], ◌∷◌, ◌++◌, Option, Some, None, is_some, if◌then◌else◌, ◌==◌}
 use Rattle.blk_base.specs.declared.operation.Abi.TheVariants.{X64}
 use Rattle.blk_base.specs.declared.parts.Mapping.{Mapping}
 use Rattle.blk_base.specs.declared.ask.BackAsk.{BackAsk}
@@ -15,6 +15,7 @@ use Rattle.blk_back.specs.declared.stage.Stage.{Stage}
 use Rattle.blk_back.specs.declared.stage.Stage.TheVariants as stage
 use Rattle.blk_back.specs.declared.told.BackTold.{BackTold}
 use Rattle.blk_back.specs.declared.told.BackTold.TheVariants as told
+use Rattle.blk_back.specs.declared.told.Halt.{Halt}
 use Rattle.blk_back.specs.declared.told.Halt.TheVariants as halt
 use Rattle.blk_back.specs.View.{View}
 use Rattle.blk_back.specs.Ask.{next_reply}
@@ -30,6 +31,20 @@ giving_up (Some m) = stage.GiveUp m
 -- the jobs are given up as far as the next mapping in a job's hand
 abbrev pub give_up : View → View
 give_up v = record v { stage = giving_up (first_mapping v.jobs.works); jobs = record v.jobs { works = behind_mapping v.jobs.works } }
+
+-- where no step is begun the negotiation may have the back halt: before the ring is mapped nothing has to be given up
+abbrev pub halts_at : Stage → Halt → View → View
+halts_at stage.MapRing why v = record v { halted = Some why; stage = stage.Halted }
+halts_at stage.Loop why v = give_up (record v { halted = Some why })
+halts_at s why v = v
+
+-- for anything but an overrun, which the back finds itself
+abbrev pub may_halt : Halt → Bool
+may_halt (halt.Overrun prod rsp_prod) = false
+may_halt why = true
+
+abbrev pub halts : Halt → View → View
+halts why v = if may_halt why then halts_at v.stage why v else v
 
 -- the back halts: it serves nothing more
 abbrev pub overrun : View → ℕ → View

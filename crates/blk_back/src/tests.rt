@@ -270,3 +270,42 @@ fn a_ring_that_cant_be_mapped_or_bound_halts_it(rt: HostRuntime) -> Result<(), F
     port_is_refused(&rt, &mut unbound)?;
     Ok(())
 }
+
+fn halt(back: &mut Back, why: Halt) {
+    back.halt(why);
+}
+
+// Its negotiation has it halt before it mapped the ring, where it has nothing to give up.
+fn halts_unmapped(rt: &impl Abort, unmapped: &mut Back) -> Result<(), OutOfMemory> {
+    halt(unmapped, Halt::Gone(5));
+    assert_eq!(rt; halted(unmapped), Some(Halt::Gone(5)));
+    assert!(rt; idle(unmapped));
+    Ok(())
+}
+
+// Where it is connected it gives up its page and its port. An overrun it finds itself.
+fn halts_connected(rt: &impl Abort, back: &mut Back) -> Result<(), Fail> {
+    connect(rt, back)?;
+    halt(
+        back,
+        Halt::Overrun {
+            prod: 33,
+            rsp_prod: 0,
+        },
+    );
+    assert_eq!(rt; halted(back), None);
+    halt(back, Halt::Unplugged(5));
+    assert_eq!(rt; halted(back), Some(Halt::Unplugged(5)));
+    give_up(rt, back)?;
+    assert!(rt; idle(back));
+    Ok(())
+}
+
+#[test]
+fn its_negotiation_halts_it_where_no_step_is_begun(rt: HostRuntime) -> Result<(), Fail> {
+    let mut unmapped = back(rt.alloc())?;
+    halts_unmapped(&rt, &mut unmapped)?;
+    let mut connected = back(rt.alloc())?;
+    halts_connected(&rt, &mut connected)?;
+    Ok(())
+}

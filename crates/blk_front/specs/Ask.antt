@@ -1,7 +1,7 @@
 -- What the front asks.
-use Rattle.std.specs.Prelude.{ℕ, ◌+◌, ◌/◌, ◌%◌, ◌<◌, Option, Some, None, if◌then◌else◌, ◌==◌, slice_index}
+use Rattle.std.specs.Prelude.{ℕ, ◌+◌, ◌/◌, ◌%◌, ◌<◌, Option, Some, None, if◌then◌else◌, ◌==◌, ◌&&◌, ◌||◌, Bool, length, slice_index}
 use Rattle.blk_base.specs.declared.ask.FrontAsk.{FrontAsk}
-use Rattle.blk_base.specs.declared.ask.FrontAsk.TheVariants.{Wait, Fence, Read, Write, Cas, NewPort, Send}
+use Rattle.blk_base.specs.declared.ask.FrontAsk.TheVariants.{Wait, Fence, Read, Write, Cas, NewPort, Send, ClosePort}
 use Rattle.blk_base.specs.declared.ask.FrontAnswer.{FrontAnswer}
 use Rattle.blk_base.specs.declared.ask.FrontAnswer.TheVariants as answer
 use Rattle.ring_words.specs.Ring.{next_of, responses_of}
@@ -45,11 +45,15 @@ abbrev pub issue_ask : Request → Transfer → FrontAsk
 issue_ask r (transfer.Write tag) = data_ask (Some r) 0
 issue_ask r transfer.Read = name_ask (Some r) 0
 
--- in the loop: a request that waits is issued; else sleep; else the next response; else the responses' producer
+-- it closes, and has no request left
+abbrev pub is_through : View → Bool
+is_through v = v.closing && length v.requests == 0
+
+-- in the loop: a request that waits is issued; else sleep, or nothing more to do; else the next response; else the responses' producer
 abbrev pub loop_ask : View → Option Request → FrontAsk
 loop_ask v (Some r) = issue_ask r r.transfer
 loop_ask v None =
-    if v.asleep then Wait
+    if v.asleep || is_through v then Wait
     else (if responses_of v.ring v.seen == 0 then Read ring_frame 2
     else Read (slot_frame v.ring.cons 0) (slot_word v.ring.cons 0))
 
@@ -78,6 +82,11 @@ ask_at (stage.ReadData n) v = read_ask v.ending n
 ask_at stage.StoreEvent v = Write ring_frame 3 (next_of v.ring.cons)
 ask_at stage.EventFence v = Fence
 ask_at stage.LookAgain v = Read ring_frame 2
+ask_at stage.RingRead v = Read (entry_frame ring_frame) (entry_word ring_frame)
+ask_at (stage.RingEnd seen) v = Cas (entry_frame ring_frame) (entry_word ring_frame) seen 0
+ask_at stage.ClosePort v = ClosePort
+ask_at stage.Left v = Wait
+ask_at stage.Closed v = Wait
 ask_at (stage.Broken word) v = Wait
 
 abbrev pub ask_of : View → FrontAsk
@@ -93,6 +102,7 @@ IsAnswer (Write frame word value) answer.Done = Unit {0}
 IsAnswer (Cas frame word old new) (answer.Word seen) = Unit {0}
 IsAnswer NewPort (answer.Port port) = Unit {0}
 IsAnswer Send answer.Done = Unit {0}
+IsAnswer ClosePort answer.Done = Unit {0}
 IsAnswer ask a = ⊥
 
 -- a shared word of the guest's memory: frames 0 to 1017, words 0 to 1023

@@ -10,6 +10,7 @@ view_of f = record {
   ring = f.ring;
   stage = f.stage;
   asleep = f.asleep;
+  closing = f.closing;
   seen = f.seen;
   last = f.last;
   waiting = f.waiting;

@@ -5,4 +5,5 @@ pub mod Inside
 pub mod Ask
 pub mod Step
 pub mod Submit
+pub mod State
 pub mod Sound

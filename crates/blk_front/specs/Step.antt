@@ -137,6 +137,13 @@ end_step v place word = if is_mapped word then broken word v else at (stage.Gran
 abbrev pub exchanged : View → (place before word : ℕ) → View
 exchanged v place before word = if word == before then revoked v.ending place v else broken word v
 
+-- the entry of the ring's grant was read: the grant may be ended where the back has no mapping of it; and it was ended
+abbrev pub ring_read : View → ℕ → View
+ring_read v word = if is_mapped word then broken word v else at (stage.RingEnd word) v
+
+abbrev pub ring_ended : View → (before word : ℕ) → View
+ring_ended v before word = if word == before then at stage.ClosePort v else broken word v
+
 -- the request is pushed
 abbrev pub pushed : View → View
 pushed v = record v {
@@ -169,6 +176,9 @@ step_at (stage.ReadData n) v (Word word) = data_step v.ending n word v
 step_at stage.StoreEvent v answer = at stage.EventFence v
 step_at stage.EventFence v answer = at stage.LookAgain v
 step_at stage.LookAgain v (Word word) = looked v word (record v { seen = word; stage = stage.Loop; asleep = true })
+step_at stage.RingRead v (Word word) = ring_read v word
+step_at (stage.RingEnd before) v (Word word) = ring_ended v before word
+step_at stage.ClosePort v answer = at stage.Left v
 step_at s v answer = v
 
 abbrev pub step_of : View → FrontAnswer → View

@@ -18,7 +18,7 @@ use Rattle.ring_words.specs.Shape.{entries_of}
 use Rattle.blk_front.specs.View.{View, shape}
 use Rattle.blk_front.specs.Ask.{ask_of}
 
--- connected (XenbusStateConnected of `io/xenbus.h`) and not broken
+-- connected (XenbusStateConnected of `io/xenbus.h`), not leaving or closed, and not broken
 abbrev pub is_ready : Stage → Bool
 is_ready (stage.RingWord k) = false
 is_ready stage.RingFrame = false
@@ -26,10 +26,15 @@ is_ready stage.RingFence = false
 is_ready stage.RingFlags = false
 is_ready stage.NewPort = false
 is_ready stage.Initialised = false
+is_ready stage.RingRead = false
+is_ready (stage.RingEnd seen) = false
+is_ready stage.ClosePort = false
+is_ready stage.Left = false
+is_ready stage.Closed = false
 is_ready (stage.Broken word) = false
 is_ready s = true
 
--- the ring and the port of its events are made
+-- the ring and the port of its events are made, or the front is past that
 abbrev pub is_connected : Stage → Bool
 is_connected (stage.RingWord k) = false
 is_connected stage.RingFrame = false
@@ -67,18 +72,20 @@ abbrev pub is_initialised : Stage → Bool
 is_initialised stage.Initialised = true
 is_initialised s = false
 
--- connected, where it waits for it
-abbrev pub connected : View → View
-connected v = if is_initialised v.stage then record v { stage = stage.Loop } else v
+-- it waits for its negotiation: to be connected, or to be closed
+abbrev pub is_led : Stage → Bool
+is_led stage.Initialised = true
+is_led stage.Left = true
+is_led s = false
 
 -- nothing is to be done until an event comes
 abbrev pub is_wait : FrontAsk → Bool
 is_wait Wait = true
 is_wait ask = false
 
--- so it is with a front that was connected
+-- so it is with a front that doesn't wait for its negotiation
 abbrev pub is_idle : View → Bool
-is_idle v = not (is_initialised v.stage) && is_wait (ask_of v)
+is_idle v = not (is_led v.stage) && is_wait (ask_of v)
 
 -- the next request, with these frames
 abbrev pub request_with : View → Wish → List ℕ → Request
@@ -110,5 +117,6 @@ submit_one v (Some wish) =
 abbrev pub submit_of : View → Job → Result ℕ Refusal × View
 submit_of v job =
     if v.last == 4294967295 then (Err refusal.Spent, v)
+    else (if v.closing then (Err refusal.Closing, v)
     else (if not (is_ready v.stage) then (Err refusal.NotReady, v)
-    else submit_one v (wish_of job))
+    else submit_one v (wish_of job)))

@@ -11,7 +11,7 @@ use Rattle.blk_front.specs.declared.request.Request.{Request}
 use Rattle.blk_front.specs.declared.stage.Ending.{Ending}
 use Rattle.blk_front.specs.declared.told.Told.{Told}
 
--- The front: the disk's sectors and whether it is read-only, and the ring's first index; its own indices and what it does; whether it sleeps; the responses' producer as last read; the last number given; the unfinished requests in order of number, of which the last `waiting` aren't issued yet; the request whose response was taken, until it is finished; the frames in use; the words of the entry being written, and those of the sector being read; what is to be told.
+-- The front: the disk's sectors and whether it is read-only, and the ring's first index; its own indices and what it does; whether it sleeps, and whether it closes; the responses' producer as last read; the last number given; the unfinished requests in order of number, of which the last `waiting` aren't issued yet; the request whose response was taken, until it is finished; the frames in use; the words of the entry being written, and those of the sector being read; what is to be told.
 pub record View : Type 0 where
   pub sectors : ℕ
   pub read_only : Bool
@@ -19,6 +19,7 @@ pub record View : Type 0 where
   pub ring : Ring
   pub stage : Stage
   pub asleep : Bool
+  pub closing : Bool
   pub seen : ℕ
   pub last : ℕ
   pub waiting : ℕ
@@ -76,6 +77,7 @@ start_of config = record {
   ring = record { entries = 32; prod = config.start; cons = config.start };
   stage = stage.RingWord 0;
   asleep = false;
+  closing = false;
   seen = config.start;
   last = 0;
   waiting = 0;

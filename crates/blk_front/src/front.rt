@@ -3,10 +3,11 @@ ghost use Rattle.std.specs.Prelude.{◌≡◌, ◌<◌, ◌+◌, Some, None, IfO
 ghost use Rattle.blk_base.specs.declared.ask.FrontAsk.TheVariants.{Wait};
 ghost use Rattle.std.specs.Option.{option_copied};
 ghost use Rattle.blk_front.specs.View.{start_of, next_request, slot_frame, slot_word, entry_frame, entry_word};
-ghost use Rattle.blk_front.specs.Ask.{ask_of, loop_ask, issue_ask, data_ask, name_ask, grant_ask, revoke_ask, end_ask, read_ask, IsAnswer, IsPlace, StaysInMemory};
-ghost use Rattle.blk_front.specs.Step.{step_of, step_at};
+ghost use Rattle.blk_front.specs.Ask.{ask_of, is_through, loop_ask, issue_ask, data_ask, name_ask, grant_ask, revoke_ask, end_ask, read_ask, IsAnswer, IsPlace, StaysInMemory};
+ghost use Rattle.blk_front.specs.Step.{step_of, step_at, ring_read, ring_ended};
 ghost use Rattle.blk_front.specs.Submit.{submit_of, unfinished};
 
+mod state;
 mod steps;
 mod submit;
 
@@ -32,6 +33,7 @@ pub struct Front {
     ring: FrontRing,
     stage: Stage,
     asleep: bool,
+    closing: bool,
     seen: u32,
     last: u32,
     waiting: u32,
@@ -69,6 +71,7 @@ impl Front {
             ring: FrontRing::attach(RingShape::of(Abi::X64, 0), config.start),
             stage: Stage::RingWord(0),
             asleep: false,
+            closing: false,
             seen: config.start,
             last: 0,
             waiting: 0,
@@ -102,13 +105,20 @@ impl Front {
         if let Some(r) = self.next_request() {
             return issue(r);
         }
-        if self.asleep {
+        if self.asleep || self.is_through() {
             FrontAsk::Wait
         } else if self.ring.unconsumed(self.seen) == 0 {
             read(place::RING_FRAME, RSP_PROD)
         } else {
             self.read_response(0)
         }
+    }
+
+    // Whether it closes, and has no request left.
+    fn is_through(&self) -> bool
+        ensures { result ≡ is_through self.now }
+    {
+        self.closing && self.requests.is_empty()
     }
 
     // Reads a word of the next response.
@@ -332,7 +342,15 @@ impl<'a> Endpoint<'a> for Front {
             ),
             Stage::EventFence => FrontAsk::Fence,
             Stage::LookAgain => read(place::RING_FRAME, RSP_PROD),
-            Stage::Broken(_) => FrontAsk::Wait,
+            Stage::RingRead => read(0, 16),
+            Stage::RingEnd(seen) => FrontAsk::Cas {
+                frame: 0,
+                word: 16,
+                old: seen,
+                new: 0,
+            },
+            Stage::ClosePort => FrontAsk::ClosePort,
+            Stage::Left | Stage::Closed | Stage::Broken(_) => FrontAsk::Wait,
         }
     }
 
@@ -373,6 +391,9 @@ impl<'a> Endpoint<'a> for Front {
             (Stage::StoreEvent, _) => self.stage = Stage::EventFence,
             (Stage::EventFence, _) => self.stage = Stage::LookAgain,
             (Stage::LookAgain, FrontAnswer::Word(word)) => self.look_again(*word),
+            (Stage::RingRead, FrontAnswer::Word(word)) => self.read_ring_grant(*word),
+            (Stage::RingEnd(seen), FrontAnswer::Word(word)) => self.ended_ring_grant(seen, *word),
+            (Stage::ClosePort, _) => self.stage = Stage::Left,
             _ => {}
         }
         Ok(())

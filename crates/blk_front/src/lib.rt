@@ -8,6 +8,7 @@ mod place;
 mod pool;
 mod request;
 mod stage;
+mod state;
 #[cfg(test)]
 mod tests;
 mod told;
@@ -16,4 +17,5 @@ pub use front::Front;
 pub use pool::PoolFrame;
 pub use request::{Request, Transfer};
 pub use stage::{Ending, Stage};
+pub use state::FrontState;
 pub use told::{Refusal, Told};

@@ -58,6 +58,15 @@ pub enum Stage {
     StoreEvent,
     EventFence,
     LookAgain,
+    /// Leaves: ends the grant of the ring's frame, whose entry's first word it reads, and exchanges
+    /// for 0 if it is still this one; then closes its port.
+    RingRead,
+    RingEnd(u32),
+    ClosePort,
+    /// Has given up its ring and its port.
+    Left,
+    /// Is closed (XenbusStateClosed of `io/xenbus.h`), and does nothing more.
+    Closed,
     /// Found this word, which no honest back leaves, and does nothing more.
     Broken(u32),
 }

@@ -1,10 +1,11 @@
 // How the front begins, sleeps, refuses, reads and writes, held against a guest's memory.
 mod answers;
+mod closing;
 mod guest;
 mod long;
 mod reads;
 
-use crate::{Refusal, Told};
+use crate::{FrontState, Refusal, Told};
 use blk_base::{FrontAsk, Job, SectorCount};
 use guest::{
     Memory, asks, asleep, connect, connected, front_of, front_of_read_only, one_move, quiet_moves,
@@ -63,7 +64,7 @@ fn the_start_writes_a_fresh_ring_and_grants_it_by_reference_8(rt: HostRuntime) -
 fn it_waits_with_its_port_until_it_is_connected_once(rt: HostRuntime) -> Result<(), Fail> {
     let mut memory = Memory::new(rt.alloc())?;
     let mut front = front_of(rt.alloc(), 0)?;
-    assert!(rt; !front.connect());
+    assert!(rt; !front.enter(FrontState::Connected));
     quiet_moves(&rt, &mut front, &mut memory, 20)?;
     for _ in 0..2 {
         asks(&rt, &mut front, &mut memory, &[FrontAsk::Wait])?;
@@ -71,8 +72,8 @@ fn it_waits_with_its_port_until_it_is_connected_once(rt: HostRuntime) -> Result<
         assert!(rt; front.is_connected());
         assert!(rt; !front.idle());
     }
-    assert!(rt; front.connect());
-    assert!(rt; !front.connect());
+    assert!(rt; front.enter(FrontState::Connected));
+    assert!(rt; !front.enter(FrontState::Connected));
     assert_eq!(rt; front.submit(write(0, 7)?), Ok(1));
     Ok(())
 }

@@ -24,6 +24,8 @@ pub enum Told {
 pub enum Refusal {
     /// Number 4294967295 was given.
     Spent,
+    /// The front closes, or is closed.
+    Closing,
     /// The front isn't connected, or is broken.
     NotReady,
     /// Neither a read nor a write: this front issues nothing else.

@@ -19,10 +19,12 @@ use Rattle.blk_front.specs.Request.{has_data, words_in}
 use Rattle.blk_front.specs.View.{View, next_request}
 use Rattle.blk_front.specs.Step.{at, broken, looked, issue_stage, data_stage, granted, entry_of, loop_step, issued, response_at, is_mapped, finished, ended, revoked, sector_told, data_step, step_at}
 use Rattle.blk_front.specs.Submit.{is_connected}
+use Rattle.blk_front.specs.declared.state.FrontState.{FrontState}
+use Rattle.blk_front.specs.declared.state.FrontState.TheVariants as state
+use Rattle.blk_front.specs.State.{may_enter, in_state}
 use Rattle.split_model.specs.World.{World}
-use Rattle.split_model.specs.Happening as happening
-use Rattle.split_model.specs.Happening.{Happening, FrontMoves, BackMoves, JobMoves, Submits, happens, after, back_turn, job_turn, back_after, job_after}
-use Rattle.split_model.proofs.Keys.{connects_cases}
+use Rattle.split_model.specs.Happening.{Happening, FrontMoves, BackMoves, JobMoves, FrontEnters, Submits, happens, after, back_turn, job_turn, back_after, job_after}
+use Rattle.split_model.proofs.States.{enters_cases}
 use Rattle.split_model.proofs.SafeFront.{submit_kept}
 use Rattle.machine_pipeline.proofs.Turns.{front_turn_at, front_next}
 
@@ -109,6 +111,9 @@ step_on (front.GrantEnd place before) v (answer.Word word) p f = either (word ==
 step_on (front.ReadData n) v (answer.Word word) p f = data_on v v.ending n word p
 step_on front.StoreEvent v x p e = refl
 step_on front.EventFence v x p e = refl
+step_on front.RingRead v (answer.Word word) p e = either (is_mapped word) (broken word v) (at (front.RingEnd word) v) refl refl
+step_on (front.RingEnd before) v (answer.Word word) p e = either (word == before) (at front.ClosePort v) (broken word v) refl refl
+step_on front.ClosePort v x p e = refl
 step_on front.LookAgain v (answer.Word word) p e = looked_on v word (record v { seen = word; stage = front.Loop; asleep = true }) refl
 step_on s v x p e = p
 
@@ -116,7 +121,7 @@ front_on : (w : World) (s : Stage) (act : Option FrontAct) → is_connected w.fr
 front_on w s None p e = p
 front_on w s (Some a) p e = step_on s w.front a.answer p e
 
--- nothing else than the front's own moves changes its stage, but that it is connected
+-- nothing else than the front's own moves changes its stage, but that it enters a state
 back_same : (w : World) (act : Option BackAct) → (let x : World = back_after w act in x.front.stage ≡ w.front.stage)
 back_same w None = refl
 back_same w (Some a) = refl
@@ -125,16 +130,25 @@ job_same : (w : World) (number : ℕ) (act : Option BackAct) → (let x : World 
 job_same w number None = refl
 job_same w number (Some a) = refl
 
-stage_after : (P : Stage → Type 0) (w : World) (h : Happening) → P front.Loop → P w.front.stage → ((let x : World = happens w FrontMoves in P x.front.stage)) → (let x : World = happens w h in P x.front.stage)
-stage_after P w FrontMoves looping p moved = moved
-stage_after P w BackMoves looping p moved = subst P (sym (back_same w (back_turn w Took))) p
-stage_after P w (JobMoves number outcome) looping p moved = subst P (sym (job_same w number (job_turn w number outcome))) p
-stage_after P w happening.Connects looping p moved = connects_cases (λ v shown. P v.stage) w.front (λ waits. looping) p
-stage_after P w (Submits job) looping p moved = let kept = submit_kept w.front job in subst P (sym kept.stage) p
-stage_after P w h looping p moved = p
+-- what holds of the stage once the front entered a state
+abbrev Entered : (Stage → Type 0) → World → Type 0
+Entered P w = (s : FrontState) → may_enter s w.front ≡ true → (let x : View = in_state s w.front in P x.stage)
+
+stage_after : (P : Stage → Type 0) (w : World) (h : Happening) → Entered P w → P w.front.stage → ((let x : World = happens w FrontMoves in P x.front.stage)) → (let x : World = happens w h in P x.front.stage)
+stage_after P w FrontMoves entered p moved = moved
+stage_after P w BackMoves entered p moved = subst P (sym (back_same w (back_turn w Took))) p
+stage_after P w (JobMoves number outcome) entered p moved = subst P (sym (job_same w number (job_turn w number outcome))) p
+stage_after P w (FrontEnters s) entered p moved = enters_cases (λ v shown. P v.stage) s w.front (entered s) p
+stage_after P w (Submits job) entered p moved = let kept = submit_kept w.front job in subst P (sym kept.stage) p
+stage_after P w h entered p moved = p
+
+-- in each state a connected front stays so
+entered_on : (v : View) (s : FrontState) → IsOn v → IsOn (in_state s v)
+entered_on v state.Closing p = p
+entered_on v s p = refl
 
 pub connected_happens : (w : World) (h : Happening) → is_connected w.front.stage ≡ true → (let x : World = happens w h in is_connected x.front.stage ≡ true)
-connected_happens w h e = stage_after (λ (s : Stage). is_connected s ≡ true) w h refl e (front_on w w.front.stage (front_turn_at w.front.stage w) e e)
+connected_happens w h e = stage_after (λ (s : Stage). is_connected s ≡ true) w h (λ s may. entered_on w.front s e) e (front_on w w.front.stage (front_turn_at w.front.stage w) e e)
 
 pub connected_after : (hs : List Happening) (w : World) → is_connected w.front.stage ≡ true → (let x : World = after hs w in is_connected x.front.stage ≡ true)
 connected_after [] w e = e

@@ -1,6 +1,6 @@
--- A front that made its ring and its port waits until it is connected: it takes events and watches, and is as it was. Once it is connected the pipeline is ready.
-use Rattle.std.proofs.Common.{◌≡◌, ℕ, if◌then◌else◌, Bool, true, false, List, [], ◌∷◌, refl, sym, ◌∙◌, subst, true≢false}
-use Rattle.std.specs.Prelude.{Option, Some, None}
+-- A front that made its ring and its port waits until it is connected: it takes events and watches, and is as it was. Once it is connected the pipeline is ready, and once it closes the pipeline does.
+use Rattle.std.proofs.Common.{◌≡◌, ℕ, ◌&&◌, not, if◌then◌else◌, Bool, true, false, List, [], ◌∷◌, length, refl, ap, sym, ◌∙◌, subst, true≢false}
+use Rattle.std.specs.Prelude.{Option, Some, None, is_some}
 use Rattle.blk_base.specs.Options.{Options}
 use Rattle.blk_base.specs.declared.moves.Move.TheVariants as moves
 use Rattle.blk_base.specs.declared.moves.Mover.TheVariants as mover
@@ -11,21 +11,27 @@ use Rattle.pipeline_laws.specs.Pipeline.{Pipeline, next}
 use Rattle.blk_front.specs.declared.stage.Stage.{Stage as FrontStage}
 use Rattle.blk_front.specs.declared.stage.Stage.TheVariants as front
 use Rattle.blk_front.specs.View.{View}
-use Rattle.blk_front.specs.Submit.{is_initialised}
+use Rattle.ring_words.specs.Ring.{Ring}
+use Rattle.blk_front.specs.declared.state.FrontState.{FrontState}
+use Rattle.blk_front.specs.declared.state.FrontState.TheVariants as states
+use Rattle.blk_front.specs.State.{is_open, may_enter, in_state}
+use Rattle.blk_front.specs.Submit.{is_initialised, is_ready, ending_of}
 use Rattle.split_model.specs.World.{World}
-use Rattle.split_model.specs.Happening.{Connects, happens, lines_at}
+use Rattle.split_model.specs.Shown.{state_lines}
+use Rattle.split_model.specs.Happening.{FrontEnters, happens, lines_at}
 use Rattle.split_model.proofs.SafeActs.{front_event}
-use Rattle.split_model.proofs.Keys.{connects_cases}
+use Rattle.split_model.proofs.States.{enters_cases}
+use Rattle.machine_pipeline.specs.Allowed.{MayEnter}
 use Rattle.machine_pipeline.specs.Step.{IsSame}
-use Rattle.machine_pipeline.proofs.Flow.{Flow, is_fetching, reply_at}
-use Rattle.machine_pipeline.proofs.Holds.{Holds}
+use Rattle.machine_pipeline.proofs.Flow.{Flow, is_issuing, is_fetching, ending_at, telling_at, reply_at}
+use Rattle.machine_pipeline.proofs.Holds.{AreIndices, BackAt, Holds}
 use Rattle.machine_pipeline.proofs.Turns.{Goes, FrontGoes, front_says, front_next, said_nothing, Stepped, does_alone}
 use Rattle.machine_pipeline.proofs.Keyed.{untold, watched_goes}
 use Rattle.machine_pipeline.proofs.Notified.{marked}
 use Rattle.machine_pipeline.proofs.JobMoves.{stays}
 use Rattle.machine_pipeline.proofs.Resting.{at_loop, slots_rest, frames_rest, entries_rest, data_rests, unrevoked}
 use Rattle.machine_pipeline.proofs.Stations.{AreStations}
-use Rattle.machine_pipeline.proofs.StationsFront.{connects}
+use Rattle.machine_pipeline.proofs.StationsFront.{connects, starts_to_close}
 
 -- until then it takes its event, or a watch, and does nothing else
 pub waits_goes : (config : Options) (w : World) (g : Flow) (d : Pipeline)
@@ -99,13 +105,92 @@ becomes_ready config w g d h = record {
     s : Stepped None IsSame d (lines.Ready ∷ []) (λ p. AreStations config g p true false (is_fetching w.back.stage) None None (reply_at w.back.stage) w.front.requests w.back.jobs.works w.under.pages)
     s = connects config g d false (is_fetching w.back.stage) None None (reply_at w.back.stage) w.front.requests w.back.jobs.works w.under.pages h.stations
 
-initialised_is : (s : FrontStage) → is_initialised s ≡ true → s ≡ front.Initialised
+pub initialised_is : (s : FrontStage) → is_initialised s ≡ true → s ≡ front.Initialised
 initialised_is front.Initialised t = refl
 initialised_is s t = absurd (true≢false (sym t))
 
--- where it waits for it; at another stage nothing changes
-pub connects_goes : (config : Options) (w : World) (g : Flow) (d : Pipeline) → Holds config w g d w.front.stage w.back.stage → Goes config (lines_at w Connects) (happens w Connects) d
-connects_goes config w g d h =
-    connects_cases (λ v shown. Goes config shown (record { front = v; back = w.back; under = w.under }) d) w.front
-    (λ waits. becomes_ready config w g d (subst (λ (s : FrontStage). Holds config w g d s w.back.stage) (initialised_is w.front.stage waits) h))
-    (stays IsSame config w g d (λ a b same. same) h)
+-- the indices know nothing of closing
+indices_closing : (g : Flow) (front_ring back_ring : Ring) (front_seen back_seen number last waiting unfinished ending : ℕ) → AreIndices g front_ring back_ring front_seen back_seen number last waiting unfinished ending
+    → AreIndices (record g { closing = true }) front_ring back_ring front_seen back_seen number last waiting unfinished ending
+indices_closing g front_ring back_ring front_seen back_seen number last waiting unfinished ending h = record {
+  front_entries = h.front_entries;
+  back_entries = h.back_entries;
+  pushed = h.pushed;
+  taken = h.taken;
+  replied = h.replied;
+  fetched = h.fetched;
+  front_saw = h.front_saw;
+  back_saw = h.back_saw;
+  count = h.count;
+  taken_replied = h.taken_replied;
+  replied_fetched = h.replied_fetched;
+  fetched_pushed = h.fetched_pushed;
+  front_from = h.front_from;
+  front_to = h.front_to;
+  back_from = h.back_from;
+  back_to = h.back_to;
+  all = h.all;
+  few = h.few;
+  held = h.held;
+  room = h.room;
+}
+
+-- it begins to close
+begins_to_close : (config : Options) (w : World) (g : Flow) (d : Pipeline) → w.front.closing ≡ false → Holds config w g d w.front.stage w.back.stage
+    → Goes config (lines.Closing ∷ []) (record { front = (let v : View = w.front in record v { closing = true }); back = w.back; under = w.under }) d
+begins_to_close config w g d stays_open h = record {
+  flow = record g { closing = true };
+  step = Some s.step;
+  does = does_alone s;
+  holds = record {
+    started = (let was = h.started in record { whole = was.whole; known = was.known; closing = refl });
+    sized = h.sized;
+    indices = indices_closing g w.front.ring w.back.ring w.front.seen w.back.seen w.back.fetched w.front.last w.front.waiting (length w.front.requests) (ending_of w.front.stage) h.indices;
+    queue = h.queue;
+    submitted = h.submitted;
+    pool = h.pool;
+    stations = s.now;
+    works = h.works;
+    counted = h.counted;
+    info = h.info;
+    replies = h.replies;
+    front_at = h.front_at;
+    unused = h.unused;
+    back_at = h.back_at;
+    unhalted = h.unhalted;
+    memory = h.memory;
+    ring = h.ring;
+    slots = h.slots;
+    frames = h.frames;
+    telling = h.telling;
+    entries = h.entries;
+    mapped = h.mapped;
+    page = h.page;
+    front_sleep = h.front_sleep;
+    back_sleep = h.back_sleep;
+    ports = h.ports;
+  };
+}
+  where
+    s : Stepped None IsSame d (lines.Closing ∷ []) (λ p. AreStations config (record g { closing = true }) p (is_ready w.front.stage) (is_issuing w.front.stage) (is_fetching w.back.stage) (ending_at w.front.stage w.front.ending) (telling_at w.front.stage) (reply_at w.back.stage) w.front.requests w.back.jobs.works w.under.pages)
+    s = starts_to_close config g d (is_ready w.front.stage) (is_issuing w.front.stage) (is_fetching w.back.stage) (ending_at w.front.stage w.front.ending) (telling_at w.front.stage) (reply_at w.back.stage) w.front.requests w.back.jobs.works w.under.pages (h.started.closing ∙ stays_open) h.stations
+
+-- a front that may begin to close doesn't yet
+pub yet_open : (closing rest : Bool) → (not closing && rest) ≡ true → closing ≡ false
+yet_open false rest t = refl
+yet_open true rest t = absurd (true≢false (sym t))
+
+-- a state that the front enters; where it may not nothing changes
+pub enters_goes : (config : Options) (w : World) (g : Flow) (d : Pipeline) (state : FrontState) → MayEnter w state → Holds config w g d w.front.stage w.back.stage → Goes config (lines_at w (FrontEnters state)) (happens w (FrontEnters state)) d
+enters_goes config w g d state may h = enters_cases (λ v shown. Goes config shown (record { front = v; back = w.back; under = w.under }) d) state w.front (entered state may) (stays IsSame config w g d (λ a b same. same) h)
+  where
+    -- a back that serves hasn't halted
+    unhalted : is_some w.back.halted ≡ true → ⊥
+    unhalted t = true≢false (sym t ∙ ap is_some h.unhalted)
+
+    entered : (s : FrontState) → MayEnter w s → may_enter s w.front ≡ true → Goes config (state_lines s) (record { front = in_state s w.front; back = w.back; under = w.under }) d
+    entered states.Connected may can = becomes_ready config w g d (subst (λ (s : FrontStage). Holds config w g d s w.back.stage) (initialised_is w.front.stage can) h)
+    entered states.Closing may can = begins_to_close config w g d (yet_open w.front.closing (is_open w.front.stage) can) h
+    entered states.Leaving may can = absurd (subst (BackAt g.start g.fetched g.back_seen g.replied g.submitted w.back.jobs.works w.back.entry) may h.back_at)
+    entered states.Closed may can = absurd (unhalted may)
+    entered (states.Broken word) may can = absurd may

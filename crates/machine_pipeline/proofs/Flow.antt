@@ -18,7 +18,7 @@ use Rattle.blk_back.specs.declared.stage.Stage.{Stage as BackStage}
 use Rattle.blk_back.specs.declared.stage.Stage.TheVariants as back
 use Rattle.pipeline_laws.specs.Station.{Station, Working, Failed, Ended}
 
--- the ring's first index; how many requests were pushed, how many of them fetched, how many of these replied to, and how many of the responses taken; how many responses and requests the front and the back saw in the producers; the requests, number 1 first; the responses that the front hasn't taken, oldest first
+-- the ring's first index; how many requests were pushed, how many of them fetched, how many of these replied to, and how many of the responses taken; how many responses and requests the front and the back saw in the producers; the requests, number 1 first; the responses that the front hasn't taken, oldest first; and whether the front began to close
 pub record Flow : Type 0 where
   pub start : ℕ
   pub pushed : ℕ
@@ -29,9 +29,10 @@ pub record Flow : Type 0 where
   pub back_seen : ℕ
   pub submitted : List Request
   pub replies : List Reply
+  pub closing : Bool
 
 abbrev pub start_flow : ℕ → Flow
-start_flow start = record { start = start; pushed = 0; fetched = 0; replied = 0; taken = 0; front_seen = 0; back_seen = 0; submitted = []; replies = [] }
+start_flow start = record { start = start; pushed = 0; fetched = 0; replied = 0; taken = 0; front_seen = 0; back_seen = 0; submitted = []; replies = []; closing = false }
 
 -- a whole index as the ring's words have it
 abbrev pub wrapped : ℕ → ℕ → ℕ

@@ -189,6 +189,11 @@ FrontAt start pushed taken front_seen submitted replies next entry ending (front
 FrontAt start pushed taken front_seen submitted replies next entry ending (front.GrantRead place) = IsEndingAt submitted replies ending (λ e. place < frames_of e.request)
 FrontAt start pushed taken front_seen submitted replies next entry ending (front.GrantEnd place before) = IsEndingAt submitted replies ending (λ e. (place < frames_of e.request) × (before ≡ grant_flags e.request.transfer))
 FrontAt start pushed taken front_seen submitted replies next entry ending (front.ReadData n) = IsEndingAt submitted replies ending (λ e. (n < words_in e.request) × (e.request.transfer ≡ transfer.Read) × (e.status ≡ Okay))
+FrontAt start pushed taken front_seen submitted replies next entry ending front.RingRead = ⊥
+FrontAt start pushed taken front_seen submitted replies next entry ending (front.RingEnd before) = ⊥
+FrontAt start pushed taken front_seen submitted replies next entry ending front.ClosePort = ⊥
+FrontAt start pushed taken front_seen submitted replies next entry ending front.Left = ⊥
+FrontAt start pushed taken front_seen submitted replies next entry ending front.Closed = ⊥
 FrontAt start pushed taken front_seen submitted replies next entry ending (front.Broken word) = ⊥
 FrontAt start pushed taken front_seen submitted replies next entry ending s = Unit {0}
 
@@ -319,10 +324,11 @@ PortsAt false bound made ports = (made ≡ 0) × (ports ≡ []) × (bound ≡ fa
 PortsAt true false made ports = (made ≡ 1) × (ports ≡ Unbound ∷ [])
 PortsAt true true made ports = (made ≡ 1) × (ports ≡ Bound ∷ [])
 
--- the ring's first index is the option's, and the front knows it
-pub record IsStarted (option start front_start : ℕ) : Type 0 where
+-- the ring's first index is the option's, and the front knows it; and it closes where it began to
+pub record IsStarted (option start front_start : ℕ) (began front_closes : Bool) : Type 0 where
   pub whole : start ≡ option
   pub known : front_start ≡ option
+  pub closing : began ≡ front_closes
 
 -- the front knows the option's disk, and submits no write to a read-only one
 pub record IsOfTheDisk (config : Options) (size : ℕ) (fixed : Bool) (submitted : List Request) : Type 0 where
@@ -332,7 +338,7 @@ pub record IsOfTheDisk (config : Options) (size : ℕ) (fixed : Bool) (submitted
 
 -- the machine with the front at stage s and the back at stage b, the flow of its words, and the pipeline that it stands for
 pub record Holds (config : Options) (w : World) (g : Flow) (d : Pipeline) (s : FrontStage) (b : BackStage) : Type 0 where
-  pub started : IsStarted config.start g.start w.front.start
+  pub started : IsStarted config.start g.start w.front.start g.closing w.front.closing
   pub sized : IsOfTheDisk config w.front.sectors w.front.read_only g.submitted
   pub indices : AreIndices g w.front.ring w.back.ring w.front.seen w.back.seen w.back.fetched w.front.last w.front.waiting (length w.front.requests) (ending_of s)
   pub queue : AreQueued g.submitted g.pushed w.front.requests w.front.waiting

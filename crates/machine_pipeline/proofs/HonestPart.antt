@@ -1,6 +1,6 @@
 -- The report before a hostile hand first overwrote a word is that of what happened before.
 use Rattle.std.proofs.Common.{◌≡◌, ℕ, Bool, true, false, List, [], ◌∷◌, ◌++◌, ◌⊎◌, inl, inr, refl, ap, sym, ◌∙◌, subst, append_assoc, true≢false}
-use Rattle.std.specs.Prelude.{◌&&◌, if◌then◌else◌, Result, Ok, Err}
+use Rattle.std.specs.Prelude.{if◌then◌else◌, Result, Ok, Err}
 use Rattle.std.specs.List.{AllByRecursion, list_all}
 use Rattle.std.proofs.lemmas.List.{append-nil}
 use Rattle.std.proofs.lemmas.List.Elements.{filter_map-append}
@@ -24,13 +24,10 @@ use Rattle.split_model.specs.Report.{report_of, ended_report_of}
 use Rattle.split_model.proofs.Running.{kept_of-append}
 use Rattle.split_model.proofs.Echo.{echo_of, move_silent}
 use Rattle.split_model.proofs.Overwriting.{dump_lines_are}
-use Rattle.machine_pipeline.proofs.Allowed.{served_append, possible_first}
+use Rattle.machine_pipeline.proofs.Allowed.{possible_first}
+use Rattle.line_text.proofs.Both.{both_true}
 use Rattle.machine_pipeline.specs.Submissions.{submitted_at, submitted_of}
-use Rattle.machine_pipeline.specs.Allowed.{IsServed, AreServed, IsPossible, ArePossible}
-
-both_true : (a b : Bool) → (a && b) ≡ true → (a ≡ true) × (b ≡ true)
-both_true true b e = (refl, e)
-both_true false b e = absurd (true≢false (sym e))
+use Rattle.machine_pipeline.specs.Allowed.{AreServed, ArePossible}
 
 -- lines of which none is hostile
 abbrev AreHonest : List Line → Type 0
@@ -64,7 +61,12 @@ look_honest : (quiet : Bool) (other : Line) → is_honest other ≡ true → Are
 look_honest true other e = (refl, tt)
 look_honest false other e = (e, tt)
 
-honest_at : (w : World) (h : Happening) → IsServed w h → AreHonest (lines_at w h)
+-- no word is overwritten
+abbrev IsUnpoked : Happening → Type 0
+IsUnpoked (Pokes frame word value) = ⊥
+IsUnpoked h = Unit {0}
+
+honest_at : (w : World) (h : Happening) → IsUnpoked h → AreHonest (lines_at w h)
 honest_at w (Submits job) may = submit_honest job (front_submit.submit_of w.front job).0
 honest_at w (Looks quiet) may = look_honest quiet lines.Busy refl
 honest_at w (Settles quiet) may = look_honest quiet lines.Unsettled refl
@@ -91,9 +93,10 @@ listed_honest [] all = tt
 listed_honest (line ∷ ls) all = let e = both_true (is_honest line) (list_all is_honest ls) all in (e.0, listed_honest ls e.1)
 
 -- what happened before shows honest lines alone
-served_honest : (hs : List Happening) (w : World) → AreServed hs w → AreHonest (lines_of hs w)
-served_honest [] w may = tt
-served_honest (h ∷ hs) w may = both_honest (lines_at w h) (lines_of hs (happens w h)) (honest_at w h may.0) (served_honest hs (happens w h) may.1)
+before_honest : (hs : List Happening) (w : World) → AreHonest (lines_of (honest_history hs) w)
+before_honest [] w = tt
+before_honest (Pokes frame word value ∷ hs) w = tt
+before_honest (h ∷ hs) w = both_honest (lines_at w h) (lines_of (honest_history hs) (happens w h)) (honest_at w h tt) (before_honest hs (happens w h))
 
 -- no word was overwritten, or the first line that says so comes after those of what happened before
 abbrev pub HostileAfter : (whole first : List Line) → Type 0
@@ -120,16 +123,17 @@ honest_with [] w tail may = inl refl
 honest_with (Pokes frame word value ∷ hs) w tail may = inr (frame, word, value, lines_of hs (happens w (Pokes frame word value)) ++ tail, rw may.0.0 refl)
 honest_with (h ∷ hs) w tail may = more_honest h hs w tail refl (honest_with hs (happens w h) tail may.1)
 
--- what happened before comes first, and is served
+-- what happened before comes first
 pub honest_first : (hs : List Happening) → (rest : List Happening) × (hs ≡ honest_history hs ++ rest)
 honest_first [] = ([], refl)
 honest_first (Pokes frame word value ∷ hs) = (Pokes frame word value ∷ hs, refl)
 honest_first (h ∷ hs) = let others = honest_first hs in (others.0, ap (λ (l : List Happening). h ∷ l) others.1)
 
-pub served_part : (hs : List Happening) (w : World) → ArePossible hs w → AreServed (honest_history hs) w
-served_part [] w may = tt
-served_part (Pokes frame word value ∷ hs) w may = tt
-served_part (h ∷ hs) w may = (may.0, served_part hs (happens w h) may.1)
+-- and of a first part what happened before is served
+pub served_before : (first rest : List Happening) (w : World) → AreServed (honest_history (first ++ rest)) w → AreServed (honest_history first) w
+served_before [] rest w may = tt
+served_before (Pokes frame word value ∷ first) rest w may = tt
+served_before (h ∷ first) rest w may = (may.0, served_before first rest (happens w h) may.1)
 
 -- its disk and its submissions are the first of all
 pub disk_runs_first : (first rest : List Happening) (w : World) (before now : DiskSeen) → DiskRuns (first ++ rest) w before now → (between : DiskSeen) × DiskRuns first w before between
@@ -175,26 +179,28 @@ honest_kept d (line ∷ ls) = by_test (is_honest line) refl (honest_kept d ls)
     by_test false e later = kept_hostile d line (kept_of d ls) e ∙ ap (kept_of d) (sym (honest_ends line ls e))
 
 -- the lines of a report, and more after them: its honest part is the report of what happened before, or all of it
-honest_cut : (config : Options) (detail : Detail) (hs : List Happening) (whole : List Line) → ArePossible hs (start_of config)
+honest_cut : (config : Options) (detail : Detail) (hs : List Happening) (whole : List Line)
     → HostileAfter whole (lines_of (honest_history hs) (start_of config)) → honest_part (lines.Begin config detail ∷ whole) ≡ report_of config detail (honest_history hs)
-honest_cut config detail hs whole may h =
+honest_cut config detail hs whole h =
     let first = lines_of (honest_history hs) (start_of config) in
     let poke = lines.Poke h.0 h.1 h.2 in
     honest_more (lines.Begin config detail) whole refl
     ∙ ap (λ (l : List Line). lines.Begin config detail ∷ l)
     (ap honest_part h.4
-    ∙ (honest_then first (poke ∷ h.3) (served_honest (honest_history hs) (start_of config) (served_part hs (start_of config) may))
+    ∙ (honest_then first (poke ∷ h.3) (before_honest hs (start_of config))
     ∙ (ap (λ (l : List Line). first ++ l) (honest_ends poke h.3 refl) ∙ append-nil first)))
+
+-- where no word was overwritten, all lines are honest
+all_before : (hs : List Happening) (w : World) → honest_history hs ≡ hs → AreHonest (lines_of hs w)
+all_before hs w all = subst (λ (l : List Happening). AreHonest (lines_of l w)) all (before_honest hs w)
 
 pub honest_report : (config : Options) (detail : Detail) (hs : List Happening) → ArePossible hs (start_of config)
     → honest_part (report_of config detail hs) ≡ report_of config detail (honest_history hs)
 honest_report config detail hs may = by_part (honest_with hs (start_of config) [] may)
   where
     by_part : HonestWith hs (start_of config) [] → honest_part (report_of config detail hs) ≡ report_of config detail (honest_history hs)
-    by_part (inl all) =
-        let mine = subst (λ (l : List Happening). AreServed l (start_of config)) all (served_part hs (start_of config) may) in
-        honest_all (report_of config detail hs) (refl, served_honest hs (start_of config) mine) ∙ ap (report_of config detail) (sym all)
-    by_part (inr h) = ap (λ (l : List Line). honest_part (lines.Begin config detail ∷ l)) (sym (append-nil (lines_of hs (start_of config)))) ∙ honest_cut config detail hs (lines_of hs (start_of config) ++ []) may h
+    by_part (inl all) = honest_all (report_of config detail hs) (refl, all_before hs (start_of config) all) ∙ ap (report_of config detail) (sym all)
+    by_part (inr h) = ap (λ (l : List Line). honest_part (lines.Begin config detail ∷ l)) (sym (append-nil (lines_of hs (start_of config)))) ∙ honest_cut config detail hs (lines_of hs (start_of config) ++ []) h
 
 -- with its last line
 abbrev pub HonestEnded : Options → Detail → List Happening → Type 0
@@ -207,12 +213,10 @@ pub honest_ended : (config : Options) (detail : Detail) (hs : List Happening) �
 honest_ended config detail hs may = by_part (honest_with hs (start_of config) (lines.End ∷ []) may)
   where
     by_part : HonestWith hs (start_of config) (lines.End ∷ []) → HonestEnded config detail hs
-    by_part (inl all) =
-        let mine = subst (λ (l : List Happening). AreServed l (start_of config)) all (served_part hs (start_of config) may) in
-        inl (all, honest_all (ended_report_of config detail hs) (refl, both_honest (lines_of hs (start_of config)) (lines.End ∷ []) (served_honest hs (start_of config) mine) (refl, tt)))
+    by_part (inl all) = inl (all, honest_all (ended_report_of config detail hs) (refl, both_honest (lines_of hs (start_of config)) (lines.End ∷ []) (all_before hs (start_of config) all) (refl, tt)))
     by_part (inr h) = inr (
       (h.0, h.1, h.2, h.3, ap (λ (l : List Line). lines.Begin config detail ∷ l) h.4),
-      honest_cut config detail hs (lines_of hs (start_of config) ++ lines.End ∷ []) may h,
+      honest_cut config detail hs (lines_of hs (start_of config) ++ lines.End ∷ []) h,
     )
 
 -- a report that a recorder keeps and in which no line is hostile is one of a history in which no word was overwritten
@@ -239,7 +243,7 @@ not_honest whole first h all = none_hostile first h.3 h.0 h.1 h.2 (subst AreHone
 -- a report that was cut among the lines of what happened last: no word was overwritten, or its honest part is the report of what happened before
 abbrev pub CutOrWhole : Options → Detail → List Happening → Happening → List Line → Type 0
 CutOrWhole config detail history last part =
-    (AreServed (history ++ last ∷ []) (start_of config) × (honest_part (report_of config detail history ++ part) ≡ report_of config detail history ++ part))
+    ((honest_history (history ++ last ∷ []) ≡ history ++ last ∷ []) × (honest_part (report_of config detail history ++ part) ≡ report_of config detail history ++ part))
     ⊎ (honest_part (report_of config detail history ++ part) ≡ report_of config detail (honest_history history))
 
 first_honest : (a b : List Line) → AreHonest (a ++ b) → AreHonest a
@@ -255,12 +259,18 @@ poke_cut frame word value (line ∷ part) rest all = by_test (is_guest_word fram
     by_test true e = let same : line ≡ lines.Poke frame word value = cc in honest_ends line part (ap is_honest same)
     by_test false e = absurd (cc)
 
-served_last : (config : Options) (history : List Happening) (last : Happening) → AreServed history (start_of config) → IsServed (after history (start_of config)) last → AreServed (history ++ last ∷ []) (start_of config)
-served_last config history last may one = served_append history (last ∷ []) (start_of config) may (one, tt)
+-- a history with one more happening, where no word was overwritten
+one_more_honest : (hs : List Happening) (last : Happening) → IsUnpoked last → honest_history hs ≡ hs → honest_history (hs ++ last ∷ []) ≡ hs ++ last ∷ []
+one_more_honest hs last unpoked all = joined hs last (later last unpoked) all
+  where
+    later : (h : Happening) → IsUnpoked h → honest_history (h ∷ []) ≡ h ∷ []
+    later (Pokes frame word value) none = absurd none
+    later h none = refl
 
-last_possible : (history : List Happening) (last : Happening) (w : World) → ArePossible (history ++ last ∷ []) w → IsPossible (after history w) last
-last_possible [] last w may = may.0
-last_possible (h ∷ history) last w may = last_possible history last (happens w h) may.1
+    joined : (hs : List Happening) (last : Happening) → honest_history (last ∷ []) ≡ last ∷ [] → honest_history hs ≡ hs → honest_history (hs ++ last ∷ []) ≡ hs ++ last ∷ []
+    joined [] last one all = one
+    joined (Pokes frame word value ∷ hs) last one all = absurd (cc)
+    joined (h ∷ hs) last one all = ap (λ (l : List Happening). h ∷ l) (joined hs last one (cc))
 
 pub cut_or_whole : (config : Options) (detail : Detail) (history : List Happening) (last : Happening) (part rest : List Line) → ArePossible (history ++ last ∷ []) (start_of config)
     → part ++ rest ≡ lines_at (after history (start_of config)) last → CutOrWhole config detail history last part
@@ -269,25 +279,20 @@ cut_or_whole config detail history last part rest may all = by_part (honest_with
     start : World
     start = start_of config
 
-    served : AreServed (honest_history history) start
-    served = served_part history start (possible_first history (last ∷ []) start may)
-
-    by_last : (h : Happening) → honest_history history ≡ history → IsPossible (after history start) h → part ++ rest ≡ lines_at (after history start) h → CutOrWhole config detail history h part
-    by_last (Pokes frame word value) whole possible shown =
-        let mine : AreServed history start = subst (λ (l : List Happening). AreServed l start) whole served in
+    by_last : (h : Happening) → honest_history history ≡ history → part ++ rest ≡ lines_at (after history start) h → CutOrWhole config detail history h part
+    by_last (Pokes frame word value) whole shown =
         inr (
-        honest_then (report_of config detail history) part (refl, served_honest history start mine)
+        honest_then (report_of config detail history) part (refl, all_before history start whole)
         ∙ (ap (λ (l : List Line). report_of config detail history ++ l) (poke_cut frame word value part rest shown)
         ∙ (append-nil (report_of config detail history) ∙ ap (report_of config detail) (sym whole)))
         )
-    by_last h whole possible shown =
-        let mine : AreServed history start = subst (λ (l : List Happening). AreServed l start) whole served in
+    by_last h whole shown =
         inl (
-          served_last config history h mine possible,
+          one_more_honest history h tt whole,
           honest_all (report_of config detail history ++ part)
-              (both_honest (report_of config detail history) part (refl, served_honest history start mine) (first_honest part rest (subst AreHonest (sym shown) (honest_at (after history start) h possible)))),
+              (both_honest (report_of config detail history) part (refl, all_before history start whole) (first_honest part rest (subst AreHonest (sym shown) (honest_at (after history start) h tt)))),
         )
 
     by_part : HonestWith history start part → CutOrWhole config detail history last part
-    by_part (inl whole) = by_last last whole (last_possible history last start may) all
-    by_part (inr k) = inr (honest_cut config detail history (lines_of history start ++ part) (possible_first history (last ∷ []) start may) k)
+    by_part (inl whole) = by_last last whole all
+    by_part (inr k) = inr (honest_cut config detail history (lines_of history start ++ part) k)

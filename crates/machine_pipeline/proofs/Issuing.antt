@@ -55,6 +55,11 @@ issuing (front.ReadData n) t = absurd (cc)
 issuing front.StoreEvent t = absurd (cc)
 issuing front.EventFence t = absurd (cc)
 issuing front.LookAgain t = absurd (cc)
+issuing front.RingRead t = absurd (cc)
+issuing (front.RingEnd before) t = absurd (cc)
+issuing front.ClosePort t = absurd (cc)
+issuing front.Left t = absurd (cc)
+issuing front.Closed t = absurd (cc)
 issuing (front.Broken word) t = absurd (cc)
 issuing s t = record { ring = refl; named = refl; granted = refl; begun = λ start pages. tt; ending = λ e. refl; unrevoked = λ ending e same. none-some e same; ended = refl; ready = refl; arming = refl; untelling = refl; silent = λ pages words ending. tt }
 

@@ -26,7 +26,7 @@ use Rattle.split_model.proofs.Keys.{negotiated_lines_are}
 use Rattle.machine_pipeline.proofs.Flow.{Flow}
 use Rattle.machine_pipeline.proofs.Holds.{Holds}
 use Rattle.machine_pipeline.proofs.Turns.{Goes, said_nothing}
-use Rattle.machine_pipeline.specs.Step.{after_step}
+use Rattle.machine_pipeline.specs.Step.{Does, IsSame, after_step}
 
 -- the machine with those keys
 abbrev pub keyed : World → Directory → World
@@ -88,11 +88,14 @@ words_aside : (ls : List Line) → AllByRecursion (λ (line : Line). is_aside li
 words_aside [] all = refl
 words_aside (line ∷ ls) all = rw all.0 (words_aside ls all.1)
 
+pub asides_do : (d : Pipeline) (ls : List Line) → AllByRecursion (λ (line : Line). is_aside line ≡ true) ls → Does None IsSame ls d None
+asides_do d ls all = record { asides = ls; aside = words_aside ls all; shows = sym (append-nil ls); asks = refl; allowed = tt; disk = λ a b e. e }
+
 pub asides_go : (config : Options) (w : World) (g : Flow) (d : Pipeline) (ls : List Line) → AllByRecursion (λ (line : Line). is_aside line ≡ true) ls → Holds config w g d w.front.stage w.back.stage → Goes config ls w d
 asides_go config w g d ls all h = record {
   flow = g;
   step = None;
-  does = record { asides = ls; aside = words_aside ls all; shows = sym (append-nil ls); asks = refl; allowed = tt; disk = λ a b e. e };
+  does = asides_do d ls all;
   holds = h;
 }
 

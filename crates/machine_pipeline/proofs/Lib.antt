@@ -8,6 +8,9 @@ pub mod Segments
 pub mod Indices
 pub mod Sectors
 pub mod Turns
+pub mod Over
+pub mod Drained
+pub mod Leaving
 pub mod Keyed
 pub mod Kept
 pub mod Wrapped
@@ -45,7 +48,6 @@ pub mod JobTurns
 pub mod Resting
 pub mod Looking
 pub mod Resuming
-pub mod SightFront
 pub mod Finding
 pub mod Taken
 pub mod Next
@@ -69,7 +71,10 @@ pub mod StartingHolds
 pub mod Notified
 pub mod Connecting
 pub mod Quiet
+pub mod OverMoves
+pub mod OverRest
 pub mod Together
+pub mod AtRest
 pub mod Connected
 pub mod Allowed
 pub mod HonestPart

@@ -1,15 +1,15 @@
 -- Where all is quiet, each request of the pipeline is finished.
-use Rattle.std.proofs.Common.{◌≡◌, ℕ, ◌+◌, ◌-◌, ◌==◌, ◌&&◌, ◌||◌, ◌⊎◌, inl, inr, not, if◌then◌else◌, Bool, true, false, List, [], ◌∷◌, length, refl, ap, sym, ◌∙◌, subst, arith, true≢false}
-use Rattle.std.specs.Prelude.{Option, Some, None, count_by, slice_get}
+use Rattle.std.proofs.Common.{◌≡◌, ℕ, ◌+◌, ◌-◌, ◌==◌, ◌&&◌, ◌⊎◌, inl, inr, not, if◌then◌else◌, Bool, true, false, List, [], ◌∷◌, length, refl, ap, sym, ◌∙◌, subst, arith, true≢false}
+use Rattle.std.specs.Prelude.{Option, Some, None, slice_get}
 use Rattle.std.proofs.lemmas.Option.{none-some}
 use Rattle.std.proofs.lemmas.Bool.Decides.{nat_tests}
 use Rattle.blk_base.specs.Options.{Options}
 use Rattle.blk_base.specs.declared.parts.End.TheVariants as end
 use Rattle.blk_base.specs.declared.ask.FrontAsk.{FrontAsk}
+use Rattle.blk_base.specs.declared.ask.FrontAsk.TheVariants.{Wait as FrontWait, Read as FrontRead}
 use Rattle.blk_base.specs.declared.ask.BackAsk.{BackAsk}
 use Rattle.schedule_text.specs.declared.line.Line.{Line}
 use Rattle.schedule_text.specs.declared.line.Line.TheVariants as lines
-use Rattle.pipeline_laws.specs.Station.{Request as Asked, is_finished}
 use Rattle.pipeline_laws.specs.Pipeline.{Pipeline, Rests}
 use Rattle.pipeline_laws.specs.Allowed.{AreFinished, is_aside}
 use Rattle.blk_front.specs.declared.request.Request.{Request}
@@ -18,7 +18,7 @@ use Rattle.blk_front.specs.declared.request.Transfer.TheVariants as transfer
 use Rattle.blk_front.specs.declared.stage.Ending.{Ending}
 use Rattle.blk_front.specs.declared.stage.Stage.{Stage as FrontStage}
 use Rattle.blk_front.specs.declared.stage.Stage.TheVariants as front
-use Rattle.blk_front.specs.View.{next_request}
+use Rattle.blk_front.specs.View.{next_request, ring_frame, slot_frame, slot_word}
 use Rattle.blk_front.specs.View as front_view
 use Rattle.blk_front.specs.Ask as front_ask
 use Rattle.blk_front.specs.Submit as front_submit
@@ -30,19 +30,24 @@ use Rattle.blk_back.specs.declared.stage.Stage.TheVariants as back
 use Rattle.blk_back.specs.Ask as back_ask
 use Rattle.blk_back.specs.View as back_view
 use Rattle.split_model.specs.World.{World, is_quiet}
+use Rattle.split_model.specs.Safe.{IsSafe}
 use Rattle.hypervisor.specs.Act.{has_to_take}
 use Rattle.split_model.specs.Happening.{Dumps, Looks, Settles, lines_at}
 use Rattle.split_model.proofs.Overwriting.{dump_lines_are}
 use Rattle.machine_pipeline.proofs.Flow.{Flow, ending_at, count_of, reply_at, reply_count}
 use Rattle.machine_pipeline.proofs.Holds.{Holds, Stands, FrontAt, BackAt, FrontSends, BackSends}
-use Rattle.machine_pipeline.proofs.Turns.{Goes}
-use Rattle.machine_pipeline.proofs.Keyed.{asides_go}
-use Rattle.machine_pipeline.proofs.Lists.{count_one}
+use Rattle.machine_pipeline.specs.Step.{IsSame}
+use Rattle.machine_pipeline.proofs.Over.{IsKept, HasGone}
+use Rattle.machine_pipeline.proofs.Keyed.{asides_do}
+use Rattle.machine_pipeline.proofs.Drained.{finished_at}
+use Rattle.machine_pipeline.proofs.Leaving.{through_is}
+use Rattle.machine_pipeline.proofs.Resuming.{neither}
+use Rattle.line_text.proofs.Both.{both_true}
 
--- a front that was connected and waits sleeps in its loop, and has no request to issue
-record FrontSleeps (s : FrontStage) (asleep : Bool) (next : Option Request) : Type 0 where
+-- a front that waits, and not for its negotiation, sleeps in its loop and has no request to issue, or closes and has none left
+record FrontSleeps (s : FrontStage) (asleep : Bool) (next : Option Request) (requests : ℕ) : Type 0 where
   pub looping : s ≡ front.Loop
-  pub sleeps : asleep ≡ true
+  pub sleeps : (asleep ≡ true) ⊎ (requests ≡ 0)
   pub none_next : next ≡ None
   pub sends_none : (pushed fetched : ℕ) → FrontSends s pushed fetched → ⊥
 
@@ -55,16 +60,20 @@ issue_acts r transfer.Read t = true≢false (sym t)
 issue_acts r (transfer.Write tag) t = true≢false (sym t)
 
 front_sleeps : (start pushed taken seen : ℕ) (submitted : List Request) (replies : List Reply) (entry : List ℕ) (v : front_view.View) (s : FrontStage)
-    → not (front_submit.is_initialised s) ≡ true
+    → not (front_submit.is_led s) ≡ true
     → front_submit.is_wait (front_ask.ask_at s v) ≡ true
     → FrontAt start pushed taken seen submitted replies (next_request v) entry v.ending s
-    → FrontSleeps s v.asleep (next_request v)
+    → FrontSleeps s v.asleep (next_request v) (length v.requests)
 front_sleeps start pushed taken seen submitted replies entry v front.Loop ready waits at = in_loop (next_request v) v.asleep waits
   where
-    in_loop : (next : Option Request) (asleep : Bool) → front_submit.is_wait (front_ask.loop_ask (record v { asleep = asleep }) next) ≡ true → FrontSleeps front.Loop asleep next
+    in_loop : (next : Option Request) (asleep : Bool) → front_submit.is_wait (front_ask.loop_ask (record v { asleep = asleep }) next) ≡ true → FrontSleeps front.Loop asleep next (length v.requests)
     in_loop (Some r) asleep t = absurd (issue_acts r r.transfer t)
-    in_loop None true t = record { looping = refl; sleeps = refl; none_next = refl; sends_none = λ p f x. x }
-    in_loop None false t = absurd (front_acts (responses_of v.ring v.seen == 0) _ _ refl refl t)
+    in_loop None true t = record { looping = refl; sleeps = inl refl; none_next = refl; sends_none = λ p f x. x }
+    in_loop None false t = by_through (front_ask.is_through v) refl t
+      where
+        by_through : (b : Bool) → front_ask.is_through v ≡ b → front_submit.is_wait (if b then FrontWait else (if responses_of v.ring v.seen == 0 then FrontRead ring_frame 2 else FrontRead (slot_frame v.ring.cons 0) (slot_word v.ring.cons 0))) ≡ true → FrontSleeps front.Loop false None (length v.requests)
+        by_through true through u = let left = through_is v.closing (length v.requests) through in record { looping = refl; sleeps = inr left.none; none_next = refl; sends_none = λ p f x. x }
+        by_through false through u = absurd (front_acts (responses_of v.ring v.seen == 0) _ _ refl refl u)
 front_sleeps start pushed taken seen submitted replies entry v (front.Data n) ready waits at =
     absurd (true≢false (sym waits ∙ ap (λ (x : Option Request). front_submit.is_wait (front_ask.data_ask x n)) at.1))
 front_sleeps start pushed taken seen submitted replies entry v (front.GrantFrame place) ready waits at =
@@ -77,8 +86,10 @@ front_sleeps start pushed taken seen submitted replies entry v (front.GrantEnd p
     absurd (true≢false (sym waits ∙ ap (λ (x : Option Ending). front_submit.is_wait (front_ask.end_ask x place before)) at.1))
 front_sleeps start pushed taken seen submitted replies entry v (front.ReadData n) ready waits at =
     absurd (true≢false (sym waits ∙ ap (λ (x : Option Ending). front_submit.is_wait (front_ask.read_ask x n)) at.1))
+front_sleeps start pushed taken seen submitted replies entry v front.Closed ready waits at = absurd at
 front_sleeps start pushed taken seen submitted replies entry v (front.Broken word) ready waits at = absurd at
 front_sleeps start pushed taken seen submitted replies entry v front.Initialised ready waits at = absurd (true≢false (sym ready))
+front_sleeps start pushed taken seen submitted replies entry v front.Left ready waits at = absurd (true≢false (sym ready))
 front_sleeps start pushed taken seen submitted replies entry v s ready waits at = absurd (true≢false (sym waits))
 
 -- a back that waits sleeps in its loop, and replies to nothing
@@ -105,28 +116,18 @@ back_sleeps start fetched seen replied submitted works entry v back.Halted waits
 back_sleeps start fetched seen replied submitted works entry v s waits at = absurd (true≢false (sym waits))
 
 -- what quiet says of each part
-record AreQuiet (front_waits back_idle front_pending back_pending : Bool) : Type 0 where
+pub record AreQuiet (front_waits back_idle front_pending back_pending : Bool) : Type 0 where
   pub front : front_waits ≡ true
   pub back : back_idle ≡ true
   pub no_front : front_pending ≡ false
   pub no_back : back_pending ≡ false
 
-all_quiet : (a b c e : Bool) → (a && b && not c && not e) ≡ true → AreQuiet a b c e
+pub all_quiet : (a b c e : Bool) → (a && b && not c && not e) ≡ true → AreQuiet a b c e
 all_quiet true true false false t = record { front = refl; back = refl; no_front = refl; no_back = refl }
 all_quiet false b c e t = absurd (true≢false (sym t))
 all_quiet true false c e t = absurd (true≢false (sym t))
 all_quiet true true true e t = absurd (true≢false (sym t))
 all_quiet true true false true t = absurd (true≢false (sym t))
-
--- where nothing is to be taken, no event is pending
-neither : (a b : Bool) → (a || b) ≡ false → a ≡ false
-neither false b t = refl
-neither true b t = t
-
-both : (a b : Bool) → (a && b) ≡ true → (a ≡ true) × (b ≡ true)
-both true true t = (refl, refl)
-both false b t = absurd (true≢false (sym t))
-both true false t = absurd (true≢false (sym t))
 
 -- an end that sleeps while no event is pending or comes has all that the other end pushed
 caught_up : (a b : ℕ) (pending : Bool) (Sends : Type 0) → pending ≡ false → (Sends → ⊥) → (a ≡ b) ⊎ (pending ≡ true) ⊎ Sends → a ≡ b
@@ -145,30 +146,16 @@ none_waits (r ∷ requests) waiting same none = by_zero (waiting == 0) refl none
         let first : length (r ∷ requests) - waiting ≡ 0 = omega arith in
         absurd (none-some r (sym e ∙ ap (slice_get (r ∷ requests)) first))
 
--- no request that isn't finished is left
-all_finished : (asked : List Asked) → count_by (λ (q : Asked). not (is_finished q.station)) asked ≡ 0 → (k : ℕ) (x : Asked) → slice_get asked k ≡ Some x → is_finished x.station ≡ true
-all_finished asked none k x at = by_test (is_finished x.station) refl
-  where
-    by_test : (b : Bool) → is_finished x.station ≡ b → is_finished x.station ≡ true
-    by_test true t = t
-    by_test false t = let one = count_one (λ (q : Asked). not (is_finished q.station)) asked k x at (rw t refl) in absurd (omega arith)
-
--- where all is quiet the front is in its loop, and nothing is left: each request was pushed, fetched and replied to, each response taken, and no job is held
-pub record IsCaughtUp (w : World) (g : Flow) : Type 0 where
+-- where all is quiet the front is in its loop, no request is left, and no job is held
+pub record IsCaughtUp (w : World) : Type 0 where
   pub looping : w.front.stage ≡ front.Loop
-  pub fetched : g.fetched ≡ g.pushed
-  pub replied : g.replied ≡ g.pushed
-  pub taken : g.taken ≡ g.pushed
   pub no_request : length w.front.requests ≡ 0
   pub no_job : length w.back.jobs.works ≡ 0
 
-pub caught_up_at : (config : Options) (w : World) (g : Flow) (d : Pipeline) → is_quiet w ≡ true → Stands config w g d → IsCaughtUp w g
+pub caught_up_at : (config : Options) (w : World) (g : Flow) (d : Pipeline) → is_quiet w ≡ true → Stands config w g d → IsCaughtUp w
 caught_up_at config w g d quiet stands = record {
   looping = front_side.looping;
-  fetched = sym all_fetched;
-  replied = all_replied ∙ sym all_fetched;
-  taken = sym all_taken ∙ (all_replied ∙ sym all_fetched);
-  no_request = none_waits w.front.requests w.front.waiting all_wait front_side.none_next;
+  no_request = no_request;
   no_job = no_job;
 }
   where
@@ -178,22 +165,22 @@ caught_up_at config w g d quiet stands = record {
     parts : AreQuiet (front_submit.is_idle w.front) (back_ask.is_idle w.back) (has_to_take w.under end.Front) (has_to_take w.under end.Back)
     parts = all_quiet _ _ _ _ quiet
 
-    waiting : (not (front_submit.is_initialised w.front.stage) ≡ true) × (front_submit.is_wait (front_ask.ask_of w.front) ≡ true)
-    waiting = both _ _ parts.front
+    waiting : (not (front_submit.is_led w.front.stage) ≡ true) × (front_submit.is_wait (front_ask.ask_of w.front) ≡ true)
+    waiting = both_true _ _ parts.front
 
-    front_side : FrontSleeps w.front.stage w.front.asleep (next_request w.front)
+    front_side : FrontSleeps w.front.stage w.front.asleep (next_request w.front) (length w.front.requests)
     front_side = front_sleeps g.start g.pushed g.taken g.front_seen g.submitted g.replies w.front.entry w.front w.front.stage waiting.0 waiting.1 h.front_at
 
     idle : (back_ask.is_wait (back_ask.ask_of w.back) ≡ true) × ((length w.back.jobs.works == 0) ≡ true)
-    idle = both _ _ parts.back
+    idle = both_true _ _ parts.back
 
     back_side : BackSleeps w.back.stage w.back.asleep
     back_side = back_sleeps g.start g.fetched g.back_seen g.replied g.submitted w.back.jobs.works w.back.entry w.back w.back.stage idle.0 h.back_at
 
-    all_taken : g.replied ≡ g.taken
-    all_taken =
+    replies_taken : w.front.asleep ≡ true → g.replied ≡ g.taken
+    replies_taken sleeps =
         let sleep = h.front_sleep in
-        caught_up g.replied g.taken w.under.channels.front_pending (BackSends w.back.stage g.replied g.taken) (neither _ _ parts.no_front) (back_side.sends_none g.replied g.taken) (sleep.woken front_side.sleeps)
+        caught_up g.replied g.taken w.under.channels.front_pending (BackSends w.back.stage g.replied g.taken) (neither _ _ parts.no_front) (back_side.sends_none g.replied g.taken) (sleep.woken sleeps)
 
     all_fetched : g.pushed ≡ g.fetched
     all_fetched =
@@ -209,46 +196,49 @@ caught_up_at config w g d quiet stands = record {
         let counted : length w.back.jobs.works + 0 + g.replied ≡ g.fetched = subst (λ (r : Option Reply). length w.back.jobs.works + reply_count r + g.replied ≡ g.fetched) back_side.no_reply h.counted in
         omega arith
 
-    all_wait : length w.front.requests ≡ w.front.waiting
-    all_wait =
+    all_wait : w.front.asleep ≡ true → length w.front.requests ≡ w.front.waiting
+    all_wait sleeps =
         let replied = all_replied in
-        let taken = all_taken in
+        let taken = replies_taken sleeps in
         let fetched = all_fetched in
         let indices = h.indices in
         let all = indices.all in
         let held = indices.held in
         omega arith
 
+    no_request : length w.front.requests ≡ 0
+    no_request = elim front_side.sleeps [
+      | inl sleeps ↦ none_waits w.front.requests w.front.waiting (all_wait sleeps) front_side.none_next
+      | inr none ↦ none
+    ]
+
 -- so all requests are finished
 quiet_taken : (config : Options) (w : World) (g : Flow) (d : Pipeline) → is_quiet w ≡ true → Stands config w g d → AreFinished d
-quiet_taken config w g d quiet stands = record { each = all_finished d.requests none_open }
-  where
-    none_open : count_by (λ (q : Asked). not (is_finished q.station)) d.requests ≡ 0
-    none_open =
-        let rest = caught_up_at config w g d quiet stands in
-        let opened = stands.holds.stations.opened in
-        let unfinished = opened.unfinished in
-        let none = rest.no_request in
-        let no_ending : count_of (ending_at w.front.stage w.front.ending) ≡ 0 = ap (λ (s : FrontStage). count_of (ending_at s w.front.ending)) rest.looping in
-        omega arith
+quiet_taken config w g d quiet stands =
+    let rest = caught_up_at config w g d quiet stands in
+    finished_at config w g d w.front.stage w.back.stage stands.holds rest.no_request (ap (λ (s : FrontStage). count_of (ending_at s w.front.ending)) rest.looping)
+
+-- each request is finished where the ends have left, too
+pub quiet_finished : (config : Options) (w : World) (d : Pipeline) → IsSafe w → IsKept config w d → is_quiet w ≡ true → AreFinished d
+quiet_finished config w d safe (inl held) quiet = quiet_taken config w held.0 d quiet (record { safe = safe; holds = held.1 })
+quiet_finished config w d safe (inr over) quiet = over.finished
 
 -- a look tells what was found, and all is quiet where it was found so
-look_goes : (config : Options) (w : World) (g : Flow) (d : Pipeline) (quiet : Bool) (otherwise : Line) → is_aside otherwise ≡ true → (quiet ≡ true → is_quiet w ≡ true) → Stands config w g d
-    → Goes config ((if quiet then lines.Quiet else otherwise) ∷ []) w d
-look_goes config w g d true otherwise passes found stands = record {
-  flow = g;
+look_goes : (config : Options) (w : World) (d : Pipeline) (quiet : Bool) (otherwise : Line) → is_aside otherwise ≡ true → (quiet ≡ true → is_quiet w ≡ true) → IsSafe w → IsKept config w d
+    → HasGone None IsSame config ((if quiet then lines.Quiet else otherwise) ∷ []) w d
+look_goes config w d true otherwise passes found safe kept = record {
   step = Some Rests;
-  does = record { asides = []; aside = refl; shows = refl; asks = refl; allowed = quiet_taken config w g d (found refl) stands; disk = λ a b e. e };
-  holds = stands.holds;
+  does = record { asides = []; aside = refl; shows = refl; asks = refl; allowed = quiet_finished config w d safe kept (found refl); disk = λ a b e. e };
+  kept = kept;
 }
-look_goes config w g d false otherwise passes found stands = asides_go config w g d (otherwise ∷ []) (passes, tt) stands.holds
+look_goes config w d false otherwise passes found safe kept = record { step = None; does = asides_do d (otherwise ∷ []) (passes, tt); kept = kept }
 
-pub looks_goes : (config : Options) (w : World) (g : Flow) (d : Pipeline) (quiet : Bool) → (quiet ≡ true → is_quiet w ≡ true) → Stands config w g d → Goes config (lines_at w (Looks quiet)) w d
-looks_goes config w g d quiet found stands = look_goes config w g d quiet lines.Busy refl found stands
+pub looks_goes : (config : Options) (w : World) (d : Pipeline) (quiet : Bool) → (quiet ≡ true → is_quiet w ≡ true) → IsSafe w → IsKept config w d → HasGone None IsSame config (lines_at w (Looks quiet)) w d
+looks_goes config w d quiet found safe kept = look_goes config w d quiet lines.Busy refl found safe kept
 
-pub settles_goes : (config : Options) (w : World) (g : Flow) (d : Pipeline) (quiet : Bool) → (quiet ≡ true → is_quiet w ≡ true) → Stands config w g d → Goes config (lines_at w (Settles quiet)) w d
-settles_goes config w g d quiet found stands = look_goes config w g d quiet lines.Unsettled refl found stands
+pub settles_goes : (config : Options) (w : World) (d : Pipeline) (quiet : Bool) → (quiet ≡ true → is_quiet w ≡ true) → IsSafe w → IsKept config w d → HasGone None IsSame config (lines_at w (Settles quiet)) w d
+settles_goes config w d quiet found safe kept = look_goes config w d quiet lines.Unsettled refl found safe kept
 
 -- a dump shows words of the ring, which are nothing to the pipeline
-pub dumps_goes : (config : Options) (w : World) (g : Flow) (d : Pipeline) → Stands config w g d → Goes config (lines_at w Dumps) w d
-dumps_goes config w g d stands = asides_go config w g d (lines_at w Dumps) (dump_lines_are (λ (line : Line). is_aside line ≡ true) w.under.pages 0 1024 (λ frame word value. refl)) stands.holds
+pub dumps_goes : (config : Options) (w : World) (d : Pipeline) → IsKept config w d → HasGone None IsSame config (lines_at w Dumps) w d
+dumps_goes config w d kept = record { step = None; does = asides_do d (lines_at w Dumps) (dump_lines_are (λ (line : Line). is_aside line ≡ true) w.under.pages 0 1024 (λ frame word value. refl)); kept = kept }

@@ -1,6 +1,6 @@
 -- The front refuses a submission exactly where the pipeline does, by the rule of the plain disk.
 use Rattle.std.proofs.Common.{◌≡◌, ℕ, zero, suc, ◌+◌, ◌-◌, ◌*◌, ◌/◌, ◌<◌, ◌≤◌, Bool, true, false, not, cond, List, [], ◌∷◌, ◌++◌, length, get_or, refl, ap, sym, ◌∙◌, subst, arith, length-set}
-use Rattle.std.specs.Prelude.{◌||◌, slice_get, All, Option, Some, None, Result, Ok, Err, count_by, nat_lt, nat_le, if◌then◌else◌, map}
+use Rattle.std.specs.Prelude.{◌&&◌, ◌||◌, slice_get, All, Option, Some, None, Result, Ok, Err, count_by, nat_lt, nat_le, if◌then◌else◌, map}
 use Rattle.std.specs.List.{sum_by, position_or_len}
 use Rattle.std.proofs.lemmas.Bool.Decides.{nat_tests}
 use Rattle.std.proofs.lemmas.Option.{slice_get-get_or}
@@ -180,21 +180,22 @@ frames_fit config w g d count h short free = taking_fits (frames_for count) w.fr
         omega arith
 
 -- one answer by both, as the same tests come out
-same_answer : (v : View) (wish : Wish) (spent connected refuses past long full lacks : Bool) (taken : Option (List ℕ × List Bool))
+same_answer : (v : View) (wish : Wish) (spent closing connected refuses past long full lacks : Bool) (taken : Option (List ℕ × List Bool))
     → (long ≡ false → full ≡ false → (lacks ≡ false) × ((t : List ℕ × List Bool) × (taken ≡ Some t)))
-    → (if spent then Some words.Spent else (if not connected || false then Some words.NotReady else (if refuses then Some words.ReadOnly else (if past then Some words.Range else (if long then Some words.Long else (if full then Some words.Full else (if lacks then Some words.Buffers else None)))))))
-    ≡ answer_of (if spent then (Err refusal.Spent, v) else (if not connected then (Err refusal.NotReady, v) else (if refuses then (Err refusal.ReadOnly, v) else (if past then (Err refusal.Range, v) else (if long then (Err refusal.Long, v) else (if full then (Err refusal.Full, v) else submit_with v wish taken)))))).0
-same_answer v wish true connected refuses past long full lacks taken fits = refl
-same_answer v wish false false refuses past long full lacks taken fits = refl
-same_answer v wish false true true past long full lacks taken fits = refl
-same_answer v wish false true false true long full lacks taken fits = refl
-same_answer v wish false true false false true full lacks taken fits = refl
-same_answer v wish false true false false false true lacks taken fits = refl
-same_answer v wish false true false false false false lacks taken fits = let yes = fits refl refl in rw (yes.0, yes.1.1) refl
+    → (if spent then Some words.Spent else (if not closing && (not connected || false) then Some words.NotReady else (if closing then Some words.Closing else (if refuses then Some words.ReadOnly else (if past then Some words.Range else (if long then Some words.Long else (if full then Some words.Full else (if lacks then Some words.Buffers else None))))))))
+    ≡ answer_of (if spent then (Err refusal.Spent, v) else (if closing then (Err refusal.Closing, v) else (if not connected then (Err refusal.NotReady, v) else (if refuses then (Err refusal.ReadOnly, v) else (if past then (Err refusal.Range, v) else (if long then (Err refusal.Long, v) else (if full then (Err refusal.Full, v) else submit_with v wish taken))))))).0
+same_answer v wish true closing connected refuses past long full lacks taken fits = refl
+same_answer v wish false true connected refuses past long full lacks taken fits = refl
+same_answer v wish false false false refuses past long full lacks taken fits = refl
+same_answer v wish false false true true past long full lacks taken fits = refl
+same_answer v wish false false true false true long full lacks taken fits = refl
+same_answer v wish false false true false false true full lacks taken fits = refl
+same_answer v wish false false true false false false true lacks taken fits = refl
+same_answer v wish false false true false false false false lacks taken fits = let yes = fits refl refl in rw (yes.0, yes.1.1) refl
 
 refused_transfer : (config : Options) (w : World) (g : Flow) (d : Pipeline) (sector count : ℕ) (way : Transfer) → IsPlain config
     → Holds config w g d w.front.stage w.back.stage
-    → refusal_by (record { config = Some config; connected = is_ready w.front.stage; closing = false; broken = false }) config (map asked d.requests) (job_of way sector count) ≡ answer_of (submit_of w.front (job_of way sector count)).0
+    → refusal_by (record { config = Some config; connected = is_ready w.front.stage; closing = w.front.closing; broken = false }) config (map asked d.requests) (job_of way sector count) ≡ answer_of (submit_of w.front (job_of way sector count)).0
 refused_transfer config w g d sector count way plain h = by_way way
   where
     known : AreKnown g.submitted d.requests
@@ -231,13 +232,13 @@ refused_transfer config w g d sector count way plain h = by_way way
             under : (n : ℕ) → n ≤ 1000 → nat_lt 1000 n ≡ false
             under n le = grind (arith, nat_tests)
 
-    by_way : (x : Transfer) → refusal_by (record { config = Some config; connected = is_ready w.front.stage; closing = false; broken = false }) config (map asked d.requests) (job_of x sector count) ≡ answer_of (submit_of w.front (job_of x sector count)).0
+    by_way : (x : Transfer) → refusal_by (record { config = Some config; connected = is_ready w.front.stage; closing = w.front.closing; broken = false }) config (map asked d.requests) (job_of x sector count) ≡ answer_of (submit_of w.front (job_of x sector count)).0
     by_way transfer.Read = rw (spent, plain.order, plain.indirect, past, open_ones)
-        (same_answer w.front (record { sector = sector; count = count; transfer = transfer.Read }) _ _ false _ _ _ _ _ fits)
-    by_way (transfer.Write tag) = rw (spent, sym h.sized.read_only, plain.order, plain.indirect, past, open_ones) (same_answer w.front (record { sector = sector; count = count; transfer = transfer.Write tag }) _ _ _ _ _ _ _ _ fits)
+        (same_answer w.front (record { sector = sector; count = count; transfer = transfer.Read }) _ _ _ false _ _ _ _ _ fits)
+    by_way (transfer.Write tag) = rw (spent, sym h.sized.read_only, plain.order, plain.indirect, past, open_ones) (same_answer w.front (record { sector = sector; count = count; transfer = transfer.Write tag }) _ _ _ _ _ _ _ _ _ fits)
 
 -- the rule's answer is the front's
-ruled : (config : Options) (w : World) (g : Flow) (d : Pipeline) (job : Job) → IsPlain config → Holds config w g d w.front.stage w.back.stage → IsTransfer job → refusal_by (record { config = Some config; connected = is_ready w.front.stage; closing = false; broken = false }) config (map asked d.requests) job ≡ answer_of (submit_of w.front job).0
+ruled : (config : Options) (w : World) (g : Flow) (d : Pipeline) (job : Job) → IsPlain config → Holds config w g d w.front.stage w.back.stage → IsTransfer job → refusal_by (record { config = Some config; connected = is_ready w.front.stage; closing = w.front.closing; broken = false }) config (map asked d.requests) job ≡ answer_of (submit_of w.front job).0
 ruled config w g d (Read sector count) plain h one = refused_transfer config w g d sector count transfer.Read plain h
 ruled config w g d (Write sector count tag) plain h one = refused_transfer config w g d sector count (transfer.Write tag) plain h
 ruled config w g d (Barrier sector count tag) plain h one = absurd one
@@ -246,4 +247,4 @@ ruled config w g d (Discard sector count) plain h one = absurd one
 
 -- so is the pipeline's
 pub refused_rightly : (config : Options) (w : World) (g : Flow) (d : Pipeline) (job : Job) → IsPlain config → Holds config w g d w.front.stage w.back.stage → IsTransfer job → refusal_now d job ≡ answer_of (submit_of w.front job).0
-refused_rightly config w g d job plain h one = rw (h.stations.options, h.stations.front) (ruled config w g d job plain h one)
+refused_rightly config w g d job plain h one = rw (h.stations.options, h.stations.front, h.started.closing) (ruled config w g d job plain h one)

@@ -1,5 +1,5 @@
 -- The front's loop where no request waits: it sleeps, takes its event, looks for responses, or takes one up.
-use Rattle.std.proofs.Common.{◌≡◌, ◌≢◌, ℕ, ◌+◌, ◌<◌, ◌==◌, if◌then◌else◌, Bool, true, false, List, [], ◌∷◌, refl, ap, sym, ◌∙◌, subst, arith, true≢false}
+use Rattle.std.proofs.Common.{◌≡◌, ◌≢◌, ℕ, ◌+◌, ◌<◌, ◌==◌, ◌||◌, if◌then◌else◌, Bool, true, false, List, [], ◌∷◌, refl, ap, sym, ◌∙◌, subst, arith, true≢false}
 use Rattle.std.specs.Prelude.{Option, Some, None, slice_get}
 use Rattle.std.proofs.lemmas.Bool.Decides.{nat_tests}
 use Rattle.blk_base.specs.Options.{Options}
@@ -20,7 +20,7 @@ use Rattle.blk_front.specs.declared.request.Request.{Request}
 use Rattle.blk_front.specs.declared.stage.Stage.{Stage as FrontStage}
 use Rattle.blk_front.specs.declared.stage.Stage.TheVariants as front
 use Rattle.blk_front.specs.View.{View, next_request, ring_frame, slot_frame, slot_word}
-use Rattle.blk_front.specs.Ask.{loop_ask}
+use Rattle.blk_front.specs.Ask.{is_through, loop_ask}
 use Rattle.blk_front.specs.Step.{at, looked, loop_step}
 use Rattle.blk_back.specs.declared.stage.Reply.{Reply}
 use Rattle.blk_back.specs.Ask.{response_word}
@@ -49,7 +49,7 @@ loop_says w n (Some a) = lines.Move a.shown ∷ front_lines (let f : View = loop
 abbrev pub LoopGoes : Options → World → Pipeline → Option Request → FrontAsk → Type 0
 LoopGoes config w d n a = Goes config (loop_says w n (front_act w.under a)) (loop_next w n (front_act w.under a)) d
 
--- asleep, it takes its event, if one is pending
+-- asleep, or closing with no request left, it takes its event, if one is pending
 wait_goes : (config : Options) (w : World) (g : Flow) (d : Pipeline)
     → w.front.told ≡ None
     → w.front.stage ≡ front.Loop
@@ -164,6 +164,11 @@ high_goes config w g d low told h =
     place : (t : IsTaken g.taken g.front_seen g.replies) × (low ≡ response_word t.rep 0)
     place = h.front_at
 
+-- where neither is so, the first isn't
+pub neither : (a b : Bool) → (a || b) ≡ false → a ≡ false
+neither false b t = refl
+neither true b t = t
+
 -- the loop where no request waits
 pub loop_resumes : (config : Options) (w : World) (g : Flow) (d : Pipeline)
     → w.front.told ≡ None
@@ -172,12 +177,12 @@ pub loop_resumes : (config : Options) (w : World) (g : Flow) (d : Pipeline)
     → Holds config w g d front.Loop w.back.stage
     → FrontGoes config w d front.Loop
 loop_resumes config w g d told e none h =
-    subst (λ (n : Option Request). LoopGoes config w d n (loop_ask w.front n)) (sym none) (by_sleep w.front.asleep refl)
+    subst (λ (n : Option Request). LoopGoes config w d n (loop_ask w.front n)) (sym none) (by_wait (w.front.asleep || is_through w.front) refl)
   where
     by_more : w.front.asleep ≡ false → (b : Bool) → (responses_of w.front.ring w.front.seen == 0) ≡ b → LoopGoes config w d None (if b then ask.Read ring_frame 2 else ask.Read (slot_frame w.front.ring.cons 0) (slot_word w.front.ring.cons 0))
     by_more awake true t = look_goes config w g d told awake t h
     by_more awake false t = take_up_goes config w g d told t h awake
 
-    by_sleep : (a : Bool) → w.front.asleep ≡ a → LoopGoes config w d None (if a then ask.Wait else (if responses_of w.front.ring w.front.seen == 0 then ask.Read ring_frame 2 else ask.Read (slot_frame w.front.ring.cons 0) (slot_word w.front.ring.cons 0)))
-    by_sleep true t = wait_goes config w g d told e h
-    by_sleep false t = by_more t (responses_of w.front.ring w.front.seen == 0) refl
+    by_wait : (a : Bool) → (w.front.asleep || is_through w.front) ≡ a → LoopGoes config w d None (if a then ask.Wait else (if responses_of w.front.ring w.front.seen == 0 then ask.Read ring_frame 2 else ask.Read (slot_frame w.front.ring.cons 0) (slot_word w.front.ring.cons 0)))
+    by_wait true t = wait_goes config w g d told e h
+    by_wait false t = by_more (neither w.front.asleep (is_through w.front) t) (responses_of w.front.ring w.front.seen == 0) refl

@@ -1,9 +1,8 @@
 -- A history of the machine is a run of the pipeline: its steps, with one for each line that tells nothing of a request.
-use Rattle.std.proofs.Common.{◌≡◌, ℕ, ◌&&◌, Bool, true, false, List, [], ◌∷◌, ◌++◌, refl, ap, sym, ◌∙◌, subst}
+use Rattle.std.proofs.Common.{◌≡◌, ℕ, true, List, [], ◌∷◌, ◌++◌, refl, ap, sym, ◌∙◌, subst}
 use Rattle.std.specs.Prelude.{Option, Some, None}
 use Rattle.std.specs.Option.{option_to_list}
 use Rattle.std.specs.List.{list_all}
-use Rattle.std.proofs.lemmas.Bool.{true≢false}
 use Rattle.std.proofs.lemmas.Option.{none-some, same_Some}
 use Rattle.std.proofs.lemmas.List.{append-nil}
 use Rattle.blk_base.specs.Options.{Options}
@@ -31,6 +30,7 @@ use Rattle.machine_pipeline.specs.Step.{after_step, shown_of, IsAllowedStep, Ste
 use Rattle.machine_pipeline.specs.Run.{IsPipelineRun}
 use Rattle.machine_pipeline.proofs.Sectors.{SectorsGo, SectorsRun, sectors_run}
 use Rattle.machine_pipeline.proofs.Together.{always_steps}
+use Rattle.line_text.proofs.Both.{both_true}
 
 -- the steps of asides, and of what they stand before
 abbrev pub steps_of : List Line → Option Step → List Step
@@ -42,14 +42,10 @@ after_of [] None p = refl
 after_of [] (Some s) p = refl
 after_of (line ∷ asides) step p = after_of asides step p
 
-both : (a b : Bool) → (a && b) ≡ true → (a ≡ true) × (b ≡ true)
-both true b e = (refl, e)
-both false b e = absurd (true≢false (sym e))
-
 pub allowed_of : (asides : List Line) (step : Option Step) (p : Pipeline) → list_all is_aside asides ≡ true → IsAllowedStep p step → StepsAllowed (steps_of asides step) p
 allowed_of [] None p aside may = tt
 allowed_of [] (Some s) p aside may = (may, tt)
-allowed_of (line ∷ asides) step p aside may = let e = both (is_aside line) (list_all is_aside asides) aside in (e.0, allowed_of asides step p e.1 may)
+allowed_of (line ∷ asides) step p aside may = let e = both_true (is_aside line) (list_all is_aside asides) aside in (e.0, allowed_of asides step p e.1 may)
 
 pub lines_shown : (asides : List Line) (step : Option Step) (p : Pipeline) → lines_of (steps_of asides step) p ≡ asides ++ shown_of p step
 lines_shown [] None p = refl

@@ -55,7 +55,7 @@ pub start_holds : (config : Options) → IsPlain config → Stands config (start
 start_holds config plain = record {
   safe = safe_start config;
   holds = record {
-    started = record { whole = refl; known = refl };
+    started = record { whole = refl; known = refl; closing = refl };
     sized = record { sectors = refl; read_only = refl; writable = λ k r e. absurd (none-some r e) };
     indices = indices_first config plain;
     queue = record {

@@ -75,14 +75,14 @@ finishing (Some next) status = Telling next
 abbrev pub IsTaking : Option Ending → Option ℕ → List Asked → Type 0
 IsTaking ending telling asked = (e : Ending) → ending ≡ Some e → StandsAt asked (e.request.number - 1) (finishing telling e.status)
 
--- the front of the pipeline: connected or not, and never closing
-abbrev pub open_front : Bool → Front
-open_front connected = record { connected = connected; closing = false; closed = false }
+-- the front of the pipeline: connected or not, closing or not, and not closed
+abbrev pub open_front : (connected closing : Bool) → Front
+open_front connected closing = record { connected = connected; closing = closing; closed = false }
 
 -- the pipeline, with the front connected or not, issuing a request or not, ending the grants of one, the back copying an entry or not, writing a response, with these requests and jobs
 pub record AreStations (config : Options) (g : Flow) (d : Pipeline) (connected issuing fetching : Bool) (ending : Option Ending) (telling : Option ℕ) (response : Option Reply) (requests : List Request) (jobs : List Work) (pages : List ℕ) : Type 0 where
   pub options : d.options ≡ config
-  pub front : d.front ≡ open_front connected
+  pub front : d.front ≡ open_front connected g.closing
   pub ring : IsRing g d.ring
   pub known : AreKnown g.submitted d.requests
   pub opened : AreOpen d.requests requests ending

@@ -20,7 +20,7 @@ use Rattle.blk_back.specs.declared.stage.Reply.{Reply}
 use Rattle.pipeline_laws.specs.Station.{Station, Waiting, Issuing, Pushed, Fetching, Replying, Replied, Taking, Telling, Finished, Request as Asked, is_finished, submitted}
 use Rattle.pipeline_laws.specs.Move.{BeginsEntry, Pushes, Takes, Answers, Tells, moved, station_after}
 use Rattle.pipeline_laws.specs.Ring.{Ring}
-use Rattle.pipeline_laws.specs.Pipeline.{Pipeline, Submits, Moves, Connects}
+use Rattle.pipeline_laws.specs.Pipeline.{Pipeline, Submits, Moves, Connects, StartsToClose}
 use Rattle.pipeline_laws.specs.Allowed.{is_unissued, refusal_now}
 use Rattle.machine_pipeline.specs.Step.{IsSame}
 use Rattle.machine_pipeline.proofs.Flow.{Flow, worked, job_of, data_word}
@@ -32,6 +32,34 @@ use Rattle.machine_pipeline.proofs.Taking.{dropped, opened_without}
 use Rattle.machine_pipeline.proofs.Growing.{longer, push_was, known_more, opened_more}
 use Rattle.machine_pipeline.proofs.Turns.{Stepped}
 use Rattle.machine_pipeline.proofs.Stations.{StandsAt, AreStations, finishing, AreOpen, AreIssued, AreReplied, IsRing, IsMoved, is_moved, stands_now, other_stays, known_moved, open_moved, issued_moved, waiting_moved, pushed_moved, works_moved, replying_moved, replied_moved, taking_moved}
+
+-- the front begins to close
+pub starts_to_close : (config : Options) (g : Flow) (d : Pipeline) (connected issuing fetching : Bool) (ending : Option Ending) (telling : Option ℕ) (replying : Option Reply) (requests : List Request) (works : List Work) (pages : List ℕ)
+    → g.closing ≡ false
+    → AreStations config g d connected issuing fetching ending telling replying requests works pages
+    → Stepped None IsSame d (lines.Closing ∷ []) (λ p. AreStations config (record g { closing = true }) p connected issuing fetching ending telling replying requests works pages)
+starts_to_close config g d connected issuing fetching ending telling replying requests works pages stays_open h = record {
+  step = StartsToClose;
+  allowed = rw (h.front, stays_open) refl;
+  shows = refl;
+  asks = refl;
+  disk = λ a b e. e;
+  now = record {
+    options = h.options;
+    front = rw h.front refl;
+    ring = (let was = h.ring in record { pushed = was.pushed; entries = was.entries; fetched = was.fetched; replied = was.replied; responses = was.responses; taken = was.taken });
+    known = h.known;
+    opened = h.opened;
+    issued = h.issued;
+    waiting = h.waiting;
+    pushed = h.pushed;
+    works = h.works;
+    replying = h.replying;
+    replied = h.replied;
+    taking = h.taking;
+    reads = h.reads;
+  };
+}
 
 -- the front is connected
 pub connects : (config : Options) (g : Flow) (d : Pipeline) (issuing fetching : Bool) (ending : Option Ending) (telling : Option ℕ) (replying : Option Reply) (requests : List Request) (works : List Work) (pages : List ℕ)

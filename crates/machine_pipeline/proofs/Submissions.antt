@@ -119,8 +119,9 @@ wish_is sector count (transfer.Write tag) = refl
 
 submit_transfer : (config : Options) (w : World) (g : Flow) (d : Pipeline) (sector count : ℕ) (way : Transfer) → 1 ≤ count → tag_of way < 2 ^ 32 → Holds config w g d w.front.stage w.back.stage → SubmitGoes config w d (job_of way sector count) (submit_of w.front (job_of way sector count))
 submit_transfer config w g d sector count way some small h =
-    subst (λ (o : Option Wish). SubmitGoes config w d job (if w.front.last == 4294967295 then (Err refusal.Spent, w.front) else (if not (is_ready w.front.stage) then (Err refusal.NotReady, w.front) else submit_one w.front o))) (sym (wish_is sector count way)) (
+    subst (λ (o : Option Wish). SubmitGoes config w d job (if w.front.last == 4294967295 then (Err refusal.Spent, w.front) else (if w.front.closing then (Err refusal.Closing, w.front) else (if not (is_ready w.front.stage) then (Err refusal.NotReady, w.front) else submit_one w.front o)))) (sym (wish_is sector count way)) (
     either config w d job (w.front.last == 4294967295) (Err refusal.Spent, w.front) _ (λ t. refused config w g d job refusal.Spent h) (λ unspent.
+    either config w d job w.front.closing (Err refusal.Closing, w.front) _ (λ t. refused config w g d job refusal.Closing h) (λ stays_open.
     either config w d job (not (is_ready w.front.stage)) (Err refusal.NotReady, w.front) _ (λ t. refused config w g d job refusal.NotReady h) (λ ready.
     either config w d job (is_write way && w.front.read_only) (Err refusal.ReadOnly, w.front) _ (λ t. refused config w g d job refusal.ReadOnly h) (λ may.
     either config w d job (nat_lt w.front.sectors (sector + count)) (Err refusal.Range, w.front) _ (λ t. refused config w g d job refusal.Range h) (λ on_disk.
@@ -137,7 +138,7 @@ submit_transfer config w g d sector count way some small h =
           (is_true (is_ready w.front.stage) ready)
           (differs w.front.last unspent) (below (unfinished w.front) free) may (above w.front.sectors (sector + count) on_disk) small some (few_sectors count short)
           fit.1 s.now;
-    }))))))))
+    })))))))))
   where
     job : Job
     job = job_of way sector count

@@ -1,21 +1,21 @@
 -- Whatever happens is nothing to the pipeline or one step of it, and all that holds goes on holding.
-use Rattle.std.proofs.Common.{◌≡◌, ℕ, List, [], ◌∷◌, refl}
-use Rattle.std.specs.Prelude.{Option, Some, None}
+use Rattle.std.proofs.Common.{◌≡◌, inl, inr, List, [], ◌∷◌, refl, ap}
+use Rattle.std.specs.Prelude.{Option, Some, None, is_some}
 use Rattle.blk_base.specs.Options.{Options}
-use Rattle.schedule_text.specs.declared.line.Line.{Line}
 use Rattle.blk_front.specs.declared.request.Request.{Request}
 use Rattle.blk_front.specs.declared.stage.Stage.{Stage as FrontStage}
 use Rattle.blk_front.specs.declared.stage.Stage.TheVariants as front
 use Rattle.blk_front.specs.View.{next_request}
 use Rattle.split_model.specs.World.{World, start_of}
 use Rattle.split_model.specs.Safe.{IsSafe}
-use Rattle.split_model.specs.Happening.{Happening, FrontMoves, BackMoves, JobMoves, Negotiates, Connects, Submits, Notifies, Pokes, Dumps, Looks, Settles, happens, lines_at, after as world_after}
-use Rattle.split_model.proofs.Safe.{safe_happens}
+use Rattle.split_model.specs.Happening.{Happening, FrontMoves, BackMoves, JobMoves, Negotiates, FrontEnters, BackHalts, Submits, Notifies, Pokes, Dumps, Looks, Settles, happens, lines_at, after as world_after}
+use Rattle.split_model.proofs.Safe.{safe_start, safe_happens}
 use Rattle.machine_pipeline.specs.Plain.{IsPlain}
 use Rattle.machine_pipeline.specs.Allowed.{IsServed, AreServed}
 use Rattle.machine_pipeline.proofs.Flow.{Flow, start_flow}
-use Rattle.machine_pipeline.proofs.Holds.{Holds, Stands}
-use Rattle.machine_pipeline.proofs.Turns.{FrontGoes, GoesBy}
+use Rattle.machine_pipeline.proofs.Holds.{Holds}
+use Rattle.machine_pipeline.proofs.Over.{Over, IsKept, HasGone, goes_on}
+use Rattle.machine_pipeline.proofs.Turns.{FrontGoes}
 use Rattle.machine_pipeline.proofs.StartingMoves.{start_moves}
 use Rattle.machine_pipeline.proofs.StartingHolds.{start_holds}
 use Rattle.machine_pipeline.proofs.Filling.{data_goes}
@@ -33,13 +33,15 @@ use Rattle.machine_pipeline.proofs.BackMoves.{back_moves}
 use Rattle.machine_pipeline.proofs.JobTurns.{job_kept}
 use Rattle.machine_pipeline.proofs.Submissions.{submit_kept}
 use Rattle.machine_pipeline.proofs.Notified.{notified_goes}
-use Rattle.machine_pipeline.proofs.Connecting.{waits_goes, connects_goes}
+use Rattle.machine_pipeline.proofs.Connecting.{waits_goes, enters_goes}
+use Rattle.machine_pipeline.proofs.Leaving.{halts_goes}
+use Rattle.machine_pipeline.proofs.OverMoves.{front_ends, back_ends, job_ends}
+use Rattle.machine_pipeline.proofs.OverRest.{keys_end, notified_ends, submit_ends, enters_ends, halts_no_more}
 use Rattle.machine_pipeline.proofs.Keyed.{negotiates_goes}
 use Rattle.machine_pipeline.proofs.Quiet.{dumps_goes, looks_goes, settles_goes}
-use Rattle.pipeline_laws.specs.Pipeline.{Pipeline, pipeline_of, Step}
-use Rattle.machine_pipeline.specs.Step.{CallAt, after_step, GoesStepwise, Does}
+use Rattle.pipeline_laws.specs.Pipeline.{Pipeline, pipeline_of}
+use Rattle.machine_pipeline.specs.Step.{CallAt, after_step, GoesStepwise}
 use Rattle.machine_pipeline.specs.Submissions.{submitted_at}
-use Rattle.blk_base.specs.declared.config.Job.{Job}
 
 -- the front's loop, whether a request waits or not
 loop_goes : (config : Options) (w : World) (g : Flow) (d : Pipeline) → IsSafe w → w.front.stage ≡ front.Loop → Holds config w g d front.Loop w.back.stage → FrontGoes config w d front.Loop
@@ -74,55 +76,68 @@ front_goes config w g d (front.ReadData n) plain safe e h = told_goes config w g
 front_goes config w g d front.StoreEvent plain safe e h = store_goes config w g d safe.front_told h
 front_goes config w g d front.EventFence plain safe e h = event_fence_goes config w g d safe.front_told h
 front_goes config w g d front.LookAgain plain safe e h = look_again_goes config w g d safe.front_told h
-front_goes config w g d (front.Broken word) plain safe e h = absurd h.front_at
+front_goes config w g d s plain safe e h = absurd h.front_at
 
--- whatever happens is nothing to the pipeline, or one step of it
-pub goes_on : (config : Options) (w : World) (g : Flow) (d : Pipeline) (h : Happening) → IsPlain config → Stands config w g d → IsServed w h → GoesBy (submitted_at h) (CallAt w h) config (lines_at w h) (happens w h) d
-goes_on config w g d FrontMoves plain s may = front_goes config w g d w.front.stage plain s.safe refl s.holds
-goes_on config w g d BackMoves plain s may = back_moves config w g d plain may s
-goes_on config w g d (JobMoves number outcome) plain s may = (let safe = s.safe in job_kept config w g d number outcome s.holds safe.held may)
-goes_on config w g d (Negotiates at move) plain s may = negotiates_goes config w g d at move s.holds
-goes_on config w g d Connects plain s may = connects_goes config w g d s.holds
-goes_on config w g d (Submits job) plain s may = submit_kept config w g d job plain s.holds may
-goes_on config w g d (Notifies at) plain s may = notified_goes config w g d at s
-goes_on config w g d (Pokes frame word value) plain s may = absurd may
-goes_on config w g d Dumps plain s may = dumps_goes config w g d s
-goes_on config w g d (Looks quiet) plain s may = looks_goes config w g d quiet may s
-goes_on config w g d (Settles quiet) plain s may = settles_goes config w g d quiet may s
+-- while the ends serve requests whatever happens is nothing to the pipeline, or one step of it
+serving_goes : (config : Options) (w : World) (g : Flow) (d : Pipeline) (h : Happening) → IsPlain config → IsSafe w → Holds config w g d w.front.stage w.back.stage → IsServed w h → HasGone (submitted_at h) (CallAt w h) config (lines_at w h) (happens w h) d
+serving_goes config w g d FrontMoves plain safe holds may = goes_on config _ _ d (front_goes config w g d w.front.stage plain safe refl holds)
+serving_goes config w g d BackMoves plain safe holds may = goes_on config _ _ d (back_moves config w g d plain (may (ap is_some holds.unhalted)) (record { safe = safe; holds = holds }))
+serving_goes config w g d (JobMoves number outcome) plain safe holds may = goes_on config _ _ d (job_kept config w g d number outcome holds safe.held may)
+serving_goes config w g d (Negotiates at move) plain safe holds may = goes_on config _ _ d (negotiates_goes config w g d at move holds)
+serving_goes config w g d (FrontEnters state) plain safe holds may = goes_on config _ _ d (enters_goes config w g d state may holds)
+serving_goes config w g d (BackHalts why) plain safe holds may = halts_goes config w g d why holds may
+serving_goes config w g d (Submits job) plain safe holds may = goes_on config _ _ d (submit_kept config w g d job plain holds may)
+serving_goes config w g d (Notifies at) plain safe holds may = goes_on config _ _ d (notified_goes config w g d at (record { safe = safe; holds = holds }))
+serving_goes config w g d (Pokes frame word value) plain safe holds may = absurd may
+serving_goes config w g d Dumps plain safe holds may = dumps_goes config w d (inl (g, holds))
+serving_goes config w g d (Looks quiet) plain safe holds may = looks_goes config w d quiet may safe (inl (g, holds))
+serving_goes config w g d (Settles quiet) plain safe holds may = settles_goes config w d quiet may safe (inl (g, holds))
+
+-- and so it is once the back has halted
+ending_goes : (config : Options) (w : World) (d : Pipeline) (h : Happening) → IsSafe w → Over config w d w.front.stage w.back.stage → IsServed w h → HasGone (submitted_at h) (CallAt w h) config (lines_at w h) (happens w h) d
+ending_goes config w d FrontMoves safe over may = front_ends config w d w.front.stage (may over.halted) safe.front_told refl over
+ending_goes config w d BackMoves safe over may = back_ends config w d w.back.stage safe refl over
+ending_goes config w d (JobMoves number outcome) safe over may = job_ends config w d number outcome over
+ending_goes config w d (Negotiates at move) safe over may = keys_end config w d at move over
+ending_goes config w d (FrontEnters state) safe over may = enters_ends config w d state may over
+ending_goes config w d (BackHalts why) safe over may = halts_no_more config w d why over
+ending_goes config w d (Submits job) safe over may = submit_ends config w d job over
+ending_goes config w d (Notifies at) safe over may = notified_ends config w d at over
+ending_goes config w d (Pokes frame word value) safe over may = absurd may
+ending_goes config w d Dumps safe over may = dumps_goes config w d (inr over)
+ending_goes config w d (Looks quiet) safe over may = looks_goes config w d quiet may safe (inr over)
+ending_goes config w d (Settles quiet) safe over may = settles_goes config w d quiet may safe (inr over)
 
 -- one happening more: what it is to the pipeline, and that all goes on
-pub record HasGone (asked : Option Job) (call : (before after : List (List ℕ)) → Type 0) (config : Options) (said : List Line) (w : World) (d : Pipeline) : Type 0 where
-  pub flow : Flow
-  pub step : Option Step
-  pub does : Does asked call said d step
-  pub stands : Stands config w flow (after_step d step)
-
-pub step_kept : (config : Options) (w : World) (g : Flow) (d : Pipeline) (h : Happening) → IsPlain config → Stands config w g d → IsServed w h → HasGone (submitted_at h) (CallAt w h) config (lines_at w h) (happens w h) d
-step_kept config w g d h plain s may =
-    let gone = goes_on config w g d h plain s may in
-    record { flow = gone.flow; step = gone.step; does = gone.does; stands = record { safe = safe_happens w h s.safe; holds = gone.holds } }
+pub step_kept : (config : Options) (w : World) (d : Pipeline) (h : Happening) → IsPlain config → IsSafe w → IsKept config w d → IsServed w h → HasGone (submitted_at h) (CallAt w h) config (lines_at w h) (happens w h) d
+step_kept config w d h plain safe (inl held) may = serving_goes config w held.0 d h plain safe held.1 may
+step_kept config w d h plain safe (inr over) may = ending_goes config w d h safe over may
 
 -- the machine as it stands after a history
 pub record IsStanding (config : Options) (w : World) : Type 0 where
-  pub flow : Flow
   pub pipeline : Pipeline
-  pub stands : Stands config w flow pipeline
+  pub safe : IsSafe w
+  pub kept : IsKept config w pipeline
 
-pub run_kept : (config : Options) (hs : List Happening) (w : World) (g : Flow) (d : Pipeline) → IsPlain config → Stands config w g d → AreServed hs w → IsStanding config (world_after hs w)
-run_kept config [] w g d plain s may = record { flow = g; pipeline = d; stands = s }
-run_kept config (h ∷ hs) w g d plain s may =
-    let one = step_kept config w g d h plain s may.0 in
-    run_kept config hs (happens w h) one.flow (after_step d one.step) plain one.stands may.1
+pub run_kept : (config : Options) (hs : List Happening) (w : World) (d : Pipeline) → IsPlain config → IsSafe w → IsKept config w d → AreServed hs w → IsStanding config (world_after hs w)
+run_kept config [] w d plain safe kept may = record { pipeline = d; safe = safe; kept = kept }
+run_kept config (h ∷ hs) w d plain safe kept may =
+    let one = step_kept config w d h plain safe kept may.0 in
+    run_kept config hs (happens w h) (after_step d one.step) plain (safe_happens w h safe) one.kept may.1
+
+-- so all starts
+start_kept : (config : Options) → IsPlain config → IsKept config (start_of config) (pipeline_of config)
+start_kept config plain = let start = start_holds config plain in inl (start_flow config.start, start.holds)
 
 pub always_stands : (config : Options) (hs : List Happening) → IsPlain config → AreServed hs (start_of config) → IsStanding config (world_after hs (start_of config))
-always_stands config hs plain may = run_kept config hs (start_of config) (start_flow config.start) (pipeline_of config) plain (start_holds config plain) may
+always_stands config hs plain may = run_kept config hs (start_of config) (pipeline_of config) plain (safe_start config) (start_kept config plain) may
 
 -- each happening in its turn
-pub steps_on : (config : Options) (hs : List Happening) (w : World) (g : Flow) (d : Pipeline) → IsPlain config → Stands config w g d → AreServed hs w → GoesStepwise hs w d
-steps_on config [] w g d plain s may = tt
-steps_on config (h ∷ hs) w g d plain s may =
-    let gone = step_kept config w g d h plain s may.0 in
-    (gone.step, gone.does, steps_on config hs (happens w h) gone.flow (after_step d gone.step) plain gone.stands may.1)
+pub steps_on : (config : Options) (hs : List Happening) (w : World) (d : Pipeline) → IsPlain config → IsSafe w → IsKept config w d → AreServed hs w → GoesStepwise hs w d
+steps_on config [] w d plain safe kept may = tt
+steps_on config (h ∷ hs) w d plain safe kept may =
+    let gone = step_kept config w d h plain safe kept may.0 in
+    (gone.step, gone.does, steps_on config hs (happens w h) (after_step d gone.step) plain (safe_happens w h safe) gone.kept may.1)
 
 pub always_steps : (config : Options) (hs : List Happening) → IsPlain config → AreServed hs (start_of config) → GoesStepwise hs (start_of config) (pipeline_of config)
-always_steps config hs plain may = steps_on config hs (start_of config) (start_flow config.start) (pipeline_of config) plain (start_holds config plain) may
+always_steps config hs plain may = steps_on config hs (start_of config) (pipeline_of config) plain (safe_start config) (start_kept config plain) may

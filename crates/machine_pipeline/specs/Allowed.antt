@@ -1,12 +1,24 @@
 -- Histories of a machine whose ends connect before they do anything else, with the submissions that it carries out.
-use Rattle.std.specs.Prelude.{◌≡◌, ◌^◌, ◌<◌, ◌≤◌, true, List, [], ◌∷◌}
+use Rattle.std.specs.Prelude.{◌≡◌, ◌^◌, ◌<◌, ◌≤◌, ◌==◌, Bool, true, false, List, [], ◌∷◌, is_some}
 use Rattle.line_text.specs.Texts.{is_key_path, is_key_text}
+use Rattle.schedule_text.specs.declared.line.Line.TheVariants.{Halt as HaltLine}
+use Rattle.schedule_text.specs.Range.{IsInRange}
 use Rattle.blk_base.specs.declared.config.Job.{Job}
 use Rattle.blk_base.specs.declared.config.Job.TheVariants.{Read, Write}
+use Rattle.blk_front.specs.declared.stage.Stage.{Stage}
+use Rattle.blk_front.specs.declared.stage.Stage.TheVariants.{RingWord}
+use Rattle.blk_front.specs.declared.state.FrontState.{FrontState}
+use Rattle.blk_front.specs.declared.state.FrontState.TheVariants.{Leaving, Closed, Broken}
+use Rattle.blk_front.specs.Ask.{is_through}
+use Rattle.blk_front.specs.State.{is_made}
 use Rattle.blk_front.specs.Submit.{is_connected}
+use Rattle.blk_back.specs.declared.stage.Stage.TheVariants.{Halted}
+use Rattle.blk_back.specs.declared.told.Halt.{Halt}
 use Rattle.split_model.specs.World.{World, is_quiet}
 use Rattle.split_model.specs.Keys.{KeyMove, Gets, Sets, Watches, TakesWatch}
-use Rattle.split_model.specs.Happening.{Happening, BackMoves, JobMoves, Negotiates, Submits, Pokes, Looks, Settles, is_guest_word, happens}
+use Rattle.split_model.specs.Shown.{halt_line}
+use Rattle.split_model.specs.Happening.{Happening, FrontMoves, BackMoves, JobMoves, Negotiates, FrontEnters, BackHalts, Submits, Pokes, Looks, Settles, is_guest_word, happens}
+use Rattle.pipeline_laws.specs.Allowed.{is_farewell}
 use Rattle.hypervisor.specs.Act.{IsGiven}
 
 -- a read of some sectors, or a write of some whose tag has 32 bits
@@ -22,11 +34,37 @@ IsSpelled (Sets path text) = (is_key_path path ≡ true) × (is_key_text text �
 IsSpelled (Watches path) = is_key_path path ≡ true
 IsSpelled TakesWatch = Unit {0}
 
--- the back moves only once the front made its ring and its port; a sector that the disk gives has 128 words of 32 bits; what is submitted is a read or a write; no hostile hand overwrites a word; paths and texts of keys are of the grammar; and where all is found quiet it is
+-- it has made nothing yet, or it has made its ring and its port and is at nothing in particular
+abbrev pub is_free : Stage → Bool
+is_free (RingWord k) = k == 0
+is_free s = is_made s
+
+-- the front leaves once the back has done all that follows its halt, is closed once the back has halted, and finds no state that breaks it
+abbrev pub MayEnter : World → FrontState → Type 0
+MayEnter w Leaving = w.back.stage ≡ Halted
+MayEnter w Closed = is_some w.back.halted ≡ true
+MayEnter w (Broken word) = ⊥
+MayEnter w state = Unit {0}
+
+-- the line of a halt is one of the grammar
+abbrev pub IsSaid : Halt → Type 0
+IsSaid why = IsInRange (HaltLine (halt_line why))
+
+-- a halt that is asked for: the front closes, has no request left, and is at nothing
+pub record IsFarewell (w : World) (why : Halt) : Type 0 where
+  pub gone : is_farewell (halt_line why) ≡ true
+  pub through : is_through w.front ≡ true
+  pub free : is_free w.front.stage ≡ true
+  pub said : IsSaid why
+
+-- the back moves only once the front made its ring and its port, or after it halted, and then the front makes none; a sector that the disk gives has 128 words of 32 bits; what is submitted is a read or a write; no hostile hand overwrites a word; paths and texts of keys are of the grammar; and where all is found quiet it is
 abbrev pub IsServed : World → Happening → Type 0
-IsServed w BackMoves = is_connected w.front.stage ≡ true
+IsServed w FrontMoves = is_some w.back.halted ≡ true → is_connected w.front.stage ≡ true
+IsServed w BackMoves = is_some w.back.halted ≡ false → is_connected w.front.stage ≡ true
 IsServed w (JobMoves number outcome) = IsGiven outcome
 IsServed w (Negotiates at move) = IsSpelled move
+IsServed w (FrontEnters state) = MayEnter w state
+IsServed w (BackHalts why) = IsFarewell w why
 IsServed w (Submits job) = IsTransfer job
 IsServed w (Pokes frame word value) = ⊥
 IsServed w (Looks quiet) = quiet ≡ true → is_quiet w ≡ true
@@ -37,8 +75,16 @@ abbrev pub AreServed : List Happening → World → Type 0
 AreServed [] w = Unit {0}
 AreServed (h ∷ hs) w = IsServed w h × AreServed hs (happens w h)
 
--- the same, or a word of the guest's memory is overwritten
+-- a state that breaks the front is a word
+abbrev pub IsStateWord : FrontState → Type 0
+IsStateWord (Broken word) = word < 2 ^ 32
+IsStateWord state = Unit {0}
+
+-- what may happen where a word of the guest's memory may be overwritten too
 abbrev pub IsPossible : World → Happening → Type 0
+IsPossible w FrontMoves = Unit {0}
+IsPossible w (FrontEnters state) = IsStateWord state
+IsPossible w (BackHalts why) = IsSaid why
 IsPossible w (Pokes frame word value) = (is_guest_word frame word ≡ true) × (value < 2 ^ 32)
 IsPossible w h = IsServed w h
 

@@ -4,11 +4,11 @@ use Rattle.std.specs.Prelude.{Option, Some, None}
 use Rattle.blk_base.specs.Options.{Options}
 use Rattle.hypervisor.specs.Act.{FrontAct, BackAct, Outcome, Took}
 use Rattle.split_model.specs.World.{World, start_of}
-use Rattle.split_model.specs.Happening.{Happening, FrontMoves, BackMoves, JobMoves, Negotiates, Connects, Submits, Notifies, Pokes, Dumps, Looks, Settles, happens, front_after, back_after, job_after, front_turn, back_turn, job_turn}
+use Rattle.split_model.specs.Happening.{Happening, FrontMoves, BackMoves, JobMoves, Negotiates, FrontEnters, BackHalts, Submits, Notifies, Pokes, Dumps, Looks, Settles, happens, front_after, back_after, job_after, front_turn, back_turn, job_turn}
 use Rattle.split_model.proofs.SafeAnswers.{back_answered, job_answered}
 use Rattle.move_laws.specs.Permitted.{IsPermitted, ArePermitted}
-use Rattle.move_laws.proofs.Front.{IsFront, front_start, front_step, front_connected, front_submit, front_within}
-use Rattle.move_laws.proofs.Back.{IsBack, back_start, back_step, job_step_kept, back_names, job_names_own}
+use Rattle.move_laws.proofs.Front.{IsFront, front_start, front_step, front_entered, front_submit, front_within}
+use Rattle.move_laws.proofs.Back.{IsBack, back_start, back_step, back_halted, job_step_kept, back_names, job_names_own}
 
 -- both ends are as they should be
 pub record IsOrderly (w : World) : Type 0 where
@@ -35,7 +35,8 @@ orderly_happens w FrontMoves is = front_orderly w (front_turn w) is
 orderly_happens w BackMoves is = back_orderly w Took (back_turn w Took) is refl
 orderly_happens w (JobMoves number outcome) is = job_orderly w number outcome (job_turn w number outcome) is refl
 orderly_happens w (Negotiates at move) is = record { front = is.front; back = is.back }
-orderly_happens w Connects is = record { front = front_connected w.front is.front; back = is.back }
+orderly_happens w (FrontEnters state) is = record { front = front_entered state w.front is.front; back = is.back }
+orderly_happens w (BackHalts why) is = record { front = is.front; back = back_halted why w.back is.back }
 orderly_happens w (Submits job) is = record { front = front_submit w.front job is.front; back = is.back }
 orderly_happens w (Notifies at) is = record { front = is.front; back = is.back }
 orderly_happens w (Pokes frame word value) is = record { front = is.front; back = is.back }
@@ -48,7 +49,8 @@ within_here w FrontMoves is = front_within w.front is.front
 within_here w BackMoves is = back_names w.back is.back
 within_here w (JobMoves number outcome) is = job_names_own w.back number is.back
 within_here w (Negotiates at move) is = tt
-within_here w Connects is = tt
+within_here w (FrontEnters state) is = tt
+within_here w (BackHalts why) is = tt
 within_here w (Submits job) is = tt
 within_here w (Notifies at) is = tt
 within_here w (Pokes frame word value) is = tt

@@ -1,5 +1,5 @@
 -- The back names the mappings that it holds, and its jobs those in their hands, whatever they are told that their asks allow.
-use Rattle.std.proofs.Common.{◌≡◌, ℕ, ◌+◌, ◌<◌, Bool, true, false, if◌then◌else◌, [], ◌∷◌, ◌++◌, refl, arith}
+use Rattle.std.proofs.Common.{◌≡◌, ℕ, ◌+◌, ◌<◌, Bool, true, false, if◌then◌else◌, [], ◌∷◌, ◌++◌, refl, subst, arith}
 use Rattle.std.specs.Prelude.{Option, Some, None, is_some, position, ◌==◌}
 use Rattle.blk_base.specs.Options.{Options}
 use Rattle.blk_base.specs.declared.operation.Abi.TheVariants.{X64}
@@ -13,16 +13,18 @@ use Rattle.blk_layout.specs.Entry.{request_of}
 use Rattle.back_jobs.specs.Task.{Work, IsAnswer as IsJobAnswer}
 use Rattle.back_jobs.specs.Jobs.{place_of, work_of, ask_job, first_mapping, is_done}
 use Rattle.back_jobs.specs.Hands.{Names}
+use Rattle.blk_back.specs.declared.told.Halt.{Halt}
 use Rattle.blk_back.specs.declared.told.Halt.TheVariants as halt
 use Rattle.blk_back.specs.declared.stage.Reply.{Reply}
 use Rattle.blk_back.specs.declared.stage.Stage.{Stage}
 use Rattle.blk_back.specs.declared.stage.Stage.TheVariants as stage
 use Rattle.blk_back.specs.View.{View, slot_word, start_of}
 use Rattle.blk_back.specs.Ask.{ask_at, ask_of, loop_ask, next_reply, IsAnswer, StaysInPage}
-use Rattle.blk_back.specs.Step.{giving_up, give_up, overrun, looked, loop_word, loop_step, fetched, fetch_step, next_number, step_at, step_of, job_ask_of, job_step}
+use Rattle.blk_back.specs.Step.{giving_up, give_up, halts, overrun, looked, loop_word, loop_step, fetched, fetch_step, next_number, step_at, step_of, job_ask_of, job_step}
 use Rattle.blk_back.specs.Sound.{IsMapped}
 use Rattle.blk_back.specs.Hands.{hands_of}
 use Rattle.blk_back.proofs.Hands.{names_of, job_names}
+use Rattle.split_model.proofs.States.{halts_cases}
 use Rattle.move_laws.proofs.Jobs.{AreJobs, none_jobs, started_jobs, told_jobs, removed_jobs, behind_jobs, asked_names}
 
 -- the ring's page is mapped for writing while it is held, and the jobs are as they should be
@@ -130,6 +132,12 @@ pub back_step : (v : View) (given : BackAnswer) → IsAnswer (ask_of v) given �
 back_step v given h b =
     let y : IsBack (step_of v given) = step_kept v.stage v given b.mapped h b in
     record { mapped = y.mapped; jobs = y.jobs }
+
+-- and where its negotiation has it halt
+pub back_halted : (why : Halt) (v : View) → IsBack v → IsBack (halts why v)
+back_halted why v b =
+    halts_cases (λ x. IsBack x) why v (λ here. record { mapped = tt; jobs = b.jobs })
+    (λ here. give_up_kept (record v { halted = Some why }) (subst (λ (s : Stage). IsMapped s v.page) here b.mapped) b.jobs) b
 
 job_step_at : (halted : Bool) (v : View) (number : ℕ) (given : BackAnswer) → IsJobAnswer (if halted then ask.Wait else ask_job v.jobs number) given → IsBack v → IsBack (record (job_step v number given) { told = None })
 job_step_at true v number given h b = absurd h

@@ -31,12 +31,13 @@ use Rattle.blk_back.specs.View as back
 use Rattle.blk_back.specs.Step as back_step
 use Rattle.split_model.specs.World.{World, start_of}
 use Rattle.split_model.specs.Shown.{front_lines, back_lines, halt_lines, effect_line}
-use Rattle.split_model.specs.Happening.{Happening, FrontMoves, BackMoves, JobMoves, Negotiates, Connects, Submits, Notifies, Pokes, Dumps, Looks, Settles, word_lines, ring_lines, happens, lines_at, lines_of, front_shows, back_shows, job_shows, front_turn, back_turn, job_turn, submit_line}
+use Rattle.split_model.specs.Happening.{Happening, FrontMoves, BackMoves, JobMoves, Negotiates, FrontEnters, BackHalts, Submits, Notifies, Pokes, Dumps, Looks, Settles, word_lines, ring_lines, happens, lines_at, lines_of, front_shows, back_shows, job_shows, front_turn, back_turn, job_turn, submit_line}
 use Rattle.split_model.specs.Report.{report_of, ended_report_of}
 use Rattle.split_model.specs.Safe.{IsSafe}
 use Rattle.split_model.proofs.Safe.{safe_start, safe_happens}
 use Rattle.split_model.proofs.Overwriting.{poke_lines_are}
-use Rattle.split_model.proofs.Keys.{negotiated_lines_are, ready_lines_are}
+use Rattle.split_model.proofs.Keys.{negotiated_lines_are}
+use Rattle.split_model.proofs.States.{enter_lines_are, state_lines_are}
 use Rattle.move_laws.specs.Tells.{Tells}
 use Rattle.move_laws.specs.Permitted.{ArePermitted}
 use Rattle.move_laws.specs.Dumped.{place_in_ring, dump_after, dumped_to, AreZero, MayEnd, GoesOn, ComesTo, IsDumpedAt, AreWholeDumps}
@@ -195,7 +196,9 @@ dumped_happens w BackMoves before f d = others 1024 _ before (back_shows_none w 
 dumped_happens w (JobMoves number outcome) before f d = others 1024 _ before (job_shows_none w number (job_turn w number outcome)) d
 dumped_happens w (Negotiates at move) before f d =
     others 1024 _ before (negotiated_lines_are IsNoWord w.back.stage at move w.under.keys (λ path. refl) (λ path text. refl) (λ path. refl) (λ path. refl)) d
-dumped_happens w Connects before f d = others 1024 _ before (ready_lines_are IsNoWord w.front.stage (λ waits. refl)) d
+dumped_happens w (FrontEnters state) before f d =
+    others 1024 _ before (enter_lines_are IsNoWord state w.front (λ may. state_lines_are IsNoWord state refl refl refl (λ word. refl))) d
+dumped_happens w (BackHalts why) before f d = others 1024 _ before (halt_none w.back.halted (let b : back.View = back_step.halts why w.back in b.halted)) d
 dumped_happens w (Submits job) before f d = others 1024 _ before (submit_none job (front_submit.submit_of w.front job).0, tt) d
 dumped_happens w (Notifies at) before f d = others 1024 [] before tt d
 dumped_happens w (Pokes frame word value) before f d = others 1024 _ before (poke_lines_are IsNoWord frame word value refl) d

@@ -1,5 +1,5 @@
 -- The front keeps to the frames that both ends share, whatever it is told.
-use Rattle.std.proofs.Common.{◌≡◌, ℕ, zero, suc, ◌+◌, ◌-◌, ◌*◌, ◌/◌, ◌%◌, ◌^◌, ◌<◌, ◌&&◌, Bool, true, false, not, if◌then◌else◌, List, [], ◌∷◌, ◌++◌, length, take, refl, ◌∙◌, subst, arith, length-set}
+use Rattle.std.proofs.Common.{◌≡◌, ℕ, zero, suc, ◌+◌, ◌-◌, ◌*◌, ◌/◌, ◌%◌, ◌^◌, ◌<◌, ◌&&◌, ◌||◌, Bool, true, false, not, if◌then◌else◌, List, [], ◌∷◌, ◌++◌, length, take, refl, ◌∙◌, subst, arith, length-set}
 use Rattle.std.specs.Prelude.{All, Option, Some, None, option_map, option_and_then, Result, Ok, Err, slice_get, slice_set, position, nat_lt, nat_le, ◌==◌}
 use Rattle.std.proofs.lemmas.Option.{none-some, same_Some, slice_get_within, get_or_from_slice_get}
 use Rattle.std.proofs.lemmas.List.Elements.{All-nil, All-push, All-append, All-take, All-drop, All-get_or}
@@ -22,16 +22,19 @@ use Rattle.blk_front.specs.declared.stage.Ending.{Ending}
 use Rattle.blk_front.specs.declared.request.Request.{Request}
 use Rattle.blk_front.specs.declared.request.Transfer.{Transfer}
 use Rattle.blk_front.specs.declared.request.Transfer.TheVariants as transfer
+use Rattle.blk_front.specs.declared.state.FrontState.{FrontState}
+use Rattle.blk_front.specs.declared.state.FrontState.TheVariants as state
 use Rattle.blk_front.specs.declared.told.Refusal.{Refusal}
 use Rattle.blk_front.specs.declared.told.Refusal.TheVariants as refusal
 use Rattle.blk_front.specs.declared.request.Wish.{Wish}
 use Rattle.blk_front.specs.Pool.{lowest_of, with_taken, with_free, with_all_free, taking}
 use Rattle.blk_front.specs.Request.{is_write, has_data, frame_at, frames_for, words_in}
 use Rattle.blk_front.specs.View.{View, next_request, shape, start_of, slot_frame, slot_word, ring_frame, entry_frame, entry_word}
-use Rattle.blk_front.specs.Ask.{ask_at, ask_of, data_ask, name_ask, grant_ask, revoke_ask, end_ask, read_ask, issue_ask, loop_ask, StaysInMemory}
+use Rattle.blk_front.specs.Ask.{ask_at, ask_of, data_ask, name_ask, grant_ask, revoke_ask, end_ask, read_ask, issue_ask, is_through, loop_ask, StaysInMemory}
 use Rattle.blk_front.specs.Step.{at, broken, looked, issue_stage, data_stage, granted, loop_step, found_at, issued, response_at, is_mapped, finished, ended, revoked, sector_told, data_step, step_at, step_of}
-use Rattle.blk_front.specs.Submit.{is_ready, connected, unfinished, wish_of, submit_with, submit_one, submit_of}
-use Rattle.split_model.proofs.Keys.{connects_cases}
+use Rattle.blk_front.specs.State.{in_state, enters}
+use Rattle.blk_front.specs.Submit.{is_ready, unfinished, wish_of, submit_with, submit_one, submit_of}
+use Rattle.split_model.proofs.States.{enters_cases}
 
 -- a stage is at one of the words that it goes through
 abbrev pub IsPlaced : Stage → Type 0
@@ -65,7 +68,7 @@ shared_frame r place all = by_place (nat_lt place (length r.frames.items)) refl
 in_slot : (index k : ℕ) → k < 28 → (slot_frame index k < 1018) × (slot_word index k < 1024)
 in_slot index k within = (omega arith, omega arith)
 
-loop_within : (asleep new : Bool) (frame word : ℕ) → (frame < 1018) × (word < 1024) → StaysInMemory (if asleep then ask.Wait else (if new then ask.Read ring_frame 2 else ask.Read frame word))
+loop_within : (rests new : Bool) (frame word : ℕ) → (frame < 1018) × (word < 1024) → StaysInMemory (if rests then ask.Wait else (if new then ask.Read ring_frame 2 else ask.Read frame word))
 loop_within true new frame word p = tt
 loop_within false true frame word p = (omega arith, omega arith)
 loop_within false false frame word p = p
@@ -125,7 +128,7 @@ read_within n (Some e) shared = (shared_frame e.request (n / 1024) shared, omega
 
 loop_ask_within : (v : View) (r : Option Request) → All Shared v.requests → next_request v ≡ r → StaysInMemory (loop_ask v r)
 loop_ask_within v (Some r) all e = issue_within r r.transfer (next_shared v r all e)
-loop_ask_within v None all e = loop_within v.asleep (responses_of v.ring v.seen == 0) (slot_frame v.ring.cons 0) (slot_word v.ring.cons 0) (in_slot v.ring.cons 0 (omega arith))
+loop_ask_within v None all e = loop_within (v.asleep || is_through v) (responses_of v.ring v.seen == 0) (slot_frame v.ring.cons 0) (slot_word v.ring.cons 0) (in_slot v.ring.cons 0 (omega arith))
 
 within_at : (s : Stage) (v : View) → IsPlaced s → All Shared v.requests → SharedEnding v.ending → StaysInMemory (ask_at s v)
 within_at (stage.RingWord k) v p all last = (omega arith, omega arith)
@@ -145,6 +148,8 @@ within_at (stage.GrantEnd place seen) v p all last = end_within place seen v.end
 within_at (stage.ReadData n) v p all last = read_within n v.ending last
 within_at stage.StoreEvent v p all last = (omega arith, omega arith)
 within_at stage.LookAgain v p all last = (omega arith, omega arith)
+within_at stage.RingRead v p all last = (omega arith, omega arith)
+within_at (stage.RingEnd seen) v p all last = (omega arith, omega arith)
 within_at s v p all last = tt
 
 -- each word that the front asks for is one of those frames
@@ -266,6 +271,10 @@ step_kept (stage.ReadData n) v (answer.Word word) p f = data_kept v v.ending n w
 step_kept stage.StoreEvent v x p f = at_stage _ v tt f
 step_kept stage.EventFence v x p f = at_stage _ v tt f
 step_kept stage.LookAgain v (answer.Word word) p f = looked_kept v word (record v { seen = word; stage = stage.Loop; asleep = true }) f (record { placed = tt; shared = f.shared; ending = f.ending; pool = f.pool })
+step_kept stage.RingRead v (answer.Word word) p f = either (is_mapped word) (broken word v) (at (stage.RingEnd word) v) (record { placed = tt; shared = f.shared; ending = f.ending; pool = f.pool }) (at_stage (stage.RingEnd word) v tt f)
+step_kept (stage.RingEnd before) v (answer.Word word) p f =
+    either (word == before) (at stage.ClosePort v) (broken word v) (at_stage stage.ClosePort v tt f) (record { placed = tt; shared = f.shared; ending = f.ending; pool = f.pool })
+step_kept stage.ClosePort v x p f = at_stage _ v tt f
 step_kept s v x p f = f
 
 pub front_step : (v : View) (x : FrontAnswer) → IsFront v → IsFront (record (step_of v x) { told = None })
@@ -273,9 +282,16 @@ front_step v x f =
     let y : IsFront (step_of v x) = step_kept v.stage v x f.placed f in
     record { placed = y.placed; shared = y.shared; ending = y.ending; pool = y.pool }
 
--- where it is connected
-pub front_connected : (v : View) → IsFront v → IsFront (connected v)
-front_connected v f = connects_cases (λ x shown. IsFront x) v (λ waits. record { placed = tt; shared = f.shared; ending = f.ending; pool = f.pool }) f
+-- whatever state it enters
+in_state_kept : (s : FrontState) (v : View) → IsFront v → IsFront (in_state s v)
+in_state_kept state.Connected v f = at_stage _ v tt f
+in_state_kept state.Closing v f = record { placed = f.placed; shared = f.shared; ending = f.ending; pool = f.pool }
+in_state_kept state.Leaving v f = at_stage _ v tt f
+in_state_kept state.Closed v f = at_stage _ v tt f
+in_state_kept (state.Broken word) v f = at_stage _ v tt f
+
+pub front_entered : (s : FrontState) (v : View) → IsFront v → IsFront (enters s v)
+front_entered s v f = enters_cases (λ x shown. IsFront x) s v (λ may. in_state_kept s v f) f
 
 either_submit : (b : Bool) (x y : Result ℕ Refusal × View) → IsFront x.1 → IsFront y.1 → IsFront (if b then x else y).1
 either_submit true x y p q = p
@@ -322,5 +338,7 @@ submit_wish v (Some wish) f =
 
 pub front_submit : (v : View) (job : Job) → IsFront v → IsFront (submit_of v job).1
 front_submit v job f =
-    either_submit (v.last == 4294967295) (Err refusal.Spent, v) (if not (is_ready v.stage) then (Err refusal.NotReady, v) else submit_one v (wish_of job)) f
-    (either_submit (not (is_ready v.stage)) (Err refusal.NotReady, v) (submit_one v (wish_of job)) f (submit_wish v (wish_of job) f))
+    let unless_unready = if not (is_ready v.stage) then (Err refusal.NotReady, v) else submit_one v (wish_of job) in
+    either_submit (v.last == 4294967295) (Err refusal.Spent, v) (if v.closing then (Err refusal.Closing, v) else unless_unready) f
+    (either_submit v.closing (Err refusal.Closing, v) unless_unready f
+    (either_submit (not (is_ready v.stage)) (Err refusal.NotReady, v) (submit_one v (wish_of job)) f (submit_wish v (wish_of job) f)))

@@ -28,14 +28,15 @@ use Rattle.back_jobs.specs.Jobs.{Held, work_at, work_of, place_of, asked, ask_jo
 use Rattle.blk_back.specs.declared.stage.Reply.{Reply}
 use Rattle.blk_back.specs.declared.stage.Stage.{Stage}
 use Rattle.blk_back.specs.declared.stage.Stage.TheVariants as stage
-use Rattle.blk_back.specs.declared.told.Halt.TheVariants as halt
+use Rattle.blk_back.specs.declared.told.Halt.{Halt}
 use Rattle.blk_back.specs.View.{View}
 use Rattle.blk_back.specs.Ask.{next_reply}
-use Rattle.blk_back.specs.Step.{overrun, looked, loop_step, fetched, next_number, step_at}
+use Rattle.blk_back.specs.Step.{halts, overrun, looked, loop_step, fetched, next_number, step_at}
 use Rattle.hypervisor.specs.Act.{FrontAct, BackAct, Outcome, Gave, Took, Failed}
 use Rattle.hypervisor.specs.Disk.{DiskDoes, NoCall}
 use Rattle.split_model.specs.World.{World, start_of}
-use Rattle.split_model.specs.Happening.{Happening, FrontMoves, BackMoves, JobMoves, happens, back_after, job_after, front_after, front_turn, back_turn, job_turn, DiskGoes, DiskRuns}
+use Rattle.split_model.specs.Happening.{Happening, FrontMoves, BackMoves, JobMoves, BackHalts, happens, back_after, job_after, front_after, front_turn, back_turn, job_turn, DiskGoes, DiskRuns}
+use Rattle.split_model.proofs.States.{halts_cases}
 use Rattle.move_laws.proofs.Jobs.{IsJob, IsPlaced}
 use Rattle.move_laws.proofs.Back.{IsBack}
 use Rattle.move_laws.proofs.Always.{IsOrderly, orderly_start, orderly_happens}
@@ -171,6 +172,9 @@ job_stays : (w : World) (number : ℕ) (act : Option BackAct) → Stays w.back �
 job_stays w number None o = o
 job_stays w number (Some a) o = (o.0, told_reads w.back.jobs.works (place_of w.back.jobs.works number) (work_of w.back.jobs.works number) a.answer refl o.1)
 
+halt_stays : (why : Halt) (v : View) → Stays v → Stays (halts why v)
+halt_stays why v o = halts_cases (λ x. Stays x) why v (λ here. o) (λ here. (o.0, behind_reads v.jobs.works o.1)) o
+
 front_stays : (w : World) → Stays w.back → (let x : World = happens w FrontMoves in Stays x.back)
 front_stays w o = by_act (front_turn w)
   where
@@ -182,6 +186,7 @@ world_stays : (w : World) (h : Happening) → Stays w.back → (let x : World = 
 world_stays w FrontMoves o = front_stays w o
 world_stays w BackMoves o = back_stays w (back_turn w Took) o
 world_stays w (JobMoves number outcome) o = job_stays w number (job_turn w number outcome) o
+world_stays w (BackHalts why) o = halt_stays why w.back o
 world_stays w h o = o
 
 -- no call changes what the disk holds

@@ -11,6 +11,8 @@ use Rattle.schedule_text.specs.declared.line.Detail.TheVariants.{Moves}
 use Rattle.schedule_text.specs.declared.line.Line.{Line}
 use Rattle.schedule_text.specs.declared.line.Line.TheVariants as lines
 use Rattle.hypervisor.specs.Act.{FrontAct, BackAct, Took}
+use Rattle.blk_front.specs.declared.state.FrontState.{FrontState}
+use Rattle.blk_front.specs.declared.state.FrontState.TheVariants as state
 use Rattle.blk_front.specs.declared.told.Told.{Told}
 use Rattle.blk_front.specs.declared.told.Told.TheVariants as front_told
 use Rattle.blk_front.specs.declared.told.Refusal.{Refusal}
@@ -23,10 +25,11 @@ use Rattle.blk_back.specs.declared.told.Halt.{Halt}
 use Rattle.blk_back.specs.View as back
 use Rattle.blk_back.specs.Step as back_step
 use Rattle.split_model.specs.World.{World, start_of}
-use Rattle.split_model.specs.Shown.{front_lines, back_lines, halt_lines, effect_line}
-use Rattle.split_model.specs.Happening.{Happening, FrontMoves, BackMoves, JobMoves, Negotiates, Connects, Submits, Notifies, Pokes, Dumps, Looks, Settles, is_guest_word, word_lines, ring_lines, happens, lines_at, lines_of, front_shows, back_shows, job_shows, front_turn, back_turn, job_turn, submit_line}
+use Rattle.split_model.specs.Shown.{front_lines, back_lines, halt_lines, state_lines, effect_line}
+use Rattle.split_model.specs.Happening.{Happening, FrontMoves, BackMoves, JobMoves, Negotiates, FrontEnters, BackHalts, Submits, Notifies, Pokes, Dumps, Looks, Settles, is_guest_word, word_lines, ring_lines, happens, lines_at, lines_of, front_shows, back_shows, job_shows, front_turn, back_turn, job_turn, submit_line}
 use Rattle.schedule_text.specs.Recorder.{kept_of}
-use Rattle.split_model.proofs.Keys.{key_cases, negotiated_cases, connects_cases}
+use Rattle.split_model.proofs.Keys.{key_cases, negotiated_cases}
+use Rattle.split_model.proofs.States.{enters_cases}
 use Rattle.split_model.proofs.Running.{kept_of-append}
 use Rattle.split_model.specs.Report.{report_of, ended_report_of}
 
@@ -67,6 +70,13 @@ halt_lines_kept : (before now : Option Halt) → AreKept (halt_lines before now)
 halt_lines_kept None None = refl
 halt_lines_kept None (Some h) = refl
 halt_lines_kept (Some g) now = refl
+
+state_lines_kept : (s : FrontState) → AreKept (state_lines s)
+state_lines_kept state.Connected = refl
+state_lines_kept state.Closing = refl
+state_lines_kept state.Leaving = refl
+state_lines_kept state.Closed = refl
+state_lines_kept (state.Broken word) = refl
 
 front_shows_kept : (w : World) (act : Option FrontAct) → AreKept (front_shows w act)
 front_shows_kept w None = refl
@@ -119,7 +129,8 @@ lines_at_kept w (JobMoves number outcome) = job_shows_kept w number (job_turn w 
 lines_at_kept w (Negotiates at move) =
     negotiated_cases (λ keys shown. AreKept shown) w.back.stage at move w.under.keys
     (λ may. key_cases (λ keys shown. AreKept shown) at move w.under.keys (λ path same. refl) (λ path text same may_set. refl) (λ path same. refl) (λ path first. refl) refl) refl
-lines_at_kept w Connects = connects_cases (λ v shown. AreKept shown) w.front (λ waits. refl) refl
+lines_at_kept w (FrontEnters state) = enters_cases (λ v shown. AreKept shown) state w.front (λ may. state_lines_kept state) refl
+lines_at_kept w (BackHalts why) = halt_lines_kept w.back.halted (let b : back.View = back_step.halts why w.back in b.halted)
 lines_at_kept w (Submits job) = submit_kept job (front_submit.submit_of w.front job).0
 lines_at_kept w (Notifies at) = refl
 lines_at_kept w (Pokes frame word value) = poke_kept (is_guest_word frame word) frame word value

@@ -29,11 +29,12 @@ use Rattle.blk_back.specs.Step as back_step
 use Rattle.blk_back.specs.Hands.{hands_of}
 use Rattle.blk_back.specs.View as back
 use Rattle.split_model.specs.World.{World, start_of}
-use Rattle.split_model.specs.Happening.{Happening, FrontMoves, BackMoves, JobMoves, Negotiates, Connects, Submits, Notifies, Pokes, Dumps, Looks, Settles, happens, lines_at, after, lines_of, front_after, front_shows, back_after, back_shows, job_after, job_shows, front_turn, back_turn, job_turn}
+use Rattle.split_model.specs.Happening.{Happening, FrontMoves, BackMoves, JobMoves, Negotiates, FrontEnters, BackHalts, Submits, Notifies, Pokes, Dumps, Looks, Settles, happens, lines_at, after, lines_of, front_after, front_shows, back_after, back_shows, job_after, job_shows, front_turn, back_turn, job_turn}
 use Rattle.split_model.specs.Safe.{IsSafe}
 use Rattle.split_model.specs.Shown.{back_lines, halt_lines}
 use Rattle.split_model.specs.Keys.{KeyMove, mover_at}
-use Rattle.split_model.proofs.Keys.{negotiated_lines_are, ready_lines_are}
+use Rattle.split_model.proofs.Keys.{negotiated_lines_are}
+use Rattle.split_model.proofs.States.{enter_lines_are}
 use Rattle.split_model.proofs.Safe.{safe_start, safe_happens}
 use Rattle.split_model.proofs.Overwriting.{poke_cases, ring_lines_are}
 use Rattle.move_laws.specs.Permitted.{IsPermitted, ArePermitted}
@@ -42,7 +43,7 @@ use Rattle.move_laws.proofs.Always.{always_within}
 use Rattle.move_laws.specs.Tells.{Tells}
 use Rattle.move_laws.proofs.Follows.{IsAllowed, Follows}
 use Rattle.split_model.specs.Report.{report_of, ended_report_of}
-use Rattle.move_laws.proofs.Still.{IsStill, ArePlain, IsPlain, still, plain_front, plain_back, plain_halt, plain_submit, plain_ready, plain_key, plain_quiet, plain_busy, plain_unsettled, tells_still, follow_one, follow_plain}
+use Rattle.move_laws.proofs.Still.{IsStill, ArePlain, IsPlain, still, plain_front, plain_back, plain_halt, plain_submit, plain_state, plain_key, plain_quiet, plain_busy, plain_unsettled, tells_still, follow_one, follow_plain}
 use Rattle.move_laws.proofs.Acts.{IsKept, tells_write, front_kept, back_kept}
 
 -- the lines so far obey the rules, and tell what lies under the ends
@@ -132,7 +133,8 @@ follows_happens w FrontMoves before safe within follows = front_follows w before
 follows_happens w BackMoves before safe within follows = back_follows w before Took (back_turn w Took) safe within follows refl
 follows_happens w (JobMoves number outcome) before safe within follows = job_follows w before number outcome (job_turn w number outcome) safe within follows refl
 follows_happens w (Negotiates at move) before safe within follows = follow_plain (lines_at w (Negotiates at move)) before w.under.pages w.under.grants (keys_plain w at move) follows
-follows_happens w Connects before safe within follows = follow_plain (lines_at w Connects) before w.under.pages w.under.grants (ready_lines_are IsPlain w.front.stage (λ waits. plain_ready)) follows
+follows_happens w (FrontEnters state) before safe within follows = follow_plain (lines_at w (FrontEnters state)) before w.under.pages w.under.grants (enter_lines_are IsPlain state w.front (λ may. plain_state state)) follows
+follows_happens w (BackHalts why) before safe within follows = follow_plain (lines_at w (BackHalts why)) before w.under.pages w.under.grants (plain_halt w.back.halted _) follows
 follows_happens w (Submits job) before safe within follows = follow_plain (lines_at w (Submits job)) before w.under.pages w.under.grants (plain_submit job (front_submit.submit_of w.front job).0, tt) follows
 follows_happens w (Notifies at) before safe within follows = no_lines before w follows
 follows_happens w (Pokes frame word value) before safe within follows = poke_follows w before frame word value follows

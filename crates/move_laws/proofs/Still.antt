@@ -16,6 +16,7 @@ use Rattle.report_rules.specs.declared.standing.Standing.{Standing}
 use Rattle.report_rules.specs.Standing.{is_epoch, is_unmap_of, mapping_made}
 use Rattle.report_rules.specs.Value.{value_after}
 use Rattle.report_rules.proofs.Obeys.{obeys_more}
+use Rattle.blk_front.specs.declared.state.FrontState.{FrontState}
 use Rattle.blk_front.specs.declared.told.Told.{Told}
 use Rattle.blk_front.specs.declared.told.Told.TheVariants as front_told
 use Rattle.blk_front.specs.declared.told.Refusal.{Refusal}
@@ -23,9 +24,10 @@ use Rattle.blk_back.specs.declared.told.BackTold.{BackTold}
 use Rattle.blk_back.specs.declared.told.BackTold.TheVariants as back_told
 use Rattle.blk_back.specs.declared.told.Halt.{Halt}
 use Rattle.std.specs.Prelude.{Result, Ok, Err}
-use Rattle.split_model.specs.Shown.{front_lines, back_lines, halt_lines, effect_line}
+use Rattle.split_model.specs.Shown.{front_lines, back_lines, halt_lines, state_lines, effect_line}
 use Rattle.split_model.specs.Happening.{submit_line}
 use Rattle.split_model.proofs.SafeActs.{IsKeyMove}
+use Rattle.split_model.proofs.States.{state_lines_are}
 use Rattle.move_laws.specs.Tells.{Tells, standing_of}
 use Rattle.move_laws.proofs.Follows.{IsAllowed, Follows}
 use Rattle.move_laws.proofs.Standing.{filter_none, filter_same}
@@ -96,8 +98,13 @@ pub plain_submit : (job : Job) (r : Result ℕ Refusal) → IsPlain (submit_line
 plain_submit job (Ok number) = record { is_still = still (lines.Submit number job) refl (λ f w v b. refl) (λ n. refl) refl; free = λ b. record { coherent = tt; answered = tt; numbered = tt; touched = tt; grantable = tt } }
 plain_submit job (Err r) = record { is_still = still _ refl (λ f w v b. refl) (λ n. refl) refl; free = λ b. record { coherent = tt; answered = tt; numbered = tt; touched = tt; grantable = tt } }
 
-pub plain_ready : IsPlain lines.Ready
-plain_ready = record { is_still = still lines.Ready refl (λ f w v b. refl) (λ n. refl) refl; free = λ b. record { coherent = tt; answered = tt; numbered = tt; touched = tt; grantable = tt } }
+pub plain_state : (s : FrontState) → ArePlain (state_lines s)
+plain_state s =
+    state_lines_are IsPlain s
+    (record { is_still = still lines.Ready refl (λ f w v b. refl) (λ n. refl) refl; free = λ b. record { coherent = tt; answered = tt; numbered = tt; touched = tt; grantable = tt } })
+    (record { is_still = still lines.Closing refl (λ f w v b. refl) (λ n. refl) refl; free = λ b. record { coherent = tt; answered = tt; numbered = tt; touched = tt; grantable = tt } })
+    (record { is_still = still lines.Closed refl (λ f w v b. refl) (λ n. refl) refl; free = λ b. record { coherent = tt; answered = tt; numbered = tt; touched = tt; grantable = tt } })
+    (λ word. record { is_still = still (lines.Broken word) refl (λ f w v b. refl) (λ n. refl) refl; free = λ b. record { coherent = tt; answered = tt; numbered = tt; touched = tt; grantable = tt } })
 
 -- a move on a key or a watch
 pub plain_key : (who : Mover) (shown : Move) → IsKeyMove who shown → IsPlain (lines.Move shown)

@@ -1,5 +1,5 @@
 -- Whatever happens, the consumer of responses is as far ahead of the first index as answers were told.
-use Rattle.std.proofs.Common.{◌≡◌, ℕ, ◌+◌, ◌&&◌, Bool, true, false, not, cond, if◌then◌else◌, List, [], ◌∷◌, ◌++◌, refl, sym, ap, subst, append_assoc, arith}
+use Rattle.std.proofs.Common.{◌≡◌, ℕ, ◌+◌, ◌&&◌, ◌||◌, Bool, true, false, not, cond, if◌then◌else◌, List, [], ◌∷◌, ◌++◌, refl, sym, ap, subst, append_assoc, arith}
 use Rattle.std.specs.Prelude.{Option, Some, None, Result, Ok, Err, ◌==◌, nat_lt, nat_le}
 use Rattle.std.specs.List.{AllByRecursion}
 use Rattle.std.proofs.lemmas.List.{append-nil}
@@ -19,25 +19,30 @@ use Rattle.blk_front.specs.declared.request.Wish.{Wish}
 use Rattle.blk_front.specs.declared.told.Refusal.{Refusal}
 use Rattle.blk_front.specs.declared.stage.Stage.{Stage}
 use Rattle.blk_front.specs.declared.stage.Stage.TheVariants as stage
+use Rattle.blk_front.specs.declared.state.FrontState.{FrontState}
+use Rattle.blk_front.specs.declared.state.FrontState.TheVariants as state
 use Rattle.blk_front.specs.declared.told.Refusal.TheVariants as refusal
 use Rattle.blk_front.specs.Pool.{taking}
 use Rattle.blk_front.specs.Request.{is_write, frames_for}
 use Rattle.blk_front.specs.View.{View, shape}
 use Rattle.blk_front.specs.Step.{step_of}
-use Rattle.blk_front.specs.Submit.{is_ready, is_initialised, connected, unfinished, wish_of, submit_with, submit_one, submit_of}
+use Rattle.blk_front.specs.Ask.{is_through}
+use Rattle.blk_front.specs.State.{is_made, is_bare, may_enter, in_state, enters}
+use Rattle.blk_front.specs.Submit.{is_ready, is_initialised, unfinished, wish_of, submit_with, submit_one, submit_of}
 use Rattle.split_model.specs.World.{World, start_of}
 use Rattle.split_model.specs.Safe.{IsSafe}
-use Rattle.split_model.specs.Shown.{front_lines}
+use Rattle.split_model.specs.Shown.{front_lines, state_lines}
 use Rattle.split_model.specs.Keys.{KeyMove}
-use Rattle.split_model.proofs.Keys.{connects_cases, negotiated_lines_are}
+use Rattle.split_model.proofs.Keys.{negotiated_lines_are}
+use Rattle.split_model.proofs.States.{enters_cases, state_lines_are}
 use Rattle.split_model.proofs.Overwriting.{poke_lines_are, dump_lines_are}
-use Rattle.split_model.specs.Happening.{Happening, FrontMoves, BackMoves, JobMoves, Negotiates, Connects, Submits, Notifies, Pokes, Dumps, Looks, Settles, poke_lines, ring_lines, ready_lines, happens, lines_at, after, lines_of, front_after, front_shows, back_after, back_shows, job_after, job_shows, front_turn, back_turn, job_turn, submit_line}
+use Rattle.split_model.specs.Happening.{Happening, FrontMoves, BackMoves, JobMoves, Negotiates, FrontEnters, BackHalts, Submits, Notifies, Pokes, Dumps, Looks, Settles, poke_lines, ring_lines, enter_lines, happens, lines_at, after, lines_of, front_after, front_shows, back_after, back_shows, job_after, job_shows, front_turn, back_turn, job_turn, submit_line}
 use Rattle.split_model.specs.Report.{report_of}
 use Rattle.split_model.proofs.Safe.{safe_start, safe_happens}
 use Rattle.machine_pipeline.specs.Plain.{IsPlain}
 use Rattle.machine_pipeline.proofs.Flow.{wrapped}
 use Rattle.report_laws.specs.QuietRing.{says_answer, answers_told}
-use Rattle.report_laws.proofs.Lines.{OfBack, back_all, job_all}
+use Rattle.report_laws.proofs.Lines.{OfBack, halt_lines_all, back_all, job_all}
 use Rattle.report_laws.proofs.Counts.{CountsAt, with_told, front_counts}
 
 abbrev AreUnanswered : List Line → Type 0
@@ -121,8 +126,10 @@ wish_submitted v (Some wish) =
 
 submit_untaken : (v : View) (job : Job) → IsUntaken v (submit_of v job).1
 submit_untaken v job =
-    either_submit (v.last == 4294967295) v (Err refusal.Spent, v) (if not (is_ready v.stage) then (Err refusal.NotReady, v) else submit_one v (wish_of job)) (untaken v)
-    (either_submit (not (is_ready v.stage)) v (Err refusal.NotReady, v) (submit_one v (wish_of job)) (untaken v) (wish_submitted v (wish_of job)))
+    let unless_unready = if not (is_ready v.stage) then (Err refusal.NotReady, v) else submit_one v (wish_of job) in
+    either_submit (v.last == 4294967295) v (Err refusal.Spent, v) (if v.closing then (Err refusal.Closing, v) else unless_unready) (untaken v)
+    (either_submit v.closing v (Err refusal.Closing, v) unless_unready (untaken v)
+    (either_submit (not (is_ready v.stage)) v (Err refusal.NotReady, v) (submit_one v (wish_of job)) (untaken v) (wish_submitted v (wish_of job))))
 
 submit_unanswered : (job : Job) (r : Result ℕ Refusal) → AreUnanswered (submit_line job r ∷ [])
 submit_unanswered job (Ok number) = (refl, tt)
@@ -138,16 +145,55 @@ poke_unanswered frame word value = poke_lines_are (λ (line : Line). says_answer
 dump_unanswered : (pages : List ℕ) → AreUnanswered (ring_lines pages 0 1024)
 dump_unanswered pages = dump_lines_are (λ (line : Line). says_answer line ≡ false) pages 0 1024 (λ frame word value. refl)
 
--- a front that is connected took no response either
-connects_count : (start : ℕ) (v : View) (before : List Line) → CountsAt start (answers_told before) v.ring.cons v.stage → (let x : View = connected v in CountsAt start (answers_told (before ++ ready_lines v.stage)) x.ring.cons x.stage)
-connects_count start v before h =
-    connects_cases (λ x shown. CountsAt start (answers_told (before ++ shown)) x.ring.cons x.stage) v
-    (λ waits. (subst (λ (n : ℕ). v.ring.cons ≡ wrapped start n) (sym (answers_more before (lines.Ready ∷ []) (refl, tt))) (waiting v.stage waits h)))
-    (subst (λ (ls : List Line). CountsAt start (answers_told ls) v.ring.cons v.stage) (sym (append-nil before)) h)
+-- a front that is led into a state took no response either: it ends no grant of a request's, and isn't broken
+whole_counts : (start n cons : ℕ) (s : Stage) → (is_made s || is_bare s) ≡ true → CountsAt start n cons s → cons ≡ wrapped start n
+whole_counts start n cons (stage.GrantRead place) at_rest h = absurd (cc)
+whole_counts start n cons (stage.GrantEnd place seen) at_rest h = absurd (cc)
+whole_counts start n cons (stage.Broken word) at_rest h = absurd (cc)
+whole_counts start n cons s at_rest h = h
+
+-- the states that change the stage, but for a broken one, are entered from such a stage
+abbrev LedFrom : FrontState → Stage → Type 0
+LedFrom state.Closing s = Unit {0}
+LedFrom (state.Broken word) s = Unit {0}
+LedFrom state s = (is_made s || is_bare s) ≡ true
+
+led_from : (s : FrontState) (v : View) → may_enter s v ≡ true → LedFrom s v.stage
+led_from state.Connected v may = waiting v.stage may
   where
-    waiting : (s : Stage) → is_initialised s ≡ true → CountsAt start (answers_told before) v.ring.cons s → v.ring.cons ≡ wrapped start (answers_told before)
-    waiting stage.Initialised waits h = h
-    waiting s waits h = absurd (cc)
+    waiting : (s : Stage) → is_initialised s ≡ true → (is_made s || is_bare s) ≡ true
+    waiting stage.Initialised may = refl
+    waiting s may = absurd (cc)
+led_from state.Closing v may = tt
+led_from state.Leaving v may = made (is_through v) (is_made v.stage) (is_bare v.stage) may
+  where
+    made : (a b c : Bool) → (a && b) ≡ true → (b || c) ≡ true
+    made true true c e = refl
+    made true false c e = absurd (cc)
+    made false b c e = absurd (cc)
+led_from state.Closed v may = bare (is_through v) (is_made v.stage) (is_bare v.stage) may
+  where
+    bare : (a b c : Bool) → (a && c) ≡ true → (b || c) ≡ true
+    bare true true c e = refl
+    bare true false c e = e
+    bare false b c e = absurd (cc)
+led_from (state.Broken word) v may = tt
+
+entered_count : (start n : ℕ) (s : FrontState) (v : View) → LedFrom s v.stage → CountsAt start n v.ring.cons v.stage → (let x : View = in_state s v in CountsAt start n x.ring.cons x.stage)
+entered_count start n state.Connected v from h = whole_counts start n v.ring.cons v.stage from h
+entered_count start n state.Closing v from h = h
+entered_count start n state.Leaving v from h = whole_counts start n v.ring.cons v.stage from h
+entered_count start n state.Closed v from h = whole_counts start n v.ring.cons v.stage from h
+entered_count start n (state.Broken word) v from h = tt
+
+state_unanswered : (s : FrontState) → AreUnanswered (state_lines s)
+state_unanswered s = state_lines_are (λ (line : Line). says_answer line ≡ false) s refl refl refl (λ word. refl)
+
+enters_count : (start : ℕ) (s : FrontState) (v : View) (before : List Line) → CountsAt start (answers_told before) v.ring.cons v.stage → (let x : View = enters s v in CountsAt start (answers_told (before ++ enter_lines s v)) x.ring.cons x.stage)
+enters_count start s v before h =
+    enters_cases (λ x shown. CountsAt start (answers_told (before ++ shown)) x.ring.cons x.stage) s v
+    (λ may. (let x : View = in_state s v in subst (λ (n : ℕ). CountsAt start n x.ring.cons x.stage) (sym (answers_more before (state_lines s) (state_unanswered s))) (entered_count start (answers_told before) s v (led_from s v may) h)))
+    (subst (λ (ls : List Line). CountsAt start (answers_told ls) v.ring.cons v.stage) (sym (append-nil before)) h)
 
 keys_unanswered : (w : World) (at : End) (move : KeyMove) → AreUnanswered (lines_at w (Negotiates at move))
 keys_unanswered w at move = negotiated_lines_are (λ (line : Line). says_answer line ≡ false) w.back.stage at move w.under.keys (λ path. refl) (λ path text. refl) (λ path. refl) (λ path. refl)
@@ -157,7 +203,8 @@ one_counts start w before FrontMoves safe h = front_counts_on start w before (fr
 one_counts start w before BackMoves safe h = back_counts start w before (back_turn w Took) h
 one_counts start w before (JobMoves number outcome) safe h = job_counts start w before number (job_turn w number outcome) h
 one_counts start w before (Negotiates at move) safe h = same_counts start w (happens w (Negotiates at move)) before _ (keys_unanswered w at move) refl refl h
-one_counts start w before Connects safe h = connects_count start w.front before h
+one_counts start w before (FrontEnters state) safe h = enters_count start state w.front before h
+one_counts start w before (BackHalts why) safe h = same_counts start w (happens w (BackHalts why)) before _ (halt_lines_all _ back_unanswered w.back.halted _) refl refl h
 one_counts start w before (Submits job) safe h =
     let kept = submit_untaken w.front job in
     same_counts start w (happens w (Submits job)) before _ (submit_unanswered job (submit_of w.front job).0) kept.cons kept.stage h

@@ -1,7 +1,6 @@
 -- The numbers that the back and its jobs keep have the widths of the grammar, and so has what they tell, whatever words they read.
 use Rattle.std.proofs.Common.{◌≡◌, ℕ, zero, suc, ◌+◌, ◌-◌, ◌%◌, ◌^◌, ◌<◌, ◌≤◌, Bool, true, false, cond, if◌then◌else◌, List, [], ◌∷◌, ◌++◌, length, take, replicate, refl, arith}
-use Rattle.std.specs.Prelude.{All, Option, Some, None, is_some, option_and_then, nat_le, ◌==◌, slice_get, slice_set, slice_index, position, FitsSigned}
-use Rattle.std.specs.Int.{w32}
+use Rattle.std.specs.Prelude.{All, Option, Some, None, is_some, option_and_then, nat_le, ◌==◌, slice_get, slice_set, slice_index, position}
 use Rattle.std.specs.List.{AllByRecursion}
 use Rattle.std.proofs.lemmas.Bool.Decides.{nat_tests}
 use Rattle.std.proofs.lemmas.List.{length-take}
@@ -40,9 +39,11 @@ use Rattle.blk_back.specs.declared.told.Halt.{Halt}
 use Rattle.blk_back.specs.declared.told.Halt.TheVariants as halt
 use Rattle.blk_back.specs.View.{View, start_of}
 use Rattle.blk_back.specs.Ask.{reply_of, next_reply}
-use Rattle.blk_back.specs.Step.{giving_up, give_up, overrun, looked, loop_step, next_number, fetched, fetch_step, replied, step_at, step_of, told_effect, job_step}
+use Rattle.blk_back.specs.Step.{giving_up, give_up, halts, overrun, looked, loop_step, next_number, fetched, fetch_step, step_at, step_of, told_effect, job_step}
 use Rattle.split_model.specs.Shown.{back_lines, halt_line, halt_lines}
 use Rattle.move_laws.proofs.Jobs.{direct_served}
+use Rattle.split_model.proofs.States.{halts_cases}
+use Rattle.machine_pipeline.specs.Allowed.{IsSaid}
 use Rattle.machine_pipeline.proofs.Lists.{all_at}
 use Rattle.report_laws.proofs.Told.{AreGood, good}
 use Rattle.report_laws.proofs.Words.{AreWords, index_fits}
@@ -255,9 +256,7 @@ TellsWords (Some (told.Reply id status)) = id < 2 ^ 64
 
 abbrev pub HaltsWith : Option Halt → Type 0
 HaltsWith None = Unit {0}
-HaltsWith (Some (halt.Overrun produced replied)) = (produced < 2 ^ 32) × (replied < 2 ^ 32)
-HaltsWith (Some (halt.BadPort p)) = p < 2 ^ 32
-HaltsWith (Some (halt.MapRefused gref status)) = (gref < 2 ^ 32) × FitsSigned w32 status
+HaltsWith (Some why) = IsSaid why
 
 -- no more requests than `most` were fetched
 pub record AreNumbers (most count prod : ℕ) (works : List Work) (info : DiskInfo) (entry : List ℕ) (halted : Option Halt) : Type 0 where
@@ -303,7 +302,7 @@ give_up_fits most v why halts f = (jobs_now (behind_mapping v.jobs.works) why (b
 looked_fits : (most : ℕ) (v : View) (word : ℕ) (otherwise : View) → word < 2 ^ 32 → IsFit most v → IsFit most otherwise → IsFit most (looked v word otherwise)
 looked_fits most v word otherwise small f h =
     either most (overruns v.ring word) (overrun v word) (if word == v.ring.cons then otherwise else record v { seen = word; stage = stage.Loop })
-    (give_up_fits most v (Some (halt.Overrun word v.ring.prod)) (small, f.0.produced) f) (either most (word == v.ring.cons) otherwise (record v { seen = word; stage = stage.Loop }) h (f.0, tt, f.2))
+    (give_up_fits most v (Some (halt.Overrun word v.ring.prod)) (good (lines.Halt (halt_line (halt.Overrun word v.ring.prod))) (small, f.0.produced) refl) f) (either most (word == v.ring.cons) otherwise (record v { seen = word; stage = stage.Loop }) h (f.0, tt, f.2))
 
 -- the reply to a job that is done
 abbrev pub IsNext : Option Reply → Type 0
@@ -354,9 +353,9 @@ fetch_fits most v k word more low small f =
 -- an answer of the back's ask
 step_fits : (most : ℕ) (s : Stage) (v : View) (a : BackAnswer) → v.fetched + 1 ≤ most → most < 2 ^ 64 → HasWords s → IsFit most v → BackTells a → IsFit most (step_at s v a)
 step_fits most stage.MapRing v (answer.Mapped m) more low h f small = (f.0, tt, f.2)
-step_fits most stage.MapRing v (answer.MapRefused status) more low h f small = (jobs_now v.jobs.works (Some (halt.MapRefused 8 status)) f.0.jobs (omega arith, small) f.0, tt, f.2)
+step_fits most stage.MapRing v (answer.MapRefused status) more low h f small = (jobs_now v.jobs.works (Some (halt.MapRefused 8 status)) f.0.jobs (good (lines.Halt (halt_line (halt.MapRefused 8 status))) (omega arith, small) refl) f.0, tt, f.2)
 step_fits most stage.Bind v answer.Done more low h f small = (f.0, tt, f.2)
-step_fits most stage.Bind v answer.BindRefused more low h f small = (jobs_now v.jobs.works (Some (halt.BadPort 1)) f.0.jobs (omega arith) f.0, tt, f.2)
+step_fits most stage.Bind v answer.BindRefused more low h f small = (jobs_now v.jobs.works (Some (halt.BadPort 1)) f.0.jobs (good (lines.Halt (halt_line (halt.BadPort 1))) (omega arith) refl) f.0, tt, f.2)
 step_fits most stage.Loop v a more low h f small = loop_fits most v (next_reply v) a (next_fits most v f) f small
 step_fits most (stage.Fetch k) v (answer.Word word) more low h f small = fetch_fits most v k word more low small f
 step_fits most (stage.ReplyHigh r) v a more low h f small = (f.0, h, f.2)
@@ -381,6 +380,10 @@ step_fits most s v a more low h f small = f
 
 pub back_fits : (most : ℕ) (v : View) (a : BackAnswer) → most + 1 < 2 ^ 64 → IsFit most v → BackTells a → IsFit (most + 1) (step_of v a)
 back_fits most v a low f small = let few = f.0.few in step_fits (most + 1) v.stage v a (omega arith) low f.1 (later most (most + 1) v (omega arith) f) small
+
+-- its negotiation has it halt
+pub halts_fits : (most : ℕ) (why : Halt) (v : View) → IsSaid why → IsFit most v → IsFit most (halts why v)
+halts_fits most why v said f = halts_cases (IsFit most) why v (λ here. (jobs_now v.jobs.works (Some why) f.0.jobs said f.0, tt, f.2)) (λ here. give_up_fits most v (Some why) said f) f
 
 -- an answer of a job's ask
 effect_told : (s : JobStage) (t : Work) (a : BackAnswer) → IsWork t → TellsWords (told_effect (effect_at s t a))
@@ -409,7 +412,5 @@ back_good (Some (told.Reply id status)) a h told = (good (lines.Reply id status)
 
 pub halt_good : (before now : Option Halt) → HaltsWith now → AreGood (halt_lines before now)
 halt_good None None h = tt
-halt_good None (Some (halt.Overrun produced replied)) h = (good (lines.Halt (halt_line (halt.Overrun produced replied))) h refl, tt)
-halt_good None (Some (halt.BadPort p)) h = (good (lines.Halt (halt_line (halt.BadPort p))) h refl, tt)
-halt_good None (Some (halt.MapRefused gref status)) h = (good (lines.Halt (halt_line (halt.MapRefused gref status))) h refl, tt)
+halt_good None (Some why) h = (h, tt)
 halt_good (Some g) now h = tt

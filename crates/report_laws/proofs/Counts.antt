@@ -132,4 +132,7 @@ front_counts start answers (stage.ReadData n) v (answer.Word word) e same h = re
 front_counts start answers stage.StoreEvent v a e same h = untold start answers v.ring.cons v.told stage.EventFence e h
 front_counts start answers stage.EventFence v a e same h = untold start answers v.ring.cons v.told stage.LookAgain e h
 front_counts start answers stage.LookAgain v (answer.Word word) e same h = looked_counts start answers v word (record v { seen = word; stage = stage.Loop; asleep = true }) e h (untold start answers v.ring.cons v.told stage.Loop e h)
+front_counts start answers stage.RingRead v (answer.Word word) e same h = either start answers (is_mapped word) (broken word v) (at (stage.RingEnd word) v) tt (untold start answers v.ring.cons v.told (stage.RingEnd word) e h)
+front_counts start answers (stage.RingEnd before) v (answer.Word word) e same h = either start answers (word == before) (at stage.ClosePort v) (broken word v) (untold start answers v.ring.cons v.told stage.ClosePort e h) tt
+front_counts start answers stage.ClosePort v a e same h = untold start answers v.ring.cons v.told stage.Left e h
 front_counts start answers s v a e same h = untold start answers v.ring.cons v.told v.stage e (subst (CountsAt start answers v.ring.cons) (sym same) h)

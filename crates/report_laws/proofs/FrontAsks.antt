@@ -1,5 +1,5 @@
 -- What the front asks has the widths of the grammar.
-use Rattle.std.proofs.Common.{ℕ, ◌^◌, ◌<◌, ◌==◌, Bool, true, false, if◌then◌else◌, arith}
+use Rattle.std.proofs.Common.{ℕ, ◌^◌, ◌<◌, ◌==◌, ◌||◌, Bool, true, false, if◌then◌else◌, arith}
 use Rattle.std.specs.Prelude.{Option, Some, None}
 use Rattle.blk_base.specs.declared.ask.FrontAsk.TheVariants.{Wait, Read}
 use Rattle.ring_words.specs.Ring.{next_of, responses_of}
@@ -12,7 +12,7 @@ use Rattle.blk_front.specs.declared.stage.Stage.TheVariants as stage
 use Rattle.blk_front.specs.declared.stage.Ending.{Ending}
 use Rattle.blk_front.specs.Request.{filling_at}
 use Rattle.blk_front.specs.View.{View, fresh_word, next_request, ring_frame, slot_frame, slot_word}
-use Rattle.blk_front.specs.Ask.{ask_at, ask_of, data_ask, name_ask, grant_ask, revoke_ask, end_ask, read_ask, issue_ask, loop_ask, StaysInMemory}
+use Rattle.blk_front.specs.Ask.{is_through, ask_at, ask_of, data_ask, name_ask, grant_ask, revoke_ask, end_ask, read_ask, issue_ask, loop_ask, StaysInMemory}
 use Rattle.split_model.specs.Safe.{IsPorted}
 use Rattle.report_laws.proofs.Words.{each_fits}
 use Rattle.report_laws.proofs.Acts.{FrontFits}
@@ -67,7 +67,7 @@ issue_fits h r (transfer.Write tag) within = filling_fits r.transfer 0
 
 loop_fits : (h : Hypervisor) (v : View) (next : Option Request) → StaysInMemory (loop_ask v next) → FrontFits h (loop_ask v next)
 loop_fits h v (Some r) within = issue_fits h r r.transfer within
-loop_fits h v None within = unvalued h v.asleep (responses_of v.ring v.seen == 0) ring_frame 2 (slot_frame v.ring.cons 0) (slot_word v.ring.cons 0)
+loop_fits h v None within = unvalued h (v.asleep || is_through v) (responses_of v.ring v.seen == 0) ring_frame 2 (slot_frame v.ring.cons 0) (slot_word v.ring.cons 0)
 
 asks_at : (h : Hypervisor) (s : Stage) (v : View) → IsPorted s h.channels → StaysInMemory (ask_at s v) → HasWords s → IsFit v → FrontFits h (ask_at s v)
 asks_at h (stage.RingWord k) v ported within words f = fresh_fits v.start k f.0.begins
@@ -84,6 +84,7 @@ asks_at h (stage.GrantRead place) v ported within words f = revoke_fits h v.endi
 asks_at h (stage.GrantEnd place before) v ported within words f = end_fits h v.ending place before words
 asks_at h (stage.ReadData n) v ported within words f = read_fits h v.ending n
 asks_at h stage.StoreEvent v ported within words f = omega arith
+asks_at h (stage.RingEnd seen) v ported within words f = (words, omega arith)
 asks_at h s v ported within words f = tt
 
 pub front_asks : (h : Hypervisor) (v : View) → IsPorted v.stage h.channels → StaysInMemory (ask_of v) → IsFit v → FrontFits h (ask_of v)

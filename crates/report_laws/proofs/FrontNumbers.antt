@@ -38,11 +38,14 @@ use Rattle.blk_front.specs.Pool.{taking}
 use Rattle.blk_front.specs.Request.{operation_of, is_write, grant_flags, has_data, frames_for, words_in, segment_in, segment_at}
 use Rattle.blk_front.specs.View.{View, next_request, shape, start_of}
 use Rattle.blk_front.specs.Step.{at, broken, looked, entry_of, issue_stage, data_stage, granted, loop_step, found_at, issued, response_at, is_mapped, finished, ended, revoked, sector_told, data_step, step_at, step_of}
-use Rattle.blk_front.specs.Submit.{is_ready, connected, unfinished, wish_of, request_with, submit_with, submit_one, submit_of}
-use Rattle.split_model.specs.Shown.{front_lines, refusal_word}
-use Rattle.split_model.specs.Happening.{submit_line}
-use Rattle.split_model.proofs.Keys.{connects_cases}
-use Rattle.machine_pipeline.specs.Allowed.{IsTransfer}
+use Rattle.blk_front.specs.Submit.{is_ready, unfinished, wish_of, request_with, submit_with, submit_one, submit_of}
+use Rattle.blk_front.specs.declared.state.FrontState.{FrontState}
+use Rattle.blk_front.specs.declared.state.FrontState.TheVariants as state
+use Rattle.blk_front.specs.State.{in_state, enters}
+use Rattle.split_model.specs.Shown.{front_lines, state_lines, refusal_word}
+use Rattle.split_model.specs.Happening.{enter_lines, submit_line}
+use Rattle.split_model.proofs.States.{enters_cases}
+use Rattle.machine_pipeline.specs.Allowed.{IsTransfer, IsStateWord}
 use Rattle.machine_pipeline.proofs.Lists.{all_at}
 use Rattle.report_laws.proofs.Told.{AreGood, good}
 use Rattle.report_laws.proofs.Acts.{FrontTells}
@@ -184,6 +187,7 @@ abbrev pub HasWords : Stage → Type 0
 HasWords (stage.ResponseHigh low) = low < 2 ^ 32
 HasWords (stage.ResponseLast low high) = low < 2 ^ 32
 HasWords (stage.GrantEnd place before) = before < 2 ^ 32
+HasWords (stage.RingEnd seen) = seen < 2 ^ 32
 HasWords (stage.ReadData n) = n < 11264
 HasWords s = Unit {0}
 
@@ -357,13 +361,24 @@ step_fits (stage.ReadData n) v (answer.Word word) shared h f small = data_fits v
 step_fits stage.StoreEvent v x shared h f small = (f.0, tt, f.2)
 step_fits stage.EventFence v x shared h f small = (f.0, tt, f.2)
 step_fits stage.LookAgain v (answer.Word word) shared h f small = looked_fits v word (record v { seen = word; stage = stage.Loop; asleep = true }) small f (f.0, tt, f.2)
+step_fits stage.RingRead v (answer.Word word) shared h f small = either (is_mapped word) (broken word v) (at (stage.RingEnd word) v) (λ t. (f.0, tt, small)) (λ t. (f.0, small, f.2))
+step_fits (stage.RingEnd before) v (answer.Word word) shared h f small = either (word == before) (at stage.ClosePort v) (broken word v) (λ t. (f.0, tt, f.2)) (λ t. (f.0, tt, small))
+step_fits stage.ClosePort v x shared h f small = (f.0, tt, f.2)
 step_fits s v x shared h f small = f
 
 pub front_fits : (v : View) (x : FrontAnswer) → AreShared v.requests → IsFit v → FrontTells x → IsFit (step_of v x)
 front_fits v x shared f small = step_fits v.stage v x shared f.1 f small
 
-pub connected_fits : (v : View) → IsFit v → IsFit (connected v)
-connected_fits v f = connects_cases (λ x shown. IsFit x) v (λ waits. (f.0, tt, f.2)) f
+-- a state that it enters, and its line
+pub enters_fits : (s : FrontState) (v : View) → IsStateWord s → IsFit v → IsFit (enters s v) × AreGood (enter_lines s v)
+enters_fits s v small f = enters_cases (λ x shown. IsFit x × AreGood shown) s v (λ may. entered s small) (f, tt)
+  where
+    entered : (s : FrontState) → IsStateWord s → IsFit (in_state s v) × AreGood (state_lines s)
+    entered state.Connected small = ((f.0, tt, f.2), (good lines.Ready tt refl, tt))
+    entered state.Closing small = (f, (good lines.Closing tt refl, tt))
+    entered state.Leaving small = ((f.0, tt, f.2), tt)
+    entered state.Closed small = ((f.0, tt, f.2), (good lines.Closed tt refl, tt))
+    entered (state.Broken word) small = ((f.0, tt, f.2), (good (lines.Broken word) small refl, tt))
 
 -- what it tells is lines of the grammar
 pub front_good : (t : Option Told) → TellsWords t → AreGood (front_lines t)
@@ -424,8 +439,10 @@ wish_fits v job wish some widths last f =
 
 pub submit_fits : (v : View) (job : Job) → IsTransfer job → IsFit v → IsSubmitted job (submit_of v job)
 submit_fits v job may f =
-    either_submit job (v.last == 4294967295) (Err refusal.Spent, v) (if not (is_ready v.stage) then (Err refusal.NotReady, v) else submit_one v (wish_of job)) (λ t. refused v job refusal.Spent f)
-    (λ unspent. either_submit job (not (is_ready v.stage)) (Err refusal.NotReady, v) (submit_one v (wish_of job)) (λ t. refused v job refusal.NotReady f) (λ t. by_job job may (one_more v.last f.0.given unspent)))
+    let unless_unready = if not (is_ready v.stage) then (Err refusal.NotReady, v) else submit_one v (wish_of job) in
+    either_submit job (v.last == 4294967295) (Err refusal.Spent, v) (if v.closing then (Err refusal.Closing, v) else unless_unready) (λ t. refused v job refusal.Spent f)
+    (λ unspent. either_submit job v.closing (Err refusal.Closing, v) unless_unready (λ t. refused v job refusal.Closing f)
+    (λ unclosing. either_submit job (not (is_ready v.stage)) (Err refusal.NotReady, v) (submit_one v (wish_of job)) (λ t. refused v job refusal.NotReady f) (λ t. by_job job may (one_more v.last f.0.given unspent))))
   where
     one_more : (last : ℕ) → last < 2 ^ 32 → (last == 4294967295) ≡ false → last + 1 < 2 ^ 32
     one_more last given unspent = grind (arith, nat_tests)

@@ -20,7 +20,8 @@ use Rattle.hypervisor.specs.Act.{FrontAct, BackAct, Outcome, Took, IsGiven, back
 use Rattle.blk_front.specs.View as front
 use Rattle.blk_front.specs.Ask as front_ask
 use Rattle.blk_front.specs.Step as front_step
-use Rattle.blk_front.specs.Submit as front_submit
+use Rattle.blk_front.specs.State.{enters}
+use Rattle.blk_back.specs.declared.told.Halt.{Halt}
 use Rattle.blk_back.specs.View as back
 use Rattle.blk_back.specs.Ask as back_ask
 use Rattle.blk_back.specs.Step as back_step
@@ -28,16 +29,15 @@ use Rattle.blk_back.specs.Hands.{hands_of}
 use Rattle.split_model.specs.World.{World, start_of}
 use Rattle.split_model.specs.Safe.{IsSafe}
 use Rattle.split_model.specs.Shown.{back_lines, halt_lines}
-use Rattle.split_model.specs.Happening.{Happening, FrontMoves, BackMoves, JobMoves, Negotiates, Connects, Submits, Notifies, Pokes, Dumps, Looks, Settles, happens, lines_at, lines_of, front_after, front_shows, back_after, back_shows, job_after, job_shows, front_turn, back_turn, job_turn}
+use Rattle.split_model.specs.Happening.{Happening, FrontMoves, BackMoves, JobMoves, Negotiates, FrontEnters, BackHalts, Submits, Notifies, Pokes, Dumps, Looks, Settles, happens, lines_at, lines_of, front_after, front_shows, back_after, back_shows, job_after, job_shows, front_turn, back_turn, job_turn}
 use Rattle.split_model.specs.Report.{report_of, ended_report_of}
 use Rattle.split_model.proofs.SafeActs.{made_front, made_back}
-use Rattle.split_model.proofs.Keys.{ready_lines_are}
 use Rattle.split_model.proofs.Overwriting.{ring_lines_are, poke_cases}
 use Rattle.split_model.proofs.Safe.{safe_start, safe_happens}
 use Rattle.move_laws.specs.Permitted.{IsPermitted}
 use Rattle.move_laws.proofs.Always.{IsOrderly, orderly_start, orderly_happens, within_here}
 use Rattle.move_laws.proofs.Runs.{FollowsTo, follows_happens, follows_begin}
-use Rattle.machine_pipeline.specs.Allowed.{IsPossible, ArePossible}
+use Rattle.machine_pipeline.specs.Allowed.{IsSaid, IsPossible, ArePossible}
 use Rattle.report_laws.specs.Grammar.{IsInGrammar}
 use Rattle.report_laws.proofs.Words.{AreWords, word_fits, write_fits, fresh_words}
 use Rattle.report_laws.proofs.Spelled.{AreSpelled, keys_good, spelled_happens, spelled_start}
@@ -161,13 +161,29 @@ poke_good before w frame word value fits n =
     (good (lines.Poke frame word value) (omega arith, omega arith, fits) (is_guests frame word framed worded), tt))
     (stays before [] w w.front w.under n n.front n.words refl tt)
 
+-- its negotiation has the back halt
+halted_good : (before : List Line) (w : World) (why : Halt) → IsSaid why → IsNumbered (length before) w → ShowsGood before (lines_at w (BackHalts why)) (happens w (BackHalts why))
+halted_good before w why said n =
+    let b : back.View = back_step.halts why w.back in
+    let ls : List Line = halt_lines w.back.halted b.halted in
+    let fits : back_numbers.IsFit (length before) b = back_numbers.halts_fits (length before) why w.back said n.back in
+    record {
+      good_lines = back_numbers.halt_good w.back.halted b.halted fits.0.why;
+      numbered = record {
+        words = n.words;
+        made = let made = n.made in omega arith;
+        front = n.front;
+        back = back_numbers.later (length before) (length before + length ls) b (omega arith) fits;
+      };
+    }
+
 one_good : (before : List Line) (w : World) (h : Happening) → IsWell before w → IsPossible w h → length before + length (lines_at w h) < 2 ^ 64 → ShowsGood before (lines_at w h) (happens w h)
 one_good before w FrontMoves is may short = front_good before w (front_turn w) is (within_here w FrontMoves is.orderly) refl
 one_good before w BackMoves is may short = back_good before w (back_turn w Took) is (within_here w BackMoves is.orderly) refl short
 one_good before w (JobMoves number outcome) is may short = job_good before w number outcome (job_turn w number outcome) is may (within_here w (JobMoves number outcome) is.orderly) refl short
 one_good before w (Negotiates at move) is may short = let n = is.numbered in stays before _ w w.front _ n n.front n.words refl (keys_good w at move may is.spelled)
-one_good before w Connects is may short =
-    let n = is.numbered in stays before _ w (front_submit.connected w.front) w.under n (front_numbers.connected_fits w.front n.front) n.words refl (ready_lines_are IsInRange w.front.stage (λ waits. good lines.Ready tt refl))
+one_good before w (FrontEnters state) is may short = let n = is.numbered in let entered = front_numbers.enters_fits state w.front may n.front in stays before _ w (enters state w.front) w.under n entered.0 n.words refl entered.1
+one_good before w (BackHalts why) is may short = halted_good before w why may is.numbered
 one_good before w (Submits job) is may short =
     let n = is.numbered in let submitted = front_numbers.submit_fits w.front job may n.front in stays before _ w _ w.under n submitted.1 n.words refl (submitted.0, tt)
 one_good before w (Notifies at) is may short = let n = is.numbered in stays before [] w w.front _ n n.front n.words refl tt

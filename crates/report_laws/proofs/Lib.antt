@@ -5,6 +5,7 @@ pub mod Ready
 pub mod AtRest
 pub mod Counts
 pub mod Answers
+pub mod Ports
 pub mod QuietRing
 pub mod Inline
 pub mod InlineLines

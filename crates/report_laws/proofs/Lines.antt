@@ -1,4 +1,4 @@
--- Which lines a happening shows: no `begin`, and `quiet` only where it looks.
+-- Which lines a happening shows: no `begin`, `quiet` only where it looks, and `ready` only where the front is connected.
 use Rattle.std.proofs.Common.{◌≡◌, ℕ, Bool, true, false, if◌then◌else◌, List, [], ◌∷◌, ◌++◌, refl, sym, true≢false}
 use Rattle.std.specs.Prelude.{Option, Some, None, Result, Ok, Err}
 use Rattle.std.specs.List.{AllByRecursion}
@@ -15,7 +15,7 @@ use Rattle.hypervisor.specs.Act.{FrontAct, BackAct, Took}
 use Rattle.blk_front.specs.declared.told.Told.{Told}
 use Rattle.blk_front.specs.declared.told.Told.TheVariants as front_told
 use Rattle.blk_front.specs.declared.told.Refusal.{Refusal}
-use Rattle.blk_front.specs.declared.stage.Stage.{Stage}
+use Rattle.blk_front.specs.declared.state.FrontState.{FrontState}
 use Rattle.blk_front.specs.View as front
 use Rattle.blk_front.specs.Step as front_step
 use Rattle.blk_front.specs.Submit as front_submit
@@ -27,19 +27,22 @@ use Rattle.blk_back.specs.Step as back_step
 use Rattle.split_model.specs.World.{World}
 use Rattle.split_model.specs.Shown.{front_lines, back_lines, halt_line, halt_lines, effect_line}
 use Rattle.split_model.specs.Keys.{KeyMove}
-use Rattle.split_model.proofs.Keys.{negotiated_lines_are, ready_lines_are}
+use Rattle.split_model.proofs.Keys.{negotiated_lines_are}
+use Rattle.split_model.proofs.States.{enter_lines_are, state_lines_are}
 use Rattle.split_model.proofs.Overwriting.{poke_lines_are, dump_lines_are}
-use Rattle.split_model.specs.Happening.{Happening, FrontMoves, BackMoves, JobMoves, Negotiates, Connects, Submits, Notifies, Pokes, Dumps, Looks, Settles, poke_lines, ring_lines, ready_lines, happens, lines_at, lines_of, front_shows, back_shows, job_shows, front_turn, back_turn, job_turn, submit_line}
+use Rattle.split_model.specs.Happening.{Happening, FrontMoves, BackMoves, JobMoves, Negotiates, FrontEnters, BackHalts, Submits, Notifies, Pokes, Dumps, Looks, Settles, poke_lines, ring_lines, enter_lines, happens, lines_at, lines_of, front_shows, back_shows, job_shows, front_turn, back_turn, job_turn, submit_line}
 use Rattle.report_laws.specs.Begun.{is_begin}
+use Rattle.report_laws.specs.Ready.{says_ready}
 
 abbrev pub says_quiet : Line → Bool
 says_quiet lines.Quiet = true
 says_quiet line = false
 
--- a line that neither begins a report nor says `quiet`
+-- a line that neither begins a report nor says `quiet` or `ready`
 abbrev pub is_usual : Line → Bool
 is_usual (lines.Begin config detail) = false
 is_usual lines.Quiet = false
+is_usual lines.Ready = false
 is_usual line = true
 
 abbrev pub AreUsual : List Line → Type 0
@@ -49,9 +52,21 @@ pub usual_begin : (line : Line) → is_usual line ≡ true → is_begin line ≡
 usual_begin (lines.Begin config detail) e = absurd (true≢false (sym e))
 usual_begin line e = refl
 
-pub usual_quiet : (line : Line) → is_usual line ≡ true → says_quiet line ≡ false
+usual_quiet : (line : Line) → is_usual line ≡ true → says_quiet line ≡ false
 usual_quiet lines.Quiet e = absurd (true≢false (sym e))
 usual_quiet line e = refl
+
+pub usual_ready : (line : Line) → is_usual line ≡ true → says_ready line ≡ false
+usual_ready lines.Ready e = absurd (true≢false (sym e))
+usual_ready line e = refl
+
+-- no line says `quiet`
+abbrev pub AreUnquiet : List Line → Type 0
+AreUnquiet ls = AllByRecursion (λ (line : Line). says_quiet line ≡ false) ls
+
+pub usual_unquiet : (ls : List Line) → AreUsual ls → AreUnquiet ls
+usual_unquiet [] all = tt
+usual_unquiet (line ∷ ls) all = (usual_quiet line all.0, usual_unquiet ls all.1)
 
 front_lines_usual : (t : Option Told) → AreUsual (front_lines t)
 front_lines_usual None = tt
@@ -78,7 +93,7 @@ back_lines_all P of (Some (back_told.Effect id index)) a = (effect_all P of id i
 back_lines_all P of (Some (back_told.Fault id index)) a = (of.fault id index, tt)
 back_lines_all P of (Some (back_told.Reply id status)) a = (of.reply id status, tt)
 
-halt_lines_all : (P : Line → Type 0) → OfBack P → (before now : Option Halt) → AllByRecursion P (halt_lines before now)
+pub halt_lines_all : (P : Line → Type 0) → OfBack P → (before now : Option Halt) → AllByRecursion P (halt_lines before now)
 halt_lines_all P of None None = tt
 halt_lines_all P of None (Some h) = (of.halt (halt_line h), tt)
 halt_lines_all P of (Some g) now = tt
@@ -110,12 +125,16 @@ back_usual w act = back_all _ back_is_usual w act
 pub job_usual : (w : World) (number : ℕ) (act : Option BackAct) → AreUsual (job_shows w number act)
 job_usual w number act = job_all _ back_is_usual w number act
 
--- what an end does with the keys, and a front that is connected
+-- what an end does with the keys
 pub keys_usual : (w : World) (at : End) (move : KeyMove) → AreUsual (lines_at w (Negotiates at move))
 keys_usual w at move = negotiated_lines_are (λ (line : Line). is_usual line ≡ true) w.back.stage at move w.under.keys (λ path. refl) (λ path text. refl) (λ path. refl) (λ path. refl)
 
-pub ready_usual : (s : Stage) → AreUsual (ready_lines s)
-ready_usual s = ready_lines_are (λ (line : Line). is_usual line ≡ true) s (λ waits. refl)
+-- a state that the front enters, and a halt of the back
+pub states_unquiet : (s : FrontState) (v : front.View) → AreUnquiet (enter_lines s v)
+states_unquiet s v = enter_lines_are (λ (line : Line). says_quiet line ≡ false) s v (λ may. state_lines_are (λ (line : Line). says_quiet line ≡ false) s refl refl refl (λ word. refl))
+
+pub halt_usual : (before now : Option Halt) → AreUsual (halt_lines before now)
+halt_usual before now = halt_lines_all _ back_is_usual before now
 
 pub submit_usual : (job : Job) (r : Result ℕ Refusal) → AreUsual (submit_line job r ∷ [])
 submit_usual job (Ok number) = (refl, tt)
@@ -148,7 +167,8 @@ one_behind w FrontMoves = usual_behind (front_shows w (front_turn w)) (front_usu
 one_behind w BackMoves = usual_behind (back_shows w (back_turn w Took)) (back_usual w (back_turn w Took))
 one_behind w (JobMoves number outcome) = usual_behind (job_shows w number (job_turn w number outcome)) (job_usual w number (job_turn w number outcome))
 one_behind w (Negotiates at move) = usual_behind (lines_at w (Negotiates at move)) (keys_usual w at move)
-one_behind w Connects = usual_behind (ready_lines w.front.stage) (ready_usual w.front.stage)
+one_behind w (FrontEnters state) = enter_lines_are (λ (line : Line). is_begin line ≡ false) state w.front (λ may. state_lines_are (λ (line : Line). is_begin line ≡ false) state refl refl refl (λ word. refl))
+one_behind w (BackHalts why) = usual_behind _ (halt_usual w.back.halted _)
 one_behind w (Submits job) = usual_behind (submit_line job (front_submit.submit_of w.front job).0 ∷ []) (submit_usual job (front_submit.submit_of w.front job).0)
 one_behind w (Notifies at) = tt
 one_behind w (Pokes frame word value) = usual_behind _ (poke_usual frame word value)

@@ -12,22 +12,25 @@ use Rattle.report_rules.proofs.Obeys.{obeys_none, obeys_more}
 use Rattle.hypervisor.specs.Act.{Took}
 use Rattle.blk_front.specs.Submit as front_submit
 use Rattle.split_model.specs.World.{World, start_of, is_quiet}
-use Rattle.split_model.specs.Happening.{Happening, FrontMoves, BackMoves, JobMoves, Negotiates, Connects, Submits, Notifies, Pokes, Dumps, Looks, Settles, lines_at, after, lines_of, front_turn, back_turn, job_turn}
+use Rattle.split_model.specs.Happening.{Happening, FrontMoves, BackMoves, JobMoves, Negotiates, FrontEnters, BackHalts, Submits, Notifies, Pokes, Dumps, Looks, Settles, lines_at, after, lines_of, front_turn, back_turn, job_turn}
 use Rattle.schedule_text.specs.Recorder.{kept_of}
 use Rattle.split_model.specs.Report.{report_of, ended_report_of}
 use Rattle.split_model.proofs.Running.{after-append, lines_of-append, kept_of-append}
 use Rattle.machine_pipeline.specs.Allowed.{IsPossible, ArePossible}
-use Rattle.report_laws.proofs.Lines.{says_quiet, AreUsual, usual_quiet, front_usual, back_usual, job_usual, keys_usual, ready_usual, submit_usual, poke_usual, dump_usual}
+use Rattle.report_laws.proofs.Lines.{says_quiet, AreUsual, AreUnquiet, usual_unquiet, front_usual, back_usual, job_usual, keys_usual, states_unquiet, halt_usual, submit_usual, poke_usual, dump_usual}
 
 -- a rule that says nothing of any other line than `quiet`
 abbrev pub SpeaksOfQuiet : (List Line → Line → Type 0) → Type 0
 SpeaksOfQuiet Rule = (before : List Line) (line : Line) → says_quiet line ≡ false → Rule before line
 
-usual_obey : (Rule : List Line → Line → Type 0) → SpeaksOfQuiet Rule → (more before : List Line) → AreUsual more → Obeys Rule before → Obeys Rule (before ++ more)
-usual_obey Rule free [] before all obeys = subst (Obeys Rule) (sym (append-nil before)) obeys
-usual_obey Rule free (line ∷ more) before all obeys =
+unquiet_obey : (Rule : List Line → Line → Type 0) → SpeaksOfQuiet Rule → (more before : List Line) → AreUnquiet more → Obeys Rule before → Obeys Rule (before ++ more)
+unquiet_obey Rule free [] before all obeys = subst (Obeys Rule) (sym (append-nil before)) obeys
+unquiet_obey Rule free (line ∷ more) before all obeys =
     subst (Obeys Rule) (append_assoc before (line ∷ []) more)
-    (usual_obey Rule free more (before ++ line ∷ []) all.1 (obeys_more Rule before line obeys (free before line (usual_quiet line all.0))))
+    (unquiet_obey Rule free more (before ++ line ∷ []) all.1 (obeys_more Rule before line obeys (free before line all.0)))
+
+usual_obey : (Rule : List Line → Line → Type 0) → SpeaksOfQuiet Rule → (more before : List Line) → AreUsual more → Obeys Rule before → Obeys Rule (before ++ more)
+usual_obey Rule free more before all obeys = unquiet_obey Rule free more before (usual_unquiet more all) obeys
 
 look_obeys : (Rule : List Line → Line → Type 0) → SpeaksOfQuiet Rule → (before : List Line) (quiet : Bool) (other : Line) → says_quiet other ≡ false → (quiet ≡ true → Rule before lines.Quiet) → Obeys Rule before → Obeys Rule (before ++ (if quiet then lines.Quiet else other) ∷ [])
 look_obeys Rule free before true other e holds obeys = obeys_more Rule before lines.Quiet obeys (holds refl)
@@ -38,7 +41,8 @@ one_obeys Rule free before w FrontMoves may holds obeys = usual_obey Rule free _
 one_obeys Rule free before w BackMoves may holds obeys = usual_obey Rule free _ before (back_usual w (back_turn w Took)) obeys
 one_obeys Rule free before w (JobMoves number outcome) may holds obeys = usual_obey Rule free _ before (job_usual w number (job_turn w number outcome)) obeys
 one_obeys Rule free before w (Negotiates at move) may holds obeys = usual_obey Rule free _ before (keys_usual w at move) obeys
-one_obeys Rule free before w Connects may holds obeys = usual_obey Rule free _ before (ready_usual w.front.stage) obeys
+one_obeys Rule free before w (FrontEnters state) may holds obeys = unquiet_obey Rule free _ before (states_unquiet state w.front) obeys
+one_obeys Rule free before w (BackHalts why) may holds obeys = usual_obey Rule free _ before (halt_usual w.back.halted _) obeys
 one_obeys Rule free before w (Submits job) may holds obeys = usual_obey Rule free _ before (submit_usual job (front_submit.submit_of w.front job).0) obeys
 one_obeys Rule free before w (Notifies at) may holds obeys = usual_obey Rule free [] before tt obeys
 one_obeys Rule free before w (Pokes frame word value) may holds obeys = usual_obey Rule free _ before (poke_usual frame word value) obeys

@@ -1,5 +1,5 @@
 -- Where a report says `quiet`, the ring's words by its lines are served and read.
-use Rattle.std.proofs.Common.{◌≡◌, ℕ, ◌+◌, ◌%◌, ◌^◌, true, false, List, [], ◌∷◌, refl, sym, ap, ◌∙◌, subst, arith, true≢false}
+use Rattle.std.proofs.Common.{◌≡◌, ◌⊎◌, inl, inr, ℕ, ◌+◌, ◌%◌, ◌^◌, true, false, List, [], ◌∷◌, refl, sym, ap, ◌∙◌, subst, arith, true≢false}
 use Rattle.std.specs.Prelude.{fold}
 use Rattle.blk_base.specs.Options.{Options}
 use Rattle.schedule_text.specs.declared.line.Detail.{Detail}
@@ -9,6 +9,8 @@ use Rattle.schedule_text.specs.declared.line.Line.TheVariants as lines
 use Rattle.xen_pages.specs.Pages.{word_of}
 use Rattle.report_rules.specs.Ring.{start_told, start_of}
 use Rattle.report_rules.specs.Value.{value_before}
+use Rattle.blk_front.specs.declared.stage.Stage.{Stage}
+use Rattle.blk_front.specs.declared.stage.Stage.TheVariants as stage
 use Rattle.split_model.specs.World as world
 use Rattle.split_model.specs.World.{World, is_quiet}
 use Rattle.split_model.specs.Happening.{Happening, after, lines_of}
@@ -21,14 +23,14 @@ use Rattle.machine_pipeline.specs.Plain.{IsPlain}
 use Rattle.machine_pipeline.specs.Allowed.{AreServed}
 use Rattle.machine_pipeline.proofs.Flow.{wrapped}
 use Rattle.machine_pipeline.proofs.Allowed.{served_first, served_possible}
-use Rattle.machine_pipeline.proofs.Quiet.{IsCaughtUp, caught_up_at}
-use Rattle.machine_pipeline.proofs.Together.{IsStanding, always_stands}
+use Rattle.machine_pipeline.proofs.Over.{IsDrained}
+use Rattle.machine_pipeline.proofs.Together.{always_stands}
+use Rattle.machine_pipeline.proofs.AtRest.{IsIdleRing, quiet_rests}
 use Rattle.report_laws.specs.Begun.{is_begin}
-use Rattle.report_laws.specs.AtRest.{IsAtRest}
-use Rattle.report_laws.specs.QuietRing.{answers_told, IsServedRing, IsQuietRingAt, IsQuietRing}
+use Rattle.report_laws.specs.QuietRing.{answers_told, IsQuietRingAt, IsQuietRing}
 use Rattle.report_laws.proofs.Lines.{AreBehind, all_behind}
 use Rattle.report_laws.proofs.Looks.{SpeaksOfQuiet, HoldsWhereQuiet, reports_obey, ended_obey}
-use Rattle.report_laws.proofs.AtRest.{rest_of}
+use Rattle.report_laws.proofs.Ports.{report_port}
 use Rattle.report_laws.proofs.Counts.{CountsAt}
 use Rattle.report_laws.proofs.Answers.{report_counts}
 
@@ -44,8 +46,13 @@ same_start start (line ∷ ls) all = ap (λ (n : ℕ). fold start_told n ls) (on
 report_start : (config : Options) (detail : Detail) (history : List Happening) → start_of (report_of config detail history) ≡ config.start
 report_start config detail history = same_start config.start (lines_of history (world.start_of config)) (all_behind history (world.start_of config))
 
-served_where_quiet : (config : Options) (history : List Happening) → IsPlain config → AreServed history (world.start_of config) → is_quiet (after history (world.start_of config)) ≡ true → IsServedRing (report_of config Moves history)
-served_where_quiet config history plain may quiet = record {
+-- a front in its loop, or closed, took as many responses as it told answers
+taken_at : (start n cons : ℕ) (s : Stage) → (s ≡ stage.Loop) ⊎ (s ≡ stage.Closed) → CountsAt start n cons s → cons ≡ wrapped start n
+taken_at start n cons s (inl looping) h = subst (CountsAt start n cons) looping h
+taken_at start n cons s (inr closed) h = subst (CountsAt start n cons) closed h
+
+served_where_quiet : (config : Options) (history : List Happening) → IsPlain config → AreServed history (world.start_of config) → is_quiet (after history (world.start_of config)) ≡ true → IsQuietRingAt (report_of config Moves history) lines.Quiet
+served_where_quiet config history plain may quiet ready = record {
   served = requests ∙ (rest.served ∙ sym responses);
   read = responses ∙ (sym rest.read ∙ (taken ∙ ap (λ (n : ℕ). (n + answers_told report) % 2 ^ 32) (sym (report_start config Moves history))));
 }
@@ -65,17 +72,14 @@ served_where_quiet config history plain may quiet = record {
     responses : value_before report 2 2 ≡ word_of w.under.pages 2 2
     responses = tells.values 2 2 (omega arith) (omega arith)
 
-    gone : IsStanding config w
-    gone = always_stands config history plain may
+    idle : IsIdleRing w
+    idle = quiet_rests config w quiet (always_stands config history plain may)
 
-    caught : IsCaughtUp w gone.flow
-    caught = caught_up_at config w gone.flow gone.pipeline quiet gone.stands
-
-    rest : IsAtRest w
-    rest = rest_of config w gone.flow gone.pipeline quiet gone.stands
+    rest : IsDrained w.under.pages w.front.ring.cons w.back.ring.cons
+    rest = idle.ring (report_port config Moves history plain may ready)
 
     taken : w.front.ring.cons ≡ wrapped config.start (answers_told report)
-    taken = subst (CountsAt config.start (answers_told report) w.front.ring.cons) caught.looping (report_counts config Moves history plain)
+    taken = taken_at config.start (answers_told report) w.front.ring.cons w.front.stage idle.front_at (report_counts config Moves history plain)
 
 quiet_free : SpeaksOfQuiet IsQuietRingAt
 quiet_free before lines.Quiet e = absurd (true≢false e)

@@ -1,9 +1,10 @@
--- A front that is idle was connected, and its report has a `ready` line.
-use Rattle.std.proofs.Common.{◌≡◌, ℕ, ◌+◌, ◌==◌, ◌||◌, Bool, true, false, not, ◌&&◌, if◌then◌else◌, List, [], ◌∷◌, ◌++◌, refl, ap, sym, ◌∙◌, subst, append_assoc, true≢false}
+-- A front that is idle is connected, closed or broken, and its report has the line of it.
+use Rattle.std.proofs.Common.{◌≡◌, ◌⊎◌, inl, inr, ℕ, ◌+◌, ◌==◌, ◌||◌, Bool, true, false, not, ◌&&◌, if◌then◌else◌, List, [], ◌∷◌, ◌++◌, refl, ap, sym, ◌∙◌, subst, append_assoc, true≢false}
 use Rattle.std.specs.Prelude.{Option, Some, None}
 use Rattle.std.specs.List.{list_any}
 use Rattle.blk_base.specs.Options.{Options}
 use Rattle.blk_base.specs.declared.ask.FrontAnswer.{FrontAnswer}
+use Rattle.blk_base.specs.declared.ask.FrontAnswer.TheVariants as answer
 use Rattle.schedule_text.specs.declared.line.Detail.{Detail}
 use Rattle.schedule_text.specs.declared.line.Line.{Line}
 use Rattle.schedule_text.specs.declared.line.Line.TheVariants as lines
@@ -11,73 +12,108 @@ use Rattle.schedule_text.specs.Recorder.{recorded}
 use Rattle.hypervisor.specs.Act.{FrontAct, BackAct, Took}
 use Rattle.blk_front.specs.declared.stage.Stage.{Stage}
 use Rattle.blk_front.specs.declared.stage.Stage.TheVariants as stage
+use Rattle.blk_front.specs.declared.state.FrontState.{FrontState}
+use Rattle.blk_front.specs.declared.state.FrontState.TheVariants as state
 use Rattle.blk_front.specs.View.{View}
 use Rattle.blk_front.specs.Ask as ask
-use Rattle.blk_front.specs.Step.{step_at}
-use Rattle.blk_front.specs.Submit.{is_connected, is_initialised, is_wait}
+use Rattle.blk_front.specs.Step.{at, broken, is_mapped, step_at, step_of}
+use Rattle.blk_front.specs.State.{in_state}
+use Rattle.blk_front.specs.Submit.{is_ready, is_led, is_wait}
 use Rattle.split_model.specs.World.{World, start_of, is_quiet}
-use Rattle.split_model.specs.Happening.{Happening, FrontMoves, BackMoves, JobMoves, Negotiates, Connects, Submits, Notifies, Pokes, Dumps, Looks, Settles, happens, lines_at, after, lines_of, front_after, front_shows, back_after, job_after, front_turn, back_turn, job_turn}
+use Rattle.split_model.specs.Shown.{front_lines, state_lines}
+use Rattle.split_model.specs.Happening.{Happening, FrontMoves, BackMoves, JobMoves, Negotiates, FrontEnters, BackHalts, Submits, Notifies, Pokes, Dumps, Looks, Settles, happens, lines_at, after, lines_of, front_after, front_shows, back_after, job_after, front_turn, back_turn, job_turn}
 use Rattle.schedule_text.specs.Recorder.{kept_of}
 use Rattle.split_model.specs.Report.{report_of, ended_report_of}
-use Rattle.split_model.proofs.Keys.{connects_cases}
+use Rattle.split_model.proofs.States.{enters_cases}
 use Rattle.split_model.proofs.SafeFront.{submit_kept}
 use Rattle.machine_pipeline.specs.Allowed.{ArePossible}
-use Rattle.report_laws.specs.Ready.{says_ready, IsReadyAt, IsReadyFirst}
+use Rattle.report_laws.specs.Ready.{says_outcome, IsReadyAt, IsReadyFirst}
 use Rattle.report_laws.proofs.Looks.{SpeaksOfQuiet, HoldsWhereQuiet, reports_obey, ended_obey, kept_obeys}
 
-abbrev HasReady : List Line → Type 0
-HasReady ls = list_any says_ready ls ≡ true
+abbrev HasOutcome : List Line → Type 0
+HasOutcome ls = list_any says_outcome ls ≡ true
 
 -- a line that stands there stands there with more before or behind
-ready_first : (a b : List Line) → HasReady a → HasReady (a ++ b)
-ready_first [] b h = absurd (true≢false (sym h))
-ready_first (line ∷ a) b h = by_line (says_ready line) (ready_first a b) h
+outcome_first : (a b : List Line) → HasOutcome a → HasOutcome (a ++ b)
+outcome_first [] b h = absurd (true≢false (sym h))
+outcome_first (line ∷ a) b h = by_line (says_outcome line) (outcome_first a b) h
   where
-    by_line : (here : Bool) → (HasReady a → HasReady (a ++ b)) → (here || list_any says_ready a) ≡ true → (here || list_any says_ready (a ++ b)) ≡ true
+    by_line : (here : Bool) → (HasOutcome a → HasOutcome (a ++ b)) → (here || list_any says_outcome a) ≡ true → (here || list_any says_outcome (a ++ b)) ≡ true
     by_line true rest h = refl
     by_line false rest h = rest h
 
-ready_later : (a b : List Line) → HasReady b → HasReady (a ++ b)
-ready_later [] b h = h
-ready_later (line ∷ a) b h = by_line (says_ready line) (ready_later a b h)
+outcome_later : (a b : List Line) → HasOutcome b → HasOutcome (a ++ b)
+outcome_later [] b h = h
+outcome_later (line ∷ a) b h = by_line (says_outcome line) (outcome_later a b h)
   where
-    by_line : (here : Bool) → HasReady (a ++ b) → (here || list_any says_ready (a ++ b)) ≡ true
+    by_line : (here : Bool) → HasOutcome (a ++ b) → (here || list_any says_outcome (a ++ b)) ≡ true
     by_line true rest = refl
     by_line false rest = rest
 
--- connected, and not waiting to be, or broken since
-abbrev was_connected : Stage → Bool
-was_connected s = is_connected s && not (is_initialised s)
+-- what its negotiation came to: the front is connected and hasn't left since, or it is closed or broken
+abbrev is_settled : Stage → Bool
+is_settled stage.Closed = true
+is_settled (stage.Broken word) = true
+is_settled s = is_ready s
 
--- no move connects the front
-unmoved : (b : Bool) (s s' : Stage) → was_connected s ≡ false → was_connected s' ≡ false → was_connected (if b then s else s') ≡ true → ⊥
-unmoved true s s' e f t = true≢false (sym t ∙ e)
-unmoved false s s' e f t = true≢false (sym t ∙ f)
+-- of such a front it was told
+abbrev IsToldOutcome : List Line → World → Type 0
+IsToldOutcome before w = is_settled w.front.stage ≡ true → HasOutcome before
 
-was_before : (s : Stage) (v : View) (a : FrontAnswer) → v.stage ≡ s → was_connected (let x : View = step_at s v a in x.stage) ≡ true → was_connected s ≡ true
-was_before (stage.RingWord k) v a here t = absurd (unmoved (k == 15) stage.RingFrame (stage.RingWord (k + 1)) refl refl t)
-was_before stage.RingFrame v a here t = absurd (true≢false (sym t))
-was_before stage.RingFence v a here t = absurd (true≢false (sym t))
-was_before stage.RingFlags v a here t = absurd (true≢false (sym t))
-was_before stage.NewPort v a here t = absurd (true≢false (sym t))
-was_before stage.Initialised v a here t = sym (ap was_connected here) ∙ t
-was_before s v a here t = refl
+-- a move settles no front, but for one that it breaks, and then it is told
+abbrev IsSettling : Stage → View → Type 0
+IsSettling s x = is_settled x.stage ≡ true → is_settled s ≡ true ⊎ HasOutcome (front_lines x.told)
 
--- of a front that was connected it was told
-abbrev IsToldReady : List Line → World → Type 0
-IsToldReady before w = was_connected w.front.stage ≡ true → HasReady before
+unsettled : (s : Stage) (x : View) → is_settled x.stage ≡ false → IsSettling s x
+unsettled s x e t = absurd (true≢false (sym t ∙ e))
 
-front_told_ready : (w : World) (before : List Line) (act : Option FrontAct) → IsToldReady before w → IsToldReady (before ++ front_shows w act) (front_after w act)
-front_told_ready w before None was = λ t. ready_first before [] (was t)
-front_told_ready w before (Some a) was = λ t. ready_first before (front_shows w (Some a)) (was (was_before w.front.stage w.front a.answer refl t))
+either_settles : (s : Stage) (b : Bool) (x y : View) → IsSettling s x → IsSettling s y → IsSettling s (if b then x else y)
+either_settles s true x y p q = p
+either_settles s false x y p q = q
 
-connects_told_ready : (w : World) (before : List Line) → IsToldReady before w → IsToldReady (before ++ lines_at w Connects) (happens w Connects)
-connects_told_ready w before was =
-    connects_cases (λ v shown. was_connected v.stage ≡ true → HasReady (before ++ shown)) w.front (λ waits t. ready_later before (lines.Ready ∷ []) refl) (λ t. ready_first before [] (was t))
+either_unsettled : (b : Bool) (s s' : Stage) → is_settled s ≡ false → is_settled s' ≡ false → is_settled (if b then s else s') ≡ false
+either_unsettled true s s' e f = e
+either_unsettled false s s' e f = f
 
--- what leaves the front as it was connected
-same_ready : (w w' : World) (before ls : List Line) → w'.front.stage ≡ w.front.stage → IsToldReady before w → IsToldReady (before ++ ls) w'
-same_ready w w' before ls same told = λ t. ready_first before ls (told (ap was_connected (sym same) ∙ t))
+step_settles : (s : Stage) (v : View) (a : FrontAnswer) → v.stage ≡ s → IsSettling s (step_at s v a)
+step_settles (stage.RingWord k) v a here = unsettled (stage.RingWord k) (at (if k == 15 then stage.RingFrame else stage.RingWord (k + 1)) v) (either_unsettled (k == 15) stage.RingFrame (stage.RingWord (k + 1)) refl refl)
+step_settles stage.RingFrame v a here = unsettled stage.RingFrame (at stage.RingFence v) refl
+step_settles stage.RingFence v a here = unsettled stage.RingFence (at stage.RingFlags v) refl
+step_settles stage.RingFlags v a here = unsettled stage.RingFlags (at stage.NewPort v) refl
+step_settles stage.NewPort v a here = unsettled stage.NewPort (at stage.Initialised v) refl
+step_settles stage.Initialised v a here = unsettled stage.Initialised v (ap is_settled here)
+step_settles stage.RingRead v (answer.Word word) here = either_settles stage.RingRead (is_mapped word) (broken word v) (at (stage.RingEnd word) v) (λ t. inr refl) (unsettled stage.RingRead (at (stage.RingEnd word) v) refl)
+step_settles stage.RingRead v a here = unsettled stage.RingRead v (ap is_settled here)
+step_settles (stage.RingEnd before) v (answer.Word word) here =
+    either_settles (stage.RingEnd before) (word == before) (at stage.ClosePort v) (broken word v) (unsettled (stage.RingEnd before) (at stage.ClosePort v) refl) (λ t. inr refl)
+step_settles (stage.RingEnd before) v a here = unsettled (stage.RingEnd before) v (ap is_settled here)
+step_settles stage.ClosePort v a here = unsettled stage.ClosePort (at stage.Left v) refl
+step_settles stage.Left v a here = unsettled stage.Left v (ap is_settled here)
+step_settles s v a here = λ t. inl refl
+
+front_told_outcome : (w : World) (before : List Line) (act : Option FrontAct) → IsToldOutcome before w → IsToldOutcome (before ++ front_shows w act) (front_after w act)
+front_told_outcome w before None was = λ t. outcome_first before [] (was t)
+front_told_outcome w before (Some a) was = λ t. by_step (step_settles w.front.stage w.front a.answer refl t)
+  where
+    by_step : is_settled w.front.stage ≡ true ⊎ HasOutcome (front_lines (let x : View = step_of w.front a.answer in x.told)) → HasOutcome (before ++ front_shows w (Some a))
+    by_step (inl settled) = outcome_first before (front_shows w (Some a)) (was settled)
+    by_step (inr told) = outcome_later before (front_shows w (Some a)) told
+
+-- a state that settles the front has its line
+entered_outcome : (s : FrontState) (v : View) (before : List Line) → (is_settled v.stage ≡ true → HasOutcome before) → (let x : View = in_state s v in is_settled x.stage) ≡ true → HasOutcome (before ++ state_lines s)
+entered_outcome state.Connected v before was t = outcome_later before (lines.Ready ∷ []) refl
+entered_outcome state.Closing v before was t = outcome_first before (lines.Closing ∷ []) (was t)
+entered_outcome state.Leaving v before was t = absurd (true≢false (sym t))
+entered_outcome state.Closed v before was t = outcome_later before (lines.Closed ∷ []) refl
+entered_outcome (state.Broken word) v before was t = outcome_later before (lines.Broken word ∷ []) refl
+
+enters_told_outcome : (w : World) (before : List Line) (s : FrontState) → IsToldOutcome before w → IsToldOutcome (before ++ lines_at w (FrontEnters s)) (happens w (FrontEnters s))
+enters_told_outcome w before s was =
+    enters_cases (λ v shown. is_settled v.stage ≡ true → HasOutcome (before ++ shown)) s w.front (λ may t. entered_outcome s w.front before was t) (λ t. outcome_first before [] (was t))
+
+-- what leaves the front where it was
+same_outcome : (w w' : World) (before ls : List Line) → w'.front.stage ≡ w.front.stage → IsToldOutcome before w → IsToldOutcome (before ++ ls) w'
+same_outcome w w' before ls same told = λ t. outcome_first before ls (told (ap is_settled (sym same) ∙ t))
 
 back_same : (w : World) (act : Option BackAct) → (let x : World = back_after w act in x.front.stage) ≡ w.front.stage
 back_same w None = refl
@@ -87,41 +123,46 @@ job_same : (w : World) (number : ℕ) (act : Option BackAct) → (let x : World 
 job_same w number None = refl
 job_same w number (Some a) = refl
 
-one_told_ready : (w : World) (before : List Line) (h : Happening) → IsToldReady before w → IsToldReady (before ++ lines_at w h) (happens w h)
-one_told_ready w before FrontMoves told = front_told_ready w before (front_turn w) told
-one_told_ready w before BackMoves told = same_ready w (back_after w (back_turn w Took)) before _ (back_same w (back_turn w Took)) told
-one_told_ready w before (JobMoves number outcome) told = same_ready w (job_after w number (job_turn w number outcome)) before _ (job_same w number (job_turn w number outcome)) told
-one_told_ready w before (Negotiates at move) told = same_ready w (happens w (Negotiates at move)) before _ refl told
-one_told_ready w before Connects told = connects_told_ready w before told
-one_told_ready w before (Submits job) told = same_ready w (happens w (Submits job)) before _ (submit_kept w.front job).stage told
-one_told_ready w before (Notifies at) told = same_ready w (happens w (Notifies at)) before _ refl told
-one_told_ready w before (Pokes frame word value) told = same_ready w (happens w (Pokes frame word value)) before _ refl told
-one_told_ready w before Dumps told = same_ready w w before _ refl told
-one_told_ready w before (Looks quiet) told = same_ready w w before _ refl told
-one_told_ready w before (Settles quiet) told = same_ready w w before _ refl told
+one_told_outcome : (w : World) (before : List Line) (h : Happening) → IsToldOutcome before w → IsToldOutcome (before ++ lines_at w h) (happens w h)
+one_told_outcome w before FrontMoves told = front_told_outcome w before (front_turn w) told
+one_told_outcome w before BackMoves told = same_outcome w (back_after w (back_turn w Took)) before _ (back_same w (back_turn w Took)) told
+one_told_outcome w before (JobMoves number outcome) told = same_outcome w (job_after w number (job_turn w number outcome)) before _ (job_same w number (job_turn w number outcome)) told
+one_told_outcome w before (Negotiates at move) told = same_outcome w (happens w (Negotiates at move)) before _ refl told
+one_told_outcome w before (FrontEnters state) told = enters_told_outcome w before state told
+one_told_outcome w before (BackHalts why) told = same_outcome w (happens w (BackHalts why)) before _ refl told
+one_told_outcome w before (Submits job) told = same_outcome w (happens w (Submits job)) before _ (submit_kept w.front job).stage told
+one_told_outcome w before (Notifies at) told = same_outcome w (happens w (Notifies at)) before _ refl told
+one_told_outcome w before (Pokes frame word value) told = same_outcome w (happens w (Pokes frame word value)) before _ refl told
+one_told_outcome w before Dumps told = same_outcome w w before _ refl told
+one_told_outcome w before (Looks quiet) told = same_outcome w w before _ refl told
+one_told_outcome w before (Settles quiet) told = same_outcome w w before _ refl told
 
-all_told_ready : (history : List Happening) (w : World) (before : List Line) → IsToldReady before w → IsToldReady (before ++ lines_of history w) (after history w)
-all_told_ready [] w before told = λ t. ready_first before [] (told t)
-all_told_ready (h ∷ history) w before told =
-    subst (λ (ls : List Line). IsToldReady ls (after history (happens w h))) (append_assoc before (lines_at w h) (lines_of history (happens w h)))
-    (all_told_ready history (happens w h) (before ++ lines_at w h) (one_told_ready w before h told))
+all_told_outcome : (history : List Happening) (w : World) (before : List Line) → IsToldOutcome before w → IsToldOutcome (before ++ lines_of history w) (after history w)
+all_told_outcome [] w before told = λ t. outcome_first before [] (told t)
+all_told_outcome (h ∷ history) w before told =
+    subst (λ (ls : List Line). IsToldOutcome ls (after history (happens w h))) (append_assoc before (lines_at w h) (lines_of history (happens w h)))
+    (all_told_outcome history (happens w h) (before ++ lines_at w h) (one_told_outcome w before h told))
 
--- a front that is idle was connected
-idle_connected : (s : Stage) (v : View) → (not (is_initialised s) && is_wait (ask.ask_at s v)) ≡ true → was_connected s ≡ true
-idle_connected (stage.RingWord k) v t = absurd (true≢false (sym t))
-idle_connected stage.RingFrame v t = absurd (true≢false (sym t))
-idle_connected stage.RingFence v t = absurd (true≢false (sym t))
-idle_connected stage.RingFlags v t = absurd (true≢false (sym t))
-idle_connected stage.NewPort v t = absurd (true≢false (sym t))
-idle_connected stage.Initialised v t = absurd (true≢false (sym t))
-idle_connected s v t = refl
+-- a front that is idle is settled
+idle_settled : (s : Stage) (v : View) → (not (is_led s) && is_wait (ask.ask_at s v)) ≡ true → is_settled s ≡ true
+idle_settled (stage.RingWord k) v t = absurd (true≢false (sym t))
+idle_settled stage.RingFrame v t = absurd (true≢false (sym t))
+idle_settled stage.RingFence v t = absurd (true≢false (sym t))
+idle_settled stage.RingFlags v t = absurd (true≢false (sym t))
+idle_settled stage.NewPort v t = absurd (true≢false (sym t))
+idle_settled stage.Initialised v t = absurd (true≢false (sym t))
+idle_settled stage.RingRead v t = absurd (true≢false (sym t))
+idle_settled (stage.RingEnd seen) v t = absurd (true≢false (sym t))
+idle_settled stage.ClosePort v t = absurd (true≢false (sym t))
+idle_settled stage.Left v t = absurd (true≢false (sym t))
+idle_settled s v t = refl
 
 first_holds : (a b c d : Bool) → (a && b && not c && not d) ≡ true → a ≡ true
 first_holds true b c d t = refl
 first_holds false b c d t = absurd (true≢false (sym t))
 
-quiet_connected : (w : World) → is_quiet w ≡ true → was_connected w.front.stage ≡ true
-quiet_connected w quiet = idle_connected w.front.stage w.front (first_holds _ _ _ _ quiet)
+quiet_settled : (w : World) → is_quiet w ≡ true → is_settled w.front.stage ≡ true
+quiet_settled w quiet = idle_settled w.front.stage w.front (first_holds _ _ _ _ quiet)
 
 ready_free : SpeaksOfQuiet IsReadyAt
 ready_free before lines.Quiet e = absurd (true≢false e)
@@ -129,25 +170,27 @@ ready_free before line e = tt
 
 ready_where_quiet : (config : Options) (detail : Detail) (history : List Happening) → HoldsWhereQuiet IsReadyAt config detail history
 ready_where_quiet config detail history first rest e quiet =
-    all_told_ready first (start_of config) (lines.Begin config detail ∷ []) (λ t. absurd (true≢false (sym t))) (quiet_connected (after first (start_of config)) quiet)
+    all_told_outcome first (start_of config) (lines.Begin config detail ∷ []) (λ t. absurd (true≢false (sym t))) (quiet_settled (after first (start_of config)) quiet)
 
-one_kept : (detail : Detail) (line : Line) → says_ready line ≡ true → HasReady (recorded detail line)
+one_kept : (detail : Detail) (line : Line) → says_outcome line ≡ true → HasOutcome (recorded detail line)
 one_kept detail lines.Ready e = refl
+one_kept detail lines.Closed e = refl
+one_kept detail (lines.Broken word) e = refl
 one_kept detail line e = absurd (true≢false (sym e))
 
 -- a recorder keeps it
-ready_kept : (detail : Detail) (ls : List Line) → HasReady ls → HasReady (kept_of detail ls)
-ready_kept detail [] h = absurd (true≢false (sym h))
-ready_kept detail (line ∷ ls) h = by_line (says_ready line) refl (ready_kept detail ls) h
+outcome_kept : (detail : Detail) (ls : List Line) → HasOutcome ls → HasOutcome (kept_of detail ls)
+outcome_kept detail [] h = absurd (true≢false (sym h))
+outcome_kept detail (line ∷ ls) h = by_line (says_outcome line) refl (outcome_kept detail ls) h
   where
-    by_line : (here : Bool) → says_ready line ≡ here → (HasReady ls → HasReady (kept_of detail ls)) → (here || list_any says_ready ls) ≡ true → HasReady (recorded detail line ++ kept_of detail ls)
-    by_line true e rest h = ready_first (recorded detail line) (kept_of detail ls) (one_kept detail line e)
-    by_line false e rest h = ready_later (recorded detail line) (kept_of detail ls) (rest h)
+    by_line : (here : Bool) → says_outcome line ≡ here → (HasOutcome ls → HasOutcome (kept_of detail ls)) → (here || list_any says_outcome ls) ≡ true → HasOutcome (recorded detail line ++ kept_of detail ls)
+    by_line true e rest h = outcome_first (recorded detail line) (kept_of detail ls) (one_kept detail line e)
+    by_line false e rest h = outcome_later (recorded detail line) (kept_of detail ls) (rest h)
 
 pub report_ready : (config : Options) (detail : Detail) (history : List Happening) → ArePossible history (start_of config) → IsReadyFirst (kept_of detail (report_of config detail history))
 report_ready config detail history may =
-    kept_obeys IsReadyAt ready_free detail (ready_kept detail) (report_of config detail history) (reports_obey IsReadyAt ready_free config detail history may (ready_where_quiet config detail history))
+    kept_obeys IsReadyAt ready_free detail (outcome_kept detail) (report_of config detail history) (reports_obey IsReadyAt ready_free config detail history may (ready_where_quiet config detail history))
 
 pub ended_ready : (config : Options) (detail : Detail) (history : List Happening) → ArePossible history (start_of config) → IsReadyFirst (kept_of detail (ended_report_of config detail history))
 ended_ready config detail history may =
-    kept_obeys IsReadyAt ready_free detail (ready_kept detail) (ended_report_of config detail history) (ended_obey IsReadyAt ready_free config detail history may (ready_where_quiet config detail history))
+    kept_obeys IsReadyAt ready_free detail (outcome_kept detail) (ended_report_of config detail history) (ended_obey IsReadyAt ready_free config detail history may (ready_where_quiet config detail history))

@@ -31,16 +31,16 @@ moved config move h = true≢false (behind (λ (line : Line). is_move line ≡ f
 pub ready_late : (config : Options) (detail : Detail) → IsReadyFirst (lines.Begin config detail ∷ lines.Quiet ∷ lines.Ready ∷ []) → ⊥
 ready_late config detail h = true≢false (sym (h (lines.Begin config detail ∷ []) (lines.Ready ∷ []) lines.Quiet refl))
 
-pub unserved : (config : Options) → IsQuietRing (lines.Begin config Moves ∷ lines.Move (FrontWrite 2 0 1) ∷ lines.Quiet ∷ []) → ⊥
+pub unserved : (config : Options) → IsQuietRing (lines.Begin config Moves ∷ lines.Ready ∷ lines.Move (FrontWrite 2 0 1) ∷ lines.Quiet ∷ []) → ⊥
 unserved config h =
-    let is : IsServedRing (lines.Begin config Moves ∷ lines.Move (FrontWrite 2 0 1) ∷ []) = h (lines.Begin config Moves ∷ lines.Move (FrontWrite 2 0 1) ∷ []) [] lines.Quiet refl in
+    let is : IsServedRing (lines.Begin config Moves ∷ lines.Ready ∷ lines.Move (FrontWrite 2 0 1) ∷ []) = h (lines.Begin config Moves ∷ lines.Ready ∷ lines.Move (FrontWrite 2 0 1) ∷ []) [] lines.Quiet refl refl in
     let served : ◌≡◌ {A = ℕ} 1 0 = is.served in
     omega arith
 
-pub unread : (config : Options) → config.start ≡ 0 → IsQuietRing (lines.Begin config Moves ∷ lines.Move (FrontWrite 2 0 1) ∷ lines.Move (FrontWrite 2 2 1) ∷ lines.Quiet ∷ []) → ⊥
+pub unread : (config : Options) → config.start ≡ 0 → IsQuietRing (lines.Begin config Moves ∷ lines.Ready ∷ lines.Move (FrontWrite 2 0 1) ∷ lines.Move (FrontWrite 2 2 1) ∷ lines.Quiet ∷ []) → ⊥
 unread config start h =
-    let before : List Line = lines.Begin config Moves ∷ lines.Move (FrontWrite 2 0 1) ∷ lines.Move (FrontWrite 2 2 1) ∷ [] in
-    let is : IsServedRing before = h before [] lines.Quiet refl in
+    let before : List Line = lines.Begin config Moves ∷ lines.Ready ∷ lines.Move (FrontWrite 2 0 1) ∷ lines.Move (FrontWrite 2 2 1) ∷ [] in
+    let is : IsServedRing before = h before [] lines.Quiet refl refl in
     let read : 1 ≡ (config.start + 0) % 2 ^ 32 = is.read in
     omega arith
 

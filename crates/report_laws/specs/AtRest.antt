@@ -3,10 +3,14 @@ use Rattle.std.specs.Prelude.{◌≡◌, []}
 use Rattle.xen_pages.specs.Pages.{word_of}
 use Rattle.split_model.specs.World.{World}
 
--- each request that was pushed was fetched and has its response, each response was read, no job is held, and no request that was accepted is left
-pub record IsAtRest (w : World) : Type 0 where
+-- each request that was pushed was fetched and has its response, and each response was read
+pub record IsReadRing (w : World) : Type 0 where
   pub served : word_of w.under.pages 2 0 ≡ word_of w.under.pages 2 2
   pub fetched : w.back.ring.cons ≡ word_of w.under.pages 2 0
   pub read : w.front.ring.cons ≡ word_of w.under.pages 2 2
+
+-- so it is where the front made its port, and so a ring before it; no job is held, and no request that was accepted is left
+pub record IsAtRest (w : World) : Type 0 where
+  pub ring : w.under.channels.made ≡ 1 → IsReadRing w
   pub no_job : w.back.jobs.works ≡ []
   pub no_request : w.front.requests ≡ []

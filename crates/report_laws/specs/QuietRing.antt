@@ -1,10 +1,12 @@
 -- The ring's words where a report says `quiet` (`io/ring.h`: req_prod is word 0 of the ring's first page and rsp_prod word 2; that page is frame 2).
 use Rattle.std.specs.Prelude.{◌≡◌, ℕ, ◌+◌, ◌%◌, ◌^◌, Bool, true, false, List, count_by}
+use Rattle.std.specs.List.{list_any}
 use Rattle.schedule_text.specs.declared.line.Line.{Line}
 use Rattle.schedule_text.specs.declared.line.Line.TheVariants as lines
 use Rattle.report_rules.specs.Obeys.{Obeys}
 use Rattle.report_rules.specs.Ring.{start_of}
 use Rattle.report_rules.specs.Value.{value_before}
+use Rattle.report_laws.specs.Ready.{says_ready}
 
 abbrev pub says_answer : Line → Bool
 says_answer (lines.Answer id status) = true
@@ -19,9 +21,9 @@ pub record IsServedRing (before : List Line) : Type 0 where
   pub served : value_before before 2 0 ≡ value_before before 2 2
   pub read : value_before before 2 2 ≡ (start_of before + answers_told before) % 2 ^ 32
 
--- so it is where a `quiet` line stands
+-- so it is where a `quiet` line stands after a `ready` line; with none the ring was never used
 abbrev pub IsQuietRingAt : List Line → Line → Type 0
-IsQuietRingAt before lines.Quiet = IsServedRing before
+IsQuietRingAt before lines.Quiet = list_any says_ready before ≡ true → IsServedRing before
 IsQuietRingAt before line = Unit {0}
 
 abbrev pub IsQuietRing : List Line → Type 0

@@ -22,8 +22,8 @@ ready_late config detail = lines.Begin config detail ∷ lines.Quiet ∷ lines.R
 
 -- it is quiet while a request was pushed (req_prod is 1) that has no response
 abbrev pub unserved : Options → List Line
-unserved config = lines.Begin config Moves ∷ lines.Move (FrontWrite 2 0 1) ∷ lines.Quiet ∷ []
+unserved config = lines.Begin config Moves ∷ lines.Ready ∷ lines.Move (FrontWrite 2 0 1) ∷ lines.Quiet ∷ []
 
 -- it is quiet while a response was pushed (rsp_prod is 1) and no answer told
 abbrev pub unread : Options → List Line
-unread config = lines.Begin config Moves ∷ lines.Move (FrontWrite 2 0 1) ∷ lines.Move (FrontWrite 2 2 1) ∷ lines.Quiet ∷ []
+unread config = lines.Begin config Moves ∷ lines.Ready ∷ lines.Move (FrontWrite 2 0 1) ∷ lines.Move (FrontWrite 2 2 1) ∷ lines.Quiet ∷ []

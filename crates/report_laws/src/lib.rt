@@ -1,6 +1,6 @@
 //! What every report of the machine is, as a list of lines: it begins with `begin` and nowhere
-//! else, says `quiet` only of a front that was connected and of a ring that is served and read
-//! (`io/ring.h`), and its text gives back exactly its lines. The machine is the pure function of
+//! else, says `quiet` only of a front that was connected, is closed or is broken, and of a ring that
+//! is served and read (`io/ring.h`), and its text gives back exactly its lines. The machine is the pure function of
 //! `split_model`; each law is over every list of happenings, of what a recorder keeps of the
 //! report, so with and without the lines of moves (`OfEachReport`), and where it says `OfPlain`
 //! the premises are those of `machine_pipeline`: reads and writes, of which the disk
@@ -37,22 +37,23 @@ pub fn every_report_begins_once()
         → IsBegunSoFar config detail first }
 {}
 
-/// A `ready` line stands before each `quiet` line. The premise (`ArePossible`) is that where all is
-/// found quiet it is.
+/// A `ready`, a `closed` or a `broken` line stands before each `quiet` line. The premise
+/// (`ArePossible`) is that where all is found quiet it is.
 pub fn no_report_is_quiet_before_it_is_ready()
     ensures report { OfPossibleReports (λ config detail report. IsReadyFirst report) }
     ensures ended { OfPossibleEnded (λ config detail report. IsReadyFirst report) }
     ensures before { (first more : List Line) → IsReadyFirst (first ++ more) → IsReadyFirst first }
 {}
 
-/// Wherever the machine shows `quiet`, for a `settle` or a `look`, its ring holds no request that
-/// isn't served and no response that isn't read, and nothing is left at either end. What happens
-/// next is one of the happenings that may (`IsServed`), so `quiet` is shown only of a quiet machine.
+/// Wherever the machine shows `quiet`, for a `settle` or a `look`, its ring, if one was made, holds no
+/// request that isn't served and no response that isn't read, and nothing is left at either end. What
+/// happens next is one of the happenings that may (`IsServed`), so `quiet` is shown only of a quiet
+/// machine.
 pub fn a_quiet_machine_is_at_rest()
     ensures { OfPlainMachines (λ w. (next : Happening) → IsServed w next → Contains (lines_at w next) Quiet → IsAtRest w) }
 {}
 
-/// So the ring's words say, by the moves before each `quiet` line.
+/// So the ring's words say, by the moves before each `quiet` line that a `ready` line stands before.
 pub fn a_quiet_ring_is_served_and_read()
     ensures report { OfPlainReports (λ config detail report. detail ≡ Moves → IsQuietRing report) }
     ensures ended { OfPlainEnded (λ config detail report. detail ≡ Moves → IsQuietRing report) }

@@ -30,7 +30,7 @@ use Rattle.blk_back.specs.Step.{looked, loop_word, fetched, step_at}
 use Rattle.split_model.specs.Shown.{halt_line}
 use Rattle.ring_laws.proofs.Shows.{Sight, Shows, shows_other, shows_map}
 use Rattle.ring_laws.proofs.ObeysRing.{ObeysRing, is_overrun, ring_more, shows_none, own_stretch}
-use Rattle.ring_laws.proofs.Knows.{whole, Waits, Serves, Knows, BackGoes, halting}
+use Rattle.ring_laws.proofs.Knows.{whole, Waits, Serves, Knows, BackGoes, halting, Follows}
 use Rattle.ring_laws.proofs.Serving.{served_line, go_on, between, serve_other, serve_entry}
 use Rattle.ring_laws.proofs.Looking.{looked_goes, seen_producer}
 
@@ -38,24 +38,29 @@ use Rattle.ring_laws.proofs.Looking.{looked_goes, seen_producer}
 abbrev pub Goes : ℕ → List ℕ → List Line → Stage → View → BackAct → Type 0
 Goes start values before s v a = BackGoes start values before v (step_at s v a.answer) a.answer a.shown
 
--- the back halts by a line of its own
-halts_by : (before : List Line) (old new : View) (answer : BackAnswer) (shown : Move) (x : Sight) (n : ℕ) (h : Halt) → old.halted ≡ None → new.told ≡ None → new.halted ≡ Some h → is_overrun (lines.Halt (halt_line h)) ≡ false → Knows x new
-    → x.words ≡ 28 * n → Shows (before ++ lines.Move shown ∷ []) x → ObeysRing (before ++ lines.Move shown ∷ []) x.start (is_some old.halted) → BackGoes x.start x.values before old new answer shown
-halts_by before old new answer shown x n h running told halted plain knows read shows stands =
-    let longer : List Line = before ++ lines.Move shown ∷ [] in
+-- the back halts, for another reason than an overrun
+pub halt_follows : (before : List Line) (new : View) (x : Sight) (n : ℕ) (h : Halt) (over : Bool) → new.halted ≡ Some h → is_overrun (lines.Halt (halt_line h)) ≡ false → Knows x new → x.words ≡ 28 * n → Shows before x → ObeysRing before x.start over → Follows x.start x.values (before ++ lines.Halt (halt_line h) ∷ []) new
+halt_follows before new x n h over halted plain knows read shows stands =
     let line : Line = lines.Halt (halt_line h) in
-    let more : ObeysRing (longer ++ line ∷ []) x.start true =
-    ring_more longer line x.start true (record { overruns = stands.overruns; stretches = stands.stretches; last = stands.last; halted = λ overran. refl }) refl (shows_none longer line refl) (λ over. refl) plain (λ small. own_stretch longer line x n shows read refl tt) in
-    halting x.start x.values before old new answer shown h told running halted
-    (record {
+    let more : ObeysRing (before ++ line ∷ []) x.start true =
+    ring_more before line x.start true (record { overruns = stands.overruns; stretches = stands.stretches; last = stands.last; halted = λ overran. refl }) refl (shows_none before line refl) (λ over. refl) plain (λ small. own_stretch before line x n shows read refl tt) in
+    record {
       sight = x;
       begun = refl;
       more = [];
       grown = sym (append-nil x.values);
-      shows = subst (λ (ls : List Line). Shows ls x) (append_assoc before (lines.Move shown ∷ []) (line ∷ [])) (shows_other longer line x refl shows);
+      shows = shows_other before line x refl shows;
       knows = knows;
-      stands = subst (λ (o : Option Halt). ObeysRing (before ++ lines.Move shown ∷ line ∷ []) x.start (is_some o)) (sym halted) (subst (λ (ls : List Line). ObeysRing ls x.start true) (append_assoc before (lines.Move shown ∷ []) (line ∷ [])) more);
-    })
+      stands = subst (λ (o : Option Halt). ObeysRing (before ++ line ∷ []) x.start (is_some o)) (sym halted) more;
+    }
+
+-- it does so at a move
+halts_by : (before : List Line) (old new : View) (answer : BackAnswer) (shown : Move) (x : Sight) (n : ℕ) (h : Halt) → old.halted ≡ None → new.told ≡ None → new.halted ≡ Some h → is_overrun (lines.Halt (halt_line h)) ≡ false → Knows x new
+    → x.words ≡ 28 * n → Shows (before ++ lines.Move shown ∷ []) x → ObeysRing (before ++ lines.Move shown ∷ []) x.start (is_some old.halted) → BackGoes x.start x.values before old new answer shown
+halts_by before old new answer shown x n h running told halted plain knows read shows stands =
+    halting x.start x.values before old new answer shown h told running halted
+    (subst (λ (ls : List Line). Follows x.start x.values ls new) (append_assoc before (lines.Move shown ∷ []) (lines.Halt (halt_line h) ∷ []))
+    (halt_follows (before ++ lines.Move shown ∷ []) new x n h (is_some old.halted) halted plain knows read shows stands))
 
 -- the back's first move: it maps the ring's page
 pub map_goes : (before : List Line) (h : Hypervisor) (v : View) (x : Sight) (verdict : Result ℕ MapRefusal) → Waits x v.ring v.seen v.halted v.fetched → Shows before x → ObeysRing before x.start (is_some v.halted) → v.told ≡ None → Goes x.start x.values before stage.MapRing v (map_act h back.Back 8 ReadWrite verdict)

@@ -150,7 +150,7 @@ back_by h (ask.DiskWrite sector words) o a own e = absurd own
 back_by h ask.Flush o a own e = absurd own
 back_by h (ask.Trim sector count) o a own e = absurd own
 
-halt_by : (old new : Option Halt) → AreBystanders (halt_lines old new)
+pub halt_by : (old new : Option Halt) → AreBystanders (halt_lines old new)
 halt_by None None = tt
 halt_by None (Some h) = (record { plain = refl; unstepped = refl }, tt)
 halt_by (Some g) new = tt

@@ -78,6 +78,10 @@ no_row s none P = tt
 rests_all : (before : List Line) (t : Stage) → under_way t ≡ [] → (k : ℕ) (words : List ℕ) → response_due (lines_before before (length (under_way t))) k ≡ Some words → response_due before k ≡ Some words
 rests_all before t none k words due = fresh before k words (sym (ap (λ (n : ℕ). response_due (lines_before before n) k) (none_long t none)) ∙ due)
 
+-- of a stage at which no word is under way the lines alone count
+pub chosen_stage : (before : List Line) (s t : Stage) (answered : List Answered) → under_way t ≡ [] → IsChosen before s answered → IsChosen before t answered
+chosen_stage before s t answered none c = record { matched = c.matched; chosen = c.chosen; answers = c.answers; due = c.due; stays = rests_all before t none; row = no_row t none _ }
+
 -- lines of others
 pub chosen_aside : (own : Bool) (before ys : List Line) (s : Stage) (answered : List Answered) → AllPass own ys → IsOn before ys → AreIdle before ys → IsChosen before s answered → IsChosen (before ++ ys) s answered
 chosen_aside own before ys s answered all on idle c = record {

@@ -27,7 +27,7 @@ use Rattle.blk_back.specs.Ask.{ask_of}
 use Rattle.blk_back.specs.View as back
 use Rattle.blk_back.specs.Step as back_step
 use Rattle.split_model.specs.World.{World, start_of}
-use Rattle.split_model.specs.Happening.{Happening, FrontMoves, BackMoves, JobMoves, Negotiates, Connects, Submits, Notifies, Pokes, Dumps, Looks, Settles, poke_lines, ring_lines, happens, lines_at, after, front_after, front_shows, back_after, back_shows, job_after, job_shows, front_turn, back_turn, job_turn, submit_line}
+use Rattle.split_model.specs.Happening.{Happening, FrontMoves, BackMoves, JobMoves, Negotiates, FrontEnters, BackHalts, Submits, Notifies, Pokes, Dumps, Looks, Settles, poke_lines, ring_lines, happens, lines_at, after, front_after, front_shows, back_after, back_shows, job_after, job_shows, front_turn, back_turn, job_turn, submit_line}
 use Rattle.split_model.specs.Safe.{IsSafe}
 use Rattle.split_model.proofs.Safe.{safe_start, safe_happens}
 use Rattle.split_model.specs.Shown.{back_lines, halt_lines}
@@ -41,13 +41,14 @@ use Rattle.move_laws.proofs.Runs as memory
 use Rattle.ring_laws.proofs.Shows.{Sight, Shows}
 use Rattle.ring_laws.proofs.Knows.{Follows}
 use Rattle.ring_laws.proofs.Stages.{back_goes}
-use Rattle.ring_laws.proofs.Outsiders.{AreOutsiders, keys_outsiders, ready_outsiders, poke_outsiders, dump_outsiders, outsiders_other, outsiders_by}
+use Rattle.ring_laws.proofs.Outsiders.{AreOutsiders, keys_outsiders, state_outsiders, poke_outsiders, dump_outsiders, outsiders_other, outsiders_by}
 use Rattle.ring_laws.proofs.Free.{IsFree, AreFree, front_free, job_free, job_running, free_front, free_told, free_submit, free_look, free_settle}
 use Rattle.ring_laws.proofs.Runs.{FollowsTo, follows_happens, follows_begin}
 use Rattle.ring_laws.proofs.Works.{no_jobs}
 use Rattle.ring_laws.proofs.Bystanders.{IsRule, IsBystander, AreBystanders, Aside, bystanders_go, no_effect}
 use Rattle.ring_laws.proofs.Fetched.{AreFetched, AreOther, fetched_in, values_aside, others_fetched, back_fetched}
-use Rattle.ring_laws.proofs.BackChange.{back_by, front_by, front_told_by}
+use Rattle.ring_laws.proofs.BackChange.{back_by, front_by, front_told_by, halt_by}
+use Rattle.ring_laws.proofs.Halting.{Stops, stops_cases}
 use Rattle.ring_laws.proofs.Tells.{Tells, tells_aside, shows_free}
 use Rattle.ring_laws.proofs.BackTells.{lines_of_back, back_tells}
 use Rattle.ring_laws.proofs.JobTells.{JobTells, job_tells}
@@ -116,12 +117,38 @@ settle_by false = record { plain = refl; unstepped = refl }
 outside : (config : Options) (own : Bool) (w : World) (before ys : List Line) → AreOutsiders own ys → Stand config before w → Tells config (before ++ ys) w.back
 outside config own w before ys all s = tells_aside config before ys w.back (outsiders_by own ys all) (values_aside ys before (outsiders_other own ys all)) s.tells
 
+halts_other : (before now : Option Halt) → AreOther (halt_lines before now)
+halts_other None None = tt
+halts_other None (Some h) = (refl, tt)
+halts_other (Some g) now = tt
+
+-- the line of a halt says nothing of jobs
+pub halt_values : (before : List Line) (old new : Option Halt) → entry_values (before ++ halt_lines old new) ≡ entry_values before
+halt_values before old new = values_aside (halt_lines old new) before (halts_other old new)
+
+-- and a back that halts serves none
+halted_tells : (config : Options) (w : World) (before : List Line) (why : Halt) → Stand config before w → (let n : World = happens w (BackHalts why) in Tells config (before ++ lines_at w (BackHalts why)) n.back)
+halted_tells config w before why s = stops_cases (λ (new : back.View). Tells config (before ++ halt_lines w.back.halted new.halted) new) why w.back f.sight f.knows stops (told w.back.halted)
+  where
+    f : Follows config.start [] before w.back
+    f = s.ring.follows
+
+    told : (now : Option Halt) → Tells config (before ++ halt_lines w.back.halted now) w.back
+    told now = tells_aside config before (halt_lines w.back.halted now) w.back (halt_by w.back.halted now) (halt_values before w.back.halted now) s.tells
+
+    stops : (new : back.View) → Stops f.sight why w.back new → Tells config (before ++ halt_lines w.back.halted new.halted) new
+    stops new p =
+        let t : Tells config (before ++ halt_lines w.back.halted new.halted) w.back = told new.halted in
+        let over : is_some new.halted ≡ true = p.over in
+        record { tale = t.tale; quiet = t.quiet; info = p.info ∙ t.info; jobs = λ running. absurd (cc); unseen = λ k above. t.unseen k (subst (λ (n : ℕ). n < k) p.fetched above) }
+
 tells_happens : (config : Options) (w : World) (h : Happening) (before : List Line) → Stand config before w → length (before ++ lines_at w h) < 2 ^ 64 → (let n : World = happens w h in Tells config (before ++ lines_at w h) n.back)
 tells_happens config w FrontMoves before s few = front_after_tells config w (before ++ front_shows w (front_turn w)) (front_turn w) (front_tells config w before (front_turn w) s.ring s.tells refl)
 tells_happens config w BackMoves before s few = back_goes_on config w before Took (back_turn w Took) s.ring s.tells refl few
 tells_happens config w (JobMoves number outcome) before s few = job_goes_on config w before number outcome (job_turn w number outcome) s refl
 tells_happens config w (Negotiates at move) before s few = outside config (is_between w.back.stage) w before (lines_at w (Negotiates at move)) (keys_outsiders w.back.stage at move w.under.keys s.named) s
-tells_happens config w Connects before s few = outside config true w before (lines_at w Connects) (ready_outsiders true w.front.stage) s
+tells_happens config w (FrontEnters state) before s few = outside config true w before (lines_at w (FrontEnters state)) (state_outsiders true state w.front) s
+tells_happens config w (BackHalts why) before s few = halted_tells config w before why s
 tells_happens config w (Submits job) before s few = aside config config.start before (lines_at w (Submits job)) w.back s.ring.follows (free_submit (is_some w.back.halted) job (front_submit.submit_of w.front job).0, tt) (submit_by job (front_submit.submit_of w.front job).0, tt) s.tells
 tells_happens config w (Notifies at) before s few = no_lines config before w.back s.tells
 tells_happens config w (Pokes frame word value) before s few = outside config true w before (poke_lines frame word value) (poke_outsiders true frame word value) s
@@ -133,11 +160,6 @@ tells_happens config w (Settles quiet) before s few = aside config config.start 
 others_of : (over : Bool) (ys : List Line) → AreFree over ys → AreOther ys
 others_of over [] free = tt
 others_of over (y ∷ ys) free = let f : IsFree over y = free.0 in (f.other, others_of over ys free.1)
-
-halts_other : (before now : Option Halt) → AreOther (halt_lines before now)
-halts_other None None = tt
-halts_other None (Some h) = (refl, tt)
-halts_other (Some g) now = tt
 
 both_other : (xs ys : List Line) → AreOther xs → AreOther ys → AreOther (xs ++ ys)
 both_other [] ys p q = q
@@ -182,7 +204,8 @@ fetched_happens config w FrontMoves before s = front_fetches config w before (fr
 fetched_happens config w BackMoves before s = back_fetches config w before (back_turn w Took) refl s
 fetched_happens config w (JobMoves number outcome) before s = job_fetches config w before number outcome (job_turn w number outcome) refl s.fetched
 fetched_happens config w (Negotiates at move) before s = outside_fetched config (is_between w.back.stage) before (lines_at w (Negotiates at move)) (keys_outsiders w.back.stage at move w.under.keys s.named) s.fetched
-fetched_happens config w Connects before s = outside_fetched config true before (lines_at w Connects) (ready_outsiders true w.front.stage) s.fetched
+fetched_happens config w (FrontEnters state) before s = outside_fetched config true before (lines_at w (FrontEnters state)) (state_outsiders true state w.front) s.fetched
+fetched_happens config w (BackHalts why) before s = others_fetched config before (lines_at w (BackHalts why)) (halts_other w.back.halted _) s.fetched
 fetched_happens config w (Submits job) before s = let over : Bool = is_some w.back.halted in others_fetched config before (lines_at w (Submits job)) (others_of over (lines_at w (Submits job)) (free_submit over job (front_submit.submit_of w.front job).0, tt)) s.fetched
 fetched_happens config w (Notifies at) before s = no_fetch config before s.fetched
 fetched_happens config w (Pokes frame word value) before s = outside_fetched config true before (poke_lines frame word value) (poke_outsiders true frame word value) s.fetched

@@ -26,7 +26,7 @@ use Rattle.blk_back.specs.Step as back_step
 use Rattle.blk_back.specs.View as back
 use Rattle.split_model.specs.World.{World, start_of}
 use Rattle.split_model.specs.Shown.{back_lines, halt_lines}
-use Rattle.split_model.specs.Happening.{Happening, FrontMoves, BackMoves, JobMoves, Negotiates, Connects, Submits, Notifies, Pokes, Dumps, Looks, Settles, poke_lines, ring_lines, ready_lines, happens, lines_at, lines_of, front_shows, back_shows, job_shows, front_turn, back_turn, job_turn}
+use Rattle.split_model.specs.Happening.{Happening, FrontMoves, BackMoves, JobMoves, Negotiates, FrontEnters, BackHalts, Submits, Notifies, Pokes, Dumps, Looks, Settles, happens, lines_at, lines_of, front_shows, back_shows, job_shows, front_turn, back_turn, job_turn}
 use Rattle.split_model.specs.Report.{report_of, ended_report_of}
 use Rattle.split_model.proofs.SafeActs.{of_back, back_wait}
 use Rattle.split_model.proofs.SafeAnswers.{IsBacks, backs_of, jobs_of, fronts_no_key}
@@ -36,7 +36,7 @@ use Rattle.ring_laws.proofs.Sight.{is_other, other_abi}
 use Rattle.ring_laws.proofs.Works.{all_more}
 use Rattle.ring_laws.proofs.Fetched.{AreOther}
 use Rattle.ring_laws.proofs.Free.{AreFree, IsFree, front_free, job_free, free_front, free_told, free_submit, free_look, free_settle}
-use Rattle.ring_laws.proofs.Outsiders.{AreOutsiders, keys_outsiders, ready_outsiders, poke_outsiders, dump_outsiders, outsiders_other}
+use Rattle.ring_laws.proofs.Outsiders.{AreOutsiders, keys_outsiders, state_outsiders, poke_outsiders, dump_outsiders, outsiders_other}
 
 abbrev AreNamed : List Line → Type 0
 AreNamed ls = AllByRecursion KeepsX64 ls
@@ -112,7 +112,8 @@ named_at w FrontMoves named = front_named w (front_turn w) refl
 named_at w BackMoves named = back_named w Took (back_turn w Took) refl
 named_at w (JobMoves number outcome) named = job_named w number outcome (job_turn w number outcome) refl
 named_at w (Negotiates at move) named = other_named _ (outsiders_other _ _ (keys_outsiders w.back.stage at move w.under.keys named))
-named_at w Connects named = outsiders_named _ (ready_outsiders false w.front.stage)
+named_at w (FrontEnters state) named = outsiders_named _ (state_outsiders false state w.front)
+named_at w (BackHalts why) named = halt_names w.back.halted _
 named_at w (Submits job) named = free_named (lines_at w (Submits job)) (free_submit false job (front_submit.submit_of w.front job).0, tt)
 named_at w (Notifies at) named = tt
 named_at w (Pokes frame word value) named = outsiders_named _ (poke_outsiders false frame word value)

@@ -52,6 +52,7 @@ pub mod WrittenElse
 pub mod Outsiders
 pub mod WrittenWord
 pub mod WrittenBack
+pub mod Halting
 pub mod Replying
 pub mod NextReply
 pub mod Chosen

@@ -114,8 +114,11 @@ submit_open job (Err r) before = record { unmap = tt; touch = tt }
 pub back_calm : (t : Option BackTold) (a : BackAnswer) → AreCalm (back_lines t a)
 back_calm t a = all_calm (back_lines t a) (plain_back t a) (back_open t a)
 
+pub halt_calm : (old new : Option Halt) → AreCalm (halt_lines old new)
+halt_calm old new = all_calm (halt_lines old new) (plain_halt old new) (halt_open old new)
+
 pub told_calm : (t : Option BackTold) (a : BackAnswer) (old new : Option Halt) → AreCalm (back_lines t a ++ halt_lines old new)
-told_calm t a old new = all_both IsCalm (back_lines t a) (halt_lines old new) (back_calm t a) (all_calm (halt_lines old new) (plain_halt old new) (halt_open old new))
+told_calm t a old new = all_both IsCalm (back_lines t a) (halt_lines old new) (back_calm t a) (halt_calm old new)
 
 pub submit_calm : (job : Job) (r : Result ℕ Refusal) → IsCalm (submit_line job r)
 submit_calm job r = calm (submit_line job r) (plain_submit job r) (submit_open job r)

@@ -25,30 +25,32 @@ use Rattle.blk_front.specs.Step as front_step
 use Rattle.blk_front.specs.Submit as front_submit
 use Rattle.blk_front.specs.View as front
 use Rattle.blk_back.specs.Ask.{ask_of}
+use Rattle.blk_back.specs.declared.told.Halt.{Halt}
 use Rattle.blk_back.specs.View as back
 use Rattle.blk_back.specs.Step as back_step
 use Rattle.split_model.specs.World.{World, start_of}
-use Rattle.split_model.specs.Happening.{Happening, FrontMoves, BackMoves, JobMoves, Negotiates, Connects, Submits, Notifies, Pokes, Dumps, Looks, Settles, poke_lines, ring_lines, happens, lines_at, after, front_after, front_shows, back_after, back_shows, job_after, job_shows, front_turn, back_turn, job_turn}
+use Rattle.split_model.specs.Happening.{Happening, FrontMoves, BackMoves, JobMoves, Negotiates, FrontEnters, BackHalts, Submits, Notifies, Pokes, Dumps, Looks, Settles, poke_lines, ring_lines, happens, lines_at, after, front_after, front_shows, back_after, back_shows, job_after, job_shows, front_turn, back_turn, job_turn}
 use Rattle.split_model.specs.Report.{report_of, ended_report_of}
 use Rattle.split_model.specs.Shown.{back_lines, halt_lines}
 use Rattle.split_model.proofs.SafeAnswers.{backs_of}
 use Rattle.move_laws.specs.Permitted.{IsPermitted}
 use Rattle.move_laws.proofs.Always.{always_within}
 use Rattle.split_model.specs.Keys.{is_between}
-use Rattle.ring_laws.proofs.Outsiders.{keys_outsiders, ready_outsiders, poke_outsiders, dump_outsiders, outsiders_calm}
+use Rattle.ring_laws.proofs.Outsiders.{keys_outsiders, state_outsiders, poke_outsiders, dump_outsiders, outsiders_calm}
 use Rattle.ring_laws.proofs.Knows.{Follows}
 use Rattle.ring_laws.proofs.Free.{job_running}
 use Rattle.ring_laws.proofs.Began.{IsJobOf}
 use Rattle.ring_laws.proofs.Works.{AreJobs, all_second, all_more}
 use Rattle.ring_laws.proofs.BackChange.{Changed, change_at}
 use Rattle.ring_laws.proofs.BackTells.{told_none}
+use Rattle.ring_laws.proofs.Halting.{Stops, stops_cases}
 use Rattle.ring_laws.proofs.Tells.{small_number}
 use Rattle.ring_laws.proofs.Standings.{in_hand}
 use Rattle.ring_laws.proofs.Runs.{FollowsTo}
 use Rattle.ring_laws.proofs.After.{kept_after}
 use Rattle.ring_laws.proofs.JobRuns.{Stand, stand_start, stand_happens}
 use Rattle.ring_laws.proofs.Makers.{Holds, IsMine, open_more}
-use Rattle.ring_laws.proofs.MakerLines.{calm_quiet, calm_open, front_lines_calm, submit_calm, look_calm, settle_calm, told_calm, Does, back_does, serving_asks}
+use Rattle.ring_laws.proofs.MakerLines.{calm_quiet, calm_open, front_lines_calm, submit_calm, look_calm, settle_calm, halt_calm, told_calm, Does, back_does, serving_asks}
 use Rattle.ring_laws.proofs.MakerTurns.{IsMadeBy, Made, made_aside, quiet_hands, changed_hands, HandStands, Turned, job_turned, all_by_place}
 
 no_lines : (before : List Line) (v : back.View) → Made before v → Made (before ++ []) v
@@ -94,13 +96,27 @@ job_made config w before k o (Some a) e old s m =
     let turned : Turned before (job_shows w k (Some a)) n.back.jobs.works = job_turned before w.under v.jobs.works k o a (place_of v.jobs.works k) (work_of v.jobs.works k) refl refl asks m.obeys jobs.apart (m.hands running) stands in
     record { obeys = turned.obeys; hands = λ runs. turned.hands }
 
+-- a back that halts holds nothing that a job made
+halted_made : (config : Options) (w : World) (before : List Line) (why : Halt) → Stand config before w → Made before w.back → (let n : World = happens w (BackHalts why) in Made (before ++ lines_at w (BackHalts why)) n.back)
+halted_made config w before why s m = stops_cases (λ (new : back.View). Made (before ++ halt_lines w.back.halted new.halted) new) why w.back f.sight f.knows stops (made w.back.halted)
+  where
+    f : Follows config.start [] before w.back
+    f = s.ring.follows
+
+    made : (now : Option Halt) → Made (before ++ halt_lines w.back.halted now) w.back
+    made now = made_aside before (halt_lines w.back.halted now) w.back (halt_calm w.back.halted now) m
+
+    stops : (new : back.View) → Stops f.sight why w.back new → Made (before ++ halt_lines w.back.halted new.halted) new
+    stops new p = let over : is_some new.halted ≡ true = p.over in let t : Made (before ++ halt_lines w.back.halted new.halted) w.back = made new.halted in record { obeys = t.obeys; hands = λ runs. absurd (cc) }
+
 -- one happening keeps it
 pub made_happens : (config : Options) (w : World) (h : Happening) (before : List Line) → Stand config before w → Stand config (before ++ lines_at w h) (happens w h) → Made before w.back → (let n : World = happens w h in Made (before ++ lines_at w h) n.back)
 made_happens config w FrontMoves before s t m = front_made w before (front_turn w) refl m
 made_happens config w BackMoves before s t m = back_made config w before Took (back_turn w Took) s t refl m
 made_happens config w (JobMoves number outcome) before s t m = job_made config w before number outcome (job_turn w number outcome) refl s t m
 made_happens config w (Negotiates at move) before s t m = made_aside before (lines_at w (Negotiates at move)) w.back (outsiders_calm (is_between w.back.stage) _ (keys_outsiders w.back.stage at move w.under.keys s.named)) m
-made_happens config w Connects before s t m = made_aside before (lines_at w Connects) w.back (outsiders_calm true _ (ready_outsiders true w.front.stage)) m
+made_happens config w (FrontEnters state) before s t m = made_aside before (lines_at w (FrontEnters state)) w.back (outsiders_calm true _ (state_outsiders true state w.front)) m
+made_happens config w (BackHalts why) before s t m = halted_made config w before why s m
 made_happens config w (Submits job) before s t m = made_aside before (lines_at w (Submits job)) w.back (submit_calm job (front_submit.submit_of w.front job).0, tt) m
 made_happens config w (Notifies at) before s t m = no_lines before w.back m
 made_happens config w (Pokes frame word value) before s t m = made_aside before (poke_lines frame word value) w.back (outsiders_calm true _ (poke_outsiders true frame word value)) m

@@ -1,4 +1,4 @@
--- Lines that come between all others: a word that a hostile hand overwrote, a word that a dump shows, that the front is ready, and what an end does with its keys.
+-- Lines that come between all others: a word that a hostile hand overwrote, a word that a dump shows, a state that the front enters, and what an end does with its keys.
 use Rattle.std.proofs.Common.{◌≡◌, ℕ, ◌*◌, ◌||◌, ◌&&◌, not, Bool, true, false, if◌then◌else◌, List, [], ◌∷◌, ◌++◌, refl, ap, sym, ◌∙◌, subst, append_assoc, append-nil}
 use Rattle.std.specs.Prelude.{Option, Some, None}
 use Rattle.std.specs.List.{AllByRecursion}
@@ -14,14 +14,19 @@ use Rattle.schedule_text.specs.declared.line.Line.TheVariants as lines
 use Rattle.report_rules.specs.Overrun.{is_service}
 use Rattle.report_rules.specs.Stretch.{is_mover_back, IsStretchAt}
 use Rattle.report_rules.specs.Job.{mover_job}
+use Rattle.report_rules.specs.Step.{stepper}
+use Rattle.report_rules.specs.Standing.{is_epoch, is_unmap_of}
+use Rattle.report_rules.specs.Made.{made_by}
 use Rattle.report_rules.specs.Reply.{is_of_back, is_reply}
-use Rattle.blk_front.specs.declared.stage.Stage.{Stage as FrontStage}
+use Rattle.blk_front.specs.declared.state.FrontState.{FrontState}
+use Rattle.blk_front.specs.View as front
 use Rattle.blk_back.specs.declared.stage.Stage.{Stage}
 use Rattle.blk_back.specs.View.{View}
 use Rattle.split_model.specs.Keys.{KeyMove, mover_at, names_layout, is_x64_text, names_feature, is_zero_text, may_set, is_between, key_lines, negotiated_lines}
-use Rattle.split_model.specs.Happening.{poke_lines, ring_lines, ready_lines}
+use Rattle.split_model.specs.Happening.{poke_lines, ring_lines, enter_lines}
 use Rattle.split_model.proofs.SafeActs.{IsKeyMove}
-use Rattle.split_model.proofs.Keys.{NamesNoOther, IsOrNone, key_cases, ready_lines_are}
+use Rattle.split_model.proofs.Keys.{NamesNoOther, IsOrNone, key_cases}
+use Rattle.split_model.proofs.States.{enter_lines_are, state_lines_are}
 use Rattle.split_model.proofs.Overwriting.{poke_lines_are, dump_lines_are}
 use Rattle.ring_laws.proofs.Sight.{is_other, other_touch, untouched_word, is_x64_or_none, keeps_layout}
 use Rattle.ring_laws.proofs.Shows.{Sight, Shows}
@@ -31,6 +36,7 @@ use Rattle.ring_laws.proofs.Free.{follow_other}
 use Rattle.ring_laws.proofs.Works.{all_more}
 use Rattle.ring_laws.proofs.Bystanders.{IsBystander, AreBystanders, is_plain, offers_none}
 use Rattle.ring_laws.proofs.Fetched.{AreOther}
+use Rattle.ring_laws.proofs.Makers.{IsOpen}
 use Rattle.ring_laws.proofs.MakerLines.{IsCalm, AreCalm, key_calm}
 use Rattle.ring_laws.proofs.Written.{Passes, AllPass, passes_other}
 
@@ -50,20 +56,16 @@ AreOutsiders own ls = AllByRecursion (IsOutsider own) ls
 outsider : (own : Bool) (line : Line) → is_other line ≡ true → (own ≡ false → is_of_back line ≡ false) → is_service line ≡ false → is_overrun line ≡ false → IsBystander line → is_reply line ≡ false → IsCalm line → IsOutsider own line
 outsider own line other foreign idle unhalting by untold calm = record { other = other; foreign = foreign; idle = idle; unhalting = unhalting; by = by; untold = untold; calm = calm }
 
+-- a line that tells of no move
+said : (own : Bool) (line : Line) → is_other line ≡ true → is_of_back line ≡ false → is_service line ≡ false → is_overrun line ≡ false → is_plain line ≡ true → stepper line ≡ None → is_reply line ≡ false → is_epoch line ≡ false → ((n : ℕ) → is_unmap_of n line ≡ false) → ((k : ℕ) → made_by k line ≡ None) → IsOpen line → IsOutsider own line
+said own line other foreign idle unhalting plain unstepped untold same gone made free =
+    outsider own line other (λ none. foreign) idle unhalting (record { plain = plain; unstepped = unstepped }) untold (record { quiet = record { same_epoch = same; none_gone = gone; none_made = made }; free = free })
+
 poke_outsider : (own : Bool) (frame word value : ℕ) → IsOutsider own (lines.Poke frame word value)
-poke_outsider own frame word value =
-    outsider own (lines.Poke frame word value) refl (λ none. refl) refl refl (record { plain = refl; unstepped = refl }) refl
-    (record { quiet = record { same_epoch = refl; none_gone = λ n. refl; none_made = λ k. refl }; free = λ before. record { unmap = tt; touch = tt } })
+poke_outsider own frame word value = said own (lines.Poke frame word value) refl refl refl refl refl refl refl refl (λ n. refl) (λ k. refl) (λ before. record { unmap = tt; touch = tt })
 
 word_outsider : (own : Bool) (frame word value : ℕ) → IsOutsider own (lines.Word frame word value)
-word_outsider own frame word value =
-    outsider own (lines.Word frame word value) refl (λ none. refl) refl refl (record { plain = refl; unstepped = refl }) refl
-    (record { quiet = record { same_epoch = refl; none_gone = λ n. refl; none_made = λ k. refl }; free = λ before. record { unmap = tt; touch = tt } })
-
-ready_outsider : (own : Bool) → IsOutsider own lines.Ready
-ready_outsider own =
-    outsider own lines.Ready refl (λ none. refl) refl refl (record { plain = refl; unstepped = refl }) refl
-    (record { quiet = record { same_epoch = refl; none_gone = λ n. refl; none_made = λ k. refl }; free = λ before. record { unmap = tt; touch = tt } })
+word_outsider own frame word value = said own (lines.Word frame word value) refl refl refl refl refl refl refl refl (λ n. refl) (λ k. refl) (λ before. record { unmap = tt; touch = tt })
 
 -- a move of an end on a key or a watch
 of_end : (own : Bool) (at : End) (m : Mover) → m ≡ mover_at at → (own ≡ false → is_mover_back (mover_at at) ≡ false) → own ≡ false → is_mover_back m ≡ false
@@ -130,8 +132,14 @@ keys_outsiders s end.Back move d named = by_between (is_between s)
     by_between true = end_outsiders true end.Back move d (λ own. absurd (cc)) named
     by_between false = tt
 
-pub ready_outsiders : (own : Bool) (s : FrontStage) → AreOutsiders own (ready_lines s)
-ready_outsiders own s = ready_lines_are (IsOutsider own) s (λ waits. ready_outsider own)
+pub state_outsiders : (own : Bool) (s : FrontState) (v : front.View) → AreOutsiders own (enter_lines s v)
+state_outsiders own s v =
+    enter_lines_are (IsOutsider own) s v
+    (λ may. state_lines_are (IsOutsider own) s
+    (said own lines.Ready refl refl refl refl refl refl refl refl (λ n. refl) (λ k. refl) (λ before. record { unmap = tt; touch = tt }))
+    (said own lines.Closing refl refl refl refl refl refl refl refl (λ n. refl) (λ k. refl) (λ before. record { unmap = tt; touch = tt }))
+    (said own lines.Closed refl refl refl refl refl refl refl refl (λ n. refl) (λ k. refl) (λ before. record { unmap = tt; touch = tt }))
+    (λ word. said own (lines.Broken word) refl refl refl refl refl refl refl refl (λ n. refl) (λ k. refl) (λ before. record { unmap = tt; touch = tt })))
 
 pub poke_outsiders : (own : Bool) (frame word value : ℕ) → AreOutsiders own (poke_lines frame word value)
 poke_outsiders own frame word value = poke_lines_are (IsOutsider own) frame word value (poke_outsider own frame word value)

@@ -25,32 +25,34 @@ use Rattle.blk_back.specs.Step as back_step
 use Rattle.blk_back.specs.declared.stage.Reply.{Reply}
 use Rattle.blk_back.specs.declared.stage.Stage.TheVariants as stage
 use Rattle.blk_back.specs.declared.stage.Stage.{Stage}
+use Rattle.blk_back.specs.declared.told.Halt.{Halt}
 use Rattle.hypervisor.specs.Hypervisor.{Hypervisor}
 use Rattle.split_model.specs.World.{World, start_of}
-use Rattle.split_model.specs.Happening.{Happening, FrontMoves, BackMoves, JobMoves, Negotiates, Connects, Submits, Notifies, Pokes, Dumps, Looks, Settles, poke_lines, ring_lines, happens, lines_at, after, front_after, front_shows, back_after, back_shows, job_after, job_shows, front_turn, back_turn, job_turn}
+use Rattle.split_model.specs.Happening.{Happening, FrontMoves, BackMoves, JobMoves, Negotiates, FrontEnters, BackHalts, Submits, Notifies, Pokes, Dumps, Looks, Settles, poke_lines, ring_lines, happens, lines_at, after, front_after, front_shows, back_after, back_shows, job_after, job_shows, front_turn, back_turn, job_turn}
+use Rattle.split_model.specs.Shown.{halt_lines}
 use Rattle.split_model.specs.Report.{report_of, ended_report_of}
 use Rattle.move_laws.specs.Permitted.{IsPermitted}
 use Rattle.move_laws.proofs.Always.{always_within}
 use Rattle.split_model.proofs.SafeAnswers.{backs_of, jobs_of, fronts_no_key}
 use Rattle.back_jobs.specs.Jobs.{mapping_at}
 use Rattle.ring_laws.proofs.Shows.{Sight}
-use Rattle.ring_laws.proofs.Knows.{KnowsAt, Knows, Follows}
+use Rattle.ring_laws.proofs.Knows.{KnowsAt, Knows, Follows, unhalted}
 use Rattle.ring_laws.proofs.Stages.{back_goes}
 use Rattle.ring_laws.proofs.Sight.{other_epoch}
 use Rattle.split_model.specs.Keys.{is_between}
-use Rattle.ring_laws.proofs.Outsiders.{AreOutsiders, keys_outsiders, ready_outsiders, poke_outsiders, dump_outsiders, outsiders_other, outsiders_by, outsiders_pass}
+use Rattle.ring_laws.proofs.Outsiders.{AreOutsiders, keys_outsiders, state_outsiders, poke_outsiders, dump_outsiders, outsiders_other, outsiders_by, outsiders_pass}
 use Rattle.ring_laws.proofs.Free.{IsFree, AreFree, front_free, job_free, job_running, free_front, free_told, free_submit, free_look, free_settle}
 use Rattle.ring_laws.proofs.Works.{AreJobs, job_found, all_second}
 use Rattle.ring_laws.proofs.Bystanders.{Tale, IsBystander, AreBystanders, Aside, plain_epoch, bystanders_go, bystanders_aside}
 use Rattle.ring_laws.proofs.Fetched.{values_aside}
 use Rattle.ring_laws.proofs.Stays.{IsOn, AreIdle, move_idle}
-use Rattle.ring_laws.proofs.BackChange.{Changed, change_at, back_by, told_by, front_by, front_told_by}
+use Rattle.ring_laws.proofs.BackChange.{Changed, change_at, back_by, halt_by, told_by, front_by, front_told_by}
 use Rattle.ring_laws.proofs.Tells.{Tells, small_number}
 use Rattle.ring_laws.proofs.BackTells.{lines_of_back, told_none}
 use Rattle.ring_laws.proofs.JobTells.{JobTells, job_tells, lines_of_job, low_number, found_number}
 use Rattle.ring_laws.proofs.JobTurn.{After, IsSame, step_same}
 use Rattle.ring_laws.proofs.After.{kept_after}
-use Rattle.ring_laws.proofs.JobRuns.{Stand, same_values, stand_start, stand_happens, submit_by, look_by, settle_by}
+use Rattle.ring_laws.proofs.JobRuns.{Stand, same_values, halt_values, stand_start, stand_happens, submit_by, look_by, settle_by}
 use Rattle.ring_laws.proofs.MakerTurns.{Made}
 use Rattle.ring_laws.proofs.MakerRuns.{made_happens, made_start, hand_empty}
 use Rattle.ring_laws.proofs.Due.{Answered, Writes, under_way, IsWorkOver, response_in, answered_then}
@@ -58,9 +60,10 @@ use Rattle.ring_laws.proofs.Over.{over_of_done, over_kept, small_op}
 use Rattle.ring_laws.proofs.Owed.{IsOwed, Owes, owes_aside, owes_told, nothing_owed}
 use Rattle.ring_laws.proofs.Replying.{pending, pending_at, IsReplyOf, IsOwing, Finds, OwesThen, owes_at}
 use Rattle.ring_laws.proofs.NextReply.{next_has}
-use Rattle.ring_laws.proofs.WrittenBack.{MoveWrites, back_writes}
-use Rattle.ring_laws.proofs.Chosen.{IsChosen, chosen_aside, chosen_goes}
-use Rattle.ring_laws.proofs.Written.{AllPass, writes_all, start_writes, end_writes}
+use Rattle.ring_laws.proofs.WrittenBack.{MoveWrites, halt_passes, back_writes}
+use Rattle.ring_laws.proofs.Halting.{Stops, stops_cases}
+use Rattle.ring_laws.proofs.Chosen.{IsChosen, chosen_aside, chosen_stage, chosen_goes}
+use Rattle.ring_laws.proofs.Written.{AllPass, writes_all, writes_stage, start_writes, end_writes}
 use Rattle.ring_laws.proofs.WrittenElse.{AreElse, other_writes, front_else, job_else, submit_else, look_else, settle_else}
 
 -- the replies that the lines so far tell, and the one under way
@@ -234,12 +237,36 @@ outside_replies config w before ys all s r =
     none_between (stage.Producer r) is = absurd (cc)
     none_between s is = refl
 
+-- a back that halts writes no reply
+halted_replies : (config : Options) (w : World) (before : List Line) (why : Halt) → Stand config before w → Replies config before w.back → (let n : World = happens w (BackHalts why) in Replies config (before ++ lines_at w (BackHalts why)) n.back)
+halted_replies config w before why s r = stops_cases (λ (new : back.View). Replies config (before ++ halt_lines w.back.halted new.halted) new) why w.back f.sight f.knows stops none
+  where
+    f : Follows config.start [] before w.back
+    f = s.ring.follows
+
+    none : Replies config (before ++ halt_lines w.back.halted w.back.halted) w.back
+    none = subst (λ (ls : List Line). Replies config (before ++ ls) w.back) (sym (unhalted w.back.halted)) (no_lines config before w.back r)
+
+    stops : (new : back.View) → Stops f.sight why w.back new → Replies config (before ++ halt_lines w.back.halted new.halted) new
+    stops new p =
+        let ls : List Line = halt_lines w.back.halted new.halted in
+        let over : is_some new.halted ≡ true = p.over in
+        let told : Replies config (before ++ halt_lines w.back.halted new.halted) w.back = others config true before (halt_lines w.back.halted new.halted) w.back (λ own. p.still) (halt_passes w.back.halted new.halted) (halt_by w.back.halted new.halted) (halt_values before w.back.halted new.halted) s.tells r in
+        record {
+          answered = told.answered;
+          job = told.job;
+          writes = writes_stage (before ++ ls) w.back.stage new.stage told.answered (p.still ∙ sym p.ceased) told.writes;
+          owes = λ runs. absurd (cc);
+          chosen = chosen_stage (before ++ ls) w.back.stage new.stage told.answered p.ceased told.chosen;
+        }
+
 replies_happen : (config : Options) (w : World) (h : Happening) (before : List Line) → Stand config before w → Stand config (before ++ lines_at w h) (happens w h) → Made before w.back → Replies config before w.back → (let n : World = happens w h in Replies config (before ++ lines_at w h) n.back)
 replies_happen config w FrontMoves before s t made r = front_after_replies config w (before ++ front_shows w (front_turn w)) (front_turn w) (front_replies config w before (front_turn w) s refl r)
 replies_happen config w BackMoves before s t made r = back_replies config w before Took (back_turn w Took) refl s t made r
 replies_happen config w (JobMoves number outcome) before s t made r = job_replies config w before number outcome (job_turn w number outcome) refl s r
 replies_happen config w (Negotiates at move) before s t made r = outside_replies config w before (lines_at w (Negotiates at move)) (keys_outsiders w.back.stage at move w.under.keys s.named) s r
-replies_happen config w Connects before s t made r = outside_replies config w before (lines_at w Connects) (ready_outsiders (is_between w.back.stage) w.front.stage) s r
+replies_happen config w (FrontEnters state) before s t made r = outside_replies config w before (lines_at w (FrontEnters state)) (state_outsiders (is_between w.back.stage) state w.front) s r
+replies_happen config w (BackHalts why) before s t made r = halted_replies config w before why s r
 replies_happen config w (Submits job) before s t made r = others_free config w before (lines_at w (Submits job)) (submit_else job (front_submit.submit_of w.front job).0) (submit_by job (front_submit.submit_of w.front job).0, tt) (free_submit (is_some w.back.halted) job (front_submit.submit_of w.front job).0, tt) s r
 replies_happen config w (Notifies at) before s t made r = no_lines config before w.back r
 replies_happen config w (Pokes frame word value) before s t made r = outside_replies config w before (poke_lines frame word value) (poke_outsiders (is_between w.back.stage) frame word value) s r

@@ -68,7 +68,7 @@ own_passes line other plain = passes_other true line other plain (λ own. absurd
 read_passes : (number frame word value : ℕ) → Passes true (lines.Move (moves.Read back.Back number frame word value))
 read_passes number frame word value = record { on = read_on number frame word value; unwritten = λ before. refl; untold = refl; foreign = λ own. absurd (cc) }
 
-halt_passes : (old new : Option Halt) → AllPass true (halt_lines old new)
+pub halt_passes : (old new : Option Halt) → AllPass true (halt_lines old new)
 halt_passes None None = tt
 halt_passes None (Some h) = (own_passes (lines.Halt (halt_line h)) refl refl, tt)
 halt_passes (Some g) new = tt
@@ -84,7 +84,7 @@ either_view : (P : View → Type 0) (b : Bool) (x y : View) → P x → P y → 
 either_view P true x y p q = p
 either_view P false x y p q = q
 
-giving_nothing : (m : Option Mapping) → under_way (giving_up m) ≡ []
+pub giving_nothing : (m : Option Mapping) → under_way (giving_up m) ≡ []
 giving_nothing None = refl
 giving_nothing (Some m) = refl
 

@@ -118,7 +118,7 @@ ring_back_answers true h v o act e = ring_back_too (ring_back.ask_of v.ring) act
 ring_back_answers false h v o act e = waiting_back h o act e
 
 pub back_answers : (h : Hypervisor) (v : back_view.View) (o : Outcome) (act : BackAct) → back_act h Back (back.ask_of v) o ≡ Some act → back.IsAnswer (back.ask_of v) act.answer
-back_answers h v o act = by_test (back.speaks (back.bus_ask_of v))
+back_answers h v o act = by_test (back.bus_moves a v.ring.stage)
   where
     a : BackBusAsk
     a = back.bus_ask_of v

@@ -9,7 +9,7 @@ use Rattle.blk_base.specs.declared.ask.BackAnswer.{BackAnswer}
 use Rattle.blk_base.specs.declared.moves.BackMover.{BackMover}
 use Rattle.blk_io.specs.Disk.{DiskSeen}
 use Rattle.hypervisor.specs.Hypervisor.{Hypervisor}
-use Rattle.hypervisor.specs.Act.{BackAct, IsGiven, Took, front_act, front_seen, front_shown, front_with_move, back_act, back_seen, back_shown, back_under, back_with_move, outcome_of, outcome_told}
+use Rattle.hypervisor.specs.Act.{BackAct, IsGiven, Took, front_act, front_seen, front_shown, front_with_move, back_act, back_seen, back_under, back_with_move, outcome_of}
 use Rattle.hypervisor.specs.Disk.{DiskDoes}
 use Rattle.hypervisor.specs.May.{MayShow}
 

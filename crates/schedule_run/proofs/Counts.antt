@@ -12,7 +12,7 @@ use Rattle.blk_front.specs.declared.stage.Ending.{Ending}
 use Rattle.blk_front.specs.Submit.{unfinished, sectors_owed, ending_of, ending_sectors}
 use Rattle.vbd_model.specs.World.{World, start_of, is_quiet}
 use Rattle.split_model.specs.Happening.{job_turn}
-use Rattle.vbd_model.specs.Happening.{Happening, FrontMoves, BackMoves, JobMoves, Settles, happens, after}
+use Rattle.vbd_model.specs.Happening.{Happening, FrontMoves, BackMoves, Settles, happens, after}
 use Rattle.vbd_model.specs.Kind.{is_carried, AreEachJobs, round_start, IsBeginning, IsRoundSoFar, AreRounds, never, settle_bound, most_rounds, AreRoundsSoFar, IsSettling, IsSettlingSoFar, Makes, MakesSoFar, AreOf, AreOfSoFar, AreOfAll}
 use Rattle.split_model.specs.Safe.{above}
 use Rattle.vbd_model.proofs.Running.{after-append}
@@ -153,6 +153,7 @@ made_few (events.Turn n) w hs r carried k = let few = number_few n carried in le
 made_few events.Settle w hs r carried k = settling_few w hs r k
 made_few events.Look w hs r carried k = let one : length hs ≡ 1 = ap length k in omega arith
 made_few (events.Notify at) w hs r carried k = let one : length hs ≡ 1 = ap length k in omega arith
+made_few (events.Close at) w hs r carried k = let one : length hs ≡ 1 = ap length k in omega arith
 made_few (events.Poke frame word value) w hs r carried k = let one : length hs ≡ 1 = ap length k.0 in omega arith
 made_few events.Dump w hs r carried k = let one : length hs ≡ 1 = ap length k in omega arith
 made_few e w hs r carried k = absurd k

@@ -34,8 +34,7 @@ use Rattle.split_model.proofs.Running.{kept_of-append}
 use Rattle.machine_pipeline.specs.Plain.{IsPlain}
 use Rattle.machine_pipeline.specs.Allowed.{AreServed, ArePossible}
 use Rattle.machine_pipeline.specs.Submissions.{submitted_at, submitted_of}
-use Rattle.machine_pipeline.proofs.Allowed.{possible_first}
-use Rattle.machine_pipeline.proofs.HonestPart.{HostileAfter, HonestWith, HonestEnded, honest_with, honest_kept, honest_report, honest_ended, served_part, disk_runs_first, disk_part, submitted_part, kept_after, not_honest, CutOrWhole, cut_or_whole}
+use Rattle.machine_pipeline.proofs.HonestPart.{HostileAfter, HonestWith, HonestEnded, honest_with, honest_kept, honest_report, honest_ended, served_before, disk_runs_first, disk_part, submitted_part, kept_after, not_honest, CutOrWhole, cut_or_whole}
 use Rattle.pipeline_laws.specs.Submissions.{IsAnswerAt}
 use Rattle.pipeline_laws.specs.Unbroken.{is_breach}
 use Rattle.pipeline_laws.specs.States.{IsStateAt}
@@ -156,11 +155,12 @@ pub record IsTold (config : Options) (detail : Detail) (history : List Happening
   pub plain : IsPlain config
   pub options : AreOptions config
   pub possible : ArePossible history (start_of config)
+  pub served : AreServed (honest_history history) (start_of config)
   pub short : length (report_of config detail history) < 2 ^ 64
 
 -- what happened before a hostile hand first overwrote a word
 allowed : {config : Options} {detail : Detail} {history : List Happening} → IsTold config detail history → AreServed (honest_history history) (start_of config)
-allowed {config = config} {history = history} h = served_part history (start_of config) h.possible
+allowed h = h.served
 
 -- what the beginning of a report tells of its requests, where a run has that report
 so_far_served : (jobs : List Job) (before : Option (List (List ℕ))) (report : List Line) → HasRunSoFar jobs before report → ServesRequestsSoFar jobs before report
@@ -333,7 +333,7 @@ begun_honest config detail history last part rest before now h long runs all of 
     by_part (inl whole) =
         let same : honest_part (kept_of detail said) ≡ kept_of detail said = honest_kept detail said ∙ ap (kept_of detail) whole.1 in
         subst (HasRunSoFar (submitted_of (history ++ last ∷ [])) before.content) (sym same)
-        (begun_report config detail history last part rest before now h.plain whole.0 long runs all (subst (IsOfADisk config.sectors before.content) same of))
+        (begun_report config detail history last part rest before now h.plain (served_whole h whole.0) long runs all (subst (IsOfADisk config.sectors before.content) same of))
     by_part (inr cut) =
         let same : honest_part (kept_of detail said) ≡ kept_of detail (report_of config detail (honest_history history)) = honest_kept detail said ∙ ap (kept_of detail) cut in
         let first = disk_runs_first history (last ∷ []) (start_of config) before now runs in
@@ -343,7 +343,7 @@ begun_honest config detail history last part rest before now h long runs all of 
         subst (HasRunSoFar (submitted_of (history ++ last ∷ [])) before.content) (sym same)
         (later_run (submitted_of (honest_history history)) (submitted.0 ++ submitted_of (last ∷ [])) (submitted_of (history ++ last ∷ [])) before.content _
         (sym (append_assoc (submitted_of (honest_history history)) submitted.0 (submitted_of (last ∷ []))) ∙ (ap (λ (js : List Job). js ++ submitted_of (last ∷ [])) submitted.1 ∙ sym both))
-        (whole_report config detail (honest_history history) before part_disk.0 h.plain (served_part history (start_of config) (possible_first history (last ∷ []) (start_of config) h.possible)) long part_disk.1
+        (whole_report config detail (honest_history history) before part_disk.0 h.plain (served_before history (last ∷ []) (start_of config) h.served) long part_disk.1
         (subst (IsOfADisk config.sectors before.content) same of)))
 
 pub report_lawful : (config : Options) (detail : Detail) (history : List Happening) (before now : DiskSeen) → IsTold config detail history → HasLength before.content config.sectors → DiskRuns history (start_of config) before now → IsLawful config detail (submitted_of history) before.content now.content (kept_of detail (report_of config detail history))

@@ -1,6 +1,7 @@
 -- How many lines a happening shows, and how long a report is at most.
 use Rattle.std.proofs.Common.{◌≡◌, ℕ, zero, suc, Bool, true, false, if◌then◌else◌, refl, ap, ◌∙◌, ◌+◌, ◌*◌, ◌^◌, ◌<◌, ◌≤◌, List, [], ◌∷◌, ◌++◌, length, Option, Some, None, arith, length-append}
-use Rattle.std.specs.Prelude.{◌/◌, ◌%◌, sum_by, replicate}
+use Rattle.std.specs.Prelude.{◌/◌, ◌%◌, map, sum_by, replicate}
+use Rattle.std.proofs.lemmas.List.{length-map}
 use Rattle.std.specs.List.{AllByRecursion}
 use Rattle.std.proofs.lemmas.List.Sums.{sum_by-cons, sum_by-append}
 use Rattle.xen_pages.specs.Pages.{word_of}
@@ -25,22 +26,32 @@ use Rattle.blk_back.specs.View as back
 use Rattle.blk_back.specs.Step as back_step
 use Rattle.split_model.specs.World as rings
 use Rattle.vbd_model.specs.World.{World, start_of, is_quiet, frontend_of, backend_of}
-use Rattle.split_model.specs.Shown.{front_lines, back_lines, halt_lines}
-use Rattle.split_model.specs.Happening.{is_guest_word, word_lines, ring_lines, ready_lines, front_shows, back_shows, job_shows, front_turn, back_turn, job_turn}
+use Rattle.split_model.specs.Shown.{front_lines, back_lines, halt_lines, state_lines}
+use Rattle.split_model.specs.Happening.{is_guest_word, word_lines, ring_lines, enter_lines, front_shows, back_shows, job_shows, front_turn, back_turn, job_turn}
 use Rattle.split_model.specs.Happening as ring
-use Rattle.vbd_model.specs.Happening.{Happening, FrontMoves, BackMoves, JobMoves, Submits, Notifies, Pokes, Dumps, Looks, Settles, does, front_key, back_key, connecting, is_fronts_ring, is_backs_ring, happens, lines_at, after, lines_of}
+use Rattle.vbd_model.specs.Happening.{Happening, FrontMoves, BackMoves, JobMoves, Closes, Submits, Notifies, Pokes, Dumps, Looks, Settles, does, front_key, back_key, entered_at, reasons_of, halted_at, front_enters, back_halts, closes_does, is_fronts_ring, is_backs_ring, happens, lines_at, after, lines_of}
 use Rattle.blk_back.specs.declared.stage.Stage.{Stage as BackStage}
 use Rattle.split_model.specs.Keys.{KeyMove, negotiated_lines}
 use Rattle.vbd_model.specs.Kind.{Makes, AreOfAll, AreOfSoFar, never}
 use Rattle.vbd_model.proofs.Echo.{is_move, job_are_moves, rounds_are_moves}
-use Rattle.split_model.proofs.Keys.{key_cases, negotiated_cases, connects_cases}
+use Rattle.split_model.proofs.Keys.{key_cases, negotiated_cases}
+use Rattle.split_model.proofs.States.{enters_cases}
 use Rattle.vbd_model.specs.Report.{report_of}
 use Rattle.blk_base.specs.declared.parts.End.TheVariants as end
-use Rattle.xenbus_state.specs.declared.state.BusState.TheVariants as state
+use Rattle.blk_front.specs.declared.state.FrontState.{FrontState}
+use Rattle.blk_front.specs.declared.state.FrontState.TheVariants as state
+use Rattle.xenbus_state.specs.declared.front.FrontNews.{FrontNews}
+use Rattle.xenbus_state.specs.declared.table.BackHalt.{BackHalt}
+use Rattle.xenbus_state.specs.declared.back.BackBusAsk.{BackBusAsk}
+use Rattle.xenbus_state.specs.FrontAsk as bus_asks
 use Rattle.xenbus_state.specs.declared.front.FrontBusAsk.{FrontBusAsk}
 use Rattle.xenbus_state.specs.declared.front.FrontBusAsk.TheVariants as front_ask
+use Rattle.vbd_front.specs.View as frontend
 use Rattle.vbd_front.specs.Ask as front_asks
+use Rattle.vbd_front.specs.Step as frontend_step
 use Rattle.vbd_back.specs.Ask as back_asks
+use Rattle.vbd_back.specs.Step as backend_step
+use Rattle.vbd_model.specs.Happening as vbd_happening
 use Rattle.machine_pipeline.specs.Plain.{IsPlain}
 use Rattle.schedule_run.proofs.Counts.{event_so_far_few, events_few}
 
@@ -103,8 +114,15 @@ key_few stage at move d =
     (λ may. key_cases (λ (after : Directory) (shown : List Line). length shown ≤ 3) at move d
     (λ path same. omega arith) (λ path text same may_set. omega arith) (λ path same. omega arith) (λ path first. omega arith) (omega arith)) (omega arith)
 
-ready_few : (v : front.View) → length (ready_lines v.stage) ≤ 3
-ready_few v = connects_cases (λ after (shown : List Line). length shown ≤ 3) v (λ waits. omega arith) (omega arith)
+state_few : (s : FrontState) → length (state_lines s) ≤ 3
+state_few state.Connected = omega arith
+state_few state.Closing = omega arith
+state_few state.Leaving = omega arith
+state_few state.Closed = omega arith
+state_few (state.Broken word) = omega arith
+
+enters_few : (s : FrontState) (v : front.View) → length (enter_lines s v) ≤ 3
+enters_few s v = enters_cases (λ (after : front.View) (shown : List Line). length shown ≤ 3) s v (λ may. state_few s) (omega arith)
 
 -- a dump shows 1024 lines at most, and any other happening three
 abbrev ring_dumps_at : ring.Happening → ℕ
@@ -119,7 +137,8 @@ ring_few w ring.FrontMoves = front_shows_few w (front_turn w)
 ring_few w ring.BackMoves = back_shows_few w (back_turn w Took)
 ring_few w (ring.JobMoves number outcome) = job_shows_few w number (job_turn w number outcome)
 ring_few w (ring.Negotiates at move) = key_few w.back.stage at move w.under.keys
-ring_few w ring.Connects = ready_few w.front
+ring_few w (ring.FrontEnters s) = enters_few s w.front
+ring_few w (ring.BackHalts why) = let few = halt_few w.back.halted (let b : back.View = back_step.halts why w.back in b.halted) in omega arith
 ring_few w (ring.Submits job) = omega arith
 ring_few w (ring.Notifies at) = omega arith
 ring_few w (ring.Pokes frame word value) = poke_few (is_guest_word frame word) frame word value
@@ -136,7 +155,7 @@ ring_by (h ∷ hs) w =
     let dumps = sum_by-cons ring_dumps_at h hs in
     omega arith
 
--- one happening of the machine is two of the ring's at most
+-- one happening of the machine is three of the ring's at most
 abbrev pub dumps_at : Happening → ℕ
 dumps_at Dumps = 1
 dumps_at h = 0
@@ -145,24 +164,71 @@ abbrev pub dumps_of : List Happening → ℕ
 dumps_of hs = sum_by dumps_at hs
 
 record IsSmall (hs : List ring.Happening) (dumps : ℕ) : Type 0 where
-  few : length hs ≤ 2
+  few : length hs ≤ 3
   dumps_few : ring_dumps_of hs ≡ dumps
 
-connects_small : (key : ring.Happening) (a : FrontBusAsk) → ring_dumps_at key ≡ 0 → IsSmall (key ∷ connecting a) 0
-connects_small key (front_ask.SetState state.Connected) none = record { few = omega arith; dumps_few = sum_by-cons ring_dumps_at key (ring.Connects ∷ []) ∙ omega arith }
-connects_small key a none = record { few = omega arith; dumps_few = sum_by-cons ring_dumps_at key [] ∙ omega arith }
+-- a move of an end with the keys, and two more at most that aren't dumps
+record IsShort (hs : List ring.Happening) : Type 0 where
+  few : length hs ≤ 2
+  none : ring_dumps_of hs ≡ 0
 
-front_small : (b : Bool) (a : FrontBusAsk) → IsSmall (if b then ring.FrontMoves ∷ [] else ring.Negotiates end.Front (front_key a) ∷ connecting a) 0
-front_small true a = record { few = omega arith; dumps_few = refl }
-front_small false a = connects_small (ring.Negotiates end.Front (front_key a)) a refl
+states_dump : (states : List FrontState) → ring_dumps_of (map ring.FrontEnters states) ≡ 0
+states_dump [] = refl
+states_dump (s ∷ states) = let rest = states_dump states in let both = sum_by-cons ring_dumps_at (ring.FrontEnters s) (map ring.FrontEnters states) in omega arith
 
-back_small : (b : Bool) (key : ring.Happening) → ring_dumps_at key ≡ 0 → IsSmall (if b then ring.BackMoves ∷ [] else key ∷ []) 0
-back_small true key none = record { few = omega arith; dumps_few = refl }
-back_small false key none = record { few = omega arith; dumps_few = sum_by-cons ring_dumps_at key [] ∙ omega arith }
+entered_few : (w : World) (act : Option FrontAct) → length (entered_at w act) ≤ 2
+entered_few w None = omega arith
+entered_few w (Some a) =
+    let f : frontend.View = frontend_of w in
+    by_both (frontend_step.news_of f a.answer) (bus_asks.ask_of (frontend_step.bus_after f a.answer) (frontend.is_unoccupied f.ring))
+  where
+    due_few : (ask : FrontBusAsk) → length (frontend_step.states_due ask) ≤ 1
+    due_few (front_ask.EndGrant page) = omega arith
+    due_few ask = omega arith
+
+    by_both : (news : Option FrontNews) (ask : FrontBusAsk) → length (frontend_step.states_entered news ask) ≤ 2
+    by_both None ask = let few = due_few ask in omega arith
+    by_both (Some n) ask = let few = due_few ask in omega arith
+
+enters_short : (speaks : Bool) (w : World) → IsShort (front_enters speaks w)
+enters_short true w =
+    let states : List FrontState = entered_at w (vbd_happening.front_turn w) in
+    let few = entered_few w (vbd_happening.front_turn w) in
+    let same = length-map states ring.FrontEnters in
+    record { few = omega arith; none = states_dump states }
+enters_short false w = record { few = omega arith; none = refl }
+
+reasons_short : (why : Option BackHalt) → IsShort (map ring.BackHalts (reasons_of why))
+reasons_short None = record { few = omega arith; none = refl }
+reasons_short (Some why) = record { few = omega arith; none = sum_by-cons ring_dumps_at (ring.BackHalts (backend_step.ring_halt why)) [] }
+
+halts_short : (speaks : Bool) (w : World) → IsShort (back_halts speaks w)
+halts_short true w = by_act (vbd_happening.back_turn w)
+  where
+    by_act : (act : Option BackAct) → IsShort (map ring.BackHalts (halted_at w act))
+    by_act None = record { few = omega arith; none = refl }
+    by_act (Some a) = reasons_short (backend_step.halt_of (backend_of w) a.answer)
+halts_short false w = record { few = omega arith; none = refl }
+
+keys_small : (b : Bool) (move key : ring.Happening) (more : List ring.Happening) → ring_dumps_at move ≡ 0 → ring_dumps_at key ≡ 0 → IsShort more → IsSmall (if b then move ∷ [] else key ∷ more) 0
+keys_small true move key more none other short = record { few = omega arith; dumps_few = sum_by-cons ring_dumps_at move [] ∙ omega arith }
+keys_small false move key more none other short =
+    let few = short.few in
+    let rest = short.none in
+    record { few = omega arith; dumps_few = sum_by-cons ring_dumps_at key more ∙ omega arith }
+
+closes_small : (at : End) → IsSmall (closes_does at) 0
+closes_small end.Front = record { few = omega arith; dumps_few = refl }
+closes_small end.Back = record { few = omega arith; dumps_few = refl }
 
 small : (w : World) (h : Happening) → IsSmall (does w h) (dumps_at h)
-small w FrontMoves = front_small (is_fronts_ring w) (front_asks.bus_ask_of (frontend_of w))
-small w BackMoves = back_small (is_backs_ring w) (ring.Negotiates end.Back (back_key (back_asks.bus_ask_of (backend_of w)))) refl
+small w FrontMoves =
+    let a : FrontBusAsk = front_asks.bus_ask_of (frontend_of w) in
+    keys_small (is_fronts_ring w) ring.FrontMoves (ring.Negotiates end.Front (front_key a)) (front_enters (front_asks.speaks a) w) refl refl (enters_short (front_asks.speaks a) w)
+small w BackMoves =
+    let a : BackBusAsk = back_asks.bus_ask_of (backend_of w) in
+    keys_small (is_backs_ring w) ring.BackMoves (ring.Negotiates end.Back (back_key a)) (back_halts (back_asks.bus_moves a w.rings.back.stage) w) refl refl (halts_short (back_asks.bus_moves a w.rings.back.stage) w)
+small w (Closes at) = closes_small at
 small w (JobMoves number outcome) = record { few = omega arith; dumps_few = refl }
 small w (Submits job) = record { few = omega arith; dumps_few = refl }
 small w (Notifies at) = record { few = omega arith; dumps_few = refl }
@@ -171,7 +237,7 @@ small w Dumps = record { few = omega arith; dumps_few = refl }
 small w (Looks quiet) = record { few = omega arith; dumps_few = refl }
 small w (Settles quiet) = record { few = omega arith; dumps_few = refl }
 
-lines_few : (w : World) (h : Happening) → length (lines_at w h) ≤ 6 + 1024 * dumps_at h
+lines_few : (w : World) (h : Happening) → length (lines_at w h) ≤ 9 + 1024 * dumps_at h
 lines_few w h =
     let all = ring_by (does w h) w.rings in
     let is = small w h in
@@ -179,7 +245,7 @@ lines_few w h =
     let dumps = is.dumps_few in
     omega arith
 
-lines_by : (hs : List Happening) (w : World) → length (lines_of hs w) ≤ 6 * length hs + 1024 * dumps_of hs
+lines_by : (hs : List Happening) (w : World) → length (lines_of hs w) ≤ 9 * length hs + 1024 * dumps_of hs
 lines_by [] w = omega arith
 lines_by (h ∷ hs) w =
     let one = lines_few w h in
@@ -201,6 +267,7 @@ moves_dump [] m = refl
 moves_dump (FrontMoves ∷ hs) m = none_more FrontMoves hs refl (moves_dump hs m.1)
 moves_dump (BackMoves ∷ hs) m = none_more BackMoves hs refl (moves_dump hs m.1)
 moves_dump (JobMoves number outcome ∷ hs) m = none_more (JobMoves number outcome) hs refl (moves_dump hs m.1)
+moves_dump (Closes at ∷ hs) m = none_more (Closes at) hs refl (moves_dump hs m.1)
 moves_dump (Notifies at ∷ hs) m = none_more (Notifies at) hs refl (moves_dump hs m.1)
 moves_dump (h ∷ hs) m = absurd (cc)
 
@@ -228,6 +295,7 @@ made_dumps events.Settle w hs k =
     let last : dumps_of (found ∷ []) ≡ 0 = sum_by-cons dumps_at found [] in
     omega arith
 made_dumps events.Look w hs k = only_dumps hs (Looks (is_quiet w)) k
+made_dumps (events.Close at) w hs k = only_dumps hs (Closes at) k
 made_dumps (events.Notify at) w hs k = only_dumps hs (Notifies at) k
 made_dumps (events.Poke frame word value) w hs k = only_dumps hs (Pokes frame word value) k.0
 made_dumps events.Dump w hs k = only_dumps hs Dumps k
@@ -246,7 +314,7 @@ dumps_few : (hs : List Happening) → dumps_of hs ≤ length hs
 dumps_few [] = omega arith
 dumps_few (h ∷ hs) = let one = one_dump h in let rest = dumps_few hs in let both = sum_by-cons dumps_at h hs in omega arith
 
-begun_by : (config : Options) (detail : Detail) (history : List Happening) (n dumps : ℕ) → length history ≤ n → dumps_of history ≤ dumps → length (report_of config detail history) ≤ 6 * n + 1024 * dumps + 1
+begun_by : (config : Options) (detail : Detail) (history : List Happening) (n dumps : ℕ) → length history ≤ n → dumps_of history ≤ dumps → length (report_of config detail history) ≤ 9 * n + 1024 * dumps + 1
 begun_by config detail history n dumps few shown = let lines = lines_by history (start_of config) in omega arith
 
 -- the report of 10^9 events is short

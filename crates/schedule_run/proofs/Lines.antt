@@ -85,6 +85,7 @@ carried_short (events.Turn n) h e = omega (arith, two_words (codes "turn") (deci
 carried_short events.Settle h e = omega arith
 carried_short events.Look h e = omega arith
 carried_short (events.Notify end) h e = omega (arith, two_words (codes "notify") (end_word end), end_short end)
+carried_short (events.Close end) h e = omega (arith, two_words (codes "close") (end_word end), end_short end)
 carried_short (events.Poke f w v) h e = omega (arith, four_words (codes "poke") (decimal f) (decimal w) (decimal v), word_short f h.0, word_short w h.1, word_short v h.2)
 carried_short events.Dump h e = omega arith
 carried_short event h e = cc

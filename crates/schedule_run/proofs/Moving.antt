@@ -2,7 +2,6 @@
 use Rattle.std.proofs.Common.{◌≡◌, Bool, true, false, true≢false, not, ◌||◌, if◌then◌else◌, ℕ, ◌+◌, ◌<◌, ◌≤◌, ◌^◌, length, List, [], ◌∷◌, ◌++◌, Option, Some, None, Result, Ok, Err, refl, ap, sym, ◌∙◌, subst, arith}
 use Rattle.std.proofs.lemmas.List.{append-nil}
 use Rattle.std.proofs.lemmas.Option.{none-some, same_Some}
-use Rattle.blk_base.specs.declared.config.Job.{Job}
 use Rattle.blk_base.specs.declared.ask.FrontAnswer.{FrontAnswer}
 use Rattle.blk_base.specs.declared.ask.BackAnswer.{BackAnswer}
 use Rattle.blk_base.specs.declared.ask.FrontAsk.{FrontAsk}
@@ -29,15 +28,19 @@ use Rattle.back_jobs.specs.Hands.{Names}
 use Rattle.blk_back.specs.Hands.{hands_of}
 use Rattle.blk_back.specs.declared.told.BackTold.{BackTold}
 use Rattle.xenbus_state.specs.FrontView.{FrontView}
+use Rattle.xenbus_state.specs.declared.front.FrontNews.{FrontNews}
 use Rattle.schedule_text.specs.declared.recorder.RecordStop.TheVariants.{OutOfMemory}
 use Rattle.blk_back.specs.declared.told.Halt.{Halt}
 use Rattle.xenbus_state.specs.BackView.{BackView}
 use Rattle.xenbus_state.specs.declared.back.BackBusAsk.{BackBusAsk}
 use Rattle.xenbus_state.specs.declared.back.BackBusAsk.TheVariants as back_ask
-use Rattle.split_model.specs.Shown.{back_lines, halt_lines}
+use Rattle.split_model.specs.Shown.{front_lines, back_lines, halt_lines}
 use Rattle.split_model.proofs.Keeping.{no_call}
 use Rattle.split_model.proofs.Moving.{no_disk}
 use Rattle.split_model.proofs.SafeActs.{back_event}
+use Rattle.split_model.proofs.SafeFront.{entered_kept}
+use Rattle.blk_front.specs.declared.state.FrontState.TheVariants.{Closing}
+use Rattle.blk_front.specs.declared.told.Told.{Told}
 use Rattle.vbd_front.specs.View as front_view
 use Rattle.vbd_front.specs.Ask as front
 use Rattle.vbd_front.specs.Step as front_step
@@ -52,16 +55,17 @@ use Rattle.hypervisor.specs.Act.{with_pages}
 use Rattle.split_model.specs.Leads as ring_leads
 use Rattle.vbd_model.specs.World.{World, frontend_of, backend_of}
 use Rattle.vbd_model.specs.Fit.{IsFit}
-use Rattle.vbd_model.specs.Happening.{Happening, FrontMoves, BackMoves, JobMoves, Dumps, does, front_turn, back_turn, front_bus, back_bus, happens, lines_at, DiskGoes}
+use Rattle.vbd_model.specs.Happening.{Happening, FrontMoves, BackMoves, JobMoves, Closes, Dumps, does, front_turn, back_turn, front_bus, back_bus, happens, lines_at, DiskGoes}
 use Rattle.vbd_model.specs.Kind.{IsJobMove}
 use Rattle.vbd_model.specs.Leads.{moment, Goes, Is}
 use Rattle.vbd_model.proofs.Running.{goes_one, goes_lacking}
 use Rattle.vbd_laws.proofs.Fit.{fit_happens}
-use Rattle.vbd_laws.proofs.MovesFront.{front_move_is, front_move_none}
+use Rattle.vbd_laws.proofs.MovesFront.{front_move_is, front_move_none, close_is}
 use Rattle.vbd_laws.proofs.MovesBack.{back_move_is, back_move_none}
 use Rattle.vbd_laws.proofs.MovesMay.{front_asks_may, back_asks_may}
 use Rattle.schedule_run.specs.Inside.{HasHeard}
-use Rattle.schedule_run.specs.Following.{frontend_lines}
+use Rattle.schedule_run.specs.Following.{Follows, frontend_lines}
+use Rattle.vbd_model.specs.News.{news_lines}
 use Rattle.vbd_model.proofs.Keeping.{sectors_kept}
 
 -- one thing happened to the machine, and its lines were given to the recorder
@@ -190,7 +194,7 @@ front_happened w ask seen x f u fit asked e under stepped taken =
 pub front_fit : (w : World) (ask : FrontAsk) (seen : FrontAnswer × Shown) (x f : front_view.View) (u : Hypervisor) → IsFit w → ask ≡ front.ask_of (frontend_of w) → Some seen ≡ front_seen (front_act w.rings.under ask) → u ≡ front_under w.rings.under (front_act w.rings.under ask) → x ≡ front_step.step_of (frontend_of w) seen.0 → f ≡ front_view.heard x → HasHeard f × IsFit (front_moved w f u)
 front_fit w ask seen x f u fit asked e under stepped taken =
     let happened = front_happened w ask seen x f u fit asked e under stepped taken in
-    (ap (λ (v : front_view.View). v.ready) taken, subst IsFit (sym happened.0) (fit_happens w FrontMoves fit))
+    (ap (λ (v : front_view.View). v.news) taken, subst IsFit (sym happened.0) (fit_happens w FrontMoves fit))
 
 -- what happened, and its lines
 pub front_goes_as : (w : World) (ask : FrontAsk) (seen : FrontAnswer × Shown) (x f : front_view.View) (u : Hypervisor) (c : DiskSeen) (r s : RecorderSeen) (result : Result (Unit {0}) RecordStop) → IsFit w → ask ≡ front.ask_of (frontend_of w) → Some seen ≡ front_seen (front_act w.rings.under ask) → u ≡ front_under w.rings.under (front_act w.rings.under ask) → x ≡ front_step.step_of (frontend_of w) seen.0 → f ≡ front_view.heard x → Adds (Move seen.1 ∷ frontend_lines x) result r s → Goes (Is (FrontMoves ∷ [])) (Is (FrontMoves ∷ [])) 0 result (moment w c r) (moment (front_moved w f u) c s)
@@ -234,7 +238,7 @@ ring_no_disk false v o c d does = no_call o c d does
 
 -- the back itself asks nothing of the disk
 pub asks_no_disk : (v : back_view.View) (ask : BackAsk) (o : Outcome) (c d : DiskSeen) → ask ≡ back.ask_of v → DiskDoes ask o c d → (o ≡ Took) × (d ≡ c)
-asks_no_disk v ask o c d asked does = by_test (back.speaks (back.bus_ask_of v)) (subst (λ (x : BackAsk). DiskDoes x o c d) asked does)
+asks_no_disk v ask o c d asked does = by_test (back.bus_moves (back.bus_ask_of v) v.ring.stage) (subst (λ (x : BackAsk). DiskDoes x o c d) asked does)
   where
     by_test : (b : Bool) → DiskDoes (if b then back.key_ask (back.bus_ask_of v) else back.ring_ask (back.ring_moves (back.bus_ask_of v) v.ring.stage) v) o c d → (o ≡ Took) × (d ≡ c)
     by_test true said = key_no_disk (back.bus_ask_of v) o c d said
@@ -322,11 +326,11 @@ job_fit k o w b u same world fit =
     subst (λ (bus : BackView). IsFit (record { rings = v; front = w.front; back = bus })) (sym same) (rings_fit (JobMoves k o) (ring.JobMoves k o) w v refl refl refl world fit)
 
 -- What the ends say of their asks and answers.
-pub asked_now : (f : front_view.View) (ask : FrontAsk) → HasHeard f → ask ≡ front.ask_of f → ask ≡ front.ask_of (record { ring = f.ring; bus = f.bus; ready = false })
-asked_now f ask heard asked = subst (λ (b : Bool). ask ≡ front.ask_of (record { ring = f.ring; bus = f.bus; ready = b })) heard asked
+pub asked_now : (f : front_view.View) (ask : FrontAsk) → HasHeard f → ask ≡ front.ask_of f → ask ≡ front.ask_of (record { ring = f.ring; bus = f.bus; news = None })
+asked_now f ask heard asked = subst (λ (n : Option FrontNews). ask ≡ front.ask_of (record { ring = f.ring; bus = f.bus; news = n })) heard asked
 
-pub heard_now : (f x : front_view.View) (a : FrontAnswer) → HasHeard f → x ≡ front_step.step_of f a → x ≡ front_step.step_of (record { ring = f.ring; bus = f.bus; ready = false }) a
-heard_now f x a heard stepped = subst (λ (b : Bool). x ≡ front_step.step_of (record { ring = f.ring; bus = f.bus; ready = b }) a) heard stepped
+pub heard_now : (f x : front_view.View) (a : FrontAnswer) → HasHeard f → x ≡ front_step.step_of f a → x ≡ front_step.step_of (record { ring = f.ring; bus = f.bus; news = None }) a
+heard_now f x a heard stepped = subst (λ (n : Option FrontNews). x ≡ front_step.step_of (record { ring = f.ring; bus = f.bus; news = n }) a) heard stepped
 
 pub front_asked_may : (w : World) (ask : FrontAsk) → IsFit w → ask ≡ front.ask_of (frontend_of w) → front.StaysInMemory ask → FrontMay w.rings.under ask
 front_asked_may w ask fit asked within = subst (FrontMay w.rings.under) (sym asked) (front_asks_may w fit (subst front.StaysInMemory asked within))
@@ -372,10 +376,10 @@ front_seen_as h x w f c r s result does_it front back same p =
     subst (λ (bus : FrontView). Goes (Is (h ∷ [])) (Is (h ∷ [])) 0 result (moment w c r) (moment (record { rings = v; front = bus; back = w.back }) c s)) (sym same)
     (rings_alone (Is (h ∷ [])) (Is (h ∷ [])) 0 h x w v c c r s result refl refl does_it front back p)
 
-pub front_part_fit : (h : Happening) (x : ring.Happening) (w : World) (f : front_view.View) → does w h ≡ x ∷ [] → front_bus w h ≡ w.front → back_bus w h ≡ w.back → f.ready ≡ false → f.bus ≡ w.front → record { front = f.ring; back = w.rings.back; under = w.rings.under } ≡ ring.happens w.rings x → IsFit w → HasHeard f × IsFit (front_moved w f w.rings.under)
-front_part_fit h x w f does_it front back ready same world fit =
+pub front_part_fit : (h : Happening) (x : ring.Happening) (w : World) (f : front_view.View) → does w h ≡ x ∷ [] → front_bus w h ≡ w.front → back_bus w h ≡ w.back → f.news ≡ None → f.bus ≡ w.front → record { front = f.ring; back = w.rings.back; under = w.rings.under } ≡ ring.happens w.rings x → IsFit w → HasHeard f × IsFit (front_moved w f w.rings.under)
+front_part_fit h x w f does_it front back news same world fit =
     let r : rings.World = record { front = f.ring; back = w.rings.back; under = w.rings.under } in
-    (ready, subst (λ (bus : FrontView). IsFit (record { rings = r; front = bus; back = w.back })) (sym same) (rings_fit h x w r does_it front back world fit))
+    (news, subst (λ (bus : FrontView). IsFit (record { rings = r; front = bus; back = w.back })) (sym same) (rings_fit h x w r does_it front back world fit))
 
 -- a word of the guest's memory was overwritten
 pub poked : (w : rings.World) (frame word value : ℕ) (u : Hypervisor) → is_guest_word frame word ≡ true → u ≡ with_pages w.under (with_word w.under.pages frame word value) → record { front = w.front; back = w.back; under = u } ≡ ring.happens w (ring.Pokes frame word value)
@@ -386,3 +390,35 @@ pub dumped_goes : (w : World) (c : DiskSeen) (r s : RecorderSeen) (result : Resu
 dumped_goes w c r s result shown =
     goes_here (Is (Dumps ∷ [])) (Is (Dumps ∷ [])) 0 Dumps w w c c r s result refl refl refl (omega arith) refl (c, refl, refl)
     (subst (λ (l : List Line). Adds l result r s) (rings_lines ring.Dumps w.rings) shown)
+
+-- An end is asked to close.
+front_closed : (w : World) (x f : front_view.View) → IsFit w → x ≡ front_step.closes (frontend_of w) → f ≡ front_view.heard x → (front_moved w f w.rings.under ≡ happens w (Closes end.Front)) × (lines_at w (Closes end.Front) ≡ frontend_lines x)
+front_closed w x f fit asked taken =
+    let v : front_view.View = front_step.closes (frontend_of w) in
+    let is = close_is w end.Front fit in
+    let silent : v.ring.told ≡ None = (entered_kept Closing w.rings.front).told ∙ fit.safe.front_told in (
+      front_as w f (front_view.heard v) w.rings.under w.rings.under (taken ∙ ap front_view.heard asked) refl ∙ sym is.world,
+      is.lines ∙ sym (ap frontend_lines asked ∙ ap (λ (t : Option Told). front_lines t ++ news_lines v.news) silent),
+    )
+
+pub front_close_fit : (w : World) (x f : front_view.View) → IsFit w → x ≡ front_step.closes (frontend_of w) → f ≡ front_view.heard x → HasHeard f × IsFit (front_moved w f w.rings.under)
+front_close_fit w x f fit asked taken =
+    let closed = front_closed w x f fit asked taken in
+    (ap (λ (v : front_view.View). v.news) taken, subst IsFit (sym closed.0) (fit_happens w (Closes end.Front) fit))
+
+pub front_close_goes : (w : World) (x f : front_view.View) (c : DiskSeen) (r s : RecorderSeen) (result : Result (Unit {0}) RecordStop) → IsFit w → x ≡ front_step.closes (frontend_of w) → f ≡ front_view.heard x → Follows (frontend_lines x) (Ok tt) result r s → Goes (Is (Closes end.Front ∷ [])) (Is (Closes end.Front ∷ [])) 0 result (moment w c r) (moment (front_moved w f w.rings.under) c s)
+front_close_goes w x f c r s result fit asked taken shown =
+    let closed = front_closed w x f fit asked taken in
+    let is = close_is w end.Front fit in
+    goes_here (Is (Closes end.Front ∷ [])) (Is (Closes end.Front ∷ [])) 0 (Closes end.Front) w (front_moved w f w.rings.under) c c r s result refl refl
+    closed.0 (omega arith) (ap (λ (v : World). v.rings.front.sectors) closed.0 ∙ sectors_kept w (Closes end.Front)) (is.disk c)
+    (subst (λ (l : List Line). Adds l result r s) (sym closed.1) (shown [] r (gained_none r)))
+
+pub back_close_fit : (w : World) (b : back_view.View) → IsFit w → b ≡ back_step.closes (backend_of w) → IsFit (back_moved w b w.rings.under)
+back_close_fit w b fit asked = subst (λ (v : back_view.View). IsFit (back_moved w v w.rings.under)) (sym asked) (fit_happens w (Closes end.Back) fit)
+
+pub back_close_goes : (w : World) (b : back_view.View) (c : DiskSeen) (r : RecorderSeen) → IsFit w → b ≡ back_step.closes (backend_of w) → Goes (Is (Closes end.Back ∷ [])) (Is (Closes end.Back ∷ [])) 0 (Ok tt) (moment w c r) (moment (back_moved w b w.rings.under) c r)
+back_close_goes w b c r fit asked =
+    let is = close_is w end.Back fit in
+    rw asked (goes_here (Is (Closes end.Back ∷ [])) (Is (Closes end.Back ∷ [])) 0 (Closes end.Back) w (back_moved w (back_step.closes (backend_of w)) w.rings.under) c c r r (Ok tt) refl refl
+    (sym is.world) (omega arith) refl (is.disk c) (subst (λ (l : List Line). Gained l r r) (sym is.lines) (gained_none r)))

@@ -1,5 +1,5 @@
 -- The laws of the ring's machine, of the report of the whole machine, of which each happening is one or two of that machine's.
-use Rattle.std.proofs.Common.{◌≡◌, ℕ, ◌+◌, ◌^◌, ◌<◌, ◌≤◌, ◌⊎◌, inl, inr, true, List, [], ◌∷◌, ◌++◌, length, Option, refl, ap, sym, ◌∙◌, subst, arith, append_assoc, append-nil, length-append}
+use Rattle.std.proofs.Common.{◌≡◌, ℕ, ◌+◌, ◌⊎◌, inl, inr, true, List, [], ◌∷◌, ◌++◌, length, Option, refl, ap, sym, ◌∙◌, subst, arith, append_assoc, append-nil, length-append}
 use Rattle.std.proofs.lemmas.List.Elements.{filter_map-append}
 use Rattle.blk_base.specs.Options.{Options}
 use Rattle.blk_base.specs.declared.config.Job.{Job}
@@ -17,10 +17,10 @@ use Rattle.split_model.specs.Report as ring_report
 use Rattle.split_model.proofs.Running as ring_running
 use Rattle.machine_pipeline.specs.Submissions.{submitted_at, submitted_of}
 use Rattle.machine_pipeline.proofs.Allowed.{possible_first}
-use Rattle.machine_pipeline.proofs.HonestPart.{disk_runs_first}
+use Rattle.machine_pipeline.proofs.HonestPart.{served_before, disk_runs_first}
 use Rattle.disk_laws.proofs.Before.{HasRunSoFar}
 use Rattle.vbd_model.specs.World.{World, start_of}
-use Rattle.vbd_model.specs.Happening.{Happening, does, lines_at, lines_of, DiskRuns, after, all_does}
+use Rattle.vbd_model.specs.Happening.{Happening, does, lines_at, DiskRuns, after, all_does}
 use Rattle.vbd_model.specs.Report.{report_of, ended_report_of}
 use Rattle.vbd_model.proofs.Running.{all_does-append, after_rings, disk_lift, report_lift, ended_report_lift}
 use Rattle.schedule_run.specs.Lawful.{IsLawful, IsLawfulSoFar}
@@ -46,7 +46,7 @@ told_first config detail first rest h =
     let whole = ring_running.lines_of-append first rest (rings.start_of config) in
     let lines : length (ring.lines_of (first ++ rest) (rings.start_of config)) ≡ length (ring.lines_of first (rings.start_of config)) + length (ring.lines_of rest (ring.after first (rings.start_of config))) = ap length whole ∙ length-append (ring.lines_of first (rings.start_of config)) (ring.lines_of rest (ring.after first (rings.start_of config))) in
     let short = h.short in
-    record { plain = h.plain; options = h.options; possible = possible_first first rest (rings.start_of config) h.possible; short = omega arith }
+    record { plain = h.plain; options = h.options; possible = possible_first first rest (rings.start_of config) h.possible; served = served_before first rest (rings.start_of config) h.served; short = omega arith }
 
 pub history_first : (config : Options) (detail : Detail) (history : List Happening) (last : Happening) → IsTold config detail (history ++ last ∷ []) → IsTold config detail history
 history_first config detail history last h =

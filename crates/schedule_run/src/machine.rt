@@ -116,9 +116,10 @@ impl Machine {
                 self.split.notify(at);
                 Ok(())
             }
+            Event::Close(at) => self.split.close(at, recorder),
             Event::Poke { frame, word, value } => self.split.poke(frame, word, value, recorder),
             Event::Dump => self.split.dump(recorder),
-            Event::Suspend | Event::Close(_) | Event::Key { .. } => Ok(()),
+            Event::Suspend | Event::Key { .. } => Ok(()),
         }
     }
 }
@@ -137,7 +138,8 @@ pub fn can_serve(config: &Config) -> bool
 
 /// Whether an event is one that the machine carries out yet, with the numbers of the grammar: a
 /// submission of a read or a write, moves of the front, of the back or of a job, rounds,
-/// settling, a look, a spurious event, a word that a hostile hand overwrites, and a dump.
+/// settling, a look, a close of an end, a spurious event, a word that a hostile hand overwrites, and
+/// a dump.
 pub fn can_carry_out(event: &Event) -> bool
     ensures { result ≡ is_carried event.now }
 {
@@ -146,9 +148,9 @@ pub fn can_carry_out(event: &Event) -> bool
         Event::Submit(_) => false,
         Event::Front(n) | Event::Back(n) | Event::Turn(n) => is_number(n),
         Event::Job { number, moves } => is_number(number) && is_number(moves),
-        Event::Settle | Event::Look | Event::Notify(_) | Event::Dump => true,
+        Event::Settle | Event::Look | Event::Notify(_) | Event::Close(_) | Event::Dump => true,
         Event::Poke { frame, word, .. } => frame < 1024 && word < 1024,
-        Event::Suspend | Event::Close(_) | Event::Key { .. } => false,
+        Event::Suspend | Event::Key { .. } => false,
     }
 }
 

@@ -6,6 +6,7 @@ ghost use Rattle.hypervisor.specs.Act.{front_shown, back_shown};
 ghost use Rattle.hypervisor.specs.May.{MayShow};
 ghost use Rattle.schedule_run.specs.Following.{Follows, frontend_lines};
 ghost use Rattle.vbd_front.specs.View.{heard};
+ghost use Rattle.vbd_model.specs.News.{news_lines};
 ghost use Rattle.split_model.specs.Shown.{front_lines, back_lines, halt_lines, halt_line, effect_line, refusal_word};
 
 use blk_back::{BackTold, Halt};
@@ -14,6 +15,7 @@ use blk_front::{Refusal, Told};
 use hypervisor::{Hypervisor, front_shown};
 use schedule_text::{Halt as HaltLine, Line, RecordStop, Recorder, Refusal as RefusalWord, Shown};
 use vbd_front::Frontend;
+use xenbus_state::FrontNews;
 
 /// What the line of a move of the front is made of.
 #[derive(Drop)]
@@ -103,19 +105,30 @@ fn follow_front<R: Recorder>(
     }
 }
 
-// Says that the front became ready in a move, after what was shown of it.
-fn follow_ready<R: Recorder>(
+// Says what the front's negotiation made happen in a move, after what was shown of it.
+fn follow_news<R: Recorder>(
     recorder: &mut R,
     shown: Result<(), RecordStop>,
-    ready: bool,
+    news: Option<FrontNews>,
 ) -> Result<(), RecordStop>
-    ensures { Follows (if ready then Line.Ready ∷ [] else []) shown result (R.seen recorder.old) (R.seen recorder.new) }
+    ensures { Follows (news_lines news) shown result (R.seen recorder.old) (R.seen recorder.new) }
 {
     shown?;
-    if ready {
-        return recorder.add(&Line::Ready);
+    match news {
+        None => Ok(()),
+        Some(news) => recorder.add(&news_line(news)),
     }
-    Ok(())
+}
+
+fn news_line(news: FrontNews) -> Line
+    ensures { result ∷ [] ≡ news_lines (Some news) }
+{
+    match news {
+        FrontNews::Ready => Line::Ready,
+        FrontNews::Closing => Line::Closing,
+        FrontNews::Closed => Line::Closed,
+        FrontNews::Broken(word) => Line::Broken(word),
+    }
 }
 
 /// Shows what a move of the front made happen there, where it told something: a sector that is told is
@@ -144,9 +157,9 @@ fn take_told<R: Recorder>(
     ensures taken { front.new ≡ heard front.old }
     ensures lines { Follows (frontend_lines front.old) shown result (R.seen recorder.old) (R.seen recorder.new) }
 {
-    let (told, ready) = front.take_told();
+    let (told, news) = front.take_told();
     let said = follow_front(recorder, shown, told);
-    follow_ready(recorder, said, ready)
+    follow_news(recorder, said, news)
 }
 
 /// Shows what a move of the back made happen there, after the move, and the halt where it made the
@@ -263,6 +276,10 @@ fn halt_word(halt: Halt) -> HaltLine
             produced: prod,
             replied: rsp_prod,
         },
+        Halt::Gone(state) => HaltLine::Gone(state),
+        Halt::Unplugged(state) => HaltLine::Unplugged(state),
+        Halt::BadKey(name) => HaltLine::BadKey(name),
+        Halt::BadOrder(state) => HaltLine::BadOrder(state),
         Halt::BadPort(port) => HaltLine::BadPort(port),
         Halt::MapRefused { gref, status } => HaltLine::MapRefused { gref, status },
     }
@@ -286,6 +303,7 @@ fn refusal_word(refusal: Refusal) -> RefusalWord
 {
     match refusal {
         Refusal::Spent => RefusalWord::Spent,
+        Refusal::Closing => RefusalWord::Closing,
         Refusal::NotReady => RefusalWord::NotReady,
         Refusal::Unsupported => RefusalWord::Unsupported,
         Refusal::ReadOnly => RefusalWord::ReadOnly,

@@ -8,7 +8,7 @@ ghost use Rattle.hypervisor.specs.May.{IsPlace};
 ghost use Rattle.blk_back.specs.Step.{job_ask_of};
 ghost use Rattle.vbd_front.specs.Ask.{ask_of as front_asks};
 ghost use Rattle.vbd_model.specs.World.{start_of, is_quiet, frontend_of};
-ghost use Rattle.vbd_model.specs.Happening.{Submits, Notifies, happens};
+ghost use Rattle.vbd_model.specs.Happening.{Closes, Submits, Notifies, happens};
 ghost use Rattle.vbd_model.specs.Kind.{IsJobMove, are_carried};
 ghost use Rattle.vbd_model.specs.Leads.{Goes, Is, IsReadyFor, moment};
 ghost use Rattle.schedule_run.specs.Going.{FrontGoes, BackGoes, JobGoes};
@@ -309,6 +309,24 @@ impl Split {
         match at {
             End::Front => self.under.send(End::Back),
             End::Back => self.under.send(End::Front),
+        }
+    }
+
+    /// An end is asked to close. A front says that it begins to, where it does.
+    pub fn close<R: Recorder>(&mut self, at: End, recorder: &mut R) -> Result<(), RecordStop>
+        ensures { (disk : DiskSeen) → Goes (Is (Closes at ∷ [])) (Is (Closes at ∷ [])) 0 result
+            (moment self.old disk (R.seen recorder.old))
+            (moment self.new disk (R.seen recorder.new)) }
+    {
+        match at {
+            End::Front => {
+                self.front.close();
+                follow_told(&mut self.front, recorder, Ok(()))
+            }
+            End::Back => {
+                self.back.close();
+                Ok(())
+            }
         }
     }
 

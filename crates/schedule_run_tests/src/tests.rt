@@ -437,6 +437,35 @@ fn a_machine_carries_out_events_and_counts_them(rt: HostRuntime) -> Result<(), F
     assert_eq!(rt; can_carry_out(&Event::Submit(discard)), false);
     assert_eq!(rt; can_carry_out(&Event::Submit(Job::Flush)), false);
     assert_eq!(rt; can_carry_out(&Event::Turn(1000001)), false);
+    assert_eq!(rt; can_carry_out(&Event::Close(End::Back)), true);
+    Ok(())
+}
+
+#[test]
+fn a_front_that_is_asked_to_close_finishes_its_request_and_takes_no_more(
+    rt: HostRuntime,
+) -> Result<(), Fail> {
+    let alloc = rt.alloc();
+    let schedule = "settle\nsubmit write 0 1 00000007\nfront 1000\nclose front\nsubmit read 0 1\nsettle\n";
+    let sink = report(alloc, schedule, zeros(alloc)?, Detail::Lines)?;
+    assert_eq!(rt;
+        sink.bytes(),
+        b"begin 64 0 0 0 0 rw 8 lines\nready\nquiet\nsubmit 1 write 0 1 00000007\nclosing\nrefuse closing\neffect 1 0\nreply 1 ok\nanswer 1 ok\nhalt gone 5\nclosed\nquiet\nend\n".as_slice()
+    );
+    Ok(())
+}
+
+#[test]
+fn a_back_that_is_asked_to_close_serves_on_until_the_front_closes(
+    rt: HostRuntime,
+) -> Result<(), Fail> {
+    let alloc = rt.alloc();
+    let schedule = "settle\nsubmit write 0 1 00000007\nfront 1000\nclose back\nsettle\nsubmit read 0 1\n";
+    let sink = report(alloc, schedule, zeros(alloc)?, Detail::Lines)?;
+    assert_eq!(rt;
+        sink.bytes(),
+        b"begin 64 0 0 0 0 rw 8 lines\nready\nquiet\nsubmit 1 write 0 1 00000007\nclosing\neffect 1 0\nreply 1 ok\nanswer 1 ok\nhalt unplugged 5\nclosed\nquiet\nrefuse closing\nend\n".as_slice()
+    );
     Ok(())
 }
 
@@ -447,7 +476,7 @@ fn a_producer_that_overruns_halts_the_back(rt: HostRuntime) -> Result<(), Fail> 
     let sink = report(alloc, schedule, zeros(alloc)?, Detail::Lines)?;
     assert_eq!(rt;
         sink.bytes(),
-        b"begin 64 0 0 0 0 rw 8 lines\nready\nquiet\npoke 2 0 33\nhalt overrun 33 0\nquiet\nend\n".as_slice()
+        b"begin 64 0 0 0 0 rw 8 lines\nready\nquiet\npoke 2 0 33\nhalt overrun 33 0\nclosing\nclosed\nquiet\nend\n".as_slice()
     );
     Ok(())
 }

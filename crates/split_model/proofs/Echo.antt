@@ -27,9 +27,10 @@ use Rattle.plain_disk.specs.Echo.{is_echo, AnswersSubmit, AreRingWords}
 use Rattle.xen_pages.specs.Pages.{word_of}
 use Rattle.split_model.specs.World.{World}
 use Rattle.split_model.specs.Shown.{front_lines, back_lines, halt_lines, effect_line}
-use Rattle.split_model.specs.Happening.{Happening, FrontMoves, BackMoves, JobMoves, Negotiates, Connects, Submits, Notifies, Pokes, Dumps, Looks, Settles, is_guest_word, word_lines, ring_lines, happens, lines_at, lines_of, front_shows, back_shows, job_shows, front_turn, back_turn, job_turn, submit_line}
+use Rattle.split_model.specs.Happening.{Happening, FrontMoves, BackMoves, JobMoves, Negotiates, FrontEnters, BackHalts, Submits, Notifies, Pokes, Dumps, Looks, Settles, is_guest_word, word_lines, ring_lines, happens, lines_at, lines_of, front_shows, back_shows, job_shows, front_turn, back_turn, job_turn, submit_line}
 use Rattle.schedule_text.specs.Recorder.{recorded, kept_of}
-use Rattle.split_model.proofs.Keys.{negotiated_lines_are, ready_lines_are}
+use Rattle.split_model.proofs.Keys.{negotiated_lines_are}
+use Rattle.split_model.proofs.States.{enter_lines_are, state_lines_are}
 
 -- the lines that echo
 abbrev pub echo_of : List Line → List Line
@@ -38,13 +39,14 @@ echo_of report = filter is_echo report
 pub echo-append : (a b : List Line) → echo_of (a ++ b) ≡ echo_of a ++ echo_of b
 echo-append a b = filter-append is_echo a b
 
--- a move of an end or of a job, what an end does with the keys, a connection, or a spurious event
+-- a move of an end or of a job, what an end does with the keys, a state that the front enters, a halt of the back, or a spurious event
 abbrev pub is_move : Happening → Bool
 is_move FrontMoves = true
 is_move BackMoves = true
 is_move (JobMoves number outcome) = true
 is_move (Negotiates at move) = true
-is_move Connects = true
+is_move (FrontEnters state) = true
+is_move (BackHalts why) = true
 is_move (Notifies at) = true
 is_move h = false
 
@@ -110,7 +112,8 @@ move_silent w FrontMoves m = front_silent w (front_turn w)
 move_silent w BackMoves m = back_silent w (back_turn w Took)
 move_silent w (JobMoves number outcome) m = job_silent w number (job_turn w number outcome)
 move_silent w (Negotiates at move) m = none_silent _ (negotiated_lines_are (λ l. is_echo l ≡ false) w.back.stage at move w.under.keys (λ path. refl) (λ path text. refl) (λ path. refl) (λ path. refl))
-move_silent w Connects m = none_silent _ (ready_lines_are (λ l. is_echo l ≡ false) w.front.stage (λ waits. refl))
+move_silent w (FrontEnters state) m = none_silent _ (enter_lines_are (λ l. is_echo l ≡ false) state w.front (λ may. state_lines_are (λ l. is_echo l ≡ false) state refl refl refl (λ word. refl)))
+move_silent w (BackHalts why) m = halt_silent w.back.halted (let b : back.View = back_step.halts why w.back in b.halted)
 move_silent w (Notifies at) m = refl
 move_silent w (Submits job) m = absurd (cc)
 move_silent w (Pokes frame word value) m = absurd (cc)

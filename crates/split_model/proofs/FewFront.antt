@@ -22,6 +22,8 @@ use Rattle.blk_front.specs.declared.request.Request.{Request}
 use Rattle.blk_front.specs.declared.request.Transfer.{Transfer}
 use Rattle.blk_front.specs.declared.request.Transfer.TheVariants as transfer
 use Rattle.blk_front.specs.declared.request.Wish.{Wish}
+use Rattle.blk_front.specs.declared.state.FrontState.{FrontState}
+use Rattle.blk_front.specs.declared.state.FrontState.TheVariants as state
 use Rattle.blk_front.specs.declared.told.Refusal.{Refusal}
 use Rattle.blk_front.specs.declared.told.Refusal.TheVariants as refusal
 use Rattle.blk_front.specs.declared.told.Told.TheVariants as told
@@ -29,8 +31,9 @@ use Rattle.blk_front.specs.Pool.{taking}
 use Rattle.blk_front.specs.Request.{is_write, has_data, words_in, frames_for}
 use Rattle.blk_front.specs.View.{View, next_request, shape}
 use Rattle.blk_front.specs.Step.{at, broken, looked, issue_stage, data_stage, granted, loop_step, found_at, issued, taken, response_at, is_mapped, ended, revoked, sector_told, data_step, step_at, step_of}
-use Rattle.blk_front.specs.Submit.{is_ready, connected, ending_of, unfinished, wish_of, request_with, submit_with, submit_one, submit_of}
-use Rattle.split_model.proofs.Keys.{connects_cases}
+use Rattle.blk_front.specs.State.{in_state, enters}
+use Rattle.blk_front.specs.Submit.{is_ready, ending_of, unfinished, wish_of, request_with, submit_with, submit_one, submit_of}
+use Rattle.split_model.proofs.States.{enters_cases}
 
 -- a request has at most 88 sectors
 abbrev pub IsShort : Request → Type 0
@@ -148,6 +151,11 @@ step_owed (stage.ReadData n) v (answer.Word word) here takes = data_owed v v.end
 step_owed stage.StoreEvent v x here takes = goes_to 0 v stage.EventFence (omega arith)
 step_owed stage.EventFence v x here takes = goes_to 0 v stage.LookAgain (omega arith)
 step_owed stage.LookAgain v (answer.Word word) here takes = looked_owed 0 v word (record v { seen = word; stage = stage.Loop; asleep = true }) (refl, λ short. short, omega arith)
+step_owed stage.RingRead v (answer.Word word) here takes =
+    either (is_mapped word) 0 v (broken word v) (at (stage.RingEnd word) v) (refl, λ short. short, omega arith) (goes_to 0 v (stage.RingEnd word) (omega arith))
+step_owed (stage.RingEnd before) v (answer.Word word) here takes =
+    either (word == before) 0 v (at stage.ClosePort v) (broken word v) (goes_to 0 v stage.ClosePort (omega arith)) (refl, λ short. short, omega arith)
+step_owed stage.ClosePort v x here takes = goes_to 0 v stage.Left (omega arith)
 step_owed s v x here takes = stays s v here
 
 owed_modest : (n : ℕ) (v x : View) → n ≤ ending_of v.stage → Owed n v x → IsModest v → IsModest x
@@ -191,9 +199,16 @@ step_modest v x m = by_stage v.stage x refl
         response_modest v (response_of (low ∷ high ∷ last ∷ [])) low (issued v (low + high * 2 ^ 32)) (λ f e. found_in v.requests _ f e) m
     by_stage s a here = owed_modest (ending_of s) v (step_at s v a) (rw here (omega arith)) (step_owed s v a here (λ low high last e f. absurd (cc))) m
 
--- where it is connected
-pub connected_modest : (v : View) → IsModest v → IsModest (connected v)
-connected_modest v m = connects_cases (λ x shown. IsModest x) v (λ waits. record { room = (let room = m.room in omega arith); short = m.short; ending = m.ending }) m
+-- whatever state it enters
+in_state_owed : (s : FrontState) (v : View) → Owed (ending_of v.stage) v (in_state s v)
+in_state_owed state.Connected v = (refl, λ short. short, omega arith)
+in_state_owed state.Closing v = (refl, λ short. short, omega arith)
+in_state_owed state.Leaving v = (refl, λ short. short, omega arith)
+in_state_owed state.Closed v = (refl, λ short. short, omega arith)
+in_state_owed (state.Broken word) v = (refl, λ short. short, omega arith)
+
+pub entered_modest : (s : FrontState) (v : View) → IsModest v → IsModest (enters s v)
+entered_modest s v m = enters_cases (λ x shown. IsModest x) s v (λ may. owed_modest (ending_of v.stage) v (in_state s v) (omega arith) (in_state_owed s v) m) m
 
 -- and whatever is submitted
 either_submit : (b : Bool) (x y : Result ℕ Refusal × View) → IsModest x.1 → IsModest y.1 → IsModest (if b then x else y).1
@@ -228,5 +243,7 @@ wish_modest v (Some wish) m = by_tests (is_write wish.transfer && v.read_only) (
 
 pub submit_modest : (v : View) (job : Job) → IsModest v → IsModest (submit_of v job).1
 submit_modest v job m =
-    either_submit (v.last == 4294967295) (Err refusal.Spent, v) (if not (is_ready v.stage) then (Err refusal.NotReady, v) else submit_one v (wish_of job)) m
-    (either_submit (not (is_ready v.stage)) (Err refusal.NotReady, v) (submit_one v (wish_of job)) m (wish_modest v (wish_of job) m))
+    let unless_unready = if not (is_ready v.stage) then (Err refusal.NotReady, v) else submit_one v (wish_of job) in
+    either_submit (v.last == 4294967295) (Err refusal.Spent, v) (if v.closing then (Err refusal.Closing, v) else unless_unready) m
+    (either_submit v.closing (Err refusal.Closing, v) unless_unready m
+    (either_submit (not (is_ready v.stage)) (Err refusal.NotReady, v) (submit_one v (wish_of job)) m (wish_modest v (wish_of job) m)))

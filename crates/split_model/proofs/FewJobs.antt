@@ -16,9 +16,11 @@ use Rattle.blk_back.specs.declared.stage.Reply.{Reply}
 use Rattle.blk_back.specs.declared.stage.Stage.{Stage}
 use Rattle.blk_back.specs.declared.stage.Stage.TheVariants as stage
 use Rattle.blk_back.specs.View.{View}
+use Rattle.blk_back.specs.declared.told.Halt.{Halt}
 use Rattle.blk_back.specs.declared.told.Halt.TheVariants as halt
 use Rattle.blk_back.specs.Ask.{next_reply, reply_of}
-use Rattle.blk_back.specs.Step.{at, giving_up, give_up, overrun, looked, loop_step, fetched, fetch_step, replied, step_at, step_of, job_step}
+use Rattle.blk_back.specs.Step.{at, giving_up, give_up, halts, overrun, looked, loop_step, fetched, fetch_step, replied, step_at, step_of, job_step}
+use Rattle.split_model.proofs.States.{halts_cases}
 
 -- the requests that were fetched and not replied to are at most 32, and jobs or the one that is being replied to are among them; a fetch has room for its job
 abbrev pub IsRoomAt : Stage → (works waiting : ℕ) → Type 0
@@ -119,9 +121,6 @@ usual_at v s here usual h =
     let room = usual (subst (λ (x : Stage). IsRoomAt x (length v.jobs.works) (distance_of v.ring.prod v.ring.cons)) here h.room) in
     (h.entries, h.prod, h.cons, room.0, room.1)
 
-to_usual : (v : View) (s : Stage) → IsRoomAt s (length v.jobs.works) (distance_of v.ring.prod v.ring.cons) → IsUsual v → HasRoom (at s v)
-to_usual v s r u = record { entries = u.0; prod = u.1; cons = u.2; room = r }
-
 loop_room : (v : View) (reply : Option Reply) (x : BackAnswer) → next_reply v ≡ reply → v.stage ≡ stage.Loop → IsUsual v → HasRoom (loop_step v reply x)
 loop_room v (Some r) x e here u =
     let fewer = reply_fewer v.jobs.works r (position (λ (t : Work). is_done t) v.jobs.works) refl e in
@@ -202,6 +201,12 @@ step_room s v x here h = h
 
 pub back_room : (v : View) (x : BackAnswer) → HasRoom v → HasRoom (step_of v x)
 back_room v x h = step_room v.stage v x refl h
+
+-- and where its negotiation has it halt
+pub halted_room : (why : Halt) (v : View) → HasRoom v → HasRoom (halts why v)
+halted_room why v h =
+    halts_cases (λ x. HasRoom x) why v (λ here. record { entries = h.entries; prod = h.prod; cons = h.cons; room = few_jobs v h })
+    (λ here. give_up_room (record v { halted = Some why }) (few_jobs v h) h.entries h.prod h.cons) h
 
 -- a job's move leaves as many jobs
 told_as_many : (works : List Work) (place : Option ℕ) (work : Option Work) (x : BackAnswer) → length (told_at works place work x) ≡ length works

@@ -1,4 +1,4 @@
--- What becomes of the keys: what an end does with them, and that no other layout than that of 64-bit guests is ever named and no feature offered; and what a connection shows.
+-- What becomes of the keys: what an end does with them, and that no other layout than that of 64-bit guests is ever named.
 use Rattle.std.proofs.Common.{◌≡◌, ◌≢◌, ℕ, Bool, true, false, true≢false, not, ◌&&◌, ◌||◌, if◌then◌else◌, List, [], ◌∷◌, refl, sym, ap, ◌∙◌, subst}
 use Rattle.std.specs.Prelude.{Option, Some, None, Result, Ok, Err, codes}
 use Rattle.std.specs.List.{AllByRecursion}
@@ -27,17 +27,13 @@ use Rattle.key_directory.specs.Directory.{Directory, key_of, with_key, written, 
 use Rattle.key_directory.proofs.Entries.{key_of-with_key_same, key_of-with_key_other}
 use Rattle.hypervisor.specs.Hypervisor.{Hypervisor}
 use Rattle.hypervisor.specs.Act.{FrontAct, BackAct, Outcome, Took, is_own_path, front_act, back_act, map_act, bind_act}
-use Rattle.blk_front.specs.declared.stage.Stage.{Stage}
-use Rattle.blk_front.specs.declared.stage.Stage.TheVariants as front_stage
-use Rattle.blk_front.specs.View as front
-use Rattle.blk_front.specs.Submit.{is_initialised, connected}
 use Rattle.blk_front.specs.Ask as front_ends
 use Rattle.blk_back.specs.declared.stage.Stage.{Stage as BackStage}
 use Rattle.blk_back.specs.Ask as back_ends
 use Rattle.blk_back.specs.Step.{job_ask_of}
 use Rattle.split_model.specs.World.{World}
 use Rattle.split_model.specs.Keys.{KeyMove, Gets, Sets, Watches as WatchesPath, TakesWatch, mover_at, names_layout, is_x64_text, names_feature, is_zero_text, may_set, may_negotiate, keys_after, watched_lines, key_lines, negotiated, negotiated_lines}
-use Rattle.split_model.specs.Happening.{Happening, FrontMoves, BackMoves, JobMoves, Negotiates, Connects, Submits, Notifies, Pokes, Dumps, Looks, Settles, ready_lines, happens, after, front_after, back_after, job_after, front_turn, back_turn, job_turn}
+use Rattle.split_model.specs.Happening.{Happening, FrontMoves, BackMoves, JobMoves, Negotiates, FrontEnters, BackHalts, Submits, Notifies, Pokes, Dumps, Looks, Settles, happens, after, front_after, back_after, job_after, front_turn, back_turn, job_turn}
 use Rattle.split_model.proofs.Overwriting.{poke_cases}
 use Rattle.split_model.proofs.SafeActs.{of_front, of_back, of_read, of_disk, AsksBackKey, front_wait, back_wait}
 use Rattle.split_model.proofs.SafeAnswers.{AsksNoKey, fronts_no_key, IsBacks, backs_of, IsJobs, jobs_of}
@@ -84,14 +80,6 @@ negotiated_cases P s at move d does none = by_test (may_negotiate s at) refl
     by_test true may = does may
     by_test false may = none
 
--- the front is connected, and that is shown where it waited for it
-pub connects_cases : (P : front.View → List Line → Type 0) (v : front.View) → (is_initialised v.stage ≡ true → P (record v { stage = front_stage.Loop }) (lines.Ready ∷ [])) → P v [] → P (connected v) (ready_lines v.stage)
-connects_cases P v waited none = by_test (is_initialised v.stage) refl
-  where
-    by_test : (b : Bool) → is_initialised v.stage ≡ b → P (if b then record v { stage = front_stage.Loop } else v) (if b then lines.Ready ∷ [] else [])
-    by_test true waits = waited waits
-    by_test false waits = none
-
 -- the lines of each are of this kind, where one is
 pub key_lines_are : (P : Line → Type 0) (at : End) (move : KeyMove) (d : Directory)
     → ((path : List ℕ) → P (lines.Move (moves.GetKey (mover_at at) path (key_of d.keys path))))
@@ -111,13 +99,6 @@ pub negotiated_lines_are : (P : Line → Type 0) (s : BackStage) (at : End) (mov
     → AllByRecursion P (negotiated_lines s at move d)
 negotiated_lines_are P s at move d got set watch watched =
     negotiated_cases (λ (after : Directory) (shown : List Line). AllByRecursion P shown) s at move d (λ may. key_lines_are P at move d got set watch watched) tt
-
-pub ready_lines_are : (P : Line → Type 0) (s : Stage) → (is_initialised s ≡ true → P lines.Ready) → AllByRecursion P (ready_lines s)
-ready_lines_are P s is = by_test (is_initialised s) refl
-  where
-    by_test : (b : Bool) → is_initialised s ≡ b → AllByRecursion P (if b then lines.Ready ∷ [] else [])
-    by_test true waits = (is waits, tt)
-    by_test false waits = tt
 
 -- it stays when a watch is taken
 abbrev pub StaysTaken : (Directory → Type 0) → Type 0
@@ -205,7 +186,8 @@ keys_happen P taking w FrontMoves kept u = front_turn_stays P taking w (front_tu
 keys_happen P taking w BackMoves kept u = back_turn_stays P taking w (back_turn w Took) refl u
 keys_happen P taking w (JobMoves number outcome) kept u = job_turn_stays P taking w number outcome (job_turn w number outcome) refl u
 keys_happen P taking w (Negotiates at move) kept u = kept at move refl u
-keys_happen P taking w Connects kept u = u
+keys_happen P taking w (FrontEnters state) kept u = u
+keys_happen P taking w (BackHalts why) kept u = u
 keys_happen P taking w (Submits job) kept u = u
 keys_happen P taking w (Notifies at) kept u = u
 keys_happen P taking w (Pokes frame word value) kept u = poke_cases (λ under shown. P under.keys) w.under frame word value (λ framed worded. u) u
@@ -222,12 +204,9 @@ IsOrNone kind (Some text) = kind text ≡ true
 abbrev pub SayOnly : (names kind : List ℕ → Bool) → Directory → Type 0
 SayOnly names kind d = (path : List ℕ) → names path ≡ true → IsOrNone kind (key_of d.keys path)
 
--- no other layout is named, and no feature offered
+-- no other layout is named
 abbrev pub NamesNoOther : Directory → Type 0
 NamesNoOther d = SayOnly names_layout is_x64_text d
-
-abbrev pub OffersNothing : Directory → Type 0
-OffersNothing d = SayOnly names_feature is_zero_text d
 
 -- a key that isn't there at the start
 absent : (kind : List ℕ → Bool) (path there : List ℕ) → bytes_eq path there ≡ true → IsOrNone kind (key_of (fresh_directory (codes "1")).keys there) → IsOrNone kind (key_of (fresh_directory (codes "1")).keys path)
@@ -235,34 +214,6 @@ absent kind path there is none = subst (λ (p : List ℕ). IsOrNone kind (key_of
 
 pub named_start : NamesNoOther (fresh_directory (codes "1"))
 named_start path is = absent is_x64_text path (codes "/local/domain/1/device/vbd/51712/protocol") is tt
-
-pub offered_start : OffersNothing (fresh_directory (codes "1"))
-offered_start path is = by_tests (bytes_eq path barrier) (bytes_eq path flush) (bytes_eq path discard) (bytes_eq path indirect) (bytes_eq path persistent) is refl refl refl refl refl
-  where
-    barrier : List ℕ
-    barrier = codes "/local/domain/0/backend/vbd/1/51712/feature-barrier"
-
-    flush : List ℕ
-    flush = codes "/local/domain/0/backend/vbd/1/51712/feature-flush-cache"
-
-    discard : List ℕ
-    discard = codes "/local/domain/0/backend/vbd/1/51712/feature-discard"
-
-    indirect : List ℕ
-    indirect = codes "/local/domain/0/backend/vbd/1/51712/feature-max-indirect-segments"
-
-    persistent : List ℕ
-    persistent = codes "/local/domain/0/backend/vbd/1/51712/feature-persistent"
-
-    by_tests :
-        (a b c d e : Bool) → (a || b || c || d || e) ≡ true → bytes_eq path barrier ≡ a → bytes_eq path flush ≡ b → bytes_eq path discard ≡ c → bytes_eq path indirect ≡ d → bytes_eq path persistent ≡ e
-        → IsOrNone is_zero_text (key_of (fresh_directory (codes "1")).keys path)
-    by_tests true b c d e some p q r s t = absent is_zero_text path barrier p tt
-    by_tests false true c d e some p q r s t = absent is_zero_text path flush q tt
-    by_tests false false true d e some p q r s t = absent is_zero_text path discard r tt
-    by_tests false false false true e some p q r s t = absent is_zero_text path indirect s tt
-    by_tests false false false false true some p q r s t = absent is_zero_text path persistent t tt
-    by_tests false false false false false some p q r s t = absurd (true≢false (sym some))
 
 say_watching : (names kind : List ℕ → Bool) (d : Directory) (at : End) (w : Watches) → SayOnly names kind d → SayOnly names kind (with_watches d at w)
 say_watching names kind d end.Front w say = say
@@ -279,20 +230,12 @@ say_written names kind path text d may say other is = by_test (bytes_eq path oth
         let differs : other ≢ path = λ same. true≢false (sym ((bytes_eq-Decides path other).1 (sym same)) ∙ e) in
         subst (IsOrNone kind) (sym (key_of-with_key_other d.keys path text other differs)) (say other is)
 
--- what may be set is so by both tests
+-- what may be set is so
 x64_set : (own layout x64 feature zero : Bool) → (own && (not layout || x64) && (not feature || zero)) ≡ true → layout ≡ true → x64 ≡ true
 x64_set false layout x64 feature zero may is = absurd (true≢false (sym may))
 x64_set true false x64 feature zero may is = absurd (true≢false (sym is))
 x64_set true true true feature zero may is = refl
 x64_set true true false feature zero may is = absurd (true≢false (sym may))
-
-zero_set : (own layout x64 feature zero : Bool) → (own && (not layout || x64) && (not feature || zero)) ≡ true → feature ≡ true → zero ≡ true
-zero_set false layout x64 feature zero may is = absurd (true≢false (sym may))
-zero_set true layout x64 false zero may is = absurd (true≢false (sym is))
-zero_set true layout x64 true true may is = refl
-zero_set true false x64 true false may is = absurd (true≢false (sym may))
-zero_set true true true true false may is = absurd (true≢false (sym may))
-zero_set true true false true false may is = absurd (true≢false (sym may))
 
 -- what an end does with the keys keeps it, where each text that may be set is so
 say_keys :
@@ -314,14 +257,6 @@ pub named_happens : (w : World) (h : Happening) → NamesNoOther w.under.keys �
 named_happens w h named =
     say_happens names_layout is_x64_text (λ at path text may is. x64_set (is_own_path at path) (names_layout path) (is_x64_text text) (names_feature path) (is_zero_text text) may is) w h named
 
-pub offered_happens : (w : World) (h : Happening) → OffersNothing w.under.keys → (let v : World = happens w h in OffersNothing v.under.keys)
-offered_happens w h offered =
-    say_happens names_feature is_zero_text (λ at path text may is. zero_set (is_own_path at path) (names_layout path) (is_x64_text text) (names_feature path) (is_zero_text text) may is) w h offered
-
 pub named_after : (hs : List Happening) (w : World) → NamesNoOther w.under.keys → (let v : World = after hs w in NamesNoOther v.under.keys)
 named_after [] w named = named
 named_after (h ∷ hs) w named = named_after hs (happens w h) (named_happens w h named)
-
-pub offered_after : (hs : List Happening) (w : World) → OffersNothing w.under.keys → (let v : World = after hs w in OffersNothing v.under.keys)
-offered_after [] w offered = offered
-offered_after (h ∷ hs) w offered = offered_after hs (happens w h) (offered_happens w h offered)

@@ -8,6 +8,7 @@ pub mod SafeGrowth
 pub mod SafeFront
 pub mod Safe
 pub mod Overwriting
+pub mod States
 pub mod Keys
 pub mod FewFront
 pub mod FewJobs

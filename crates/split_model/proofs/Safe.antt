@@ -12,6 +12,7 @@ use Rattle.blk_base.specs.declared.ask.FrontAsk.{FrontAsk}
 use Rattle.blk_base.specs.declared.ask.FrontAsk.TheVariants as front_ask
 use Rattle.blk_base.specs.declared.ask.BackAsk.{BackAsk}
 use Rattle.blk_base.specs.declared.ask.BackAsk.TheVariants as back_ask
+use Rattle.blk_base.specs.declared.ask.BackAnswer.TheVariants as back_answer
 use Rattle.blk_base.specs.declared.moves.BackMover.{BackMover}
 use Rattle.blk_base.specs.declared.moves.BackMover.TheVariants as back_mover
 use Rattle.grant_table.specs.declared.held.Held.{Held}
@@ -25,22 +26,27 @@ use Rattle.hypervisor.specs.Act.{FrontAct, BackAct, Outcome, Took, front_act, ba
 use Rattle.hypervisor.specs.May.{FrontMay, BackMay, HasMappingLeft}
 use Rattle.blk_front.specs.declared.stage.Stage.{Stage as FrontStage}
 use Rattle.blk_front.specs.declared.stage.Stage.TheVariants as front_stage
+use Rattle.blk_front.specs.declared.state.FrontState.{FrontState}
 use Rattle.blk_front.specs.Ask as front_ends
 use Rattle.back_jobs.specs.Hands.{Names}
 use Rattle.back_jobs.specs.Sound.{StaysInPageAndDisk}
+use Rattle.blk_back.specs.declared.stage.Stage.{Stage as BackStage}
+use Rattle.blk_back.specs.declared.stage.Stage.TheVariants as back_stage
+use Rattle.blk_back.specs.declared.told.Halt.{Halt}
 use Rattle.blk_back.specs.View as back
 use Rattle.blk_back.specs.Ask as back_ends
-use Rattle.blk_back.specs.Step.{step_of, job_step, job_ask_of}
-use Rattle.blk_back.specs.Hands.{hands_of}
+use Rattle.blk_back.specs.Step.{give_up, step_of, job_step, job_ask_of}
+use Rattle.blk_back.specs.Hands.{hands_at, hands_of}
 use Rattle.blk_back.proofs.Hands.{hands_after, job_hands_after, step_info}
 use Rattle.segment_list.specs.declared.verdict.DiskInfo.{DiskInfo}
 use Rattle.split_model.specs.World.{World, start_of}
 use Rattle.split_model.proofs.Overwriting.{poke_cases}
-use Rattle.split_model.specs.Happening.{Happening, FrontMoves, BackMoves, JobMoves, Negotiates, Connects, Submits, Notifies, Pokes, Dumps, Looks, Settles, happens, after, front_after, back_after, job_after, front_turn, back_turn, job_turn, other_end}
+use Rattle.split_model.specs.Happening.{Happening, FrontMoves, BackMoves, JobMoves, Negotiates, FrontEnters, BackHalts, Submits, Notifies, Pokes, Dumps, Looks, Settles, happens, after, front_after, back_after, job_after, front_turn, back_turn, job_turn, other_end}
 use Rattle.split_model.specs.Safe.{AreHeld, IsPorted, IsSafe}
 use Rattle.split_model.proofs.SafeActs.{of_back, of_read, of_disk, held_after, made_front, IsBackKeyAct, back_wait, back_keys, back_key_channels}
 use Rattle.split_model.proofs.SafeAnswers.{IsFronts, IsBacks, IsJobs, fronts_at, backs_of, jobs_of, back_answered, job_answered}
-use Rattle.split_model.proofs.SafeFront.{channels_front, step_fits, connected_ported, connected_kept, submit_kept}
+use Rattle.split_model.proofs.States.{halts_cases}
+use Rattle.split_model.proofs.SafeFront.{channels_front, step_fits, entered_kept, submit_kept}
 
 -- at the start nothing is mapped, made or to be told
 none_live : AreHeld fresh_table []
@@ -69,41 +75,45 @@ ported_as front_stage.NewPort c c' into p = into p
 ported_as s c c' into p = tt
 
 -- the back makes no port
-abbrev NoPortAfter : BackAct → Type 0
-NoPortAfter a = NoPort a.under.channels
+abbrev pub MakesNoPort : Hypervisor → BackAct → Type 0
+MakesNoPort h a = (a.under.channels.made ≡ h.channels.made) × (h.channels.ports ≡ [] → a.under.channels.ports ≡ [])
 
-bind_ports : (h : Hypervisor) (p : ℕ) (state : PortState) → NoPort h.channels → NoPortAfter (bind_act h p state)
-bind_ports h p port.Unbound none = (none.0, rw none.1 refl)
-bind_ports h p port.Closed none = none
-bind_ports h p port.Bound none = none
+bind_ports : (h : Hypervisor) (p : ℕ) (state : PortState) → MakesNoPort h (bind_act h p state)
+bind_ports h p port.Unbound = (refl, λ none. rw none refl)
+bind_ports h p port.Closed = (refl, λ none. none)
+bind_ports h p port.Bound = (refl, λ none. none)
 
-map_ports : (h : Hypervisor) (who : BackMover) (gref : ℕ) (mode : Mode) (verdict : Result ℕ MapRefusal) → NoPort h.channels → NoPortAfter (map_act h who gref mode verdict)
-map_ports h who gref mode (Ok frame) none = none
-map_ports h who gref mode (Err refusal) none = none
+map_ports : (h : Hypervisor) (who : BackMover) (gref : ℕ) (mode : Mode) (verdict : Result ℕ MapRefusal) → MakesNoPort h (map_act h who gref mode verdict)
+map_ports h who gref mode (Ok frame) = (refl, λ none. none)
+map_ports h who gref mode (Err refusal) = (refl, λ none. none)
 
-same_ports : (h : Hypervisor) → NoPort h.channels → (x : BackAct) → x.under ≡ h → NoPortAfter x
-same_ports h none x same = rw same none
+same_ports : (h : Hypervisor) (x : BackAct) → x.under.channels ≡ h.channels → MakesNoPort h x
+same_ports h x same = (ap (λ (c : ChannelState). c.made) same, λ none. ap (λ (c : ChannelState). c.ports) same ∙ none)
 
-key_ports : (h : Hypervisor) → NoPort h.channels → (x : BackAct) → IsBackKeyAct h x → NoPortAfter x
-key_ports h none x is = rw (back_key_channels h x is) none
+under_ports : (h : Hypervisor) (x : BackAct) → x.under ≡ h → MakesNoPort h x
+under_ports h x same = same_ports h x (ap (λ (u : Hypervisor). u.channels) same)
 
-ports_back : (h : Hypervisor) (who : BackMover) (ask : BackAsk) (o : Outcome) (a : BackAct) → back_act h who ask o ≡ Some a → NoPort h.channels → NoPort a.under.channels
-ports_back h who back_ask.Wait o a e none = back_wait NoPortAfter h who a none (λ path. none) e
-ports_back h who back_ask.Fence o a e none = of_back NoPortAfter _ a none e
-ports_back h who (back_ask.Read m word) o a e none = of_back NoPortAfter _ a none e
-ports_back h who (back_ask.Write m word value) o a e none = of_back NoPortAfter _ a none e
-ports_back h who (back_ask.Map gref mode) o a e none = of_back NoPortAfter _ a (map_ports h who gref mode (verdict_at h.pages gref mode) none) e
-ports_back h who (back_ask.Unmap m) o a e none = of_back NoPortAfter _ a none e
-ports_back h who (back_ask.Bind p) o a e none = of_back NoPortAfter _ a (bind_ports h p (state_of h.channels p) none) e
-ports_back h who back_ask.Send o a e none = of_back NoPortAfter _ a none e
-ports_back h who back_ask.ClosePort o a e none = of_back NoPortAfter _ a (none.0, rw none.1 refl) e
-ports_back h who (back_ask.GetKey path) o a e none = back_keys NoPortAfter h who (back_ask.GetKey path) o a tt (key_ports h none) e
-ports_back h who (back_ask.SetKey path text) o a e none = back_keys NoPortAfter h who (back_ask.SetKey path text) o a tt (key_ports h none) e
-ports_back h who (back_ask.Watch path) o a e none = back_keys NoPortAfter h who (back_ask.Watch path) o a tt (key_ports h none) e
-ports_back h who (back_ask.DiskRead sector) o a e none = of_read NoPortAfter h _ o a (same_ports h none) e
-ports_back h who (back_ask.DiskWrite sector words) o a e none = of_disk NoPortAfter h _ o a (same_ports h none) e
-ports_back h who back_ask.Flush o a e none = of_disk NoPortAfter h _ o a (same_ports h none) e
-ports_back h who (back_ask.Trim sector count) o a e none = of_disk NoPortAfter h _ o a (same_ports h none) e
+pub ports_back : (h : Hypervisor) (who : BackMover) (ask : BackAsk) (o : Outcome) (a : BackAct) → back_act h who ask o ≡ Some a → MakesNoPort h a
+ports_back h who back_ask.Wait o a e = back_wait (MakesNoPort h) h who a (refl, λ none. none) (λ path. (refl, λ none. none)) e
+ports_back h who back_ask.Fence o a e = of_back (MakesNoPort h) _ a (refl, λ none. none) e
+ports_back h who (back_ask.Read m word) o a e = of_back (MakesNoPort h) _ a (refl, λ none. none) e
+ports_back h who (back_ask.Write m word value) o a e = of_back (MakesNoPort h) _ a (refl, λ none. none) e
+ports_back h who (back_ask.Map gref mode) o a e = of_back (MakesNoPort h) _ a (map_ports h who gref mode (verdict_at h.pages gref mode)) e
+ports_back h who (back_ask.Unmap m) o a e = of_back (MakesNoPort h) _ a (refl, λ none. none) e
+ports_back h who (back_ask.Bind p) o a e = of_back (MakesNoPort h) _ a (bind_ports h p (state_of h.channels p)) e
+ports_back h who back_ask.Send o a e = of_back (MakesNoPort h) _ a (refl, λ none. none) e
+ports_back h who back_ask.ClosePort o a e = of_back (MakesNoPort h) _ a (refl, λ none. rw none refl) e
+ports_back h who (back_ask.GetKey path) o a e = back_keys (MakesNoPort h) h who (back_ask.GetKey path) o a tt (λ x is. same_ports h x (back_key_channels h x is)) e
+ports_back h who (back_ask.SetKey path text) o a e = back_keys (MakesNoPort h) h who (back_ask.SetKey path text) o a tt (λ x is. same_ports h x (back_key_channels h x is)) e
+ports_back h who (back_ask.Watch path) o a e = back_keys (MakesNoPort h) h who (back_ask.Watch path) o a tt (λ x is. same_ports h x (back_key_channels h x is)) e
+ports_back h who (back_ask.DiskRead sector) o a e = of_read (MakesNoPort h) h _ o a (under_ports h) e
+ports_back h who (back_ask.DiskWrite sector words) o a e = of_disk (MakesNoPort h) h _ o a (under_ports h) e
+ports_back h who back_ask.Flush o a e = of_disk (MakesNoPort h) h _ o a (under_ports h) e
+ports_back h who (back_ask.Trim sector count) o a e = of_disk (MakesNoPort h) h _ o a (under_ports h) e
+
+-- so where none was made none is
+no_port : (h : Hypervisor) (a : BackAct) → MakesNoPort h a → NoPort h.channels → NoPort a.under.channels
+no_port h a makes none = (makes.0 ∙ none.0, makes.1 none.1)
 
 -- a move of the front
 pub safe_front : (w : World) (a : FrontAct) → IsSafe w → front_act w.under (front_ends.ask_of w.front) ≡ Some a → IsSafe (front_after w (Some a))
@@ -122,7 +132,7 @@ pub safe_back : (w : World) (o : Outcome) (a : BackAct) → IsSafe w → back_tu
 safe_back w o a safe e =
     let answered = back_answered w.under w.back o a e in
     record {
-      ported = ported_as w.front.stage w.under.channels a.under.channels (ports_back w.under back_mover.Back (back_ends.ask_of w.back) o a e) safe.ported;
+      ported = ported_as w.front.stage w.under.channels a.under.channels (no_port w.under a (ports_back w.under back_mover.Back (back_ends.ask_of w.back) o a e)) safe.ported;
       held = held_after w.under back_mover.Back (back_ends.ask_of w.back) o a (hands_of w.back) (hands_of (step_of w.back a.answer)) safe.held e (hands_after w.back a.answer answered);
       sized = ap (λ (i : DiskInfo). i.sectors) (step_info w.back a.answer) ∙ safe.sized;
       front_told = safe.front_told;
@@ -134,23 +144,44 @@ pub safe_job : (w : World) (k : ℕ) (o : Outcome) (a : BackAct) → IsSafe w �
 safe_job w k o a safe e =
     let answered = job_answered w.under w.back k o a e in
     record {
-      ported = ported_as w.front.stage w.under.channels a.under.channels (ports_back w.under (back_mover.Job k) (job_ask_of w.back k) o a e) safe.ported;
+      ported = ported_as w.front.stage w.under.channels a.under.channels (no_port w.under a (ports_back w.under (back_mover.Job k) (job_ask_of w.back k) o a e)) safe.ported;
       held = held_after w.under (back_mover.Job k) (job_ask_of w.back k) o a (hands_of w.back) (hands_of (job_step w.back k a.answer)) safe.held e (job_hands_after w.back k a.answer answered);
       sized = safe.sized;
       front_told = safe.front_told;
       back_told = refl;
     }
 
--- a front that is connected
-pub safe_connect : (w : World) → IsSafe w → IsSafe (happens w Connects)
-safe_connect w safe =
-    let kept = connected_kept w.front in
+-- a state that the front enters
+safe_enter : (w : World) (s : FrontState) → IsSafe w → IsSafe (happens w (FrontEnters s))
+safe_enter w s safe =
+    let kept = entered_kept s w.front in
     record {
-      ported = connected_ported w.front w.under.channels safe.ported;
+      ported = kept.ported w.under.channels safe.ported;
       held = safe.held;
-      sized = safe.sized ∙ sym kept.0;
-      front_told = kept.1 ∙ safe.front_told;
+      sized = safe.sized ∙ sym kept.sectors;
+      front_told = kept.told ∙ safe.front_told;
       back_told = safe.back_told;
+    }
+
+-- a back that gives up its jobs holds what it held in its loop, as one that finds an overrun does
+halted_hands : (v : back.View) → hands_of (give_up v) ≡ hands_at back_stage.Loop v
+halted_hands v = hands_after (record v { ring = record { entries = 0; prod = 0; cons = 0 }; stage = back_stage.LookAgain }) (back_answer.Word 1) tt
+
+-- a halt of the back
+safe_halt : (w : World) (why : Halt) → IsSafe w → IsSafe (happens w (BackHalts why))
+safe_halt w why safe =
+    halts_cases (λ b. IsSafe (record { front = w.front; back = b; under = w.under })) why w.back
+    (λ here. halted (record w.back { halted = Some why; stage = back_stage.Halted }) (ap (λ (s : BackStage). hands_at s w.back) (sym here)) refl refl)
+    (λ here. halted (give_up (record w.back { halted = Some why })) (halted_hands (record w.back { halted = Some why }) ∙ ap (λ (s : BackStage). hands_at s w.back) (sym here)) refl refl)
+    (halted w.back refl refl refl)
+  where
+    halted : (b : back.View) → hands_of b ≡ hands_of w.back → b.jobs.info ≡ w.back.jobs.info → b.told ≡ w.back.told → IsSafe (record { front = w.front; back = b; under = w.under })
+    halted b hands info told = record {
+      ported = safe.ported;
+      held = rw hands safe.held;
+      sized = ap (λ (i : DiskInfo). i.sectors) info ∙ safe.sized;
+      front_told = safe.front_told;
+      back_told = told ∙ safe.back_told;
     }
 
 -- a submission
@@ -268,7 +299,8 @@ safe_happens w FrontMoves safe = safe_front_turn w (front_turn w) safe refl
 safe_happens w BackMoves safe = safe_back_turn w Took (back_turn w Took) safe refl
 safe_happens w (JobMoves number outcome) safe = safe_job_turn w number outcome (job_turn w number outcome) safe refl
 safe_happens w (Negotiates at move) safe = record { ported = safe.ported; held = safe.held; sized = safe.sized; front_told = safe.front_told; back_told = safe.back_told }
-safe_happens w Connects safe = safe_connect w safe
+safe_happens w (FrontEnters state) safe = safe_enter w state safe
+safe_happens w (BackHalts why) safe = safe_halt w why safe
 safe_happens w (Submits job) safe = safe_submit w job safe
 safe_happens w (Notifies at) safe = safe_notify w at safe
 safe_happens w (Pokes frame word value) safe = safe_poke w frame word value safe

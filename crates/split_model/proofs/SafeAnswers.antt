@@ -1,6 +1,6 @@
 -- Each act's answer is one that its ask allows.
 use Rattle.std.proofs.Common.{◌≡◌, ℕ, Bool, true, false, if◌then◌else◌, List, [], ◌∷◌, refl}
-use Rattle.std.specs.Prelude.{Option, Some, None, Result, Ok, Err, is_some, ◌==◌}
+use Rattle.std.specs.Prelude.{Option, Some, None, Result, Ok, Err, is_some, ◌==◌, ◌||◌}
 use Rattle.std.proofs.lemmas.Option.{none-some}
 use Rattle.blk_base.specs.declared.parts.Mode.{Mode}
 use Rattle.blk_base.specs.declared.ask.FrontAsk.{FrontAsk}
@@ -40,10 +40,9 @@ use Rattle.blk_back.specs.Step.{job_ask_of}
 use Rattle.split_model.specs.Safe.{IsPorted}
 use Rattle.split_model.proofs.SafeActs.{of_front, of_back, front_wait, back_wait}
 
--- what the front asks: a new port only where there is none, and never for a close or a key
+-- what the front asks: a new port only where there is none, and never for a key
 abbrev pub IsFronts : ChannelState → FrontAsk → Type 0
 IsFronts c front_ask.NewPort = (c.made ≡ 0) × (c.ports ≡ [])
-IsFronts c front_ask.ClosePort = ⊥
 IsFronts c (front_ask.GetKey path) = ⊥
 IsFronts c (front_ask.SetKey path text) = ⊥
 IsFronts c (front_ask.Watch path) = ⊥
@@ -59,7 +58,7 @@ issue_fronts c r (transfer.Write tag) = tt
 
 loop_fronts : (c : ChannelState) (v : front.View) (r : Option Request) → IsFronts c (front_ends.loop_ask v r)
 loop_fronts c v (Some r) = issue_fronts c r r.transfer
-loop_fronts c v None = either_fronts c v.asleep front_ask.Wait _ tt (either_fronts c (responses_of v.ring v.seen == 0) (front_ask.Read front.ring_frame 2) (front_ask.Read (front.slot_frame v.ring.cons 0) (front.slot_word v.ring.cons 0)) tt tt)
+loop_fronts c v None = either_fronts c (v.asleep || front_ends.is_through v) front_ask.Wait _ tt (either_fronts c (responses_of v.ring v.seen == 0) (front_ask.Read front.ring_frame 2) (front_ask.Read (front.slot_frame v.ring.cons 0) (front.slot_word v.ring.cons 0)) tt tt)
 
 issue_data_fronts : (c : ChannelState) (r : Option Request) (n : ℕ) → IsFronts c (front_ends.data_ask r n)
 issue_data_fronts c None n = tt
@@ -110,6 +109,11 @@ fronts_at c (front_stage.ReadData n) v ported = read_fronts c v.ending n
 fronts_at c front_stage.StoreEvent v ported = tt
 fronts_at c front_stage.EventFence v ported = tt
 fronts_at c front_stage.LookAgain v ported = tt
+fronts_at c front_stage.RingRead v ported = tt
+fronts_at c (front_stage.RingEnd seen) v ported = tt
+fronts_at c front_stage.ClosePort v ported = tt
+fronts_at c front_stage.Left v ported = tt
+fronts_at c front_stage.Closed v ported = tt
 fronts_at c (front_stage.Broken word) v ported = tt
 
 ported_fresh : (s : FrontStage) → IsPorted s fresh_channels
@@ -131,7 +135,7 @@ front_answered_at h c (front_ask.Write frame word value) a own e = of_front (Ans
 front_answered_at h c (front_ask.Cas frame word old new) a own e = of_front (AnswersFront (front_ask.Cas frame word old new)) _ a tt e
 front_answered_at h c front_ask.NewPort a own e = of_front (AnswersFront front_ask.NewPort) _ a tt e
 front_answered_at h c front_ask.Send a own e = of_front (AnswersFront front_ask.Send) _ a tt e
-front_answered_at h c front_ask.ClosePort a own e = absurd own
+front_answered_at h c front_ask.ClosePort a own e = of_front (AnswersFront front_ask.ClosePort) _ a tt e
 front_answered_at h c (front_ask.GetKey path) a own e = absurd own
 front_answered_at h c (front_ask.SetKey path text) a own e = absurd own
 front_answered_at h c (front_ask.Watch path) a own e = absurd own

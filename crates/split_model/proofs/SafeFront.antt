@@ -1,4 +1,4 @@
--- What a step, a connection and a submission leave of the front: its disk, and that it made its port once.
+-- What a step, a state that it enters and a submission leave of the front: its disk, and that it made its port once.
 use Rattle.std.proofs.Common.{◌≡◌, ℕ, ◌+◌, ◌*◌, ◌/◌, ◌%◌, ◌^◌, ◌&&◌, Bool, true, false, not, if◌then◌else◌, List, [], ◌∷◌, length, refl}
 use Rattle.std.specs.Prelude.{Option, Some, None, Result, Ok, Err, nat_lt, nat_le, ◌==◌}
 use Rattle.blk_base.specs.Distance.{distance_of}
@@ -18,6 +18,8 @@ use Rattle.blk_front.specs.declared.stage.Ending.{Ending}
 use Rattle.blk_front.specs.declared.request.Request.{Request}
 use Rattle.blk_front.specs.declared.request.Transfer.{Transfer}
 use Rattle.blk_front.specs.declared.request.Transfer.TheVariants as transfer
+use Rattle.blk_front.specs.declared.state.FrontState.{FrontState}
+use Rattle.blk_front.specs.declared.state.FrontState.TheVariants as state
 use Rattle.blk_front.specs.declared.told.Refusal.{Refusal}
 use Rattle.blk_front.specs.declared.told.Refusal.TheVariants as refusal
 use Rattle.blk_front.specs.declared.request.Wish.{Wish}
@@ -27,10 +29,11 @@ use Rattle.blk_front.specs.Request.{is_write, has_data, words_in, frames_for}
 use Rattle.blk_front.specs.View.{View, next_request, shape}
 use Rattle.blk_front.specs.Ask.{ask_at}
 use Rattle.blk_front.specs.Step.{at, broken, looked, issue_stage, data_stage, granted, loop_step, issued, response_at, is_mapped, ended, revoked, sector_told, data_step, step_at, step_of}
-use Rattle.blk_front.specs.Submit.{is_ready, connected, unfinished, wish_of, submit_with, submit_one, submit_of}
+use Rattle.blk_front.specs.State.{in_state, enters}
+use Rattle.blk_front.specs.Submit.{is_ready, unfinished, wish_of, submit_with, submit_one, submit_of}
 use Rattle.split_model.specs.Safe.{IsPorted}
 use Rattle.split_model.proofs.SafeActs.{of_front}
-use Rattle.split_model.proofs.Keys.{connects_cases}
+use Rattle.split_model.proofs.States.{enters_cases}
 
 -- there is no port yet, but where one is being made or was
 abbrev pub IsUnported : Stage → ChannelState → Type 0
@@ -133,6 +136,9 @@ step_fits_at (stage.ReadData n) v (answer.Word word) c here p = data_fits v v.en
 step_fits_at stage.StoreEvent v x c here p = (tt, refl)
 step_fits_at stage.EventFence v x c here p = (tt, refl)
 step_fits_at stage.LookAgain v (answer.Word word) c here p = looked_fits v word (record v { seen = word; stage = stage.Loop; asleep = true }) c (tt, refl)
+step_fits_at stage.RingRead v (answer.Word word) c here p = either (is_mapped word) (broken word v) (at (stage.RingEnd word) v) v.sectors c (tt, refl) (tt, refl)
+step_fits_at (stage.RingEnd before) v (answer.Word word) c here p = either (word == before) (at stage.ClosePort v) (broken word v) v.sectors c (tt, refl) (tt, refl)
+step_fits_at stage.ClosePort v x c here p = (tt, refl)
 step_fits_at s v x c here p = stays s v c here tt
 
 -- a step of the front from a stage that fits the channels
@@ -150,12 +156,21 @@ sectors_front v x = (step_fits v x (record { made = 0; ports = []; front_pending
     unported stage.RingFlags = (refl, refl)
     unported s = tt
 
--- connected, where it waits for it
-pub connected_ported : (v : View) (c : ChannelState) → IsPorted v.stage c → IsPorted (connected v).stage c
-connected_ported v c ported = connects_cases (λ x shown. IsPorted x.stage c) v (λ waits. tt) ported
+-- a state that it enters leaves its disk and what it is to tell, and fits the channels where the stage before did
+pub record IsEntered (v x : View) : Type 0 where
+  pub ported : (c : ChannelState) → IsPorted v.stage c → IsPorted x.stage c
+  pub sectors : x.sectors ≡ v.sectors
+  pub told : x.told ≡ v.told
 
-pub connected_kept : (v : View) → ((connected v).sectors ≡ v.sectors) × ((connected v).told ≡ v.told)
-connected_kept v = connects_cases (λ x shown. (x.sectors ≡ v.sectors) × (x.told ≡ v.told)) v (λ waits. (refl, refl)) (refl, refl)
+in_state_kept : (s : FrontState) (v : View) → IsEntered v (in_state s v)
+in_state_kept state.Connected v = record { ported = λ c p. tt; sectors = refl; told = refl }
+in_state_kept state.Closing v = record { ported = λ c p. p; sectors = refl; told = refl }
+in_state_kept state.Leaving v = record { ported = λ c p. tt; sectors = refl; told = refl }
+in_state_kept state.Closed v = record { ported = λ c p. tt; sectors = refl; told = refl }
+in_state_kept (state.Broken word) v = record { ported = λ c p. tt; sectors = refl; told = refl }
+
+pub entered_kept : (s : FrontState) (v : View) → IsEntered v (enters s v)
+entered_kept s v = enters_cases (λ x shown. IsEntered v x) s v (λ may. in_state_kept s v) (record { ported = λ c p. p; sectors = refl; told = refl })
 
 -- a submission changes neither what the front does, nor its disk, nor what it is to tell
 pub record IsUndisturbed (v x : View) : Type 0 where
@@ -187,5 +202,7 @@ submit_wish v (Some wish) =
 
 pub submit_kept : (v : View) (job : Job) → IsUndisturbed v (submit_of v job).1
 submit_kept v job =
-    either_submit (v.last == 4294967295) v (Err refusal.Spent, v) (if not (is_ready v.stage) then (Err refusal.NotReady, v) else submit_one v (wish_of job)) (undisturbed v)
-    (either_submit (not (is_ready v.stage)) v (Err refusal.NotReady, v) (submit_one v (wish_of job)) (undisturbed v) (submit_wish v (wish_of job)))
+    let unless_unready = if not (is_ready v.stage) then (Err refusal.NotReady, v) else submit_one v (wish_of job) in
+    either_submit (v.last == 4294967295) v (Err refusal.Spent, v) (if v.closing then (Err refusal.Closing, v) else unless_unready) (undisturbed v)
+    (either_submit v.closing v (Err refusal.Closing, v) unless_unready (undisturbed v)
+    (either_submit (not (is_ready v.stage)) v (Err refusal.NotReady, v) (submit_one v (wish_of job)) (undisturbed v) (submit_wish v (wish_of job))))

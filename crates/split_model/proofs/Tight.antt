@@ -9,9 +9,9 @@ use Rattle.blk_front.specs.View as front
 use Rattle.blk_back.specs.Step as back_step
 use Rattle.blk_back.specs.View as back
 use Rattle.split_model.specs.World.{World, start_of}
-use Rattle.split_model.specs.Happening.{Happening, FrontMoves, BackMoves, JobMoves, Negotiates, Connects, Submits, Notifies, Pokes, Dumps, Looks, Settles, happens, after, front_after, back_after, job_after, front_turn, back_turn, job_turn}
-use Rattle.split_model.proofs.FewFront.{IsShort, IsModest, step_modest, connected_modest, submit_modest}
-use Rattle.split_model.proofs.FewJobs.{HasRoom, back_room, job_room}
+use Rattle.split_model.specs.Happening.{Happening, FrontMoves, BackMoves, JobMoves, Negotiates, FrontEnters, BackHalts, Submits, Notifies, Pokes, Dumps, Looks, Settles, happens, after, front_after, back_after, job_after, front_turn, back_turn, job_turn}
+use Rattle.split_model.proofs.FewFront.{IsShort, IsModest, step_modest, entered_modest, submit_modest}
+use Rattle.split_model.proofs.FewJobs.{HasRoom, back_room, halted_room, job_room}
 
 pub record IsTight (w : World) : Type 0 where
   pub front : IsModest w.front
@@ -47,7 +47,8 @@ tight_happens w FrontMoves t = front_tight w (front_turn w) t
 tight_happens w BackMoves t = back_tight w (back_turn w Took) t
 tight_happens w (JobMoves number outcome) t = job_tight w number (job_turn w number outcome) t
 tight_happens w (Negotiates at move) t = record { front = t.front; back = t.back }
-tight_happens w Connects t = record { front = connected_modest w.front t.front; back = t.back }
+tight_happens w (FrontEnters state) t = record { front = entered_modest state w.front t.front; back = t.back }
+tight_happens w (BackHalts why) t = record { front = t.front; back = halted_room why w.back t.back }
 tight_happens w (Submits job) t = record { front = submit_modest w.front job t.front; back = t.back }
 tight_happens w (Notifies at) t = record { front = t.front; back = t.back }
 tight_happens w (Pokes frame word value) t = record { front = t.front; back = t.back }

@@ -6,32 +6,35 @@ use Rattle.blk_base.specs.declared.parts.End.{End}
 use Rattle.blk_base.specs.declared.parts.End.TheVariants as end
 use Rattle.blk_base.specs.declared.moves.BackMover.TheVariants as back_mover
 use Rattle.schedule_text.specs.declared.line.Line.{Line}
-use Rattle.schedule_text.specs.declared.line.Line.TheVariants.{Move, Ready, Submit, Refuse, Quiet, Busy, Unsettled, Poke, Word}
+use Rattle.schedule_text.specs.declared.line.Line.TheVariants.{Move, Submit, Refuse, Quiet, Busy, Unsettled, Poke, Word}
 use Rattle.event_channel.specs.Channels.{sent}
 use Rattle.xen_pages.specs.Pages.{word_of, with_word}
 use Rattle.hypervisor.specs.Hypervisor.{Hypervisor}
 use Rattle.hypervisor.specs.Act.{FrontAct, BackAct, Outcome, Took, front_act, back_act, with_pages, with_keys}
 use Rattle.hypervisor.specs.Disk.{DiskDoes}
-use Rattle.blk_front.specs.declared.stage.Stage.{Stage}
+use Rattle.blk_front.specs.declared.state.FrontState.{FrontState}
 use Rattle.blk_front.specs.declared.told.Refusal.{Refusal}
 use Rattle.blk_front.specs.View as front
 use Rattle.blk_front.specs.Ask as front_ask
 use Rattle.blk_front.specs.Step as front_step
 use Rattle.blk_front.specs.Submit as front_submit
+use Rattle.blk_front.specs.State as front_state
+use Rattle.blk_back.specs.declared.told.Halt.{Halt}
 use Rattle.blk_back.specs.View as back
 use Rattle.blk_back.specs.Ask as back_ask
 use Rattle.blk_back.specs.Step as back_step
 use Rattle.split_model.specs.World.{World}
 use Rattle.split_model.specs.Keys.{KeyMove, negotiated, negotiated_lines}
-use Rattle.split_model.specs.Shown.{front_lines, back_lines, halt_lines, refusal_word}
+use Rattle.split_model.specs.Shown.{front_lines, back_lines, halt_lines, state_lines, refusal_word}
 
--- a move of the front, of the back, or of the job of a number with what the disk answers it; what an end does with the keys; that the front is connected; a submission; a spurious event at an end's bound port; a word of the guest's memory overwritten by a hostile hand; a look at the words of the ring, at whether all is quiet, with what was found, and one when the rounds are over
+-- a move of the front, of the back, or of the job of a number with what the disk answers it; what an end does with the keys; a state that its negotiation has the front enter, and a reason for which it has the back halt; a submission; a spurious event at an end's bound port; a word of the guest's memory overwritten by a hostile hand; a look at the words of the ring, at whether all is quiet, with what was found, and one when the rounds are over
 pub data Happening : Type 0 where
   FrontMoves : Happening
   BackMoves : Happening
   JobMoves : (number : ℕ) (outcome : Outcome) → Happening
   Negotiates : (at : End) (move : KeyMove) → Happening
-  Connects : Happening
+  FrontEnters : (state : FrontState) → Happening
+  BackHalts : (why : Halt) → Happening
   Submits : (job : Job) → Happening
   Notifies : (at : End) → Happening
   Pokes : (frame word value : ℕ) → Happening
@@ -106,16 +109,17 @@ abbrev pub ring_lines : List ℕ → (place count : ℕ) → List Line
 ring_lines pages place zero = []
 ring_lines pages place (suc count) = word_lines place (word_of pages (2 + place / 1024) (place % 1024)) ++ ring_lines pages (place + 1) count
 
--- a front that waits to be connected is ready then
-abbrev pub ready_lines : Stage → List Line
-ready_lines s = if front_submit.is_initialised s then Ready ∷ [] else []
+-- where the front may enter the state
+abbrev pub enter_lines : FrontState → front.View → List Line
+enter_lines s v = if front_state.may_enter s v then state_lines s else []
 
 abbrev pub happens : World → Happening → World
 happens w FrontMoves = front_after w (front_turn w)
 happens w BackMoves = back_after w (back_turn w Took)
 happens w (JobMoves number outcome) = job_after w number (job_turn w number outcome)
 happens w (Negotiates at move) = record { front = w.front; back = w.back; under = let h : Hypervisor = w.under in with_keys h (negotiated w.back.stage at move h.keys) }
-happens w Connects = record { front = front_submit.connected w.front; back = w.back; under = w.under }
+happens w (FrontEnters state) = record { front = front_state.enters state w.front; back = w.back; under = w.under }
+happens w (BackHalts why) = record { front = w.front; back = back_step.halts why w.back; under = w.under }
 happens w (Submits job) = record { front = (front_submit.submit_of w.front job).1; back = w.back; under = w.under }
 happens w (Notifies at) = record { front = w.front; back = w.back; under = let h : Hypervisor = w.under in record h { channels = sent h.channels (other_end at) } }
 happens w (Pokes frame word value) = record { front = w.front; back = w.back; under = overwritten w.under frame word value }
@@ -128,7 +132,8 @@ lines_at w FrontMoves = front_shows w (front_turn w)
 lines_at w BackMoves = back_shows w (back_turn w Took)
 lines_at w (JobMoves number outcome) = job_shows w number (job_turn w number outcome)
 lines_at w (Negotiates at move) = let h : Hypervisor = w.under in negotiated_lines w.back.stage at move h.keys
-lines_at w Connects = ready_lines w.front.stage
+lines_at w (FrontEnters state) = enter_lines state w.front
+lines_at w (BackHalts why) = halt_lines w.back.halted (let b : back.View = back_step.halts why w.back in b.halted)
 lines_at w (Submits job) = submit_line job (front_submit.submit_of w.front job).0 ∷ []
 lines_at w (Notifies at) = []
 lines_at w (Pokes frame word value) = poke_lines frame word value

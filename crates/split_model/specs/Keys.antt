@@ -48,12 +48,15 @@ is_zero_text text = bytes_eq text (codes "0")
 abbrev pub may_set : End → (path text : List ℕ) → Bool
 may_set at path text = is_own_path at path && (not (names_layout path) || is_x64_text text) && (not (names_feature path) || is_zero_text text)
 
--- the back is between two entries and two replies: within one it makes no other move
+-- the back is between two entries and two replies, each up to the end of its push: within one it makes no other move
 abbrev pub is_between : Stage → Bool
 is_between (stage.Fetch k) = false
 is_between (stage.ReplyHigh r) = false
 is_between (stage.ReplyLast r) = false
 is_between (stage.Producer r) = false
+is_between (stage.ProducerFence old) = false
+is_between (stage.ResponseEvent old) = false
+is_between stage.Send = false
 is_between s = true
 
 -- an end may turn to its keys, as the back stands

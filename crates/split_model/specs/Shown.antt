@@ -10,6 +10,8 @@ use Rattle.schedule_text.specs.declared.line.Refusal.{Refusal as RefusalWord}
 use Rattle.schedule_text.specs.declared.line.Refusal.TheVariants as words
 use Rattle.blk_front.specs.declared.told.Told.{Told}
 use Rattle.blk_front.specs.declared.told.Told.TheVariants as front_told
+use Rattle.blk_front.specs.declared.state.FrontState.{FrontState}
+use Rattle.blk_front.specs.declared.state.FrontState.TheVariants as state
 use Rattle.blk_front.specs.declared.told.Refusal.{Refusal}
 use Rattle.blk_front.specs.declared.told.Refusal.TheVariants as refusal
 use Rattle.blk_back.specs.declared.told.BackTold.{BackTold}
@@ -22,6 +24,14 @@ front_lines None = []
 front_lines (Some (front_told.Answer id status)) = lines.Answer id status ∷ []
 front_lines (Some (front_told.Sector id index words)) = lines.Data id index words ∷ []
 front_lines (Some (front_told.Broken word)) = lines.Broken word ∷ []
+
+-- the line of a state that the front enters; leaving shows none
+abbrev pub state_lines : FrontState → List Line
+state_lines state.Connected = lines.Ready ∷ []
+state_lines state.Closing = lines.Closing ∷ []
+state_lines state.Leaving = []
+state_lines state.Closed = lines.Closed ∷ []
+state_lines (state.Broken word) = lines.Broken word ∷ []
 
 -- an effect shows the words of a sector that was read
 abbrev pub effect_line : ℕ → ℕ → BackAnswer → Line
@@ -36,16 +46,21 @@ back_lines (Some (back_told.Reply id status)) answer = lines.Reply id status ∷
 
 abbrev pub halt_line : Halt → HaltLine
 halt_line (halt.Overrun prod rsp_prod) = halts.Overrun prod rsp_prod
+halt_line (halt.Gone state) = halts.Gone state
+halt_line (halt.Unplugged state) = halts.Unplugged state
+halt_line (halt.BadKey name) = halts.BadKey name
+halt_line (halt.BadOrder state) = halts.BadOrder state
 halt_line (halt.BadPort p) = halts.BadPort p
 halt_line (halt.MapRefused gref status) = halts.MapRefused gref status
 
--- the line of a halt, at the move that halted the back
+-- the line of a halt, where the back halts
 abbrev pub halt_lines : Option Halt → Option Halt → List Line
 halt_lines None (Some h) = lines.Halt (halt_line h) ∷ []
 halt_lines before after = []
 
 abbrev pub refusal_word : Refusal → RefusalWord
 refusal_word refusal.Spent = words.Spent
+refusal_word refusal.Closing = words.Closing
 refusal_word refusal.NotReady = words.NotReady
 refusal_word refusal.Unsupported = words.Unsupported
 refusal_word refusal.ReadOnly = words.ReadOnly

@@ -19,6 +19,6 @@ pub record World : Type 0 where
 abbrev pub start_of : Options → World
 start_of config = record { front = front.start_of config; back = back.start_of config; under = fresh }
 
--- quiet: the front was connected, both ends wait, no job is held, and neither an event nor a watch is pending
+-- quiet: the front doesn't wait for its negotiation, both ends wait, no job is held, and neither an event nor a watch is pending
 abbrev pub is_quiet : World → Bool
 is_quiet w = front_submit.is_idle w.front && is_idle w.back && not (has_to_take w.under end.Front) && not (has_to_take w.under end.Back)

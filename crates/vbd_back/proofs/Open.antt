@@ -17,8 +17,8 @@ use Rattle.xenbus_state.specs.declared.back.BackBusAsk.TheVariants as bus_ask
 use Rattle.vbd_back.specs.declared.turn.Turn.{Turn}
 use Rattle.vbd_back.specs.declared.turn.Turn.TheVariants as turn
 use Rattle.vbd_back.specs.View.{View}
-use Rattle.vbd_back.specs.Ask.{bus_ask_of}
 use Rattle.vbd_back.specs.Turn.{turn_at, turn_of}
+use Rattle.vbd_back.proofs.Turns.{waits}
 
 abbrev is_open : Stage → Bool
 is_open stage.MapRing = false
@@ -65,42 +65,21 @@ opened (stage.GiveUp m) v given o h = giving_open (first_mapping v.jobs.works)
 opened stage.Halted v given o h = o
 opened s v given o h = refl
 
-open_at : (b : BackBusAsk) (s : Stage) → turn_at b s ≡ turn.Ring → is_open s ≡ true
-open_at bus_ask.Watch s t = absurd (cc)
-open_at bus_ask.GetState s t = absurd (cc)
-open_at (bus_ask.GetKey key) s t = absurd (cc)
-open_at (bus_ask.SetState state) s t = absurd (cc)
-open_at (bus_ask.SetKey key value) s t = absurd (cc)
-open_at (bus_ask.Map gref) stage.MapRing t = absurd (cc)
-open_at (bus_ask.Map gref) s t = absurd (cc)
-open_at (bus_ask.Bind port) stage.Bind t = absurd (cc)
-open_at (bus_ask.Bind port) s t = absurd (cc)
-open_at b stage.MapRing t = absurd (cc)
-open_at b stage.Bind t = absurd (cc)
-open_at b s t = refl
+open_at : (s : Stage) → turn_at bus_ask.Wait s ≡ turn.Ring → is_open s ≡ true
+open_at stage.MapRing t = absurd (cc)
+open_at stage.Bind t = absurd (cc)
+open_at s t = refl
 
-moves_on : (b : BackBusAsk) (s later : Stage) → turn_at b s ≡ turn.Ring → is_open later ≡ true → turn_at b later ≡ turn.Ring
-moves_on bus_ask.Watch s later t h = t
-moves_on bus_ask.GetState s later t h = t
-moves_on (bus_ask.GetKey key) s later t h = t
-moves_on (bus_ask.SetState state) s later t h = t
-moves_on (bus_ask.SetKey key value) s later t h = t
-moves_on (bus_ask.Map gref) stage.MapRing later t h = absurd (cc)
-moves_on (bus_ask.Map gref) s later t h = absurd (cc)
-moves_on (bus_ask.Bind port) stage.Bind later t h = absurd (cc)
-moves_on (bus_ask.Bind port) s later t h = absurd (cc)
-moves_on b s stage.MapRing t h = absurd (cc)
-moves_on b s stage.Bind t h = absurd (cc)
-moves_on b s later t h = refl
+turn_open : (s : Stage) → is_open s ≡ true → turn_at bus_ask.Wait s ≡ turn.Ring
+turn_open stage.MapRing o = absurd (cc)
+turn_open stage.Bind o = absurd (cc)
+turn_open s o = refl
 
--- the ring's end has the move again, until the negotiation takes its watch
-keeps_turn : (v : View) (given : BackAnswer) → turn_of v ≡ turn.Ring → turn_at (bus_ask_of v) (step_of v.ring given).stage ≡ turn.Ring
-keeps_turn v given t =
-    let o : is_open v.ring.stage ≡ true = open_at (bus_ask_of v) v.ring.stage t in
-    moves_on (bus_ask_of v) v.ring.stage (step_of v.ring given).stage t (opened v.ring.stage v.ring given o o)
-
-pub knows_turn : (u : Turn) (v w : View) (r : ring.View) (given : BackAnswer) → u ≡ turn_of w → w ≡ v → turn_of v ≡ turn.Ring → r ≡ step_of w.ring given → u ≡ turn_at (bus_ask_of w) r.stage
-knows_turn u v w r given known same t moved =
-    let before : turn_of w ≡ turn.Ring = ap (λ (x : View). turn_of x) same ∙ t in
-    let after : turn_at (bus_ask_of w) r.stage ≡ turn.Ring = ap (λ (x : ring.View). turn_at (bus_ask_of w) x.stage) moved ∙ keeps_turn w given before in
-    known ∙ (before ∙ sym after)
+-- the ring's end has the move again, until the negotiation takes its watch or halts
+pub keeps_turn : (u : Turn) (v w : View) (given : BackAnswer) → u ≡ turn.Ring → u ≡ turn_of v → w ≡ record v { ring = step_of v.ring given } → u ≡ turn_of w
+keeps_turn u v w given r known moved =
+    let t : turn_of v ≡ turn.Ring = sym known ∙ r in
+    let here : turn_at bus_ask.Wait v.ring.stage ≡ turn.Ring = ap (λ (a : BackBusAsk). turn_at a v.ring.stage) (sym (waits v t)) ∙ t in
+    let o : is_open v.ring.stage ≡ true = open_at v.ring.stage here in
+    let later : Stage = (step_of v.ring given).stage in
+    r ∙ sym (ap turn_of moved ∙ (ap (λ (a : BackBusAsk). turn_at a later) (waits v t) ∙ turn_open later (opened v.ring.stage v.ring given o o)))

@@ -1,5 +1,5 @@
--- What the backend asks: its negotiation speaks first (`io/xenbus.h`); else its end of the ring has the move, where the negotiation asks for its page or its port or is past them.
-use Rattle.std.specs.Prelude.{ℕ, Bool, true, false, List, codes, decimal, if◌then◌else◌}
+-- What the backend asks: its negotiation speaks first (`io/xenbus.h`), between two steps of the ring's end; else that end has the move, where the negotiation asks for its page or its port to be mapped, bound or given up, or rests.
+use Rattle.std.specs.Prelude.{ℕ, Bool, true, false, ◌&&◌, List, codes, decimal, if◌then◌else◌}
 use Rattle.blk_base.specs.declared.parts.End.TheVariants.{Front, Back}
 use Rattle.blk_base.specs.declared.ask.BackAsk.{BackAsk}
 use Rattle.blk_base.specs.declared.ask.BackAsk.TheVariants.{Wait, Watch, GetKey, SetKey}
@@ -44,12 +44,34 @@ key_ask (bus_ask.SetState s) = SetKey own_state (decimal (state_number s))
 key_ask (bus_ask.SetKey key value) = SetKey (path_under Back (back_name key)) (text_of value)
 key_ask a = Wait
 
--- the end of the ring has the move: the negotiation asks for the page that it maps or the port that it binds next, or both are done
+-- the end of the ring is between two entries and two replies, each up to the end of its push: within one it makes no other move
+abbrev pub is_between : Stage → Bool
+is_between (stage.Fetch k) = false
+is_between (stage.ReplyHigh r) = false
+is_between (stage.ReplyLast r) = false
+is_between (stage.Producer r) = false
+is_between (stage.ProducerFence old) = false
+is_between (stage.ResponseEvent old) = false
+is_between stage.Send = false
+is_between s = true
+
+-- the negotiation has the move
+abbrev pub bus_moves : BackBusAsk → Stage → Bool
+bus_moves a s = speaks a && is_between s
+
+-- the end of the ring has the move: the negotiation asks for what it does next to map and bind or to give up, or both are bound
 abbrev pub ring_moves : BackBusAsk → Stage → Bool
 ring_moves (bus_ask.Map gref) stage.MapRing = true
 ring_moves (bus_ask.Map gref) s = false
 ring_moves (bus_ask.Bind port) stage.Bind = true
 ring_moves (bus_ask.Bind port) s = false
+ring_moves bus_ask.UnmapOthers (stage.GiveUp m) = true
+ring_moves bus_ask.UnmapOthers s = false
+ring_moves (bus_ask.Unmap m) stage.UnmapRing = true
+ring_moves (bus_ask.Unmap m) stage.UnmapUnbound = true
+ring_moves (bus_ask.Unmap m) s = false
+ring_moves bus_ask.ClosePort stage.ClosePort = true
+ring_moves bus_ask.ClosePort s = false
 ring_moves a stage.MapRing = false
 ring_moves a stage.Bind = false
 ring_moves a s = true
@@ -59,7 +81,7 @@ ring_ask true v = ring.ask_of v.ring
 ring_ask false v = Wait
 
 abbrev pub ask_at : BackBusAsk → View → BackAsk
-ask_at a v = if speaks a then key_ask a else ring_ask (ring_moves a v.ring.stage) v
+ask_at a v = if bus_moves a v.ring.stage then key_ask a else ring_ask (ring_moves a v.ring.stage) v
 
 abbrev pub ask_of : View → BackAsk
 ask_of v = ask_at (bus_ask_of v) v

@@ -15,6 +15,9 @@ pub record View : Type 0 where
   pub ring : ring.View
   pub bus : bus.BackView
 
+abbrev pub both : ring.View → bus.BackView → View
+both r b = record { ring = r; bus = b }
+
 -- what this backend offers beside reads and writes: nothing, and rings of up to 16 pages
 abbrev pub offer : Features
 offer = record { barrier = false; flush = false; discard = false; persistent = false; indirect = 0; order = 4 }
@@ -27,12 +30,11 @@ start_of config = record { ring = ring.start_of config; bus = bus.start_of offer
 abbrev pub heard : View → View
 heard v = let r : ring.View = v.ring in record v { ring = record r { told = None } }
 
--- the negotiation has begun nothing, or the front is given up
+-- the negotiation has begun nothing, or has halted and given all up
 abbrev pub rests : BackBusAsk → Bool
 rests bus_ask.Wait = true
-rests bus_ask.UnmapOthers = true
 rests ask = false
 
--- it waits for an event, and no job is held
+-- it waits for an event or a watch, and no job is held
 abbrev pub is_idle : View → Bool
 is_idle v = rests (bus_ask_of v.bus) && ring_is_idle v.ring

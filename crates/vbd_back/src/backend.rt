@@ -1,24 +1,24 @@
 // The backend.
-ghost use Rattle.std.specs.Prelude.{◌≡◌, ◌≤◌, IfOk, IsOk, IsErr, OnErr, None, is_some, false, length};
-ghost use Rattle.blk_back.specs.Ask.{ask_of as ring_ask_of, IsAnswer as IsRingAnswer, StaysInPage};
+ghost use Rattle.std.specs.Prelude.{◌≡◌, ◌≤◌, IfOk, IsOk, OnErr, None, true, length};
+ghost use Rattle.blk_back.specs.Ask.{StaysInPage};
 ghost use Rattle.blk_back.specs.Hands.{hands_of};
 ghost use Rattle.back_jobs.specs.Hands.{Names, HandsAfter};
-ghost use Rattle.xenbus_state.specs.BackAsk.{IsAnswer as IsBusAnswer};
 ghost use Rattle.vbd_back.specs.declared.turn.Turn.TheVariants as turn;
 ghost use Rattle.vbd_back.specs.View.{start_of};
-ghost use Rattle.vbd_back.specs.Ask.{ask_of, IsAnswer, bus_ask_of, key_ask, speaks};
-ghost use Rattle.vbd_back.specs.Step.{step_of};
-ghost use Rattle.vbd_back.specs.Turn.{turn_of, overhears, told};
+ghost use Rattle.vbd_back.specs.Ask.{ask_of, IsAnswer};
+ghost use Rattle.vbd_back.specs.Step.{step_of, closes, is_plain};
+ghost use Rattle.vbd_back.specs.Turn.{turn_of};
 
 mod ring;
 
 use crate::key::Key;
+use crate::moves;
 use crate::turn::{Turn, turn_of};
 use blk_back::Back;
 use blk_base::{BackAnswer, BackAsk, Config, Endpoint, OutOfMemory};
 use std::alloc::Global;
 use std::marker::Model;
-use xenbus_state::{BackBus, BackBusAsk, DiskFacts, Features};
+use xenbus_state::{BackBus, DiskFacts, Features};
 
 // What it offers beside reads and writes: nothing, and rings of up to 16 pages.
 const OFFER: Features = Features {
@@ -30,8 +30,8 @@ const OFFER: Features = Features {
     order: 4,
 };
 
-/// The back end of a block device of one ring, which it serves as its front connects
-/// (`io/blkif.h`). Its jobs move apart from it. After `new` it takes no memory.
+/// The back end of a block device of one ring, which it serves as its front connects, and gives up as
+/// its front is gone (`io/blkif.h`). Its jobs move apart from it. After `new` it takes no memory.
 #[derive(Drop)]
 pub struct Backend {
     ring: Back,
@@ -67,6 +67,16 @@ impl Backend {
             key,
         })
     }
+
+    /// The back is to close: once it is connected it says so, between two steps of the ring's end, and
+    /// serves on until the front is gone. On a halted back nothing happens.
+    pub fn close(&mut self)
+        ensures { self.new ≡ closes self.old }
+    {
+        self.bus.close();
+        self.turn = turn_of(&self.bus, &self.ring);
+        self.key = Key::of(&self.bus.ask());
+    }
 }
 
 impl<'a> Endpoint<'a> for Backend {
@@ -82,17 +92,18 @@ impl<'a> Endpoint<'a> for Backend {
     ghost MayBeTold = { λ backend answer. IsAnswer (ask_of backend) answer × (backend.ring.told ≡ None) };
 
     #[inline(always)]
+    #[tactic(auto, using(crate::proofs::Turns::open_asks))]
     fn ask(&'a self) -> BackAsk<'a>
         ensures value { result ≡ ask_of self.now }
         ensures within { StaysInPage result }
         ensures names { Names (hands_of self.now.ring) result }
         ensures few { length (hands_of self.now.ring) ≤ 34 }
     {
+        // Most moves are of the ring's end, once its port is bound.
         let ask = self.ring.ask();
-        match self.turn() {
-            Turn::Ring | Turn::Connect => ask,
-            Turn::Keys => self.ask_key(),
-            Turn::Neither => BackAsk::Wait,
+        match self.turn {
+            Turn::Ring => ask,
+            _ => self.ask_by_turn(),
         }
     }
 
@@ -103,112 +114,69 @@ impl<'a> Endpoint<'a> for Backend {
         ensures takes_no_memory { IsOk result }
         ensures unchanged { OnErr result (self.new ≡ self.old) }
     {
-        self.step(answer)
+        self.step(answer);
+        Ok(())
     }
 }
 
 impl Backend {
-    // Whose turn it is.
-    #[inline(always)]
-    fn turn(&self) -> Turn
-        ensures { result ≡ turn_of self.now }
-    {
-        self.turn
-    }
-
-    // The key that the negotiation asks for.
+    // What is asked, whosever turn it is.
     #[inline(never)]
-    fn ask_key(&self) -> BackAsk<'_>
-        ensures { result ≡ key_ask (bus_ask_of self.now) }
+    #[tactic(auto, using(crate::proofs::Turns::ring_asks))]
+    fn ask_by_turn(&self) -> BackAsk<'_>
+        ensures value { result ≡ ask_of self.now }
+        ensures within { StaysInPage result }
+        ensures names { Names (hands_of self.now.ring) result }
     {
-        self.key.lend(&self.bus.ask())
+        match self.turn {
+            Turn::Keys => self.key.lend(&self.bus.ask()),
+            _ if moves::ring_moves(&self.ring, &self.bus) => self.ring.ask(),
+            _ => BackAsk::Wait,
+        }
     }
 
-    // What an answer makes of it, by whose turn it is.
+    // What an answer makes of it. The negotiation learns nothing of the moves of the ring's end but of
+    // a watch and a halt.
     #[inline(always)]
-    fn step(&mut self, answer: &BackAnswer) -> Result<(), OutOfMemory>
+    fn step(&mut self, answer: &BackAnswer)
         requires kind { IsAnswer (ask_of self.old) answer.now }
         requires heard { self.old.ring.told ≡ None }
-        ensures told { self.new ≡ step_of self.old answer.now }
-        ensures takes_no_memory { IsOk result }
+        ensures { self.new ≡ step_of self.old answer.now }
     {
-        match self.turn() {
-            Turn::Ring => self.tell_ring(answer),
-            Turn::Connect => self.tell_both(answer),
-            Turn::Keys => {
-                self.tell_bus(answer);
-                Ok(())
-            }
-            Turn::Neither => {
-                self.wake(answer);
-                Ok(())
-            }
+        match (self.turn, answer) {
+            (Turn::Ring, BackAnswer::Watched(_)) => self.tell_by_turn(answer),
+            (Turn::Ring, _) => self.serve(answer),
+            _ => self.tell_by_turn(answer),
         }
     }
 
-    // Whether the negotiation learns of what the ring's end is answered: of a watch, where the ring
-    // hasn't halted.
+    // Tells the answer to what is asked, whosever turn it is.
+    #[inline(never)]
+    fn tell_by_turn(&mut self, answer: &BackAnswer)
+        requires kind { IsAnswer (ask_of self.old) answer.now }
+        requires heard { self.old.ring.told ≡ None }
+        ensures { self.new ≡ step_of self.old answer.now }
+    {
+        moves::tell(self.turn, &mut self.ring, &mut self.bus, answer);
+        self.turn = turn_of(&self.bus, &self.ring);
+        self.key = Key::of(&self.bus.ask());
+    }
+
+    // The ring's end was answered, and took no watch: where it halts, so does the negotiation.
     #[inline(always)]
-    fn overhears(&self, answer: &BackAnswer) -> bool
-        ensures { result ≡ overhears (is_some self.now.ring.halted) answer.now }
-    {
-        match answer {
-            BackAnswer::Watched(_) => self.ring.halted().is_none(),
-            _ => false,
-        }
-    }
-
-    // The ring's end was answered, and a waiting negotiation may take its watch.
-    fn tell_ring(&mut self, answer: &BackAnswer) -> Result<(), OutOfMemory>
+    #[tactic(auto, using(crate::proofs::Turns::open_answers, crate::proofs::Turns::open_steps, crate::proofs::Turns::rests))]
+    fn serve(&mut self, answer: &BackAnswer)
         requires turn { turn_of self.old ≡ turn.Ring }
-        requires kind { IsRingAnswer (ring_ask_of self.old.ring) answer.now }
+        requires plain { is_plain answer.now ≡ true }
+        requires kind { IsAnswer (ask_of self.old) answer.now }
         requires heard { self.old.ring.told ≡ None }
-        ensures told { self.new ≡ told turn.Ring self.old answer.now }
-        ensures takes_no_memory { IsOk result }
+        ensures { self.new ≡ step_of self.old answer.now }
     {
-        let wakes = self.overhears(answer);
-        let told = self.ring.tell(answer);
-        if wakes {
-            self.wake(answer);
-        }
-        told
-    }
-
-    // The ring's end mapped the page or bound the port that the negotiation asks for, or was refused.
-    #[inline(never)]
-    fn tell_both(&mut self, answer: &BackAnswer) -> Result<(), OutOfMemory>
-        requires ring { IsRingAnswer (ring_ask_of self.old.ring) answer.now }
-        requires bus { IsBusAnswer (bus_ask_of self.old) answer.now }
-        requires heard { self.old.ring.told ≡ None }
-        ensures told { self.new ≡ told turn.Connect self.old answer.now }
-        ensures takes_no_memory { IsOk result }
-    {
-        self.ring.tell(answer)?;
-        let _ = self.bus.tell(answer);
-        self.turn = turn_of(&self.bus, &self.ring);
-        self.key = Key::of(&self.bus.ask());
-        Ok(())
-    }
-
-    // The negotiation was answered.
-    #[inline(never)]
-    fn tell_bus(&mut self, answer: &BackAnswer)
-        requires { IsBusAnswer (bus_ask_of self.old) answer.now }
-        ensures { self.new ≡ told turn.Keys self.old answer.now }
-    {
-        let _ = self.bus.tell(answer);
-        self.turn = turn_of(&self.bus, &self.ring);
-        self.key = Key::of(&self.bus.ask());
-    }
-
-    // A negotiation that asks for nothing takes its watch, where it waits for it.
-    #[inline(never)]
-    fn wake(&mut self, answer: &BackAnswer)
-        requires { speaks (bus_ask_of self.old) ≡ false }
-        ensures { self.new ≡ told turn.Neither self.old answer.now }
-    {
-        if let (BackAnswer::Watched(_), BackBusAsk::Wait) = (answer, self.bus.ask()) {
-            self.tell_bus(answer);
+        let _ = self.ring.tell(answer);
+        if self.ring.halted().is_some() {
+            moves::catch_up(&self.ring, &mut self.bus);
+            self.turn = turn_of(&self.bus, &self.ring);
+            self.key = Key::of(&self.bus.ask());
         }
     }
 }

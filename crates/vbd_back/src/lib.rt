@@ -6,6 +6,7 @@
 
 mod backend;
 mod key;
+mod moves;
 mod turn;
 
 pub use backend::Backend;

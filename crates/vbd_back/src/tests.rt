@@ -53,6 +53,10 @@ fn idle(backend: &Backend) -> bool {
     backend.idle()
 }
 
+fn close(backend: &mut Backend) {
+    backend.close();
+}
+
 fn halted(backend: &Backend) -> Option<Halt> {
     backend.halted()
 }
@@ -68,6 +72,7 @@ fn tell(backend: &mut Backend, given: BackAnswer) -> Result<(), OutOfMemory> {
         (BackAsk::Map { gref, mode }, BackAnswer::Mapped(m)) => m.gref == gref && m.mode == mode,
         (BackAsk::Map { .. }, BackAnswer::MapRefused(_)) => true,
         (BackAsk::Bind(_), BackAnswer::Done) => true,
+        (BackAsk::Unmap(_) | BackAsk::Send | BackAsk::ClosePort, BackAnswer::Done) => true,
         (BackAsk::GetKey(_), BackAnswer::Key(_)) => true,
         (BackAsk::SetKey(..), BackAnswer::Done) => true,
         (BackAsk::Watch(_), BackAnswer::Done) => true,
@@ -251,7 +256,89 @@ fn a_ring_that_cant_be_mapped_halts_it(rt: HostRuntime) -> Result<(), Fail> {
             status: -1
         })
     );
+    says_closed(&rt, &mut backend)?;
     watched(&mut backend)?;
     assert!(rt; idle(&backend));
+    Ok(())
+}
+
+// It says that it closes, and is closed.
+fn says_closed(rt: &impl Abort, backend: &mut Backend) -> Result<(), OutOfMemory> {
+    sets(rt, backend, STATE, "5")?;
+    sets(rt, backend, STATE, "6")
+}
+
+// It gives up its ring and its port.
+fn gives_up(rt: &impl Abort, backend: &mut Backend) -> Result<(), OutOfMemory> {
+    assert_eq!(rt; ask(backend), BackAsk::Unmap(RING));
+    tell(backend, BackAnswer::Done)?;
+    assert_eq!(rt; ask(backend), BackAsk::ClosePort);
+    tell(backend, BackAnswer::Done)
+}
+
+// A backend that is connected.
+fn connected(rt: &impl Abort, alloc: Global) -> Result<Backend, OutOfMemory> {
+    let mut backend = backend(alloc)?;
+    begin(rt, &mut backend)?;
+    read(rt, &mut backend)?;
+    connect(rt, &mut backend)?;
+    Ok(backend)
+}
+
+#[test]
+fn a_front_that_is_gone_halts_it(rt: HostRuntime) -> Result<(), Fail> {
+    let mut backend = connected(&rt, rt.alloc())?;
+    sleep(&rt, &mut backend)?;
+    watched(&mut backend)?;
+    gets(&rt, &mut backend, FRONT_STATE, "6")?;
+    assert_eq!(rt; halted(&backend), Some(Halt::Gone(6)));
+    gives_up(&rt, &mut backend)?;
+    says_closed(&rt, &mut backend)?;
+    assert!(rt; idle(&backend));
+    Ok(())
+}
+
+#[test]
+fn an_overrun_halts_the_negotiation(rt: HostRuntime) -> Result<(), Fail> {
+    let mut backend = connected(&rt, rt.alloc())?;
+    tell(&mut backend, BackAnswer::Word(33))?;
+    let overrun = Halt::Overrun {
+        prod: 33,
+        rsp_prod: 0,
+    };
+    assert_eq!(rt; halted(&backend), Some(overrun));
+    gives_up(&rt, &mut backend)?;
+    says_closed(&rt, &mut backend)?;
+    Ok(())
+}
+
+// It fetches one entry, of zeros, and begins to reply to it.
+fn fetch(backend: &mut Backend) -> Result<(), OutOfMemory> {
+    tell(backend, BackAnswer::Word(1))?;
+    for _ in 0..28 {
+        tell(backend, BackAnswer::Word(0))?;
+    }
+    tell(backend, BackAnswer::Done)
+}
+
+#[test]
+fn a_push_is_ended_before_it_says_that_it_closes(rt: HostRuntime) -> Result<(), Fail> {
+    let mut backend = connected(&rt, rt.alloc())?;
+    fetch(&mut backend)?;
+    close(&mut backend);
+    for _ in 0..4 {
+        tell(&mut backend, BackAnswer::Done)?;
+    }
+    tell(&mut backend, BackAnswer::Word(9))?;
+    sets(&rt, &mut backend, STATE, "5")?;
+    tell(&mut backend, BackAnswer::Word(1))?;
+    tell(&mut backend, BackAnswer::Done)?;
+    tell(&mut backend, BackAnswer::Done)?;
+    tell(&mut backend, BackAnswer::Word(1))?;
+    watched(&mut backend)?;
+    gets(&rt, &mut backend, FRONT_STATE, "5")?;
+    assert_eq!(rt; halted(&backend), Some(Halt::Unplugged(5)));
+    gives_up(&rt, &mut backend)?;
+    sets(&rt, &mut backend, STATE, "6")?;
     Ok(())
 }

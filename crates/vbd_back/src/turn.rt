@@ -1,45 +1,72 @@
-// Which of a backend's two ends has the next move.
+// Whose turn it is at the back.
 ghost use Rattle.std.specs.Prelude.{◌≡◌};
-ghost use Rattle.vbd_back.specs.Turn.{turn_by, turn_at};
 ghost use Rattle.xenbus_state.specs.BackAsk.{ask_of};
+ghost use Rattle.vbd_back.specs.Ask.{speaks, is_between, bus_moves};
+ghost use Rattle.vbd_back.specs.Turn.{turn_at};
 
-use blk_back::Back;
-use blk_base::{BackAsk, Endpoint};
+use blk_back::{Back, Stage};
 use xenbus_state::{BackBus, BackBusAsk};
 
-/// Which of a backend's two ends has the next move.
+/// Whose turn it is.
 #[derive(Clone, Copy, Debug, PartialEq, Eq)]
 pub enum Turn {
-    /// The negotiation, which reads or sets a key, or sets its watch.
+    /// The negotiation's, which asks for a key or a watch, between two steps of the ring's end.
     Keys,
-    /// The ring's end, which maps the page or binds the port that the negotiation asks for.
-    Connect,
-    /// The ring's end, at a ring that is connected.
+    /// The ring's end has the move: its port is bound, and the negotiation asks for nothing, so that
+    /// no move of the ring's end but one that takes a watch or halts it changes that.
     Ring,
-    /// Neither: a watch is awaited.
-    Neither,
+    /// Either's, as it is found at each move.
+    Either,
 }
 
 /// Whose turn it is.
-#[tactic(auto, using(crate::proofs::Turns::turned))]
 pub fn turn_of(bus: &BackBus, ring: &Back) -> Turn
     ensures { result ≡ turn_at (ask_of bus.now) ring.now.stage }
 {
-    turn_by(&bus.ask(), &ring.ask())
+    let ask = bus.ask();
+    if bus_moves(&ask, ring.stage()) {
+        return Turn::Keys;
+    }
+    match (ask, ring.stage()) {
+        (BackBusAsk::Wait, Stage::MapRing | Stage::Bind) => Turn::Either,
+        (BackBusAsk::Wait, _) => Turn::Ring,
+        _ => Turn::Either,
+    }
 }
 
-// Whose turn it is, by what both ask.
-fn turn_by(bus: &BackBusAsk, ring: &BackAsk) -> Turn
-    ensures { result ≡ turn_by bus.now ring.now }
+// Whether the negotiation has the move where it asks for this.
+fn bus_moves(ask: &BackBusAsk, stage: Stage) -> bool
+    ensures { result ≡ bus_moves ask.now stage }
 {
-    match (bus, ring) {
-        (BackBusAsk::Watch | BackBusAsk::GetState, _) => Turn::Keys,
-        (BackBusAsk::GetKey(_) | BackBusAsk::SetState(_), _) => Turn::Keys,
-        (BackBusAsk::SetKey(..), _) => Turn::Keys,
-        (BackBusAsk::Map(_), BackAsk::Map { .. }) => Turn::Connect,
-        (BackBusAsk::Bind(_), BackAsk::Bind(_)) => Turn::Connect,
-        (BackBusAsk::Map(_) | BackBusAsk::Bind(_), _) => Turn::Neither,
-        (_, BackAsk::Map { .. } | BackAsk::Bind(_)) => Turn::Neither,
-        _ => Turn::Ring,
-    }
+    speaks(ask) && is_between(stage)
+}
+
+// Whether a key or a watch is asked for.
+fn speaks(ask: &BackBusAsk) -> bool
+    ensures { result ≡ speaks ask.now }
+{
+    matches!(
+        ask,
+        BackBusAsk::Watch
+            | BackBusAsk::GetState
+            | BackBusAsk::GetKey(_)
+            | BackBusAsk::SetState(_)
+            | BackBusAsk::SetKey(..)
+    )
+}
+
+// Whether the ring's end is between two entries and two replies.
+fn is_between(stage: Stage) -> bool
+    ensures { result ≡ is_between stage }
+{
+    !matches!(
+        stage,
+        Stage::Fetch(_)
+            | Stage::ReplyHigh(_)
+            | Stage::ReplyLast(_)
+            | Stage::Producer(_)
+            | Stage::ProducerFence(_)
+            | Stage::ResponseEvent(_)
+            | Stage::Send
+    )
 }

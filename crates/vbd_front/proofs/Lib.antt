@@ -1,2 +1,2 @@
-pub mod Breaks
+pub mod Stays
 pub mod Turns

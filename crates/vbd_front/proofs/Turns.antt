@@ -1,9 +1,10 @@
--- Where the ring's end has the move, its ask is asked, and an answer to it is one to the ring's end.
-use Rattle.std.proofs.Common.{◌≡◌, ℕ, ◌==◌, Bool, true, false, if◌then◌else◌, refl, ap, subst, true≢false}
+-- Whose turn it is: what is asked and done then is what the frontend asks and does.
+use Rattle.std.proofs.Common.{◌≡◌, ℕ, ◌==◌, Bool, true, false, ◌&&◌, ◌||◌, if◌then◌else◌, refl, sym, ap, ◌∙◌, subst}
 use Rattle.std.specs.Prelude.{Option, Some, None}
 use Rattle.blk_base.specs.declared.ask.FrontAsk.{FrontAsk}
 use Rattle.blk_base.specs.declared.ask.FrontAsk.TheVariants as ask
 use Rattle.blk_base.specs.declared.ask.FrontAnswer.{FrontAnswer}
+use Rattle.blk_base.specs.declared.ask.FrontAnswer.TheVariants as answer
 use Rattle.ring_words.specs.Ring.{responses_of}
 use Rattle.blk_front.specs.declared.request.Request.{Request}
 use Rattle.blk_front.specs.declared.request.Transfer.{Transfer}
@@ -13,37 +14,36 @@ use Rattle.blk_front.specs.declared.stage.Stage.{Stage}
 use Rattle.blk_front.specs.declared.stage.Stage.TheVariants as stage
 use Rattle.blk_front.specs.View.{View as Ring, next_request, ring_frame, slot_frame, slot_word}
 use Rattle.blk_front.specs.Ask as ring
+use Rattle.blk_front.specs.Step as step_ring
+use Rattle.blk_front.specs.Submit.{is_connected}
+use Rattle.xenbus_state.specs.declared.stage.FrontStage.{FrontStage}
+use Rattle.xenbus_state.specs.declared.stage.FrontStage.TheVariants as bus_stage
 use Rattle.xenbus_state.specs.declared.front.FrontBusAsk.{FrontBusAsk}
 use Rattle.xenbus_state.specs.declared.front.FrontBusAsk.TheVariants as bus_ask
-use Rattle.vbd_front.specs.declared.turn.Turn.TheVariants.{Keys}
-use Rattle.vbd_front.specs.View.{View}
-use Rattle.vbd_front.specs.Ask.{speaks, ring_moves, ring_ask, ask_at, ask_of, bus_ask_of, IsAnswer}
-use Rattle.vbd_front.specs.Turn.{turn_of}
+use Rattle.xenbus_state.specs.FrontView.{FrontView}
+use Rattle.xenbus_state.specs.FrontAsk as bus
+use Rattle.vbd_front.specs.declared.turn.Turn.{Turn}
+use Rattle.vbd_front.specs.declared.turn.Turn.TheVariants as turn
+use Rattle.vbd_front.specs.View.{View, is_unoccupied, is_broken}
+use Rattle.vbd_front.specs.Ask.{speaks, key_ask, ring_moves, ring_ask, ask_at, ask_of, bus_ask_of, IsAnswer}
+use Rattle.vbd_front.specs.Step.{IsHeard, woken, ring_step, step_at, step_of}
+use Rattle.vbd_front.specs.Turn.{turn_at, turn_of}
+use Rattle.vbd_front.proofs.Stays.{stays}
 
-silent : (a : FrontBusAsk) → (turn_of a ≡ Keys → ⊥) → speaks a ≡ false
-silent bus_ask.Watch n = absurd (n refl)
-silent bus_ask.GetState n = absurd (n refl)
-silent (bus_ask.GetKey key) n = absurd (n refl)
-silent (bus_ask.SetState s) n = absurd (n refl)
-silent (bus_ask.SetKey key value) n = absurd (n refl)
-silent a n = refl
+-- at no turn but that of keys the negotiation speaks
+silent : (a : FrontBusAsk) (c m : Bool) → (turn_at a c m ≡ turn.Keys → ⊥) → speaks a ≡ false
+silent bus_ask.Watch c m n = absurd (n refl)
+silent bus_ask.GetState c m n = absurd (n refl)
+silent (bus_ask.GetKey key) c m n = absurd (n refl)
+silent (bus_ask.SetState s) c m n = absurd (n refl)
+silent (bus_ask.SetKey key value) c m n = absurd (n refl)
+silent a c m n = refl
 
 asks_at : (a : FrontBusAsk) (v : View) → speaks a ≡ false → ring_moves a v.ring.stage ≡ true → ask_at a v ≡ ring.ask_of v.ring
-asks_at bus_ask.Watch v e m = absurd (true≢false e)
-asks_at bus_ask.GetState v e m = absurd (true≢false e)
-asks_at (bus_ask.GetKey key) v e m = absurd (true≢false e)
-asks_at (bus_ask.SetState s) v e m = absurd (true≢false e)
-asks_at (bus_ask.SetKey key value) v e m = absurd (true≢false e)
-asks_at bus_ask.Wait v e m = ap (λ b. ring_ask b v) m
-asks_at (bus_ask.WriteRingWord word) v e m = ap (λ b. ring_ask b v) m
-asks_at (bus_ask.Grant page) v e m = ap (λ b. ring_ask b v) m
-asks_at bus_ask.NewPort v e m = ap (λ b. ring_ask b v) m
-asks_at (bus_ask.EndGrant page) v e m = ap (λ b. ring_ask b v) m
-asks_at bus_ask.EndOtherGrants v e m = ap (λ b. ring_ask b v) m
-asks_at bus_ask.ClosePort v e m = ap (λ b. ring_ask b v) m
+asks_at a v e m = ap (λ (b : Bool). if b then key_ask a else ring_ask (ring_moves a v.ring.stage) v) e ∙ ap (λ (b : Bool). ring_ask b v) m
 
-pub ring_asks : (v : View) → (turn_of (bus_ask_of v) ≡ Keys → ⊥) → ring_moves (bus_ask_of v) v.ring.stage ≡ true → ask_of v ≡ ring.ask_of v.ring
-ring_asks v n m = asks_at (bus_ask_of v) v (silent (bus_ask_of v) n) m
+pub ring_asks : (v : View) → (turn_of v ≡ turn.Keys → ⊥) → ring_moves (bus_ask_of v) v.ring.stage ≡ true → ask_of v ≡ ring.ask_of v.ring
+ring_asks v n m = asks_at (bus_ask_of v) v (silent (bus_ask_of v) v.bus.closing (is_connected v.ring.stage) n) m
 
 -- the ring's end asks for no key
 abbrev IsOfRing : FrontAsk → Type 0
@@ -88,7 +88,7 @@ loop_of_ring : (v : Ring) (next : Option Request) → IsOfRing (ring.loop_ask v 
 loop_of_ring v (Some r) = issue_of_ring r r.transfer
 loop_of_ring v None =
     let read = if responses_of v.ring v.seen == 0 then ask.Read ring_frame 2 else ask.Read (slot_frame v.ring.cons 0) (slot_word v.ring.cons 0) in
-    either v.asleep ask.Wait read tt (either (responses_of v.ring v.seen == 0) (ask.Read ring_frame 2) (ask.Read (slot_frame v.ring.cons 0) (slot_word v.ring.cons 0)) tt tt)
+    either (v.asleep || ring.is_through v) ask.Wait read tt (either (responses_of v.ring v.seen == 0) (ask.Read ring_frame 2) (ask.Read (slot_frame v.ring.cons 0) (slot_word v.ring.cons 0)) tt tt)
 
 of_ring : (s : Stage) (v : Ring) → IsOfRing (ring.ask_at s v)
 of_ring stage.Loop v = loop_of_ring v (next_request v)
@@ -106,5 +106,93 @@ narrowed (ask.SetKey path text) x r h = absurd r
 narrowed (ask.Watch path) x r h = absurd r
 narrowed a x r h = h
 
-pub ring_answers : (v : View) (x : FrontAnswer) → (turn_of (bus_ask_of v) ≡ Keys → ⊥) → ring_moves (bus_ask_of v) v.ring.stage ≡ true → IsAnswer (ask_of v) x → ring.IsAnswer (ring.ask_of v.ring) x
+pub ring_answers : (v : View) (x : FrontAnswer) → (turn_of v ≡ turn.Keys → ⊥) → ring_moves (bus_ask_of v) v.ring.stage ≡ true → IsAnswer (ask_of v) x → ring.IsAnswer (ring.ask_of v.ring) x
 ring_answers v x n m h = narrowed (ring.ask_of v.ring) x (of_ring v.ring.stage v.ring) (subst (λ a. IsAnswer a x) (ring_asks v n m) h)
+
+-- an answer to a move that the negotiation asked for is of the kind that it knows
+heard_at : (b : FrontBusAsk) (s : Stage) (v : Ring) (x : FrontAnswer) → ring_moves b s ≡ true → ring.IsAnswer (ring.ask_at s v) x → IsHeard b x
+heard_at (bus_ask.WriteRingWord word) (stage.RingWord k) v answer.Done m h = tt
+heard_at (bus_ask.WriteRingWord word) (stage.RingWord k) v x m h = absurd h
+heard_at (bus_ask.WriteRingWord word) s v x m h = absurd (cc)
+heard_at (bus_ask.Grant page) stage.RingFrame v answer.Done m h = tt
+heard_at (bus_ask.Grant page) stage.RingFrame v x m h = absurd h
+heard_at (bus_ask.Grant page) stage.RingFence v answer.Done m h = tt
+heard_at (bus_ask.Grant page) stage.RingFence v x m h = absurd h
+heard_at (bus_ask.Grant page) stage.RingFlags v answer.Done m h = tt
+heard_at (bus_ask.Grant page) stage.RingFlags v x m h = absurd h
+heard_at (bus_ask.Grant page) s v x m h = absurd (cc)
+heard_at bus_ask.NewPort stage.NewPort v (answer.Port port) m h = tt
+heard_at bus_ask.NewPort stage.NewPort v x m h = absurd h
+heard_at bus_ask.NewPort s v x m h = absurd (cc)
+heard_at bus_ask.ClosePort stage.ClosePort v answer.Done m h = tt
+heard_at bus_ask.ClosePort stage.ClosePort v x m h = absurd h
+heard_at bus_ask.ClosePort s v x m h = absurd (cc)
+heard_at b s v x m h = tt
+
+pub heard : (v : View) (x : FrontAnswer) → ring_moves (bus_ask_of v) v.ring.stage ≡ true → ring.IsAnswer (ring.ask_of v.ring) x → IsHeard (bus_ask_of v) x
+heard v x m h = heard_at (bus_ask_of v) v.ring.stage v.ring x m h
+
+-- the ring's turn: the negotiation asks for nothing and doesn't close, and the ring is made
+ring_turn : (a : FrontBusAsk) (c m : Bool) → turn_at a c m ≡ turn.Ring → (a ≡ bus_ask.Wait) × (c ≡ false) × (m ≡ true)
+ring_turn bus_ask.Wait false true t = (refl, refl, refl)
+ring_turn bus_ask.Wait false false t = absurd (cc)
+ring_turn bus_ask.Wait true m t = absurd (cc)
+ring_turn a c m t = absurd (cc)
+
+turn_is : (v : View) → turn_of v ≡ turn.Ring → (bus_ask_of v ≡ bus_ask.Wait) × (v.bus.closing ≡ false) × (is_connected v.ring.stage ≡ true)
+turn_is v t = ring_turn (bus_ask_of v) v.bus.closing (is_connected v.ring.stage) t
+
+pub made_asks : (v : View) → turn_of v ≡ turn.Ring → ask_of v ≡ ring.ask_of v.ring
+made_asks v t =
+    let whose = turn_is v t in
+    ap (λ (a : FrontBusAsk). ask_at a v) whose.0 ∙ ap (λ (b : Bool). ring_ask b v) whose.2
+
+pub made_answers : (v : View) (x : FrontAnswer) → turn_of v ≡ turn.Ring → IsAnswer (ask_of v) x → ring.IsAnswer (ring.ask_of v.ring) x
+made_answers v x t h = narrowed (ring.ask_of v.ring) x (of_ring v.ring.stage v.ring) (subst (λ (a : FrontAsk). IsAnswer a x) (made_asks v t) h)
+
+-- no watch is taken
+abbrev is_plain : FrontAnswer → Bool
+is_plain (answer.Watched path) = false
+is_plain x = true
+
+not_woken : (broken idle : Bool) (w : FrontView) (x : FrontAnswer) → is_plain x ≡ true → woken broken idle w x ≡ w
+not_woken true idle w x p = refl
+not_woken false idle w (answer.Watched path) p = absurd (cc)
+not_woken false idle w x p = refl
+
+pub made_steps : (v : View) (x : FrontAnswer) → turn_of v ≡ turn.Ring → is_plain x ≡ true → step_of v x ≡ record v { ring = step_ring.step_of v.ring x }
+made_steps v x t p =
+    let whose = turn_is v t in
+    let r : Ring = step_ring.step_of v.ring x in
+    ap (λ (a : FrontBusAsk). step_at a v x) whose.0 ∙ (ap (λ (b : Bool). ring_step b bus_ask.Wait v x) whose.2
+    ∙ ap (λ (w : FrontView). record v { ring = r; bus = w }) (not_woken (is_broken r.stage) (is_unoccupied v.ring) v.bus x p))
+
+-- what a negotiation that doesn't close asks is the same, whether a request is unfinished or not
+due_same : (s : FrontStage) (w : FrontView) (idle later : Bool) → w.closing ≡ false → bus.due_at s w idle ≡ bus.due_at s w later
+due_same bus_stage.Rest w idle later c = by_closing w.closing c
+  where
+    by_closing : (b : Bool) → b ≡ false → (if b && idle then bus.closing_stage w.state w else bus_stage.Rest) ≡ (if b && later then bus.closing_stage w.state w else bus_stage.Rest)
+    by_closing false e = refl
+    by_closing true e = absurd (cc)
+due_same s w idle later c = refl
+
+asks_same : (v w : View) → v.bus.closing ≡ false → w.bus ≡ v.bus → bus_ask_of w ≡ bus_ask_of v
+asks_same v w c e = ap (λ (b : FrontView). bus.ask_of b (is_unoccupied w.ring)) e ∙ ap (λ (s : FrontStage). bus.ask_at s v.bus) (due_same v.bus.stage v.bus (is_unoccupied w.ring) (is_unoccupied v.ring) c)
+
+-- the ring's end has the move again, and the negotiation asks for the same
+abbrev pub moved : View → FrontAnswer → View
+moved v x = record v { ring = step_ring.step_of v.ring x }
+
+again : (v : View) (x : FrontAnswer) → turn_of v ≡ turn.Ring → turn_of (moved v x) ≡ turn.Ring
+again v x t =
+    let whose = turn_is v t in
+    let made : is_connected (moved v x).ring.stage ≡ true = stays v.ring.stage v.ring x whose.2 whose.2 in
+    let asked : bus_ask_of (moved v x) ≡ bus_ask.Wait = asks_same v (moved v x) whose.1 refl ∙ whose.0 in
+    ap (λ (a : FrontBusAsk). turn_at a v.bus.closing (is_connected (moved v x).ring.stage)) asked
+    ∙ (ap (λ (c : Bool). turn_at bus_ask.Wait c (is_connected (moved v x).ring.stage)) whose.1 ∙ ap (λ (m : Bool). turn_at bus_ask.Wait false m) made)
+
+pub keeps_turn : (u : Turn) (v w : View) (x : FrontAnswer) → u ≡ turn.Ring → u ≡ turn_of v → w ≡ moved v x → u ≡ turn_of w
+keeps_turn u v w x r known m = r ∙ sym (ap turn_of m ∙ again v x (sym known ∙ r))
+
+pub keeps_ask : (u : Turn) (v w : View) (x : FrontAnswer) → u ≡ turn.Ring → u ≡ turn_of v → w ≡ moved v x → bus_ask_of v ≡ bus_ask_of w
+keeps_ask u v w x r known m = sym (ap bus_ask_of m ∙ asks_same v (moved v x) (turn_is v (sym known ∙ r)).1 refl)

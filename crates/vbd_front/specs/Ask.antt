@@ -1,4 +1,4 @@
--- What the frontend asks: its negotiation speaks first (`io/xenbus.h`); else its end of the ring has the move, where the negotiation asks for the ring to be made or has published it.
+-- What the frontend asks: its negotiation speaks first (`io/xenbus.h`); else its end of the ring has the move, where the negotiation asks for the ring to be made or given up, or rests.
 use Rattle.std.specs.Prelude.{ℕ, Bool, true, false, List, codes, if◌then◌else◌}
 use Rattle.blk_base.specs.declared.parts.End.TheVariants.{Front, Back}
 use Rattle.blk_base.specs.declared.ask.FrontAsk.{FrontAsk}
@@ -16,7 +16,7 @@ use Rattle.xenbus_state.specs.States.{state_number}
 use Rattle.xenbus_state.specs.Keys.{front_name, back_name, path_under}
 use Rattle.xenbus_state.specs.Values.{text_of}
 use Rattle.std.specs.Prelude.{decimal}
-use Rattle.vbd_front.specs.View.{View}
+use Rattle.vbd_front.specs.View.{View, is_unoccupied}
 
 -- where the states of both ends lie
 abbrev pub own_state : List ℕ
@@ -25,9 +25,9 @@ own_state = path_under Front (codes "state")
 abbrev pub other_state : List ℕ
 other_state = path_under Back (codes "state")
 
--- what the negotiation asks; the front doesn't close yet, so whether a request is unfinished doesn't matter to it
+-- what the negotiation asks
 abbrev pub bus_ask_of : View → FrontBusAsk
-bus_ask_of v = bus.ask_of v.bus false
+bus_ask_of v = bus.ask_of v.bus (is_unoccupied v.ring)
 
 -- the negotiation asks for a key or a watch
 abbrev pub speaks : FrontBusAsk → Bool
@@ -46,7 +46,7 @@ key_ask (bus_ask.SetState s) = SetKey own_state (decimal (state_number s))
 key_ask (bus_ask.SetKey key value) = SetKey (path_under Front (front_name key)) (text_of value)
 key_ask a = Wait
 
--- the end of the ring has the move: the negotiation asks for what it does next to make the ring, or the ring is made
+-- the end of the ring has the move: the negotiation asks for what it does next to make the ring or to give it up, or the ring is made
 abbrev pub ring_moves : FrontBusAsk → Stage → Bool
 ring_moves (bus_ask.WriteRingWord word) (stage.RingWord k) = true
 ring_moves (bus_ask.WriteRingWord word) s = false
@@ -56,6 +56,11 @@ ring_moves (bus_ask.Grant page) stage.RingFlags = true
 ring_moves (bus_ask.Grant page) s = false
 ring_moves bus_ask.NewPort stage.NewPort = true
 ring_moves bus_ask.NewPort s = false
+ring_moves (bus_ask.EndGrant page) stage.RingRead = true
+ring_moves (bus_ask.EndGrant page) (stage.RingEnd seen) = true
+ring_moves (bus_ask.EndGrant page) s = false
+ring_moves bus_ask.ClosePort stage.ClosePort = true
+ring_moves bus_ask.ClosePort s = false
 ring_moves a s = is_connected s
 
 abbrev pub ring_ask : Bool → View → FrontAsk

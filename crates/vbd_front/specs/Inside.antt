@@ -1,6 +1,6 @@
--- How the fields of a frontend stand for what contracts see of it.
-use Rattle.vbd_front.specs.declared.frontend.Frontend.TheInside.{Inside}
+-- How the fields of both ends stand for what contracts see of them.
+use Rattle.vbd_front.specs.declared.ends.Ends.TheInside.{Inside}
 use Rattle.vbd_front.specs.View.{View}
 
 abbrev pub view_of : Inside → View
-view_of f = record { ring = f.ring; bus = f.bus; ready = f.ready }
+view_of e = record { ring = e.ring; bus = e.bus; news = e.news }

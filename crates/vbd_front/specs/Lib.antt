@@ -2,7 +2,5 @@ pub mod View
 pub mod Ask
 pub mod Step
 pub mod Turn
-pub mod Making
-pub mod Lent
-pub mod Broken
 pub mod Inside
+pub mod Sound

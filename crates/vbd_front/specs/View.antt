@@ -1,38 +1,56 @@
 -- What contracts see of the frontend.
-use Rattle.std.specs.Prelude.{Bool, true, false, ◌&&◌, None}
+use Rattle.std.specs.Prelude.{Bool, true, false, ◌&&◌, ◌==◌, Option, None}
 use Rattle.blk_base.specs.Options.{Options}
 use Rattle.blk_front.specs.View as ring
 use Rattle.blk_front.specs.declared.stage.Stage.{Stage}
 use Rattle.blk_front.specs.declared.stage.Stage.TheVariants as ring_stage
-use Rattle.blk_front.specs.Submit.{is_idle as ring_is_idle}
+use Rattle.blk_front.specs.Submit.{unfinished, is_idle as ring_is_idle}
 use Rattle.xenbus_state.specs.FrontView as bus
-use Rattle.xenbus_state.specs.declared.stage.FrontStage.{FrontStage}
-use Rattle.xenbus_state.specs.declared.stage.FrontStage.TheVariants as bus_stage
+use Rattle.xenbus_state.specs.FrontAsk.{ask_of as bus_ask_of}
+use Rattle.xenbus_state.specs.declared.front.FrontNews.{FrontNews}
+use Rattle.xenbus_state.specs.declared.front.FrontBusAsk.{FrontBusAsk}
+use Rattle.xenbus_state.specs.declared.front.FrontBusAsk.TheVariants as bus_ask
 
--- The frontend: its end of the ring, its end of the negotiation, and whether it became ready in its last move, which is to be told.
+-- The frontend: its end of the ring, its end of the negotiation, and what the negotiation made happen, which is to be told.
 pub record View : Type 0 where
   pub ring : ring.View
   pub bus : bus.FrontView
-  pub ready : Bool
+  pub news : Option FrontNews
 
 -- a frontend that sets its watch first
 abbrev pub start_of : Options → View
-start_of config = record { ring = ring.start_of config; bus = bus.start_of config; ready = false }
+start_of config = record { ring = ring.start_of config; bus = bus.start_of config; news = None }
 
 -- what is told was taken
 abbrev pub heard : View → View
-heard v = let r : ring.View = v.ring in record v { ring = record r { told = None }; ready = false }
+heard v = let r : ring.View = v.ring in record v { ring = record r { told = None }; news = None }
 
--- the negotiation has begun nothing
-abbrev pub rests : FrontStage → Bool
-rests bus_stage.Rest = true
-rests s = false
+-- no step of a request or of the ring's loop is begun
+abbrev pub is_still : Stage → Bool
+is_still (ring_stage.RingWord k) = true
+is_still ring_stage.Initialised = true
+is_still ring_stage.Loop = true
+is_still ring_stage.RingRead = true
+is_still (ring_stage.RingEnd seen) = true
+is_still ring_stage.ClosePort = true
+is_still ring_stage.Left = true
+is_still ring_stage.Closed = true
+is_still s = false
 
--- it is connected, or broken, and waits for an event
+-- and nothing of a request is left: so the negotiation may close
+abbrev pub is_unoccupied : ring.View → Bool
+is_unoccupied v = unfinished v == 0 && is_still v.stage
+
+-- the negotiation has begun nothing, and nothing is due
+abbrev pub rests : FrontBusAsk → Bool
+rests bus_ask.Wait = true
+rests ask = false
+
+-- it is connected, closed or broken, and waits for an event or a watch
 abbrev pub is_idle : View → Bool
-is_idle v = rests v.bus.stage && ring_is_idle v.ring
+is_idle v = rests (bus_ask_of v.bus (is_unoccupied v.ring)) && ring_is_idle v.ring
 
--- a word that no honest back leaves was found in the ring
+-- a word that no honest back leaves was found
 abbrev pub is_broken : Stage → Bool
 is_broken (ring_stage.Broken word) = true
 is_broken s = false

@@ -1,41 +1,39 @@
 // The frontend.
 ghost use Rattle.std.specs.Prelude.{◌≡◌, ◌||◌, ◌≤◌, None, is_some, IfOk, IsOk, OnErr};
 ghost use Rattle.blk_front.specs.Submit.{submit_of, unfinished, sectors_owed};
-ghost use Rattle.vbd_front.specs.View.{start_of, heard, is_idle};
-ghost use Rattle.vbd_front.specs.Ask.{ask_of, bus_ask_of, ring_moves, IsAnswer, StaysInMemory};
-ghost use Rattle.vbd_front.specs.Step.{step_of};
+ghost use Rattle.vbd_front.specs.View.{start_of, heard, rests, is_idle};
+ghost use Rattle.vbd_front.specs.Ask.{ask_of, bus_ask_of, IsAnswer, StaysInMemory};
+ghost use Rattle.vbd_front.specs.Step.{step_of, closes};
 
-mod steps;
-
-use crate::making::{Making, making_of};
-use crate::negotiation::Negotiation;
+use crate::ends::Ends;
+use crate::key::Key;
 use crate::turn::Turn;
 use blk_base::{Config, Endpoint, FrontAnswer, FrontAsk, Job, OutOfMemory};
-use blk_front::{Front, Refusal, Told};
+use blk_front::{Refusal, Told};
 use std::alloc::Global;
 use std::marker::Model;
-use xenbus_state::FrontBusAsk;
+use xenbus_state::{FrontBusAsk, FrontNews};
 
-/// The front end of a block device: its end of a ring of one page, which it makes and serves as the
-/// negotiation with the back asks for it. After `new` it takes no memory.
+/// The front end of a block device: its end of a ring of one page, which it makes, serves and gives
+/// up as the negotiation with the back asks for it. To contracts it is both ends; whose turn it is,
+/// and the path and the text of a key that is asked for, are found where they may change. After `new`
+/// it takes no memory.
 #[derive(Drop)]
 pub struct Frontend {
-    ring: Front,
-    bus: Negotiation,
-    ready: bool,
-    broken: bool,
+    ends: Ends,
+    turn: Turn,
+    key: Key,
 }
 
 impl Model for Frontend {
     ghost use Rattle.vbd_front.specs.View.{View};
-    ghost use Rattle.vbd_front.specs.Inside.{view_of};
-    ghost use Rattle.vbd_front.specs.Broken.{Knows};
+    ghost use Rattle.vbd_front.specs.Sound.{IsSound};
 
     ghost Value = { View };
 
-    ghost view = { view_of };
+    ghost view = { λ f. f.ends };
 
-    ghost invariant = { λ f. Knows f.broken f.ring };
+    ghost invariant = { IsSound };
 }
 
 impl Frontend {
@@ -43,30 +41,51 @@ impl Frontend {
     pub fn new(alloc: Global, config: &Config) -> Result<Frontend, OutOfMemory>
         ensures { IfOk result (λ f. f ≡ start_of config.now) }
     {
-        Ok(Frontend {
-            ring: Front::new(alloc, config)?,
-            bus: Negotiation::new(config),
-            ready: false,
-            broken: false,
-        })
+        let ends = Ends::new(alloc, config)?;
+        let turn = ends.turn();
+        let key = Key::of(&ends.bus_ask());
+        Ok(Frontend { ends, turn, key })
     }
 
     /// Hands the ring's end a request, and answers its number, one more than the last. A refusal is
     /// the first that applies, exactly where it does, and changes nothing. It takes no memory.
-    #[tactic(auto, using(crate::proofs::Breaks::knows_submit))]
     pub fn submit(&mut self, job: Job) -> Result<u32, Refusal>
         ensures answer { result ≡ (submit_of self.old.ring job).0 }
         ensures front { self.new ≡ record self.old { ring = (submit_of self.old.ring job).1 } }
     {
-        self.ring.submit(job)
+        let answer = self.ends.submit(job);
+        self.turn = self.ends.turn();
+        self.key = Key::of(&self.ends.bus_ask());
+        answer
     }
 
-    /// Whether it is connected, or broken, and waits for nothing but an event or a watch.
+    /// The front is to close: it takes no more requests, and closes once it has finished those that it
+    /// has. Where it closes already, or is closed or broken, nothing happens.
+    pub fn close(&mut self)
+        ensures { self.new ≡ closes self.old }
+    {
+        self.ends.close();
+        self.turn = self.ends.turn();
+        self.key = Key::of(&self.ends.bus_ask());
+    }
+
+    /// Whether it is connected, closed or broken, and waits for nothing but an event or a watch.
     #[inline(always)]
     pub fn idle(&self) -> bool
         ensures { result ≡ is_idle self.now }
     {
-        self.ring.idle() && self.bus.rests()
+        self.ends.ring_idle() && self.rests()
+    }
+
+    // Whether the negotiation asks for nothing.
+    fn rests(&self) -> bool
+        ensures { result ≡ rests (bus_ask_of self.now) }
+    {
+        match self.turn {
+            Turn::Keys => false,
+            Turn::Ring => true,
+            Turn::Either => matches!(self.ends.bus_ask(), FrontBusAsk::Wait),
+        }
     }
 
     /// How many requests are unfinished, and how many sectors they move.
@@ -76,49 +95,29 @@ impl Frontend {
         ensures few { result.0 ≤ 32 }
         ensures short { result.1 ≤ 2904 }
     {
-        self.ring.owed()
+        self.ends.owed()
     }
 
     /// Whether something is left to tell.
     #[inline(always)]
     pub fn has_told(&self) -> bool
-        ensures { result ≡ (is_some self.now.ring.told || self.now.ready) }
+        ensures { result ≡ (is_some self.now.ring.told || is_some self.now.news) }
     {
-        self.ring.has_told() || self.ready
+        self.ends.has_told()
     }
 
-    /// What happened at the ring in the last move, once, and whether the front became ready in it;
-    /// `None` and false exactly where nothing is left to tell.
-    pub fn take_told(&mut self) -> (Option<Told>, bool)
+    /// What happened at the ring in the last move, and what the negotiation made happen, once; `None`
+    /// twice exactly where nothing is left to tell.
+    pub fn take_told(&mut self) -> (Option<Told>, Option<FrontNews>)
         ensures told { result.0 ≡ self.old.ring.told }
-        ensures ready { result.1 ≡ self.old.ready }
+        ensures news { result.1 ≡ self.old.news }
         ensures taken { self.new ≡ heard self.old }
     {
-        let told = self.ring.take_told();
-        if let Some(Told::Broken(_)) = told {
-            self.broken = true;
-        }
-        let ready = self.ready;
-        self.ready = false;
-        (told, ready)
+        self.ends.take_told()
     }
 }
 
 impl Frontend {
-    // Whether the ring's end has the move, where the negotiation leaves it.
-    fn ring_moves(&self) -> bool
-        ensures { result ≡ ring_moves (bus_ask_of self.now) self.now.ring.stage }
-    {
-        match self.bus.ask() {
-            FrontBusAsk::WriteRingWord(_) => making_of(&self.ring) == Making::Word,
-            FrontBusAsk::Grant(_) => {
-                matches!(making_of(&self.ring), Making::Grant | Making::Flags)
-            }
-            FrontBusAsk::NewPort => making_of(&self.ring) == Making::Port,
-            _ => self.ring.is_connected(),
-        }
-    }
-
     // What is asked, whosever turn it is.
     #[inline(never)]
     #[tactic(auto, using(crate::proofs::Turns::ring_asks))]
@@ -126,11 +125,23 @@ impl Frontend {
         ensures value { result ≡ ask_of self.now }
         ensures within { StaysInMemory result }
     {
-        match self.bus.turn() {
-            Turn::Keys => self.bus.key_ask(),
-            _ if self.ring_moves() => self.ring.ask(),
+        match self.turn {
+            Turn::Keys => self.key.lend(&self.ends.bus_ask()),
+            _ if self.ends.ring_moves() => self.ends.ring_ask(),
             _ => FrontAsk::Wait,
         }
+    }
+
+    // Tells the answer to what is asked, whosever turn it is.
+    #[inline(never)]
+    fn tell_by_turn<'a>(&mut self, answer: &FrontAnswer<'a>)
+        requires kind { IsAnswer (ask_of self.old) answer.now }
+        requires told { self.old.ring.told ≡ None }
+        ensures { self.new ≡ step_of self.old answer.now }
+    {
+        self.ends.tell(self.turn, answer);
+        self.turn = self.ends.turn();
+        self.key = Key::of(&self.ends.bus_ask());
     }
 }
 
@@ -147,19 +158,20 @@ impl<'a> Endpoint<'a> for Frontend {
     ghost MayBeTold = { λ front answer. IsAnswer (ask_of front) answer × (front.ring.told ≡ None) };
 
     #[inline(always)]
+    #[tactic(auto, using(crate::proofs::Turns::made_asks))]
     fn ask(&'a self) -> FrontAsk<'a>
         ensures value { result ≡ ask_of self.now }
         ensures within { StaysInMemory result }
     {
         // Most moves are of the ring's end, once it is made.
-        match self.bus.turn() {
-            Turn::Ring if self.ring.is_connected() => self.ring.ask(),
+        match self.turn {
+            Turn::Ring => self.ends.ring_ask(),
             _ => self.ask_by_turn(),
         }
     }
 
     #[inline(always)]
-    #[tactic(auto, using(crate::proofs::Breaks::knows_step))]
+    #[tactic(auto, using(crate::proofs::Turns::made_answers, crate::proofs::Turns::made_steps))]
     fn tell(&mut self, answer: &FrontAnswer<'a>) -> Result<(), OutOfMemory>
         requires { IsAnswer (ask_of self.old) answer.now × (self.old.ring.told ≡ None) }
         ensures told { self.new ≡ step_of self.old answer.now }
@@ -167,10 +179,12 @@ impl<'a> Endpoint<'a> for Frontend {
         ensures unchanged { OnErr result (self.new ≡ self.old) }
     {
         // The negotiation learns nothing of the moves of a ring that is made, but of a watch.
-        match (self.bus.turn(), answer) {
-            (Turn::Ring, FrontAnswer::Event | FrontAnswer::Done | FrontAnswer::Word(_))
-                if self.ring.is_connected() => { self.ring.tell(answer) }
+        match (self.turn, answer) {
+            (Turn::Ring, FrontAnswer::Event | FrontAnswer::Done | FrontAnswer::Word(_)) => {
+                self.ends.tell_ring(answer);
+            }
             _ => self.tell_by_turn(answer),
         }
+        Ok(())
     }
 }

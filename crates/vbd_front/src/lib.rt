@@ -3,9 +3,10 @@
 //! answer. The machine of both domains stands on it.
 #![tactic(auto)]
 
+mod ends;
 mod frontend;
-mod making;
-mod negotiation;
+mod key;
+mod news;
 #[cfg(test)]
 mod tests;
 mod turn;

@@ -1,4 +1,4 @@
-// A frontend over a back by hand, from its first watch to its first request.
+// A frontend over a back by hand, from its first watch to its first request, and to its end.
 ghost use Rattle.std.specs.Prelude.{IfSome};
 ghost use Rattle.vbd_front.specs.Ask.{IsAnswer};
 
@@ -11,7 +11,7 @@ use blk_front::{Refusal, Told};
 use std::alloc::Global;
 use std::process::Abort;
 use std::test::Fail;
-use xenbus_state::state_path;
+use xenbus_state::{FrontNews, state_path};
 
 const FRONT: &str = "/local/domain/1/device/vbd/51712/";
 
@@ -44,7 +44,7 @@ impl Other {
             FrontAsk::Read { .. } | FrontAsk::Cas { .. } => Some(FrontAnswer::Word(self.word)),
             FrontAsk::NewPort => Some(FrontAnswer::Port(1)),
             FrontAsk::GetKey(_) => Some(FrontAnswer::Key(Some(Lent::at(&self.text)))),
-            FrontAsk::ClosePort => None,
+            FrontAsk::Send => None,
             _ => Some(FrontAnswer::Done),
         }
     }
@@ -78,8 +78,8 @@ fn move_at(
     front: &mut Frontend,
     asked: &FrontAsk,
     other: &Other,
-) -> Result<(Option<Told>, bool), Fail> {
-    assert_eq!(rt; front.take_told(), (None, false));
+) -> Result<(Option<Told>, Option<FrontNews>), Fail> {
+    assert_eq!(rt; front.take_told(), (None, None));
     let ask = front.ask();
     assert_eq!(rt; ask, *asked);
     let answer = other.answer(&ask).ok_or("never asked")?;
@@ -94,7 +94,7 @@ fn asks(
     asked: &FrontAsk,
     other: &Other,
 ) -> Result<(), Fail> {
-    assert_eq!(rt; move_at(rt, front, asked, other)?, (None, false));
+    assert_eq!(rt; move_at(rt, front, asked, other)?, (None, None));
     Ok(())
 }
 
@@ -224,8 +224,19 @@ fn submit(front: &mut Frontend) -> Result<Result<u32, Refusal>, Fail> {
     }))
 }
 
-// It reads what the disk is and writes Connected; whether it is ready then.
-fn connects(rt: &impl Abort, front: &mut Frontend) -> Result<bool, Fail> {
+// It writes its state; what is told then.
+fn says(
+    rt: &impl Abort,
+    front: &mut Frontend,
+    state: &str,
+) -> Result<(Option<Told>, Option<FrontNews>), Fail> {
+    let (path, text) = (path(FRONT, "state"), short(state));
+    let said = FrontAsk::SetKey(Lent::at(&path), Lent::at(&text));
+    move_at(rt, front, &said, &nothing())
+}
+
+// It reads what the disk is, writes Connected, and is ready.
+fn connects(rt: &impl Abort, front: &mut Frontend) -> Result<(), Fail> {
     sees(rt, front, "4")?;
     gets(
         rt,
@@ -233,11 +244,8 @@ fn connects(rt: &impl Abort, front: &mut Frontend) -> Result<bool, Fail> {
         &[("sectors", "8"), ("sector-size", "512"), ("info", "0")],
     )?;
     assert_eq!(rt; submit(front)?, Err(Refusal::NotReady));
-    let (path, text) = (path(FRONT, "state"), short("4"));
-    let connected = FrontAsk::SetKey(Lent::at(&path), Lent::at(&text));
-    let told = move_at(rt, front, &connected, &nothing())?;
-    assert_eq!(rt; told.0, None);
-    Ok(told.1)
+    assert_eq!(rt; says(rt, front, "4")?, (None, Some(FrontNews::Ready)));
+    Ok(())
 }
 
 // A frontend that is ready.
@@ -245,7 +253,7 @@ fn ready(rt: &impl Abort, alloc: Global) -> Result<Frontend, Fail> {
     let mut front = watching(rt, alloc)?;
     reads_offer(rt, &mut front)?;
     publishes(rt, &mut front)?;
-    assert!(rt; connects(rt, &mut front)?);
+    connects(rt, &mut front)?;
     Ok(front)
 }
 
@@ -254,7 +262,7 @@ fn looks(
     rt: &impl Abort,
     front: &mut Frontend,
     producer: u32,
-) -> Result<(Option<Told>, bool), Fail> {
+) -> Result<(Option<Told>, Option<FrontNews>), Fail> {
     let look = FrontAsk::Read { frame: 2, word: 2 };
     move_at(rt, front, &look, &Other::new("", producer))
 }
@@ -282,11 +290,11 @@ fn the_ring_is_published_and_waits_for_the_back(rt: HostRuntime) -> Result<(), F
 #[test]
 fn a_ready_front_issues_sleeps_and_takes_its_watch(rt: HostRuntime) -> Result<(), Fail> {
     let mut front = ready(&rt, rt.alloc())?;
-    assert_eq!(rt; looks(&rt, &mut front, 7)?, (None, false));
+    assert_eq!(rt; looks(&rt, &mut front, 7)?, (None, None));
     writes(&rt, &mut front, 2, 3, 8)?;
     asks(&rt, &mut front, &FrontAsk::Fence, &nothing())?;
     assert!(rt; !front.idle());
-    assert_eq!(rt; looks(&rt, &mut front, 7)?, (None, false));
+    assert_eq!(rt; looks(&rt, &mut front, 7)?, (None, None));
     assert!(rt; front.idle());
     sees(&rt, &mut front, "4")?;
     assert!(rt; front.idle());
@@ -299,10 +307,71 @@ fn a_ready_front_issues_sleeps_and_takes_its_watch(rt: HostRuntime) -> Result<()
 fn a_broken_front_takes_its_watch_and_reads_nothing(rt: HostRuntime) -> Result<(), Fail> {
     let mut front = ready(&rt, rt.alloc())?;
     assert!(rt; !front.has_told());
-    assert_eq!(rt; looks(&rt, &mut front, 8)?, (Some(Told::Broken(8)), false));
+    assert_eq!(rt; looks(&rt, &mut front, 8)?, (Some(Told::Broken(8)), None));
     for _ in 0..2 {
         assert!(rt; front.idle());
         asks(&rt, &mut front, &FrontAsk::Wait, &nothing())?;
     }
+    Ok(())
+}
+
+// It ends the grant of its ring, whose entry's first word is 1, and closes its port.
+fn leaves(rt: &impl Abort, front: &mut Frontend) -> Result<(), Fail> {
+    let granted = Other::new("", 1);
+    let (frame, word) = (0, 16);
+    asks(rt, front, &FrontAsk::Read { frame, word }, &granted)?;
+    let end = FrontAsk::Cas {
+        frame,
+        word,
+        old: 1,
+        new: 0,
+    };
+    asks(rt, front, &end, &granted)?;
+    asks(rt, front, &FrontAsk::ClosePort, &nothing())
+}
+
+#[test]
+fn a_front_that_closes_leaves_once_the_back_is_gone(rt: HostRuntime) -> Result<(), Fail> {
+    let mut front = ready(&rt, rt.alloc())?;
+    front.close();
+    assert_eq!(rt; front.take_told(), (None, Some(FrontNews::Closing)));
+    assert_eq!(rt; submit(&mut front)?, Err(Refusal::Closing));
+    assert_eq!(rt; says(&rt, &mut front, "5")?, (None, None));
+    sees(&rt, &mut front, "5")?;
+    assert!(rt; front.idle());
+    sees(&rt, &mut front, "6")?;
+    assert!(rt; !front.idle());
+    leaves(&rt, &mut front)?;
+    let closed = says(&rt, &mut front, "6")?;
+    assert_eq!(rt; closed, (None, Some(FrontNews::Closed)));
+    assert!(rt; front.idle());
+    Ok(())
+}
+
+#[test]
+fn a_front_without_a_ring_closes_too(rt: HostRuntime) -> Result<(), Fail> {
+    let mut front = watching(&rt, rt.alloc())?;
+    front.close();
+    assert_eq!(rt; front.take_told(), (None, Some(FrontNews::Closing)));
+    assert_eq!(rt; says(&rt, &mut front, "5")?, (None, None));
+    sees(&rt, &mut front, "6")?;
+    let closed = says(&rt, &mut front, "6")?;
+    assert_eq!(rt; closed, (None, Some(FrontNews::Closed)));
+    Ok(())
+}
+
+#[test]
+fn a_front_that_reads_no_state_is_broken(rt: HostRuntime) -> Result<(), Fail> {
+    let mut front = ready(&rt, rt.alloc())?;
+    looks(&rt, &mut front, 7)?;
+    writes(&rt, &mut front, 2, 3, 8)?;
+    asks(&rt, &mut front, &FrontAsk::Fence, &nothing())?;
+    looks(&rt, &mut front, 7)?;
+    asks(&rt, &mut front, &FrontAsk::Wait, &nothing())?;
+    let path = path(BACK, "state");
+    let read = FrontAsk::GetKey(Lent::at(&path));
+    let told = move_at(&rt, &mut front, &read, &Other::new("four", 0))?;
+    assert_eq!(rt; told, (None, Some(FrontNews::Broken(9))));
+    assert!(rt; front.idle());
     Ok(())
 }

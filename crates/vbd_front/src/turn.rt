@@ -1,23 +1,26 @@
 // Whose turn it is at the front.
 ghost use Rattle.std.specs.Prelude.{◌≡◌};
-ghost use Rattle.vbd_front.specs.Turn.{turn_of};
+ghost use Rattle.blk_front.specs.Submit.{is_connected};
+ghost use Rattle.vbd_front.specs.Turn.{turn_at};
 
-use xenbus_state::FrontBusAsk;
+use blk_front::Front;
+use xenbus_state::{FrontBus, FrontBusAsk};
 
-/// Whose turn it is, by what the negotiation asks.
+/// Whose turn it is.
 #[derive(Clone, Copy, Debug, PartialEq, Eq)]
 pub enum Turn {
     /// The negotiation's, which asks for a key or a watch.
     Keys,
-    /// The ring's end makes the ring, as far as the negotiation asks for it.
-    Making,
-    /// The ring's end has the move where the ring is made.
+    /// The ring's end has the move: the ring is made, and the negotiation neither asks for anything
+    /// nor closes, so that no move of the ring's end but one that takes a watch changes that.
     Ring,
+    /// Either's, as it is found at each move.
+    Either,
 }
 
 /// Whose turn it is where the negotiation asks for this.
-pub fn turn_of(ask: &FrontBusAsk) -> Turn
-    ensures { result ≡ turn_of ask.now }
+pub fn turn_of(ask: &FrontBusAsk, bus: &FrontBus, ring: &Front) -> Turn
+    ensures { result ≡ turn_at ask.now bus.now.closing (is_connected ring.now.stage) }
 {
     match ask {
         FrontBusAsk::Watch
@@ -25,9 +28,7 @@ pub fn turn_of(ask: &FrontBusAsk) -> Turn
         | FrontBusAsk::GetKey(_)
         | FrontBusAsk::SetState(_)
         | FrontBusAsk::SetKey(_, _) => Turn::Keys,
-        FrontBusAsk::WriteRingWord(_) | FrontBusAsk::Grant(_) | FrontBusAsk::NewPort => {
-            Turn::Making
-        }
-        _ => Turn::Ring,
+        FrontBusAsk::Wait if !bus.is_closing() && ring.is_connected() => Turn::Ring,
+        _ => Turn::Either,
     }
 }

@@ -1,17 +1,29 @@
 -- The machine is fit at the start and stays so.
-use Rattle.std.proofs.Common.{◌≡◌, ℕ, Bool, true, false, true≢false, ◌&&◌, List, [], ◌∷◌, refl, sym, arith}
-use Rattle.std.specs.Prelude.{Option, Some, None, ◌==◌}
+use Rattle.std.proofs.Common.{◌≡◌, ℕ, ◌+◌, Bool, true, false, true≢false, not, ◌&&◌, if◌then◌else◌, List, [], ◌∷◌, length, refl, sym, ap, ◌∙◌, arith}
+use Rattle.std.specs.Prelude.{Option, Some, None, Result, Err, nat_lt, nat_le, ◌==◌}
 use Rattle.std.proofs.lemmas.Bool.Decides.{nat_tests}
 use Rattle.blk_base.specs.Options.{Options}
 use Rattle.blk_base.specs.declared.config.Job.{Job}
 use Rattle.blk_base.specs.declared.operation.Abi.{Abi}
 use Rattle.blk_base.specs.declared.operation.Abi.TheVariants.{X64, X32}
 use Rattle.blk_base.specs.declared.parts.End.{End}
+use Rattle.blk_base.specs.declared.parts.End.TheVariants as end
 use Rattle.schedule_text.specs.declared.line.Line.{Line}
 use Rattle.hypervisor.specs.Hypervisor.{Hypervisor}
 use Rattle.xen_pages.specs.Pages.{with_word}
 use Rattle.hypervisor.specs.Act.{BackAct, Outcome, with_pages}
+use Rattle.ring_words.specs.Shape.{entries_of}
+use Rattle.blk_front.specs.declared.request.Wish.{Wish}
+use Rattle.blk_front.specs.declared.told.Refusal.{Refusal}
+use Rattle.blk_front.specs.declared.told.Refusal.TheVariants as refusal
+use Rattle.blk_front.specs.Pool.{taking}
+use Rattle.blk_front.specs.Request.{is_write, frames_for}
+use Rattle.blk_front.specs.View.{View, shape}
+use Rattle.blk_front.specs.Ask.{is_through}
+use Rattle.blk_front.specs.Submit.{is_ready, unfinished, wish_of, submit_with, submit_one, submit_of}
 use Rattle.blk_back.specs.Step.{job_ask_of}
+use Rattle.vbd_front.specs.View.{is_broken}
+use Rattle.line_text.proofs.Both.{both_true}
 use Rattle.split_model.specs.World as rings
 use Rattle.split_model.specs.Happening as ring
 use Rattle.split_model.specs.Safe.{IsSafe}
@@ -20,12 +32,12 @@ use Rattle.split_model.proofs.SafeFront.{submit_kept}
 use Rattle.split_model.proofs.SafeAnswers.{jobs_of}
 use Rattle.split_model.proofs.Overwriting.{poke_cases}
 use Rattle.vbd_model.specs.World.{World, start_of}
-use Rattle.vbd_model.specs.Happening.{Happening, FrontMoves, BackMoves, JobMoves, Submits, Notifies, Pokes, Dumps, Looks, Settles, happens, after}
+use Rattle.vbd_model.specs.Happening.{Happening, FrontMoves, BackMoves, JobMoves, Closes, Submits, Notifies, Pokes, Dumps, Looks, Settles, happens, after}
 use Rattle.vbd_model.specs.Kind.{is_x64, are_carried}
 use Rattle.vbd_model.specs.Fit.{IsUnbound, IsFit}
 use Rattle.vbd_laws.proofs.FitChannels.{IsUnported, job_leaves, notified}
-use Rattle.vbd_laws.proofs.FitFront.{fit_front_moves}
-use Rattle.vbd_laws.proofs.FitBack.{fit_back_moves}
+use Rattle.vbd_laws.proofs.FitFront.{fit_front_moves, fit_front_closes}
+use Rattle.vbd_laws.proofs.FitBack.{fit_back_moves, fit_back_closes}
 
 -- the options that are carried out name the layout of 64-bit guests and a ring of one page
 first_two : (a b c d : Bool) → (a && b && c && d) ≡ true → (a ≡ true) × (b ≡ true)
@@ -48,9 +60,12 @@ fit_start config carried =
       layout = carried_layout config.abi both.0;
       order = carried_order config.order both.1;
       offers = refl;
-      plugged = refl;
-      front = (refl, refl);
+      front = (refl, refl, refl);
+      closing = λ whole. refl;
+      through = λ e. absurd (cc);
       back = (refl, refl);
+      held = (refl, refl);
+      halted = refl;
       unported = λ none. refl;
       unbound = (refl, refl);
     }
@@ -60,18 +75,27 @@ abbrev with_rings : World → rings.World → World
 with_rings w r = record { rings = r; front = w.front; back = w.back }
 
 -- no negotiation was told anything, and both ends of the ring stand where they did
-fit_rings : (w : World) (r : rings.World) → IsFit w → IsSafe r → r.front.stage ≡ w.rings.front.stage → r.back.stage ≡ w.rings.back.stage
-    → IsUnported r.under.channels → IsUnbound w.rings.back.stage r.under.channels → IsFit (with_rings w r)
-fit_rings w r fit safe front back unported unbound = record {
+record IsLike (w : World) (r : rings.World) : Type 0 where
+  front : r.front.stage ≡ w.rings.front.stage
+  closing : r.front.closing ≡ w.rings.front.closing
+  through : is_through w.rings.front ≡ true → is_through r.front ≡ true
+  back : r.back.stage ≡ w.rings.back.stage
+  halted : r.back.halted ≡ w.rings.back.halted
+
+fit_rings : (w : World) (r : rings.World) → IsFit w → IsSafe r → IsLike w r → IsUnported r.under.channels → IsUnbound w.rings.back.stage r.under.channels → IsFit (with_rings w r)
+fit_rings w r fit safe like unported unbound = record {
   safe = safe;
   layout = fit.layout;
   order = fit.order;
   offers = fit.offers;
-  plugged = fit.plugged;
-  front = rw front fit.front;
-  back = rw back fit.back;
+  front = rw like.front fit.front;
+  closing = λ whole. like.closing ∙ fit.closing (ap is_broken (sym like.front) ∙ whole);
+  through = λ e whole. like.through (fit.through e (ap is_broken (sym like.front) ∙ whole));
+  back = rw like.back fit.back;
+  held = rw like.back fit.held;
+  halted = rw like.halted fit.halted;
   unported = unported;
-  unbound = rw back unbound;
+  unbound = rw like.back unbound;
 }
 
 -- a move of a job
@@ -79,16 +103,47 @@ fit_job : (w : World) (k : ℕ) (outcome : Outcome) (act : Option BackAct) → I
 fit_job w k outcome None fit e safe = fit
 fit_job w k outcome (Some a) fit e safe =
     let same = job_leaves w.rings.under k (job_ask_of w.rings.back k) outcome a (jobs_of w.rings.back k) e in
-    fit_rings w (ring.job_after w.rings k (Some a)) fit safe refl refl (rw same fit.unported) (rw same fit.unbound)
+    fit_rings w (ring.job_after w.rings k (Some a)) fit safe (record { front = refl; closing = refl; through = λ is. is; back = refl; halted = refl }) (rw same.0 fit.unported) (rw same.0 fit.unbound)
+
+-- a submission leaves whether the front closes, and one that closes takes none
+either_closing : (b c : Bool) (x y : Result ℕ Refusal × View) → x.1.closing ≡ c → y.1.closing ≡ c → (if b then x else y).1.closing ≡ c
+either_closing true c x y p q = p
+either_closing false c x y p q = q
+
+closing_with : (v : View) (wish : Wish) (taken : Option (List ℕ × List Bool)) → (submit_with v wish taken).1.closing ≡ v.closing
+closing_with v wish None = refl
+closing_with v wish (Some taken) = refl
+
+closing_one : (v : View) (wish : Option Wish) → (submit_one v wish).1.closing ≡ v.closing
+closing_one v None = refl
+closing_one v (Some wish) =
+    either_closing (is_write wish.transfer && v.read_only) v.closing _ _ refl
+    (either_closing (nat_lt v.sectors (wish.sector + wish.count)) v.closing _ _ refl
+    (either_closing (nat_lt 11 (frames_for wish.count)) v.closing _ _ refl
+    (either_closing (nat_le (entries_of shape.order) (unfinished v)) v.closing _ _ refl (closing_with v wish (taking (frames_for wish.count) v.pool [])))))
+
+closing_submit : (v : View) (job : Job) → (submit_of v job).1.closing ≡ v.closing
+closing_submit v job =
+    either_closing (v.last == 4294967295) v.closing _ _ refl (either_closing v.closing v.closing _ _ refl (either_closing (not (is_ready v.stage)) v.closing _ _ refl (closing_one v (wish_of job))))
+
+through_submit : (v : View) (job : Job) → is_through v ≡ true → is_through (submit_of v job).1 ≡ true
+through_submit v job through = by_test (v.last == 4294967295) v.closing (both_true v.closing (length v.requests == 0) through).0
+  where
+    by_test : (b c : Bool) → c ≡ true
+        → is_through (if b then (Err refusal.Spent, v) else (if c then (Err refusal.Closing, v) else (if not (is_ready v.stage) then (Err refusal.NotReady, v) else submit_one v (wish_of job)))).1 ≡ true
+    by_test true c closing = through
+    by_test false true closing = through
+    by_test false false closing = absurd (true≢false (sym closing))
 
 fit_submit : (w : World) (job : Job) → IsFit w → IsFit (happens w (Submits job))
 fit_submit w job fit =
-    fit_rings w (ring.happens w.rings (ring.Submits job)) fit (safe_happens w.rings (ring.Submits job) fit.safe) (submit_kept w.rings.front job).stage refl fit.unported fit.unbound
+    fit_rings w (ring.happens w.rings (ring.Submits job)) fit (safe_happens w.rings (ring.Submits job) fit.safe)
+    (record { front = (submit_kept w.rings.front job).stage; closing = closing_submit w.rings.front job; through = through_submit w.rings.front job; back = refl; halted = refl }) fit.unported fit.unbound
 
 fit_notify : (w : World) (at : End) → IsFit w → IsFit (happens w (Notifies at))
 fit_notify w at fit =
     let channels = notified at w.rings.back.stage w.rings.under.channels fit.unported fit.unbound in
-    fit_rings w (ring.happens w.rings (ring.Notifies at)) fit (safe_happens w.rings (ring.Notifies at) fit.safe) refl refl channels.0 channels.1
+    fit_rings w (ring.happens w.rings (ring.Notifies at)) fit (safe_happens w.rings (ring.Notifies at) fit.safe) (record { front = refl; closing = refl; through = λ is. is; back = refl; halted = refl }) channels.0 channels.1
 
 -- the rings over this
 abbrev with_under : rings.World → Hypervisor → rings.World
@@ -97,7 +152,7 @@ with_under r under = record { front = r.front; back = r.back; under = under }
 fit_poke : (w : World) (frame word value : ℕ) → IsFit w → IsFit (happens w (Pokes frame word value))
 fit_poke w frame word value fit =
     poke_cases (λ (under : Hypervisor) (shown : List Line). IsSafe (with_under w.rings under) → IsFit (with_rings w (with_under w.rings under))) w.rings.under frame word value
-    (λ framed worded safe. fit_rings w (with_under w.rings (with_pages w.rings.under (with_word w.rings.under.pages frame word value))) fit safe refl refl fit.unported fit.unbound) (λ safe. fit) (safe_happens w.rings (ring.Pokes frame word value) fit.safe)
+    (λ framed worded safe. fit_rings w (with_under w.rings (with_pages w.rings.under (with_word w.rings.under.pages frame word value))) fit safe (record { front = refl; closing = refl; through = λ is. is; back = refl; halted = refl }) fit.unported fit.unbound) (λ safe. fit) (safe_happens w.rings (ring.Pokes frame word value) fit.safe)
 
 -- whatever happens
 pub fit_happens : (w : World) (h : Happening) → IsFit w → IsFit (happens w h)
@@ -105,6 +160,8 @@ fit_happens w FrontMoves fit = fit_front_moves w fit
 fit_happens w BackMoves fit = fit_back_moves w fit
 fit_happens w (JobMoves number outcome) fit =
     fit_job w number outcome (ring.job_turn w.rings number outcome) fit refl (safe_happens w.rings (ring.JobMoves number outcome) fit.safe)
+fit_happens w (Closes end.Front) fit = fit_front_closes w fit
+fit_happens w (Closes end.Back) fit = fit_back_closes w fit
 fit_happens w (Submits job) fit = fit_submit w job fit
 fit_happens w (Notifies at) fit = fit_notify w at fit
 fit_happens w (Pokes frame word value) fit = fit_poke w frame word value fit

@@ -1,152 +1,392 @@
--- The back's negotiation goes on with its end of the ring, as that moves.
-use Rattle.std.proofs.Common.{◌≡◌, ℕ, ◌+◌, Bool, true, false, true≢false, if◌then◌else◌, List, inl, inr, refl, sym, ap, ◌∙◌, subst}
-use Rattle.std.specs.Prelude.{◌⊎◌, nat_lt, length, is_some}
+-- The back's negotiation goes on with its end of the ring, as that moves, and halts with it.
+use Rattle.std.proofs.Common.{◌≡◌, ℕ, ◌+◌, Bool, true, false, true≢false, if◌then◌else◌, List, [], ◌∷◌, ◌++◌, inl, inr, refl, sym, ap, ◌∙◌, subst, arith, length-append}
+use Rattle.std.specs.Prelude.{Option, Some, None, nat_lt, length, is_some}
+use Rattle.line_text.proofs.Both.{both_true}
+use Rattle.blk_base.specs.declared.parts.Mapping.{Mapping}
 use Rattle.blk_base.specs.declared.ask.BackAnswer.{BackAnswer}
 use Rattle.blk_base.specs.declared.ask.BackAnswer.TheVariants as answer
+use Rattle.back_jobs.specs.Jobs.{first_mapping}
 use Rattle.blk_back.specs.declared.stage.Stage.{Stage as Ring}
 use Rattle.blk_back.specs.declared.stage.Stage.TheVariants as ring
+use Rattle.blk_back.specs.declared.told.Halt.{Halt}
 use Rattle.blk_back.specs.View as ends
 use Rattle.blk_back.specs.Ask.{ask_at as ring_ask_at, IsAnswer}
-use Rattle.blk_back.specs.Step.{step_at as ring_step_at, step_of as ring_step_of}
+use Rattle.blk_back.specs.Step.{at as ring_at, step_at as ring_step_at, step_of as ring_step_of}
 use Rattle.xenbus_state.specs.declared.state.BusState.{BusState}
 use Rattle.xenbus_state.specs.declared.state.BusState.TheVariants as state
 use Rattle.xenbus_state.specs.declared.stage.BackStage.{BackStage}
 use Rattle.xenbus_state.specs.declared.stage.BackStage.TheVariants as stage
+use Rattle.xenbus_state.specs.declared.back.BackBusAsk.{BackBusAsk}
 use Rattle.xenbus_state.specs.declared.back.BackBusAsk.TheVariants as bus_ask
-use Rattle.xenbus_state.specs.BackView.{BackView}
-use Rattle.xenbus_state.specs.BackAsk.{next_gref, ask_at, ask_of}
-use Rattle.xenbus_state.specs.BackStep.{step_of}
-use Rattle.split_model.specs.Keys.{is_between}
-use Rattle.vbd_back.specs.Ask.{speaks, ring_moves}
-use Rattle.vbd_back.specs.Step.{woken, followed, waited}
-use Rattle.vbd_model.specs.Fit.{BackRests, BackGoesWith}
-use Rattle.vbd_laws.proofs.FitBackBus.{Goes, asks_at, told_at, Terms, told_terms}
-use Rattle.vbd_laws.proofs.FitBackRing.{is_past, past_rests, rests_past, past_step, between_step}
+use Rattle.xenbus_state.specs.declared.table.BackAction.{BackAction}
+use Rattle.xenbus_state.specs.declared.table.BackAction.TheVariants as action
+use Rattle.xenbus_state.specs.States.{state_read}
+use Rattle.xenbus_state.specs.Tables.{back_action}
+use Rattle.xenbus_state.specs.BackView.{BackView, is_halting, halted, stopped}
+use Rattle.xenbus_state.specs.BackAsk.{says_closing_at, says_closing, unmap_ask, ask_at, ask_of}
+use Rattle.xenbus_state.specs.BackStep.{at, last_state, giving_up, other_pages, acted, kept_or_halted, step_at, step_of}
+use Rattle.vbd_back.specs.Ask.{is_between, bus_moves, ring_moves}
+use Rattle.vbd_back.specs.Step.{bus_halted, settled_at, settled, caught_up, woken, followed, waited}
+use Rattle.vbd_model.specs.Fit.{is_serving, BackRests, BackReads, IsGivingUp, IsUnmapping, BackGoesWith, BackHolds}
+use Rattle.vbd_laws.proofs.FitBackRing.{Serves, gives_up, serves_step, given, watched_step}
+use Rattle.vbd_laws.proofs.FitBackBus.{BackFits, told_at, is_ended, writing, last_goes, last_halts, ends_fit, reads_key}
 
--- a watch that is taken is heard by a back that rests, between two entries and two replies
-goes_woken : (halted : Bool) (v : BackView) (x : BackAnswer) (r : Ring) → v.stage ≡ stage.Rest → v.unplugged ≡ false → BackRests v.state r
-    → ((path : List ℕ) → x ≡ answer.Watched path → is_between r ≡ true) → Goes (woken halted v x) r
-goes_woken true v x r here plugged rests between = rw here rests
-goes_woken false v (answer.Watched path) r here plugged rests between = rw (told_at v (answer.Watched path) plugged, here) (rests, between path refl)
-goes_woken false v answer.Event r here plugged rests between = rw here rests
-goes_woken false v answer.Done r here plugged rests between = rw here rests
-goes_woken false v (answer.Word word) r here plugged rests between = rw here rests
-goes_woken false v (answer.Mapped m) r here plugged rests between = rw here rests
-goes_woken false v (answer.MapRefused status) r here plugged rests between = rw here rests
-goes_woken false v answer.BindRefused r here plugged rests between = rw here rests
-goes_woken false v (answer.Key text) r here plugged rests between = rw here rests
-goes_woken false v (answer.Sector words) r here plugged rests between = rw here rests
-goes_woken false v answer.DiskFailed r here plugged rests between = rw here rests
+-- an end of the ring that serves holds its page and its port, and leaves the move to no one
+serving_holds : (s : Ring) (pages : ℕ) (bound : Bool) → is_serving s ≡ true → pages ≡ 1 → bound ≡ true → BackHolds s pages bound
+serving_holds ring.MapRing pages bound is one binds = absurd (true≢false (sym is))
+serving_holds ring.Bind pages bound is one binds = absurd (true≢false (sym is))
+serving_holds ring.UnmapUnbound pages bound is one binds = absurd (true≢false (sym is))
+serving_holds ring.ClosePort pages bound is one binds = absurd (true≢false (sym is))
+serving_holds ring.Halted pages bound is one binds = absurd (true≢false (sym is))
+serving_holds s pages bound is one binds = (one, binds)
+
+holds_serving : (s : Ring) (pages : ℕ) (bound : Bool) → is_serving s ≡ true → BackHolds s pages bound → (pages ≡ 1) × (bound ≡ true)
+holds_serving ring.MapRing pages bound is held = absurd (true≢false (sym is))
+holds_serving ring.Bind pages bound is held = absurd (true≢false (sym is))
+holds_serving ring.UnmapUnbound pages bound is held = absurd (true≢false (sym is))
+holds_serving ring.ClosePort pages bound is held = absurd (true≢false (sym is))
+holds_serving ring.Halted pages bound is held = absurd (true≢false (sym is))
+holds_serving s pages bound is held = held
+
+serving_moves : (s : Ring) → is_serving s ≡ true → ring_moves bus_ask.Wait s ≡ true
+serving_moves ring.MapRing is = absurd (true≢false (sym is))
+serving_moves ring.Bind is = absurd (true≢false (sym is))
+serving_moves s is = refl
+
+gives_holds : (s : Ring) (pages : ℕ) (bound : Bool) → gives_up s ≡ true → pages ≡ 1 → bound ≡ true → BackHolds s pages bound
+gives_holds (ring.GiveUp m) pages bound is one binds = (one, binds)
+gives_holds ring.UnmapRing pages bound is one binds = (one, binds)
+gives_holds s pages bound is one binds = absurd (true≢false (sym is))
+
+gives_ended : (s : Ring) → gives_up s ≡ true → is_ended s ≡ true
+gives_ended (ring.GiveUp m) is = refl
+gives_ended ring.UnmapRing is = refl
+gives_ended s is = absurd (true≢false (sym is))
+
+-- the end of the ring halted: so does the negotiation, unless it has
+catches_up : (r : ends.View) (u : BackView) → is_some r.halted ≡ true → caught_up r u ≡ settled r.stage (stopped u)
+catches_up r u some = by_halt r.halted some
+  where
+    by_halt : (h : Option Halt) → is_some h ≡ true → settled r.stage (bus_halted h u) ≡ settled r.stage (stopped u)
+    by_halt None some = absurd (true≢false (sym some))
+    by_halt (Some why) some = refl
+
+goes_on : (r : ends.View) (u : BackView) → is_some r.halted ≡ false → is_halting u.stage ≡ false → caught_up r u ≡ u
+goes_on r u none on = by_halt r.halted none
+  where
+    unsettled : (b : BackStage) → is_halting b ≡ false → settled_at b r.stage u ≡ u
+    unsettled stage.UnmapOthers on = absurd (true≢false on)
+    unsettled b on = refl
+
+    by_halt : (h : Option Halt) → is_some h ≡ false → settled r.stage (bus_halted h u) ≡ u
+    by_halt None none = unsettled u.stage on
+    by_halt (Some why) none = absurd (true≢false none)
+
+stops : (r : ends.View) (u : BackView) → is_some r.halted ≡ true → is_halting u.stage ≡ false → is_ended r.stage ≡ true → BackHolds r.stage (length u.pages) u.bound → BackFits (caught_up r u) r
+stops r u some on ended held =
+    let stopped_is : stopped u ≡ halted u = rw on refl in
+    subst (λ (v : BackView). BackFits v r) (sym (catches_up r u some ∙ ap (λ (v : BackView). settled r.stage v) stopped_is)) (ends_fit r.stage (halted u) r refl ended refl some held)
+
+-- a negotiation that has halted goes on
+halting_on : (r : ends.View) (u : BackView) → is_some r.halted ≡ true → is_halting u.stage ≡ true → BackFits (settled r.stage u) r → BackFits (caught_up r u) r
+halting_on r u some on fits =
+    let stopped_is : stopped u ≡ u = rw on refl in
+    subst (λ (v : BackView). BackFits v r) (sym (catches_up r u some ∙ ap (λ (v : BackView). settled r.stage v) stopped_is)) fits
+
+-- the end of the ring serves on, or halts
+serves_fit : (u : BackView) (r x : ends.View) → is_some r.halted ≡ false → is_halting u.stage ≡ false → (length u.pages ≡ 1) × (u.bound ≡ true) → Serves r x
+    → (is_serving x.stage ≡ true → BackGoesWith u.stage u.state x.stage) → BackFits (caught_up x u) x
+serves_fit u r x none on holds (inl serves) goes =
+    let still : is_some x.halted ≡ false = ap (λ (h : Option Halt). is_some h) serves.1 ∙ none in
+    subst (λ (v : BackView). BackFits v x) (sym (goes_on x u still on))
+    (record { goes = goes serves.0; held = serving_holds x.stage (length u.pages) u.bound serves.0 holds.0 holds.1; halted = still ∙ sym on })
+serves_fit u r x none on holds (inr ends) goes = stops x u ends.1 on (gives_ended x.stage ends.0) (gives_holds x.stage (length u.pages) u.bound ends.0 holds.0 holds.1)
+
+-- while the negotiation rests: a watch that is taken has it read the front's state
+rests_serving : (own : BusState) (s : Ring) → BackRests own s → ring_moves bus_ask.Wait s ≡ true → is_serving s ≡ true
+rests_serving state.InitWait s rests moves = absurd (true≢false (sym moves ∙ ap (ring_moves bus_ask.Wait) rests))
+rests_serving state.Connected s rests moves = rests
+rests_serving state.Closing s rests moves = rests
+rests_serving own s rests moves = absurd rests
+
+serving_rests : (own : BusState) (s t : Ring) → BackRests own s → is_serving s ≡ true → is_serving t ≡ true → BackRests own t
+serving_rests state.InitWait s t rests was is = absurd (true≢false (sym was ∙ ap is_serving rests))
+serving_rests state.Connected s t rests was is = is
+serving_rests state.Closing s t rests was is = is
+serving_rests own s t rests was is = absurd rests
+
+loop_reads : (own : BusState) (s t : Ring) → BackRests own s → is_serving s ≡ true → t ≡ ring.Loop → BackReads own t
+loop_reads state.InitWait s t rests was here = absurd (true≢false (sym was ∙ ap is_serving rests))
+loop_reads state.Connected s t rests was here = here
+loop_reads state.Closing s t rests was here = here
+loop_reads own s t rests was here = absurd rests
+
+rest_fits : (v : BackView) (r : ends.View) (x : BackAnswer) → v.stage ≡ stage.Rest → says_closing v ≡ false → BackFits v r → BackRests v.state r.stage → ring_moves bus_ask.Wait r.stage ≡ true → IsAnswer (ring_ask_at r.stage r) x
+    → BackFits (caught_up (ring_step_of r x) (woken v x)) (ring_step_of r x)
+rest_fits v r x here on h rests moves allowed = by_answer x allowed
+  where
+    serving : is_serving r.stage ≡ true
+    serving = rests_serving v.state r.stage rests moves
+
+    none : is_some r.halted ≡ false
+    none = h.halted ∙ ap is_halting here
+
+    still : (x : BackAnswer) → BackFits (caught_up (ring_step_of r x) v) (ring_step_of r x)
+    still x = serves_fit v r (ring_step_of r x) none (ap is_halting here) (holds_serving r.stage (length v.pages) v.bound serving h.held) (serves_step r x serving) (λ is. rw here (serving_rests v.state r.stage _ rests serving is))
+
+    by_answer : (x : BackAnswer) → IsAnswer (ring_ask_at r.stage r) x → BackFits (caught_up (ring_step_of r x) (woken v x)) (ring_step_of r x)
+    by_answer (answer.Watched path) allowed =
+        let reads : step_of v (answer.Watched path) ≡ at stage.ReadState v = told_at v (answer.Watched path) on ∙ ap (λ (b : BackStage). step_at b v (answer.Watched path)) here in
+        subst (λ (u : BackView). BackFits (caught_up (ring_step_of r (answer.Watched path)) u) (ring_step_of r (answer.Watched path))) (sym reads)
+        (serves_fit (at stage.ReadState v) r (ring_step_of r (answer.Watched path)) none refl (holds_serving r.stage (length v.pages) v.bound serving h.held) (serves_step r (answer.Watched path) serving)
+        (λ is. loop_reads v.state r.stage _ rests serving (watched_step r path serving allowed)))
+    by_answer x allowed = still x
 
 -- the ring's page was mapped, or refused
-goes_mapped : (v : BackView) (f : ends.View) (x : BackAnswer) → v.stage ≡ stage.MapPage → v.unplugged ≡ false → v.state ≡ state.InitWait
-    → IsAnswer (ring_ask_at ring.MapRing f) x → BackGoesWith (step_of v x).stage (step_of v x).state (ring_step_at ring.MapRing f x).stage
-goes_mapped v f (answer.Mapped m) here plugged own allowed = rw (told_at v (answer.Mapped m) plugged, here) (by_test (nat_lt (length v.pages + 1) (length v.grefs)))
+one_more : (pages : List Mapping) (m : Mapping) → length pages ≡ 0 → length (pages ++ m ∷ []) ≡ 1
+one_more pages m none = let more = length-append pages (m ∷ []) in omega arith
+
+map_fits : (v : BackView) (r : ends.View) (x : BackAnswer) → v.stage ≡ stage.MapPage → says_closing v ≡ false → v.state ≡ state.InitWait → BackHolds ring.MapRing (length v.pages) v.bound → is_some r.halted ≡ false
+    → IsAnswer (ring_ask_at ring.MapRing r) x → BackFits (caught_up (ring_step_at ring.MapRing r x) (step_of v x)) (ring_step_at ring.MapRing r x)
+map_fits v r (answer.Mapped m) here on own held none allowed =
+    let u : BackView = step_at stage.MapPage v (answer.Mapped m) in
+    let told : step_of v (answer.Mapped m) ≡ u = told_at v (answer.Mapped m) on ∙ ap (λ (b : BackStage). step_at b v (answer.Mapped m)) here in
+    subst (λ (t : BackView). BackFits (caught_up (ring_step_at ring.MapRing r (answer.Mapped m)) t) (ring_step_at ring.MapRing r (answer.Mapped m))) (sym told)
+    (by_test (nat_lt (length v.pages + 1) (length v.grefs)))
   where
-    by_test : (more : Bool) → BackGoesWith (if more then stage.MapPage else stage.Bind) v.state ring.Bind
-    by_test true = (own, inr refl)
-    by_test false = (own, refl)
-goes_mapped v f (answer.MapRefused status) here plugged own allowed = rw (told_at v (answer.MapRefused status) plugged, here) tt
-goes_mapped v f answer.Event here plugged own allowed = absurd allowed
-goes_mapped v f (answer.Watched path) here plugged own allowed = absurd allowed
-goes_mapped v f answer.Done here plugged own allowed = absurd allowed
-goes_mapped v f (answer.Word word) here plugged own allowed = absurd allowed
-goes_mapped v f answer.BindRefused here plugged own allowed = absurd allowed
-goes_mapped v f (answer.Key text) here plugged own allowed = absurd allowed
-goes_mapped v f (answer.Sector words) here plugged own allowed = absurd allowed
-goes_mapped v f answer.DiskFailed here plugged own allowed = absurd allowed
+    x : ends.View
+    x = ring_step_at ring.MapRing r (answer.Mapped m)
+
+    by_test : (more : Bool) → let u : BackView = record v { pages = v.pages ++ m ∷ []; stage = if more then stage.MapPage else stage.Bind } in BackFits (caught_up x u) x
+    by_test true = subst (λ (u : BackView). BackFits u x) (sym (goes_on x _ none refl)) (record { goes = (own, inr refl); held = (one_more v.pages m held.0, held.1); halted = none })
+    by_test false = subst (λ (u : BackView). BackFits u x) (sym (goes_on x _ none refl)) (record { goes = (own, refl); held = (one_more v.pages m held.0, held.1); halted = none })
+map_fits v r (answer.MapRefused status) here on own held none allowed =
+    let told : step_of v (answer.MapRefused status) ≡ halted v = told_at v (answer.MapRefused status) on ∙ ap (λ (b : BackStage). step_at b v (answer.MapRefused status)) here in
+    let x : ends.View = ring_step_at ring.MapRing r (answer.MapRefused status) in
+    subst (λ (t : BackView). BackFits (caught_up x t) x) (sym told) (halting_on x (halted v) refl refl (ends_fit ring.Halted (halted v) x refl refl refl refl held))
+map_fits v r x here on own held none allowed = absurd allowed
 
 -- the port was bound, or refused
-goes_bound : (v : BackView) (f : ends.View) (x : BackAnswer) → v.stage ≡ stage.Bind → v.unplugged ≡ false → v.state ≡ state.InitWait
-    → IsAnswer (ring_ask_at ring.Bind f) x → BackGoesWith (step_of v x).stage (step_of v x).state (ring_step_at ring.Bind f x).stage
-goes_bound v f answer.Done here plugged own allowed = rw (told_at v answer.Done plugged, here) (own, refl)
-goes_bound v f answer.BindRefused here plugged own allowed = rw (told_at v answer.BindRefused plugged, here) tt
-goes_bound v f (answer.Mapped m) here plugged own allowed = absurd allowed
-goes_bound v f (answer.MapRefused status) here plugged own allowed = absurd allowed
-goes_bound v f answer.Event here plugged own allowed = absurd allowed
-goes_bound v f (answer.Watched path) here plugged own allowed = absurd allowed
-goes_bound v f (answer.Word word) here plugged own allowed = absurd allowed
-goes_bound v f (answer.Key text) here plugged own allowed = absurd allowed
-goes_bound v f (answer.Sector words) here plugged own allowed = absurd allowed
-goes_bound v f answer.DiskFailed here plugged own allowed = absurd allowed
+bind_fits : (v : BackView) (r : ends.View) (x : BackAnswer) → v.stage ≡ stage.Bind → says_closing v ≡ false → v.state ≡ state.InitWait → BackHolds ring.Bind (length v.pages) v.bound → is_some r.halted ≡ false
+    → IsAnswer (ring_ask_at ring.Bind r) x → BackFits (caught_up (ring_step_at ring.Bind r x) (step_of v x)) (ring_step_at ring.Bind r x)
+bind_fits v r answer.Done here on own held none allowed =
+    let told = told_at v answer.Done on ∙ ap (λ (b : BackStage). step_at b v answer.Done) here in
+    let x : ends.View = ring_step_at ring.Bind r answer.Done in
+    subst (λ (t : BackView). BackFits (caught_up x t) x) (sym told) (subst (λ (u : BackView). BackFits u x) (sym (goes_on x _ none refl)) (record { goes = (own, refl); held = (held.0, refl); halted = none }))
+bind_fits v r answer.BindRefused here on own held none allowed =
+    let told : step_of v answer.BindRefused ≡ halted v = told_at v answer.BindRefused on ∙ ap (λ (b : BackStage). step_at b v answer.BindRefused) here in
+    let x : ends.View = ring_step_at ring.Bind r answer.BindRefused in
+    subst (λ (t : BackView). BackFits (caught_up x t) x) (sym told) (halting_on x (halted v) refl refl (ends_fit ring.UnmapUnbound (halted v) x refl refl refl refl held))
+bind_fits v r x here on own held none allowed = absurd allowed
 
-goes_mapping : (s : Ring) (halted : Bool) (v : BackView) (f : ends.View) (x : BackAnswer) → v.stage ≡ stage.MapPage → v.unplugged ≡ false → v.state ≡ state.InitWait
-    → (s ≡ ring.MapRing) ⊎ (s ≡ ring.Bind) → (gref : ℕ) → ring_moves (bus_ask.Map gref) s ≡ true → IsAnswer (ring_ask_at s f) x
-    → Goes (followed stage.MapPage s halted v x) (ring_step_at s f x).stage
-goes_mapping s halted v f x here plugged own (inl first) gref moves allowed = rw first (goes_mapped v f x here plugged own (rw first at allowed))
-goes_mapping s halted v f x here plugged own (inr next) gref moves allowed = absurd (true≢false (sym moves ∙ ap (ring_moves (bus_ask.Map gref)) next))
+-- the ring's page was unmapped, of a ring with a port or without
+unmapping_holds : (s : Ring) (pages : ℕ) (bound : Bool) → IsUnmapping s → BackHolds s pages bound → pages ≡ 1
+unmapping_holds ring.UnmapRing pages bound unmaps held = held.0
+unmapping_holds ring.UnmapUnbound pages bound unmaps held = held.0
+unmapping_holds s pages bound unmaps held = absurd unmaps
 
--- the back's end of the ring serves once it is connected
-goes_rested : (own : BusState) (s : Ring) (halted : Bool) (v : BackView) (f : ends.View) (x : BackAnswer) → v.stage ≡ stage.Rest → v.unplugged ≡ false → v.state ≡ own → f.stage ≡ s
-    → BackRests own s → ring_moves bus_ask.Wait s ≡ true → IsAnswer (ring_ask_at f.stage f) x → Goes (woken halted v x) (ring_step_of f x).stage
-goes_rested state.InitWait s halted v f x here plugged is at_stage rests moves allowed = absurd (true≢false (sym moves ∙ ap (ring_moves bus_ask.Wait) rests))
-goes_rested state.Connected s halted v f x here plugged is at_stage rests moves allowed =
-    goes_woken halted v x _ here plugged (rw is (past_rests _ (past_step f x (ap is_past at_stage ∙ rests_past s rests))))
-    (λ path watched. rw watched (between_step f path (rw watched at allowed)))
-goes_rested own s halted v f x here plugged is at_stage rests moves allowed = absurd rests
+unmap_fits : (v : BackView) (r : ends.View) (pages : List Mapping) (x : BackAnswer) → v.stage ≡ stage.UnmapPage → says_closing v ≡ false → v.pages ≡ pages → is_some r.halted ≡ true → IsUnmapping r.stage → BackHolds r.stage (length pages) v.bound
+    → ring_moves (unmap_ask pages) r.stage ≡ true → IsAnswer (ring_ask_at r.stage r) x → BackFits (caught_up (ring_step_of r x) (followed (unmap_ask pages) v x)) (ring_step_of r x)
+unmap_fits v r [] x here on same some unmaps held moves allowed = let one = unmapping_holds r.stage 0 v.bound unmaps held in absurd (omega arith)
+unmap_fits v r (page ∷ pages) x here on same some unmaps held moves allowed = by_stage r.stage x refl unmaps held allowed
+  where
+    few : length (page ∷ pages) ≡ 1 → length pages ≡ 0
+    few one = omega arith
+
+    told : step_of v answer.Done ≡ record v { pages = pages; stage = giving_up pages v.bound v.state }
+    told = told_at v answer.Done on ∙ (ap (λ (b : BackStage). step_at b v answer.Done) here ∙ ap (λ (ps : List Mapping). record v { pages = other_pages ps; stage = giving_up (other_pages ps) v.bound v.state }) same)
+
+    goes_to : (b : BackStage) (y : ends.View) → giving_up pages v.bound v.state ≡ b → is_some y.halted ≡ true → is_halting b ≡ true → (settled_at b y.stage (record v { pages = pages; stage = b }) ≡ record v { pages = pages; stage = b })
+        → BackFits (record v { pages = pages; stage = b }) y → BackFits (caught_up y (step_of v answer.Done)) y
+    goes_to b y next some halts settles fits =
+        subst (λ (u : BackView). BackFits (caught_up y u) y) (sym (told ∙ ap (λ (b : BackStage). record v { pages = pages; stage = b }) next))
+        (halting_on y (record v { pages = pages; stage = b }) some halts (subst (λ (u : BackView). BackFits u y) (sym settles) fits))
+
+    closes : (pages : List Mapping) (own : BusState) → length pages ≡ 0 → v.bound ≡ true → giving_up pages v.bound own ≡ stage.ClosePort
+    closes [] own none bound = rw bound refl
+    closes (page ∷ pages) own none bound = absurd (omega arith)
+
+    by_stage : (s : Ring) (x : BackAnswer) → r.stage ≡ s → IsUnmapping s → BackHolds s (length (page ∷ pages)) v.bound → IsAnswer (ring_ask_at s r) x
+        → BackFits (caught_up (ring_step_at s r x) (step_of v x)) (ring_step_at s r x)
+    by_stage ring.UnmapRing answer.Done e unmaps held allowed =
+        let none = few held.0 in
+        goes_to stage.ClosePort (ring_at ring.ClosePort r) (closes pages v.state none held.1) some refl refl (record { goes = refl; held = (none, held.1); halted = some })
+    by_stage ring.UnmapUnbound answer.Done e unmaps held allowed =
+        let none = few held.0 in
+        goes_to (stage.WriteState (last_state v.state)) (ring_at ring.Halted r) (writing pages v.bound v.state none held.1) some (last_halts v.state) refl
+        (record { goes = last_goes v.state ring.Halted refl; held = (none, held.1); halted = some ∙ sym (last_halts v.state) })
+    by_stage ring.UnmapRing x e unmaps held allowed = absurd allowed
+    by_stage ring.UnmapUnbound x e unmaps held allowed = absurd allowed
+    by_stage s x e unmaps held allowed = absurd unmaps
+
+-- the port was closed
+close_fits : (v : BackView) (r : ends.View) (x : BackAnswer) → v.stage ≡ stage.ClosePort → says_closing v ≡ false → is_some r.halted ≡ true → BackHolds ring.ClosePort (length v.pages) v.bound → IsAnswer (ring_ask_at ring.ClosePort r) x
+    → BackFits (caught_up (ring_at ring.Halted r) (step_of v x)) (ring_at ring.Halted r)
+close_fits v r answer.Done here on some held allowed =
+    let u : BackView = record v { bound = false; stage = stage.WriteState (last_state v.state) } in
+    let told : step_of v answer.Done ≡ u = told_at v answer.Done on ∙ ap (λ (b : BackStage). step_at b v answer.Done) here in
+    let x : ends.View = ring_at ring.Halted r in
+    subst (λ (t : BackView). BackFits (caught_up x t) x) (sym told)
+    (halting_on x u some (last_halts v.state) (record { goes = last_goes v.state ring.Halted refl; held = (held.0, refl); halted = some ∙ sym (last_halts v.state) }))
+close_fits v r x here on some held allowed = absurd allowed
+
+-- a mapping of a job was given up
+give_up_fits : (v : BackView) (r : ends.View) (x : BackAnswer) (s : Ring) → v.stage ≡ stage.UnmapOthers → r.stage ≡ s → is_some r.halted ≡ true → IsGivingUp s → BackHolds s (length v.pages) v.bound
+    → BackFits (caught_up (ring_step_at s r x) v) (ring_step_at s r x)
+give_up_fits v r x (ring.GiveUp m) here e some gives held =
+    let y : ends.View = ring_step_at (ring.GiveUp m) r x in
+    let more = given (first_mapping r.jobs.works) in
+    halting_on y v some (ap is_halting here) (ends_fit y.stage v y refl (gives_ended y.stage more) here some (gives_holds y.stage (length v.pages) v.bound more held.0 held.1))
+give_up_fits v r x s here e some gives held = absurd gives
+
+-- one that has halted hears of no watch
+over_woken : (v : BackView) (x : BackAnswer) → v.stage ≡ stage.Halted → says_closing v ≡ false → woken v x ≡ v
+over_woken v (answer.Watched path) here on = told_at v (answer.Watched path) on ∙ ap (λ (b : BackStage). step_at b v (answer.Watched path)) here
+over_woken v x here on = refl
+
+reads_between : (own : BusState) (s : Ring) → BackReads own s → is_between s ≡ true
+reads_between state.InitWait s reads = ap is_between reads
+reads_between state.Connected s reads = ap is_between reads
+reads_between state.Closing s reads = ap is_between reads
+reads_between own s reads = absurd reads
 
 -- a move of the ring's end, which its negotiation leaves it
-goes_followed : (b : BackStage) (s : Ring) (halted : Bool) (v : BackView) (f : ends.View) (x : BackAnswer) → v.stage ≡ b → f.stage ≡ s → v.unplugged ≡ false → BackGoesWith b v.state s
-    → speaks (ask_at b v) ≡ false → ring_moves (ask_at b v) s ≡ true → IsAnswer (ring_ask_at s f) x → Goes (followed b s halted v x) (ring_step_at s f x).stage
-goes_followed stage.Rest s halted v f x here at_stage plugged goes quiet moves allowed =
-    subst (λ (t : Ring). Goes (woken halted v x) (ring_step_at t f x).stage) at_stage
-    (goes_rested v.state s halted v f x here plugged refl at_stage goes moves (subst (λ (t : Ring). IsAnswer (ring_ask_at t f) x) (sym at_stage) allowed))
-goes_followed stage.MapPage s halted v f x here at_stage plugged goes quiet moves allowed = goes_mapping s halted v f x here plugged goes.0 goes.1 (next_gref v) moves allowed
-goes_followed stage.Bind s halted v f x here at_stage plugged goes quiet moves allowed = rw goes.1 (goes_bound v f x here plugged goes.0 (rw goes.1 at allowed))
-goes_followed stage.UnmapOthers s halted v f x here at_stage plugged goes quiet moves allowed = rw here tt
-goes_followed (stage.Publish key) s halted v f x here at_stage plugged goes quiet moves allowed = absurd (true≢false quiet)
-goes_followed (stage.WriteState own) s halted v f x here at_stage plugged goes quiet moves allowed = absurd (true≢false quiet)
-goes_followed stage.Watch s halted v f x here at_stage plugged goes quiet moves allowed = absurd (true≢false quiet)
-goes_followed stage.ReadState s halted v f x here at_stage plugged goes quiet moves allowed = absurd (true≢false quiet)
-goes_followed (stage.ReadKey key) s halted v f x here at_stage plugged goes quiet moves allowed = absurd (true≢false quiet)
-goes_followed (stage.PublishFact key) s halted v f x here at_stage plugged goes quiet moves allowed = absurd (true≢false quiet)
-goes_followed b s halted v f x here at_stage plugged goes quiet moves allowed = absurd goes
+begun_fits : (b : BackStage) (s : Ring) (v : BackView) (r : ends.View) (x : BackAnswer) → v.stage ≡ b → r.stage ≡ s → says_closing v ≡ false → BackGoesWith b v.state s → BackFits v r
+    → bus_moves (ask_at b v) s ≡ false → ring_moves (ask_at b v) s ≡ true → IsAnswer (ring_ask_at s r) x → BackFits (caught_up (ring_step_at s r x) (followed (ask_at b v) v x)) (ring_step_at s r x)
+begun_fits stage.Rest s v r x here e on goes h quiet moves allowed =
+    subst (λ (t : Ring). BackFits (caught_up (ring_step_at t r x) (woken v x)) (ring_step_at t r x)) e
+    (rest_fits v r x here on h (rw e goes) (rw e moves) (subst (λ (t : Ring). IsAnswer (ring_ask_at t r) x) (sym e) allowed))
+begun_fits stage.MapPage s v r x here e on goes h quiet moves allowed =
+    elim goes.1 [
+      | inl first ↦ rw first (map_fits v r x here on goes.0 (subst (λ (t : Ring). BackHolds t (length v.pages) v.bound) (e ∙ first) h.held) (h.halted ∙ ap is_halting here) (rw first at allowed))
+      | inr next ↦ absurd (true≢false (sym moves ∙ ap (ring_moves (ask_at stage.MapPage v)) next))
+    ]
+begun_fits stage.Bind s v r x here e on goes h quiet moves allowed =
+    rw goes.1 (bind_fits v r x here on goes.0 (subst (λ (t : Ring). BackHolds t (length v.pages) v.bound) (e ∙ goes.1) h.held) (h.halted ∙ ap is_halting here) (rw goes.1 at allowed))
+begun_fits stage.UnmapOthers s v r x here e on goes h quiet moves allowed =
+    give_up_fits v r x s here e (h.halted ∙ ap is_halting here) goes (subst (λ (t : Ring). BackHolds t (length v.pages) v.bound) e h.held)
+begun_fits stage.UnmapPage s v r x here e on goes h quiet moves allowed =
+    subst (λ (t : Ring). BackFits (caught_up (ring_step_at t r x) (followed (unmap_ask v.pages) v x)) (ring_step_at t r x)) e
+    (unmap_fits v r v.pages x here on refl (h.halted ∙ ap is_halting here) (rw e goes) h.held (rw e moves) (subst (λ (t : Ring). IsAnswer (ring_ask_at t r) x) (sym e) allowed))
+begun_fits stage.ClosePort s v r x here e on goes h quiet moves allowed =
+    rw goes (close_fits v r x here on (h.halted ∙ ap is_halting here) (subst (λ (t : Ring). BackHolds t (length v.pages) v.bound) (e ∙ goes) h.held) (rw goes at allowed))
+begun_fits stage.Halted s v r x here e on goes h quiet moves allowed =
+    let same : ring_step_at s r x ≡ r = ap (λ (t : Ring). ring_step_at t r x) goes.1 in
+    subst (λ (y : ends.View). BackFits (caught_up y (woken v x)) y) (sym same) (subst (λ (u : BackView). BackFits (caught_up r u) r) (sym (over_woken v x here on))
+    (halting_on r v (h.halted ∙ ap is_halting here) (ap is_halting here) (subst (λ (b : BackStage). BackFits (settled_at b r.stage v) r) (sym here) h)))
+begun_fits (stage.Publish key) s v r x here e on goes h quiet moves allowed = absurd (true≢false (sym (ap is_between goes.1) ∙ quiet))
+begun_fits (stage.WriteState state.InitWait) s v r x here e on goes h quiet moves allowed = absurd (true≢false (sym (ap is_between goes.1) ∙ quiet))
+begun_fits (stage.WriteState state.Connected) s v r x here e on goes h quiet moves allowed = absurd (true≢false (sym (ap is_between goes.1) ∙ quiet))
+begun_fits (stage.WriteState state.Closing) s v r x here e on goes h quiet moves allowed = absurd (true≢false (sym (ap is_between goes) ∙ quiet))
+begun_fits (stage.WriteState state.Closed) s v r x here e on goes h quiet moves allowed = absurd (true≢false (sym (ap is_between goes.1) ∙ quiet))
+begun_fits (stage.WriteState own) s v r x here e on goes h quiet moves allowed = absurd goes
+begun_fits stage.Watch s v r x here e on goes h quiet moves allowed = absurd (true≢false (sym (ap is_between goes.1) ∙ quiet))
+begun_fits stage.ReadState s v r x here e on goes h quiet moves allowed = absurd (true≢false (sym (reads_between v.state s goes) ∙ quiet))
+begun_fits (stage.ReadKey key) s v r x here e on goes h quiet moves allowed = absurd (true≢false (sym (ap is_between goes.1) ∙ quiet))
+begun_fits (stage.PublishFact key) s v r x here e on goes h quiet moves allowed = absurd (true≢false (sym (ap is_between goes.1) ∙ quiet))
 
-pub goes_ring : (v : BackView) (f : ends.View) (x : BackAnswer) → v.unplugged ≡ false → Goes v f.stage → speaks (ask_of v) ≡ false → ring_moves (ask_of v) f.stage ≡ true
-    → IsAnswer (ring_ask_at f.stage f) x → Goes (followed v.stage f.stage (is_some f.halted) v x) (ring_step_of f x).stage
-goes_ring v f x plugged goes quiet moves allowed =
-    let same = asks_at v plugged in
-    goes_followed v.stage f.stage (is_some f.halted) v f x refl refl plugged goes (rw same at quiet) (rw same at moves) allowed
+pub ring_fits : (v : BackView) (r : ends.View) (x : BackAnswer) → BackFits v r → bus_moves (ask_of v) r.stage ≡ false → ring_moves (ask_of v) r.stage ≡ true → IsAnswer (ring_ask_at r.stage r) x
+    → BackFits (caught_up (ring_step_of r x) (followed (ask_of v) v x)) (ring_step_of r x)
+ring_fits v r x h quiet moves allowed = by_test (says_closing v) refl
+  where
+    closing : (b : BackStage) (own : BusState) → says_closing_at b own ≡ true → v.stage ≡ b → v.state ≡ own → BackGoesWith b own r.stage → is_between r.stage ≡ false → BackFits (caught_up (ring_step_of r x) v) (ring_step_of r x)
+    closing stage.Rest state.Connected is here own goes mid =
+        serves_fit v r (ring_step_of r x) (h.halted ∙ ap is_halting here) (ap is_halting here) (holds_serving r.stage (length v.pages) v.bound goes h.held) (serves_step r x goes) (λ serves. rw (here, own) serves)
+    closing stage.ReadState state.Connected is here own goes mid = absurd (true≢false (sym (ap is_between goes) ∙ mid))
+    closing b own is here e goes mid = absurd (true≢false (sym is))
 
--- past the port's bind a back that rests leaves the move to its end of the ring
-free_moves : (s : Ring) → is_past s ≡ true → ring_moves bus_ask.Wait s ≡ true
-free_moves ring.MapRing past = absurd (true≢false (sym past))
-free_moves ring.Bind past = absurd (true≢false (sym past))
-free_moves s past = refl
+    by_test : (c : Bool) → says_closing v ≡ c → BackFits (caught_up (ring_step_of r x) (followed (ask_of v) v x)) (ring_step_of r x)
+    by_test true is = rw is (closing v.stage v.state (both_true v.unplugged (says_closing_at v.stage v.state) is).1 refl refl h.goes (rw is at quiet))
+    by_test false on = rw on (begun_fits v.stage r.stage v r x refl refl on h.goes h (rw on at quiet) (rw on at moves) allowed)
 
 -- the negotiation waits where the ring's end has no move
-goes_resting : (own : BusState) (v : BackView) (x : BackAnswer) (r : Ring) → v.stage ≡ stage.Rest → v.unplugged ≡ false → v.state ≡ own → BackRests own r
-    → ring_moves bus_ask.Wait r ≡ false → Goes (woken false v x) r
-goes_resting state.InitWait v x r here plugged is rests still = goes_woken false v x r here plugged (rw is rests) (λ path watched. ap is_between rests)
-goes_resting state.Connected v x r here plugged is rests still = absurd (true≢false (sym (free_moves r (rests_past r rests)) ∙ still))
-goes_resting own v x r here plugged is rests still = absurd rests
+pub wait_fits : (v : BackView) (r : ends.View) (x : BackAnswer) → BackFits v r → ring_moves (ask_of v) r.stage ≡ false → BackFits (waited (ask_of v) v x) r
+wait_fits v r x h still = by_test (says_closing v) refl
+  where
+    reads : (own : BusState) → BackRests own r.stage → ring_moves bus_ask.Wait r.stage ≡ false → BackReads own r.stage
+    reads state.InitWait rests still = rests
+    reads state.Connected rests still = absurd (true≢false (sym (serving_moves r.stage rests) ∙ still))
+    reads state.Closing rests still = absurd (true≢false (sym (serving_moves r.stage rests) ∙ still))
+    reads own rests still = absurd rests
 
-goes_idle : (b : BackStage) (v : BackView) (x : BackAnswer) (r : Ring) → v.stage ≡ b → v.unplugged ≡ false → BackGoesWith b v.state r → ring_moves (ask_at b v) r ≡ false
-    → Goes (waited b v x) r
-goes_idle stage.Rest v x r here plugged goes still = goes_resting v.state v x r here plugged refl goes still
-goes_idle b v x r here plugged goes still = rw here goes
+    rests : (x : BackAnswer) → v.stage ≡ stage.Rest → says_closing v ≡ false → BackRests v.state r.stage → ring_moves bus_ask.Wait r.stage ≡ false → BackFits (woken v x) r
+    rests (answer.Watched path) here on goes still =
+        let told : step_of v (answer.Watched path) ≡ at stage.ReadState v = told_at v (answer.Watched path) on ∙ ap (λ (b : BackStage). step_at b v (answer.Watched path)) here in
+        subst (λ (u : BackView). BackFits u r) (sym told) (record { goes = reads v.state goes still; held = h.held; halted = h.halted ∙ ap is_halting here })
+    rests x here on goes still = h
 
-pub goes_waited : (v : BackView) (x : BackAnswer) (r : Ring) → v.unplugged ≡ false → Goes v r → ring_moves (ask_of v) r ≡ false → Goes (waited v.stage v x) r
-goes_waited v x r plugged goes still = goes_idle v.stage v x r refl plugged goes (rw (asks_at v plugged) at still)
+    unmaps : (pages : List Mapping) → length pages ≡ 1 → BackFits (waited (unmap_ask pages) v x) r
+    unmaps (page ∷ pages) one = h
+    unmaps [] one = absurd (omega arith)
 
--- whatever is learned of a move, the terms stay
-terms_woken : (halted : Bool) (v : BackView) (x : BackAnswer) → v.unplugged ≡ false → Terms v (woken halted v x)
-terms_woken true v x plugged = record { features = refl; unplugged = refl }
-terms_woken false v (answer.Watched path) plugged = told_terms v (answer.Watched path) plugged
-terms_woken false v x plugged = record { features = refl; unplugged = refl }
+    begun : (b : BackStage) → v.stage ≡ b → says_closing v ≡ false → BackGoesWith b v.state r.stage → ring_moves (ask_at b v) r.stage ≡ false → BackFits (waited (ask_at b v) v x) r
+    begun stage.Rest here on goes still = rests x here on goes still
+    begun stage.Halted here on goes still = subst (λ (u : BackView). BackFits u r) (sym (over_woken v x here on)) h
+    begun stage.UnmapPage here on goes still = unmaps v.pages (unmapping_holds r.stage (length v.pages) v.bound goes h.held)
+    begun b here on goes still = h
 
-terms_followed : (b : BackStage) (s : Ring) (halted : Bool) (v : BackView) (x : BackAnswer) → v.unplugged ≡ false → Terms v (followed b s halted v x)
-terms_followed stage.MapPage ring.MapRing halted v x plugged = told_terms v x plugged
-terms_followed stage.Bind ring.Bind halted v x plugged = told_terms v x plugged
-terms_followed stage.Rest s halted v x plugged = terms_woken halted v x plugged
-terms_followed b s halted v x plugged = record { features = refl; unplugged = refl }
+    by_test : (c : Bool) → says_closing v ≡ c → BackFits (waited (ask_of v) v x) r
+    by_test true is = rw is h
+    by_test false on = rw on (begun v.stage refl on h.goes (rw on at still))
 
-pub terms_ring : (v : BackView) (s : Ring) (halted : Bool) (x : BackAnswer) → v.unplugged ≡ false → Terms v (followed v.stage s halted v x)
-terms_ring v s halted x plugged = terms_followed v.stage s halted v x plugged
+-- an answer leaves what the back offers
+features_acted : (act : BackAction) (v : BackView) → (acted act v).features ≡ v.features
+features_acted action.Nothing v = refl
+features_acted action.Connect v = refl
+features_acted (action.Halt reason) v = refl
 
-terms_idle : (b : BackStage) (v : BackView) (x : BackAnswer) → v.unplugged ≡ false → Terms v (waited b v x)
-terms_idle stage.Rest v x plugged = terms_woken false v x plugged
-terms_idle b v x plugged = record { features = refl; unplugged = refl }
+features_at : (b : BackStage) (v : BackView) (x : BackAnswer) → (step_at b v x).features ≡ v.features
+features_at (stage.Publish k) v answer.Done = refl
+features_at (stage.WriteState s) v answer.Done = refl
+features_at stage.Watch v answer.Done = refl
+features_at stage.Rest v (answer.Watched path) = refl
+features_at stage.ReadState v (answer.Key text) = features_acted (back_action v.state v.unplugged (state_read text)) v
+features_at (stage.ReadKey k) v (answer.Key text) = reads_key (λ (o : Option BackView). (kept_or_halted o v).features ≡ v.features) k text v (λ u reads. reads.features) refl
+features_at stage.MapPage v (answer.Mapped page) = refl
+features_at stage.MapPage v (answer.MapRefused status) = refl
+features_at stage.Bind v answer.Done = refl
+features_at stage.Bind v answer.BindRefused = refl
+features_at (stage.PublishFact k) v answer.Done = refl
+features_at stage.UnmapOthers v answer.Done = refl
+features_at stage.UnmapPage v answer.Done = refl
+features_at stage.ClosePort v answer.Done = refl
+features_at b v x = refl
 
-pub terms_waited : (v : BackView) (x : BackAnswer) → v.unplugged ≡ false → Terms v (waited v.stage v x)
-terms_waited v x plugged = terms_idle v.stage v x plugged
+pub features_told : (v : BackView) (x : BackAnswer) → (step_of v x).features ≡ v.features
+features_told v x = by_test (says_closing v)
+  where
+    by_test : (c : Bool) → (if c then record v { state = state.Closing } else step_at v.stage v x).features ≡ v.features
+    by_test true = refl
+    by_test false = features_at v.stage v x
+
+pub features_settled : (b : BackStage) (s : Ring) (v : BackView) → (settled_at b s v).features ≡ v.features
+features_settled stage.UnmapOthers (ring.GiveUp m) v = refl
+features_settled stage.UnmapOthers s v = features_told v answer.Done
+features_settled b s v = refl
+
+features_woken : (v : BackView) (x : BackAnswer) → (woken v x).features ≡ v.features
+features_woken v (answer.Watched path) = features_told v (answer.Watched path)
+features_woken v x = refl
+
+features_followed : (b : BackBusAsk) (v : BackView) (x : BackAnswer) → (followed b v x).features ≡ v.features
+features_followed (bus_ask.Map gref) v x = features_told v x
+features_followed (bus_ask.Bind port) v x = features_told v x
+features_followed (bus_ask.Unmap m) v x = features_told v x
+features_followed bus_ask.ClosePort v x = features_told v x
+features_followed bus_ask.Wait v x = features_woken v x
+features_followed b v x = refl
+
+pub features_moved : (b : BackBusAsk) (r : ends.View) (v : BackView) (x : BackAnswer) → (caught_up r (followed b v x)).features ≡ v.features
+features_moved b r v x = features_settled _ r.stage _ ∙ (by_halt r.halted (followed b v x) ∙ features_followed b v x)
+  where
+    by_test : (c : Bool) (u : BackView) → (if c then u else halted u).features ≡ u.features
+    by_test true u = refl
+    by_test false u = refl
+
+    by_halt : (h : Option Halt) (u : BackView) → (bus_halted h u).features ≡ u.features
+    by_halt None u = refl
+    by_halt (Some why) u = by_test (is_halting u.stage) u
+
+pub features_waited : (b : BackBusAsk) (v : BackView) (x : BackAnswer) → (waited b v x).features ≡ v.features
+features_waited bus_ask.Wait v x = features_woken v x
+features_waited b v x = refl

@@ -19,7 +19,7 @@ use Rattle.grant_table.specs.declared.entry.MapRefusal.{MapRefusal}
 use Rattle.grant_table.specs.Table.{verdict_at}
 use Rattle.event_channel.specs.declared.channels.PortState.{PortState}
 use Rattle.event_channel.specs.declared.channels.PortState.TheVariants as port
-use Rattle.event_channel.specs.Channels.{ChannelState, state_of, place_of, with_port, bound, is_bound_port, is_bound, sent, taken, closed, unbound_port}
+use Rattle.event_channel.specs.Channels.{ChannelState, state_of, place_of, with_port, bound, is_bound_port, is_bound, sent, taken, closed, closed_port, unbound_port}
 use Rattle.hypervisor.specs.Hypervisor.{Hypervisor}
 use Rattle.hypervisor.specs.Act.{FrontAct, BackAct, Outcome, front_act, back_act, map_act, bind_act}
 use Rattle.blk_back.specs.declared.stage.Stage.{Stage}
@@ -39,24 +39,24 @@ IsUnported c = c.ports ≡ [] → c.front_pending ≡ false
 
 -- what becomes of the channels at a move of the front's end of the ring
 front_channels : (P : ChannelState → Type 0) (h : Hypervisor) (c : ChannelState) (ask : FrontAsk) (a : FrontAct) → IsFronts c ask
-    → P h.channels → P (taken h.channels end.Front) → P (with_port h.channels) → P (sent h.channels end.Front) → front_act h ask ≡ Some a → P a.under.channels
-front_channels P h c front_ask.Wait a own same takes ports sends e = front_wait (λ (x : FrontAct). P x.under.channels) h a takes (λ path. same) e
-front_channels P h c front_ask.Fence a own same takes ports sends e = of_front (λ (x : FrontAct). P x.under.channels) _ a same e
-front_channels P h c (front_ask.Read frame word) a own same takes ports sends e = of_front (λ (x : FrontAct). P x.under.channels) _ a same e
-front_channels P h c (front_ask.Write frame word value) a own same takes ports sends e = of_front (λ (x : FrontAct). P x.under.channels) _ a same e
-front_channels P h c (front_ask.Cas frame word old new) a own same takes ports sends e = of_front (λ (x : FrontAct). P x.under.channels) _ a same e
-front_channels P h c front_ask.NewPort a own same takes ports sends e = of_front (λ (x : FrontAct). P x.under.channels) _ a ports e
-front_channels P h c front_ask.Send a own same takes ports sends e = of_front (λ (x : FrontAct). P x.under.channels) _ a sends e
-front_channels P h c front_ask.ClosePort a own same takes ports sends e = absurd own
-front_channels P h c (front_ask.GetKey path) a own same takes ports sends e = absurd own
-front_channels P h c (front_ask.SetKey path text) a own same takes ports sends e = absurd own
-front_channels P h c (front_ask.Watch path) a own same takes ports sends e = absurd own
+    → P h.channels → P (taken h.channels end.Front) → P (with_port h.channels) → P (sent h.channels end.Front) → P (closed h.channels end.Front) → front_act h ask ≡ Some a → P a.under.channels
+front_channels P h c front_ask.Wait a own same takes ports sends closes e = front_wait (λ (x : FrontAct). P x.under.channels) h a takes (λ path. same) e
+front_channels P h c front_ask.Fence a own same takes ports sends closes e = of_front (λ (x : FrontAct). P x.under.channels) _ a same e
+front_channels P h c (front_ask.Read frame word) a own same takes ports sends closes e = of_front (λ (x : FrontAct). P x.under.channels) _ a same e
+front_channels P h c (front_ask.Write frame word value) a own same takes ports sends closes e = of_front (λ (x : FrontAct). P x.under.channels) _ a same e
+front_channels P h c (front_ask.Cas frame word old new) a own same takes ports sends closes e = of_front (λ (x : FrontAct). P x.under.channels) _ a same e
+front_channels P h c front_ask.NewPort a own same takes ports sends closes e = of_front (λ (x : FrontAct). P x.under.channels) _ a ports e
+front_channels P h c front_ask.Send a own same takes ports sends closes e = of_front (λ (x : FrontAct). P x.under.channels) _ a sends e
+front_channels P h c front_ask.ClosePort a own same takes ports sends closes e = of_front (λ (x : FrontAct). P x.under.channels) _ a closes e
+front_channels P h c (front_ask.GetKey path) a own same takes ports sends closes e = absurd own
+front_channels P h c (front_ask.SetKey path text) a own same takes ports sends closes e = absurd own
+front_channels P h c (front_ask.Watch path) a own same takes ports sends closes e = absurd own
 
 one_more : (ports : List PortState) → ports ++ port.Unbound ∷ [] ≡ [] → ⊥
 one_more ports e = let more = length-append ports (port.Unbound ∷ []) in let none = ap (λ (l : List PortState). length l) e in omega arith
 
 pub unported_front : (h : Hypervisor) (c : ChannelState) (ask : FrontAsk) (a : FrontAct) → IsFronts c ask → IsUnported h.channels → front_act h ask ≡ Some a → IsUnported a.under.channels
-unported_front h c ask a own was e = front_channels IsUnported h c ask a own was (λ none. refl) (λ none. absurd (one_more h.channels.ports none)) was e
+unported_front h c ask a own was e = front_channels IsUnported h c ask a own was (λ none. refl) (λ none. absurd (one_more h.channels.ports none)) was (λ none. refl) e
 
 -- no port is bound, and no event is pending at the back
 abbrev IsQuiet : ChannelState → Type 0
@@ -72,6 +72,13 @@ quiet_sent c was = (was.0, by_test (is_bound c) was.0)
 quiet_port : (c : ChannelState) → IsQuiet c → IsQuiet (with_port c)
 quiet_port c was = (list_any-append is_bound_port c.ports (port.Unbound ∷ []) ∙ ap (λ (b : Bool). b || false) was.0, was.1)
 
+quiet_closed : (c : ChannelState) → IsQuiet c → IsQuiet (closed c end.Front)
+quiet_closed c was = (none_bound c.ports, was.1)
+  where
+    none_bound : (ports : List PortState) → list_any is_bound_port (map closed_port ports) ≡ false
+    none_bound [] = refl
+    none_bound (p ∷ ports) = none_bound ports
+
 unbound_as : (s : Stage) (c d : ChannelState) → (IsQuiet c → IsQuiet d) → IsUnbound s c → IsUnbound s d
 unbound_as stage.MapRing c d into was = into was
 unbound_as stage.Bind c d into was = into was
@@ -81,7 +88,7 @@ pub unbound_front : (s : Stage) (h : Hypervisor) (c : ChannelState) (ask : Front
     → IsUnbound s a.under.channels
 unbound_front s h c ask a own was e =
     front_channels (λ (d : ChannelState). IsUnbound s d) h c ask a own was (unbound_as s h.channels (taken h.channels end.Front) (λ q. q) was)
-    (unbound_as s h.channels (with_port h.channels) (quiet_port h.channels) was) (unbound_as s h.channels (sent h.channels end.Front) (quiet_sent h.channels) was) e
+    (unbound_as s h.channels (with_port h.channels) (quiet_port h.channels) was) (unbound_as s h.channels (sent h.channels end.Front) (quiet_sent h.channels) was) (unbound_as s h.channels (closed h.channels end.Front) (quiet_closed h.channels) was) e
 
 -- what becomes of the channels at a move of the back's end of the ring
 bind_channels : (P : ChannelState → Type 0) (h : Hypervisor) (p : ℕ) (state : PortState) → P h.channels → P (bound h.channels p) → P (bind_act h p state).under.channels
@@ -138,7 +145,7 @@ unported_back h ask o a own was e =
     (λ none. was (map_empty unbound_port h.channels.ports none)) e
 
 -- past its port's bind nothing is said of the back's channels
-past_unbound : (s : Stage) (c : ChannelState) → is_past s ≡ true → IsUnbound s c
+pub past_unbound : (s : Stage) (c : ChannelState) → is_past s ≡ true → IsUnbound s c
 past_unbound stage.MapRing c past = absurd (true≢false (sym past))
 past_unbound stage.Bind c past = absurd (true≢false (sym past))
 past_unbound s c past = tt
@@ -166,29 +173,26 @@ pub unbound_back : (v : View) (h : Hypervisor) (o : Outcome) (a : BackAct) → I
     → IsUnbound (step_of v a.answer).stage a.under.channels
 unbound_back v h o a was e = unbound_at v.stage v h o a refl was e
 
--- a job leaves the channels
-job_channels : (P : ChannelState → Type 0) (h : Hypervisor) (k : ℕ) (ask : BackAsk) (o : Outcome) (a : BackAct) → IsJobs ask → P h.channels
-    → back_act h (back_mover.Job k) ask o ≡ Some a → P a.under.channels
-job_channels P h k back_ask.Wait o a own same e = absurd (none-some a e)
-job_channels P h k back_ask.Fence o a own same e = absurd own
-job_channels P h k (back_ask.Read m word) o a own same e = of_back (λ (x : BackAct). P x.under.channels) _ a same e
-job_channels P h k (back_ask.Write m word value) o a own same e = of_back (λ (x : BackAct). P x.under.channels) _ a same e
-job_channels P h k (back_ask.Map gref mode) o a own same e =
-    of_back (λ (x : BackAct). P x.under.channels) _ a (map_channels P h (back_mover.Job k) gref mode (verdict_at h.pages gref mode) same) e
-job_channels P h k (back_ask.Unmap m) o a own same e = of_back (λ (x : BackAct). P x.under.channels) _ a same e
-job_channels P h k (back_ask.Bind p) o a own same e = absurd own
-job_channels P h k back_ask.Send o a own same e = absurd own
-job_channels P h k back_ask.ClosePort o a own same e = absurd own
-job_channels P h k (back_ask.GetKey path) o a own same e = absurd own
-job_channels P h k (back_ask.SetKey path text) o a own same e = absurd own
-job_channels P h k (back_ask.Watch path) o a own same e = absurd own
-job_channels P h k (back_ask.DiskRead sector) o a own same e = of_read (λ (x : BackAct). P x.under.channels) h _ o a (λ x is. rw is same) e
-job_channels P h k (back_ask.DiskWrite sector words) o a own same e = of_disk (λ (x : BackAct). P x.under.channels) h _ o a (λ x is. rw is same) e
-job_channels P h k back_ask.Flush o a own same e = absurd own
-job_channels P h k (back_ask.Trim sector count) o a own same e = absurd own
+-- a job leaves the channels and the keys
+abbrev pub Leaves : Hypervisor → BackAct → Type 0
+Leaves h a = (a.under.channels ≡ h.channels) × (a.under.keys ≡ h.keys)
 
-pub job_leaves : (h : Hypervisor) (k : ℕ) (ask : BackAsk) (o : Outcome) (a : BackAct) → IsJobs ask → back_act h (back_mover.Job k) ask o ≡ Some a → a.under.channels ≡ h.channels
-job_leaves h k ask o a own e = job_channels (λ (c : ChannelState). c ≡ h.channels) h k ask o a own refl e
+map_leaves : (h : Hypervisor) (k gref : ℕ) (mode : Mode) (verdict : Result ℕ MapRefusal) → Leaves h (map_act h (back_mover.Job k) gref mode verdict)
+map_leaves h k gref mode (Ok frame) = (refl, refl)
+map_leaves h k gref mode (Err refusal) = (refl, refl)
+
+under_leaves : (h : Hypervisor) (x : BackAct) → x.under ≡ h → Leaves h x
+under_leaves h x is = (ap (λ (u : Hypervisor). u.channels) is, ap (λ (u : Hypervisor). u.keys) is)
+
+pub job_leaves : (h : Hypervisor) (k : ℕ) (ask : BackAsk) (o : Outcome) (a : BackAct) → IsJobs ask → back_act h (back_mover.Job k) ask o ≡ Some a → Leaves h a
+job_leaves h k back_ask.Wait o a own e = absurd (none-some a e)
+job_leaves h k (back_ask.Read m word) o a own e = of_back (Leaves h) _ a (refl, refl) e
+job_leaves h k (back_ask.Write m word value) o a own e = of_back (Leaves h) _ a (refl, refl) e
+job_leaves h k (back_ask.Map gref mode) o a own e = of_back (Leaves h) _ a (map_leaves h k gref mode (verdict_at h.pages gref mode)) e
+job_leaves h k (back_ask.Unmap m) o a own e = of_back (Leaves h) _ a (refl, refl) e
+job_leaves h k (back_ask.DiskRead sector) o a own e = of_read (Leaves h) h _ o a (under_leaves h) e
+job_leaves h k (back_ask.DiskWrite sector words) o a own e = of_disk (Leaves h) h _ o a (under_leaves h) e
+job_leaves h k ask o a own e = absurd own
 
 -- a spurious event comes at a bound port alone
 pub notified : (at : End) (s : Stage) (c : ChannelState) → IsUnported c → IsUnbound s c → IsUnported (sent c (other_end at)) × IsUnbound s (sent c (other_end at))

@@ -1,140 +1,201 @@
--- The front's negotiation goes on with its end of the ring, as the other end's keys are read and its own are set.
-use Rattle.std.proofs.Common.{◌≡◌, ℕ, Bool, true, false, ◌&&◌, if◌then◌else◌, refl, sym, ap, subst, arith}
-use Rattle.std.specs.Prelude.{Option, Some, None}
-use Rattle.blk_base.specs.declared.ask.FrontAnswer.{FrontAnswer}
+-- The front's negotiation goes on with its end of the ring, as the other end's keys are read and its own are set, and the end of the ring enters the states that it comes to.
+use Rattle.std.proofs.Common.{◌≡◌, ℕ, Bool, true, false, true≢false, ◌&&◌, if◌then◌else◌, List, [], inl, refl, sym, ap, ◌∙◌, subst, arith}
+use Rattle.std.specs.Prelude.{Option, Some, None, IsSome, length, ◌==◌}
+use Rattle.std.proofs.lemmas.Bool.Decides.{nat_tests}
+use Rattle.line_text.proofs.Both.{both_true}
 use Rattle.blk_base.specs.declared.ask.FrontAnswer.TheVariants as answer
 use Rattle.blk_front.specs.declared.stage.Stage.{Stage as Ring}
 use Rattle.blk_front.specs.declared.stage.Stage.TheVariants as ring
-use Rattle.xenbus_state.specs.declared.keys.BackKey.{BackKey}
-use Rattle.xenbus_state.specs.declared.keys.FrontKey.{FrontKey}
+use Rattle.blk_front.specs.declared.state.FrontState.{FrontState}
+use Rattle.blk_front.specs.declared.state.FrontState.TheVariants as enter
+use Rattle.blk_front.specs.View as ends
+use Rattle.blk_front.specs.Ask.{is_through}
+use Rattle.blk_front.specs.Submit.{is_ready}
+use Rattle.blk_front.specs.State.{is_open, is_made, enters}
+use Rattle.xenbus_state.specs.declared.state.BusState.{BusState}
 use Rattle.xenbus_state.specs.declared.state.BusState.TheVariants as state
 use Rattle.xenbus_state.specs.declared.stage.FrontStage.{FrontStage}
 use Rattle.xenbus_state.specs.declared.stage.FrontStage.TheVariants as stage
-use Rattle.xenbus_state.specs.declared.table.FrontAction.{FrontAction}
-use Rattle.xenbus_state.specs.declared.table.FrontAction.TheVariants as action
-use Rattle.xenbus_state.specs.States.{state_read}
-use Rattle.xenbus_state.specs.Tables.{front_action, SuitsFront}
-use Rattle.xenbus_state.specs.Programs.{next_feature, next_fact, next_published}
-use Rattle.xenbus_state.specs.Reading.{count_read, fact_read}
-use Rattle.xenbus_state.specs.FrontView.{FrontView, ring_order}
-use Rattle.xenbus_state.specs.FrontAsk.{due_at, due, closing_stage, ask_at, ask_of}
-use Rattle.xenbus_state.specs.FrontStep.{at, acted, feature_step, fact_step, after_feature, after_fact, after_published, step_at, step_of}
-use Rattle.xenbus_state.proofs.FrontKeeps.{action_suits}
-use Rattle.vbd_model.specs.Fit.{FrontRests, FrontGoesWith}
+use Rattle.xenbus_state.specs.declared.front.FrontBusAsk.{FrontBusAsk}
+use Rattle.xenbus_state.specs.declared.front.FrontBusAsk.TheVariants as ask
+use Rattle.xenbus_state.specs.FrontView.{FrontView}
+use Rattle.xenbus_state.specs.FrontAsk.{leaving, closing_stage, due_at, due, ask_at, ask_of}
+use Rattle.xenbus_state.specs.FrontStep.{at, after_grants, step_at}
+use Rattle.split_model.proofs.States.{enters_cases}
+use Rattle.vbd_front.specs.View.{is_still, is_unoccupied, is_broken}
+use Rattle.vbd_front.specs.Step.{settled_at, settled, states_due, all_entered}
+use Rattle.vbd_model.specs.Fit.{is_ending_ring, FrontRests, FrontGoesWith}
 
--- a front that doesn't close does what it has begun
-due_at_stage : (s : FrontStage) (v : FrontView) → due_at s v false ≡ s
-due_at_stage stage.Rest v = by_closing v.closing
+-- the negotiation goes with the end of the ring, closes with it, and wrote Closing only with no request left
+pub record FrontFits (v : FrontView) (f : ends.View) : Type 0 where
+  pub goes : FrontGoesWith v.stage v f.stage
+  pub closing : is_broken f.stage ≡ false → f.closing ≡ v.closing
+  pub through : v.state ≡ state.Closing → is_broken f.stage ≡ false → is_through f ≡ true
+
+-- where nothing of a request is left, a front that closes is through, and its end of the ring is at nothing
+still_whole : (s : Ring) → is_still s ≡ true → is_broken s ≡ false
+still_whole (ring.Broken word) still = absurd (true≢false (sym still))
+still_whole s still = refl
+
+pub record IsUnoccupied (f : ends.View) : Type 0 where
+  pub none : (length f.requests == 0) ≡ true
+  pub still : is_still f.stage ≡ true
+  pub whole : is_broken f.stage ≡ false
+
+pub unoccupied : (f : ends.View) → is_unoccupied f ≡ true → IsUnoccupied f
+unoccupied f is =
+    let both = both_true _ (is_still f.stage) is in
+    let zero = both.0 in
+    record { none = grind (arith, nat_tests); still = both.1; whole = still_whole f.stage both.1 }
+
+-- what is due: what is begun, or, where nothing is and the front closes, its next step to its end
+pub due_cases : (P : FrontStage → Type 0) (v : FrontView) (idle : Bool) → P v.stage → (v.stage ≡ stage.Rest → v.closing ≡ true → idle ≡ true → P (closing_stage v.state v)) → P (due v idle)
+due_cases P v idle begun closes = by_stage v.stage refl
   where
-    by_closing : (closing : Bool) → (if closing && false then closing_stage v.state v else stage.Rest) ≡ stage.Rest
-    by_closing true = refl
-    by_closing false = refl
-due_at_stage s v = refl
+    by_test : (c : Bool) → v.stage ≡ stage.Rest → (v.closing && idle) ≡ c → P (if c then closing_stage v.state v else stage.Rest)
+    by_test true here e = let both = both_true v.closing idle e in closes here both.0 both.1
+    by_test false here e = subst P here begun
 
-pub due_stage : (v : FrontView) → due v false ≡ v.stage
-due_stage v = due_at_stage v.stage v
+    by_stage : (b : FrontStage) → v.stage ≡ b → P (due_at b v idle)
+    by_stage stage.Rest here = by_test (v.closing && idle) here refl
+    by_stage b here = subst P here begun
 
-pub asks_at : (v : FrontView) → ask_of v false ≡ ask_at v.stage v
-asks_at v = ap (λ (s : FrontStage). ask_at s v) (due_stage v)
+-- a front that rests made nothing, or all, and ended nothing yet
+made_rests : (port : Option ℕ) (r : Ring) → IsSome port → is_made r ≡ true → FrontRests state.Closing false port r
+made_rests None r port made = absurd (true≢false (sym port))
+made_rests (Some p) r port made = made
 
-pub told_at : (v : FrontView) (x : FrontAnswer) → step_of v false x ≡ step_at v.stage v false x
-told_at v x = ap (λ (s : FrontStage). step_at s (at s v) false x) (due_stage v)
+ready_made : (r : Ring) → is_ready r ≡ true → is_still r ≡ true → is_made r ≡ true
+ready_made ring.Loop ready still = refl
+ready_made (ring.RingWord k) ready still = absurd (true≢false (sym ready))
+ready_made ring.Initialised ready still = absurd (true≢false (sym ready))
+ready_made ring.RingRead ready still = absurd (true≢false (sym ready))
+ready_made (ring.RingEnd seen) ready still = absurd (true≢false (sym ready))
+ready_made ring.ClosePort ready still = absurd (true≢false (sym ready))
+ready_made ring.Left ready still = absurd (true≢false (sym ready))
+ready_made ring.Closed ready still = absurd (true≢false (sym ready))
+ready_made r ready still = absurd (true≢false (sym still))
 
--- the negotiation goes with this stage of the end of the ring
-abbrev pub Goes : FrontView → Ring → Type 0
-Goes v r = FrontGoesWith v.stage v.state r
+-- so where it closes it may write that, or it did and leaves where the back is gone
+pub closing_cases : (P : FrontStage → Type 0) (v : FrontView) (r : Ring) → is_still r ≡ true → FrontRests v.state v.gone v.port r
+    → (FrontRests state.Closing false v.port r → P (stage.WriteState state.Closing)) → (v.state ≡ state.Closing → FrontRests state.Closing v.gone v.port r → P (leaving v.gone v.port)) → P (closing_stage v.state v)
+closing_cases P v r still rests writes leaves = by_state v.state refl rests
+  where
+    by_state : (own : BusState) → v.state ≡ own → FrontRests own v.gone v.port r → P (closing_stage own v)
+    by_state state.Initialising is rests = writes (rw rests.1 rests.0)
+    by_state state.Initialised is rests = writes (made_rests v.port r rests.1 (ap is_made rests.0))
+    by_state state.Connected is rests = writes (made_rests v.port r rests.1 (ready_made r rests.0 still))
+    by_state state.Closing is rests = leaves is rests
+    by_state own is rests = absurd rests
 
-goes_acted : (act : FrontAction) (v : FrontView) (r : Ring) → SuitsFront v.state act → FrontRests v.state r → Goes (acted act v) r
-goes_acted action.Nothing v r suits rests = rests
-goes_acted action.Publish v r suits rests = (suits, rw suits at rests)
-goes_acted action.Connect v r suits rests = (suits, rw suits at rests)
-goes_acted action.Close v r suits rests = rests
-goes_acted action.CloseAndConnect v r suits rests = (suits, rw suits at rests)
-goes_acted action.Leave v r suits rests = rests
-goes_acted (action.Break word) v r suits rests = tt
+pub rests_open : (own : BusState) (gone : Bool) (port : Option ℕ) (r : Ring) → FrontRests own gone port r → is_open r ≡ true
+rests_open state.Initialising gone port r rests = ap is_open rests.0
+rests_open state.Initialised gone port r rests = ap is_open rests.0
+rests_open state.Connected gone port r rests = ready_open r rests.0
+  where
+    ready_open : (r : Ring) → is_ready r ≡ true → is_open r ≡ true
+    ready_open ring.Closed ready = absurd (true≢false (sym ready))
+    ready_open (ring.Broken word) ready = absurd (true≢false (sym ready))
+    ready_open r ready = refl
+rests_open state.Closing false None r rests = ap is_open rests
+rests_open state.Closing false (Some p) r rests = made_open r rests
+  where
+    made_open : (r : Ring) → is_made r ≡ true → is_open r ≡ true
+    made_open ring.Initialised made = refl
+    made_open ring.Loop made = refl
+    made_open r made = absurd (true≢false (sym made))
+rests_open state.Closing true (Some p) r rests = ending_open r rests
+  where
+    ending_open : (r : Ring) → is_ending_ring r ≡ true → is_open r ≡ true
+    ending_open ring.RingRead ending = refl
+    ending_open (ring.RingEnd seen) ending = refl
+    ending_open r ending = absurd (true≢false (sym ending))
+rests_open own gone port r rests = absurd rests
 
-goes_feature : (next : Option BackKey) (v : FrontView) (r : Ring) → v.state ≡ state.Initialising → r ≡ ring.RingWord 0 → FrontGoesWith (after_feature next) v.state r
-goes_feature (Some k) v r own here = (own, here)
-goes_feature None v r own here = (own, omega arith, here)
+pub open_whole : (r : Ring) → is_open r ≡ true → is_broken r ≡ false
+open_whole (ring.Broken word) is = absurd (true≢false (sym is))
+open_whole r is = refl
 
-goes_feature_step : (k : BackKey) (n : Option ℕ) (v : FrontView) (r : Ring) → v.state ≡ state.Initialising → r ≡ ring.RingWord 0 → Goes (feature_step k n v) r
-goes_feature_step k None v r own here = tt
-goes_feature_step k (Some n) v r own here = goes_feature (next_feature k) v r own here
+-- once its negotiation is settled they fit, where the end of the ring left if that is due
+abbrev pub Settles : Bool → FrontView → ends.View → Type 0
+Settles idle u f = FrontFits (settled idle u) (all_entered (states_due (ask_of (settled idle u) idle)) f)
 
-goes_fact : (next : Option BackKey) (v : FrontView) (r : Ring) → v.state ≡ state.Initialised → r ≡ ring.Initialised → FrontGoesWith (after_fact next) v.state r
-goes_fact (Some k) v r own here = (own, here)
-goes_fact None v r own here = (own, here)
+abbrev is_ending : FrontBusAsk → Bool
+is_ending (ask.EndGrant page) = true
+is_ending ask.EndOtherGrants = true
+is_ending a = false
 
-goes_fact_step : (k : BackKey) (n : Option ℕ) (v : FrontView) (r : Ring) → v.state ≡ state.Initialised → r ≡ ring.Initialised → Goes (fact_step k n v) r
-goes_fact_step k None v r own here = tt
-goes_fact_step k (Some n) v r own here = goes_fact (next_fact k) v r own here
+settled_plain : (a : FrontBusAsk) (idle : Bool) (u : FrontView) → is_ending a ≡ false → settled_at a idle u ≡ u
+settled_plain ask.EndOtherGrants idle u plain = absurd (true≢false plain)
+settled_plain a idle u plain = refl
 
-goes_published : (next : Option FrontKey) (v : FrontView) (r : Ring) → v.state ≡ state.Initialising → r ≡ ring.Initialised → FrontGoesWith (after_published next) v.state r
-goes_published (Some k) v r own here = (own, here)
-goes_published None v r own here = (own, here)
+due_plain : (a : FrontBusAsk) → is_ending a ≡ false → states_due a ≡ []
+due_plain (ask.EndGrant page) plain = absurd (true≢false plain)
+due_plain a plain = refl
 
--- a stage that reads or sets a key, or sets its watch; it doesn't write Connected
-abbrev pub Speaks : FrontStage → Type 0
-Speaks stage.Start = Unit {0}
-Speaks stage.ReadState = Unit {0}
-Speaks (stage.ReadFeature key) = Unit {0}
-Speaks (stage.Publish key) = Unit {0}
-Speaks (stage.ReadFact key) = Unit {0}
-Speaks (stage.WriteState state.Initialised) = Unit {0}
-Speaks s = ⊥
+-- nothing of the ring is ended next
+settles_plain : (idle : Bool) (u : FrontView) (f : ends.View) → is_ending (ask_of u idle) ≡ false → FrontFits u f → Settles idle u f
+settles_plain idle u f plain fits =
+    subst (λ (t : FrontView). FrontFits t (all_entered (states_due (ask_of t idle)) f)) (sym (settled_plain (ask_of u idle) idle u plain))
+    (subst (λ (states : List FrontState). FrontFits u (all_entered states f)) (sym (due_plain (ask_of u idle) plain)) fits)
 
--- the other end's key was read, or its own was set
-pub goes_spoken : (s : FrontStage) (v : FrontView) (r : Ring) (x : FrontAnswer) → Speaks s → FrontGoesWith s v.state r → Goes (step_at s (at s v) false x) r
-goes_spoken stage.Start v r answer.Done speaks goes = rw goes.0 goes.1
-goes_spoken stage.Start v r x speaks goes = goes
-goes_spoken stage.ReadState v r (answer.Key text) speaks goes =
-    goes_acted (front_action v.state v.closing false (state_read text)) (at stage.ReadState v) r (action_suits v.state v.closing false (state_read text)) goes
-goes_spoken stage.ReadState v r x speaks goes = goes
-goes_spoken (stage.ReadFeature k) v r (answer.Key text) speaks goes = goes_feature_step k (count_read text) (at (stage.ReadFeature k) v) r goes.0 goes.1
-goes_spoken (stage.ReadFeature k) v r x speaks goes = goes
-goes_spoken (stage.Publish k) v r answer.Done speaks goes = goes_published (next_published (ring_order v) k) v r goes.0 goes.1
-goes_spoken (stage.Publish k) v r x speaks goes = goes
-goes_spoken (stage.ReadFact k) v r (answer.Key text) speaks goes = goes_fact_step k (fact_read k text) (at (stage.ReadFact k) v) r goes.0 goes.1
-goes_spoken (stage.ReadFact k) v r x speaks goes = goes
-goes_spoken (stage.WriteState state.Initialised) v r answer.Done speaks goes = goes.1
-goes_spoken (stage.WriteState state.Initialised) v r x speaks goes = goes
-goes_spoken s v r x speaks goes = absurd speaks
+-- its grant is
+settles_ending : (idle : Bool) (u : FrontView) (f : ends.View) → ask_of u idle ≡ ask.EndGrant 0 → FrontFits u (enters enter.Leaving f) → Settles idle u f
+settles_ending idle u f e fits =
+    let same : settled idle u ≡ u = ap (λ (a : FrontBusAsk). settled_at a idle u) e in
+    subst (λ (t : FrontView). FrontFits t (all_entered (states_due (ask_of t idle)) f)) (sym same)
+    (subst (λ (a : FrontBusAsk). FrontFits u (all_entered (states_due a) f)) (sym e) fits)
 
--- an answer leaves the front's layout and order
-pub record Terms (v u : FrontView) : Type 0 where
-  pub abi : u.abi ≡ v.abi
-  pub order : u.order ≡ v.order
+pub rests_due : (u : FrontView) (idle c : Bool) → u.stage ≡ stage.Rest → (u.closing && idle) ≡ c → due u idle ≡ (if c then closing_stage u.state u else stage.Rest)
+rests_due u idle c here e = rw (here, e) refl
 
-same_terms : (v : FrontView) → Terms v v
-same_terms v = record { abi = refl; order = refl }
+unmade : (r : Ring) → is_ending_ring r ≡ true → is_made r ≡ false
+unmade ring.RingRead ending = refl
+unmade (ring.RingEnd seen) ending = refl
+unmade r ending = absurd (true≢false (sym ending))
 
-terms_acted : (act : FrontAction) (v : FrontView) → Terms v (acted act v)
-terms_acted action.Nothing v = record { abi = refl; order = refl }
-terms_acted action.Publish v = record { abi = refl; order = refl }
-terms_acted action.Connect v = record { abi = refl; order = refl }
-terms_acted action.Close v = record { abi = refl; order = refl }
-terms_acted action.CloseAndConnect v = record { abi = refl; order = refl }
-terms_acted action.Leave v = record { abi = refl; order = refl }
-terms_acted (action.Break word) v = record { abi = refl; order = refl }
+-- a front that rests
+pub settles_rest : (idle : Bool) (u : FrontView) (f : ends.View) → u.stage ≡ stage.Rest → (idle ≡ true → is_still f.stage ≡ true) → FrontRests u.state u.gone u.port f.stage → FrontFits u f → Settles idle u f
+settles_rest idle u f here still rests fits = by_test (u.closing && idle) refl
+  where
+    leaves : (gone : Bool) (port : Option ℕ) → due u idle ≡ leaving gone port → FrontRests state.Closing gone port f.stage → Settles idle u f
+    leaves false port e rests = settles_plain idle u f (ap (λ (d : FrontStage). is_ending (ask_at d u)) e) fits
+    leaves true None e rests = absurd rests
+    leaves true (Some p) e rests =
+        settles_ending idle u f (ap (λ (d : FrontStage). ask_at d u) e)
+        (enters_cases (λ (x : ends.View) shown. FrontFits u x) enter.Leaving f (λ may. absurd (true≢false (sym (both_true (is_through f) (is_made f.stage) may).1 ∙ unmade f.stage rests))) fits)
 
-terms_feature : (k : BackKey) (n : Option ℕ) (v : FrontView) → Terms v (feature_step k n v)
-terms_feature k None v = record { abi = refl; order = refl }
-terms_feature k (Some n) v = record { abi = refl; order = refl }
+    by_test : (c : Bool) → (u.closing && idle) ≡ c → Settles idle u f
+    by_test false e = settles_plain idle u f (ap (λ (d : FrontStage). is_ending (ask_at d u)) (rests_due u idle false here e)) fits
+    by_test true e =
+        closing_cases (λ (d : FrontStage). due u idle ≡ d → Settles idle u f) u f.stage (still (both_true u.closing idle e).1) rests
+        (λ first due_is. settles_plain idle u f (ap (λ (d : FrontStage). is_ending (ask_at d u)) due_is) fits)
+        (λ is ending due_is. leaves u.gone u.port due_is ending) (rests_due u idle true here e)
 
-terms_fact : (k : BackKey) (n : Option ℕ) (v : FrontView) → Terms v (fact_step k n v)
-terms_fact k None v = record { abi = refl; order = refl }
-terms_fact k (Some n) v = record { abi = refl; order = refl }
+-- a front that wrote Closing, and reads now that the back is gone or read it before
+pub settles_closing : (idle : Bool) (u : FrontView) (f : ends.View) → u.stage ≡ stage.Rest → u.state ≡ state.Closing → u.closing ≡ true → idle ≡ true → IsUnoccupied f → f.closing ≡ true
+    → FrontRests state.Closing false u.port f.stage → Settles idle u f
+settles_closing idle u f here own closing is_idle free closes rests = by_gone u.gone u.port refl refl rests
+  where
+    through : is_through f ≡ true
+    through = rw (closes, free.none) refl
 
-terms_at : (s : FrontStage) (v : FrontView) (x : FrontAnswer) → Terms v (step_at s v false x)
-terms_at stage.Rest v (answer.Watched path) = record { abi = refl; order = refl }
-terms_at stage.ReadState v (answer.Key text) = terms_acted (front_action v.state v.closing false (state_read text)) v
-terms_at (stage.ReadFeature k) v (answer.Key text) = terms_feature k (count_read text) v
-terms_at stage.NewPort v (answer.Port port) = record { abi = refl; order = refl }
-terms_at (stage.ReadFact k) v (answer.Key text) = terms_fact k (fact_read k text) v
-terms_at (stage.WriteState s) v answer.Done = record { abi = refl; order = refl }
-terms_at stage.ClosePort v answer.Done = record { abi = refl; order = refl }
-terms_at s v answer.Done = record { abi = refl; order = refl }
-terms_at s v x = same_terms v
+    asks : (gone : Bool) (port : Option ℕ) → u.gone ≡ gone → u.port ≡ port → due u idle ≡ leaving gone port
+    asks gone port g p = rests_due u idle true here (rw (closing, is_idle) refl) ∙ rw (own, g, p) refl
 
-pub told_terms : (v : FrontView) (x : FrontAnswer) → Terms v (step_of v false x)
-told_terms v x = subst (λ (u : FrontView). Terms v u) (sym (told_at v x)) (terms_at v.stage v x)
+    fits : (t : FrontView) (x : ends.View) → FrontGoesWith t.stage t x.stage → t.closing ≡ true → x.closing ≡ true → is_through x ≡ true → FrontFits t x
+    fits t x goes t_closing x_closing x_through = record { goes = goes; closing = λ whole. x_closing ∙ sym t_closing; through = λ e whole. x_through }
+
+    by_gone : (gone : Bool) (port : Option ℕ) → u.gone ≡ gone → u.port ≡ port → FrontRests state.Closing false port f.stage → Settles idle u f
+    by_gone false port g p rests = settles_plain idle u f (ap (λ (d : FrontStage). is_ending (ask_at d u)) (asks false port g p)) (fits u f (rw here (inl (rw (own, g, p) rests))) closing closes through)
+    by_gone true None g p rests =
+        let last = asks true None g p in
+        let ended : settled idle u ≡ record u { stage = stage.WriteState state.Closed } =
+        ap (λ (d : FrontStage). settled_at (ask_at d u) idle u) last ∙ (ap (λ (d : FrontStage). step_at d (at d u) idle answer.Done) last ∙ ap (λ (o : Option ℕ). record u { stage = after_grants o }) p)
+        in
+        subst (λ (t : FrontView). FrontFits t (all_entered (states_due (ask_of t idle)) f)) (sym ended)
+        (fits (record u { stage = stage.WriteState state.Closed }) f (own, rw rests refl, p) closing closes through)
+    by_gone true (Some port) g p rests =
+        let left : enters enter.Leaving f ≡ record f { stage = ring.RingRead } = rw (closes, free.none, rests) refl in
+        settles_ending idle u f (ap (λ (d : FrontStage). ask_at d u) (asks true (Some port) g p))
+        (subst (λ (x : ends.View). FrontFits u x) (sym left) (fits u (record f { stage = ring.RingRead }) (rw here (inl (rw (own, g, p) refl))) closing closes through))

@@ -1,149 +1,320 @@
 -- The front's negotiation goes on with its end of the ring, as that moves.
-use Rattle.std.proofs.Common.{◌≡◌, ℕ, ◌+◌, ◌<◌, Bool, true, false, true≢false, if◌then◌else◌, refl, sym, ap, ◌∙◌, subst, arith}
-use Rattle.std.specs.Prelude.{◌==◌, min}
+use Rattle.std.proofs.Common.{◌≡◌, ℕ, ◌+◌, ◌<◌, Bool, true, false, true≢false, ◌||◌, ◌&&◌, if◌then◌else◌, List, [], ◌∷◌, inl, inr, refl, sym, ap, ◌∙◌, subst, arith}
+use Rattle.std.specs.Prelude.{Option, Some, None, ◌-◌, ◌==◌, ◌⊎◌, length, min, slice_get}
 use Rattle.std.proofs.lemmas.Bool.Decides.{nat_tests}
+use Rattle.line_text.proofs.Both.{both_true}
+use Rattle.blk_base.specs.declared.ask.FrontAsk.{FrontAsk}
+use Rattle.blk_base.specs.declared.ask.FrontAsk.TheVariants as front_ask
 use Rattle.blk_base.specs.declared.ask.FrontAnswer.{FrontAnswer}
 use Rattle.blk_base.specs.declared.ask.FrontAnswer.TheVariants as answer
+use Rattle.blk_front.specs.declared.request.Request.{Request}
 use Rattle.blk_front.specs.declared.stage.Stage.{Stage as Ring}
 use Rattle.blk_front.specs.declared.stage.Stage.TheVariants as ring
 use Rattle.blk_front.specs.View as ends
-use Rattle.blk_front.specs.Ask.{ask_at as ring_ask_at, IsAnswer}
-use Rattle.blk_front.specs.Step.{step_at as ring_step_at, step_of as ring_step_of}
-use Rattle.blk_front.specs.Submit.{is_connected}
+use Rattle.blk_front.specs.Ask.{is_through, loop_ask, ask_at as ring_ask_at, IsAnswer}
+use Rattle.blk_front.specs.Step.{at as ring_at, broken as ring_broken, loop_step, is_mapped, step_at as ring_step_at, step_of as ring_step_of}
+use Rattle.blk_front.specs.Submit.{ending_of, is_ready, is_connected}
+use Rattle.blk_front.specs.State.{is_made}
 use Rattle.xenbus_state.specs.declared.state.BusState.{BusState}
 use Rattle.xenbus_state.specs.declared.state.BusState.TheVariants as state
 use Rattle.xenbus_state.specs.declared.stage.FrontStage.{FrontStage}
 use Rattle.xenbus_state.specs.declared.stage.FrontStage.TheVariants as stage
+use Rattle.xenbus_state.specs.declared.front.FrontBusAsk.TheVariants as ask
 use Rattle.xenbus_state.specs.FrontView.{FrontView}
-use Rattle.xenbus_state.specs.FrontAsk.{ask_at, ask_of}
-use Rattle.vbd_front.specs.View.{is_broken}
+use Rattle.xenbus_state.specs.FrontAsk.{leaving, due, ask_at, ask_of}
+use Rattle.xenbus_state.specs.FrontStep.{at, step_at}
+use Rattle.vbd_front.specs.View.{is_still, is_unoccupied, is_broken}
 use Rattle.vbd_front.specs.Ask.{speaks, ring_moves}
-use Rattle.vbd_front.specs.Step.{bus_told, woken, followed, waited}
-use Rattle.vbd_model.specs.Fit.{FrontRests, IsGranting, FrontGoesWith}
-use Rattle.vbd_laws.proofs.FitFrontBus.{Goes, asks_at, told_at, Terms, told_terms}
-use Rattle.vbd_laws.proofs.FitFrontRing.{IsServed, served_step}
+use Rattle.vbd_front.specs.Step.{settled, bus_told, woken, followed, waited}
+use Rattle.vbd_model.specs.Fit.{is_ending_ring, FrontRests, IsGranting, FrontGoesWith}
+use Rattle.vbd_laws.proofs.FitFrontRing.{up_step, closing_step, through_step, broken_step}
+use Rattle.vbd_laws.proofs.FitFrontBus.{FrontFits, unoccupied, due_cases, closing_cases, rests_due}
+use Rattle.vbd_laws.proofs.FitFrontSpoken.{fits_at, whole_rests}
 
--- a watch that is taken leaves the stage of the ring's end where it rests
-pub goes_woken : (broken : Bool) (v : FrontView) (x : FrontAnswer) (r : Ring) → v.stage ≡ stage.Rest → FrontRests v.state r → Goes (woken broken v x) r
-goes_woken true v x r here rests = rw here rests
-goes_woken false v (answer.Watched path) r here rests = rw (told_at v (answer.Watched path), here) rests
-goes_woken false v answer.Event r here rests = rw here rests
-goes_woken false v answer.Done r here rests = rw here rests
-goes_woken false v (answer.Word word) r here rests = rw here rests
-goes_woken false v (answer.Port port) r here rests = rw here rests
-goes_woken false v (answer.Key text) r here rests = rw here rests
+-- the negotiation goes on with the end of the ring, and neither writes a state nor begins to close
+record Follows (v u : FrontView) (r : Ring) : Type 0 where
+  goes : FrontGoesWith u.stage u r
+  closing : u.closing ≡ v.closing
+  own : u.state ≡ v.state
+
+abbrev FollowsTo : FrontView → Ring → FrontView → Type 0
+FollowsTo v r u = Follows v u r
+
+-- so they fit after a move of the end of the ring
+follows_fit : (v u : FrontView) (f : ends.View) (x : FrontAnswer) → FrontFits v f → Follows v u (ring_step_of f x).stage → FrontFits u (ring_step_of f x)
+follows_fit v u f x h follows = record {
+  goes = follows.goes;
+  closing = λ whole. closing_step f x ∙ (h.closing (before whole) ∙ sym follows.closing);
+  through = λ e whole. through_step f x (h.through (sym follows.own ∙ e) (before whole));
+}
+  where
+    before : is_broken (ring_step_of f x).stage ≡ false → is_broken f.stage ≡ false
+    before whole = by_test (is_broken f.stage) refl
+      where
+        by_test : (b : Bool) → is_broken f.stage ≡ b → b ≡ false
+        by_test true is = absurd (true≢false (sym (broken_step f x is) ∙ whole))
+        by_test false is = refl
+
+-- what is due was answered
+told_at : (d : FrontStage) (v : FrontView) (idle : Bool) (x : FrontAnswer) → due v idle ≡ d → bus_told idle v x ≡ settled idle (step_at d (at d v) idle x)
+told_at d v idle x e = ap (λ (s : FrontStage). settled idle (step_at s (at s v) idle x)) e
+
+-- a watch that is taken has a front that rests read the other end's state
+woken_follows : (broken : Bool) (v : FrontView) (idle : Bool) (x : FrontAnswer) (r : Ring) → v.stage ≡ stage.Rest → due v idle ≡ stage.Rest
+    → FrontRests v.state v.gone v.port r ⊎ (is_broken r ≡ true) → (broken ≡ false → is_broken r ≡ false) → Follows v (woken broken idle v x) r
+woken_follows broken v idle x r here e rests whole = by_answer broken x rests whole
+  where
+    still : FrontRests v.state v.gone v.port r ⊎ (is_broken r ≡ true) → Follows v v r
+    still rests = record { goes = rw here rests; closing = refl; own = refl }
+
+    reads : (path : List ℕ) → FrontRests v.state v.gone v.port r ⊎ (is_broken r ≡ true) → is_broken r ≡ false → Follows v (bus_told idle v (answer.Watched path)) r
+    reads path (inl rests) whole = subst (FollowsTo v r) (sym (told_at stage.Rest v idle (answer.Watched path) e)) (record { goes = rests; closing = refl; own = refl })
+    reads path (inr is) whole = absurd (true≢false (sym is ∙ whole))
+
+    by_answer : (broken : Bool) (x : FrontAnswer) → FrontRests v.state v.gone v.port r ⊎ (is_broken r ≡ true) → (broken ≡ false → is_broken r ≡ false) → Follows v (woken broken idle v x) r
+    by_answer false (answer.Watched path) rests whole = reads path rests (whole refl)
+    by_answer false x rests whole = still rests
+    by_answer true x rests whole = still rests
 
 -- a word of the ring was written: the next one is, or the page is granted
-goes_ring_word : (word : ℕ) (v : FrontView) (f : ends.View) (x : FrontAnswer) → v.stage ≡ stage.RingWord word → v.state ≡ state.Initialising → word < 16
-    → IsAnswer (ring_ask_at (ring.RingWord word) f) x → Goes (bus_told v x) (ring_step_at (ring.RingWord word) f x).stage
-goes_ring_word word v f answer.Done here own low allowed = rw (told_at v answer.Done, here) (by_test (word == 15) refl)
+word_follows : (word : ℕ) (v : FrontView) (idle : Bool) (f : ends.View) (x : FrontAnswer) → due v idle ≡ stage.RingWord word → v.state ≡ state.Initialising → word < 16 → v.port ≡ None
+    → IsAnswer (ring_ask_at (ring.RingWord word) f) x → Follows v (bus_told idle v x) (ring_step_at (ring.RingWord word) f x).stage
+word_follows word v idle f answer.Done e own low port allowed = subst (FollowsTo v _) (sym (told_at (stage.RingWord word) v idle answer.Done e)) (by_test (word == 15) refl)
   where
     by_test : (last : Bool) → (word == 15) ≡ last
-        → FrontGoesWith (if last then stage.Grant 0 else stage.RingWord (word + 1)) v.state (if last then ring.RingFrame else ring.RingWord (word + 1))
-    by_test true e = (own, refl, tt)
-    by_test false e = (own, grind (arith, nat_tests), refl)
-goes_ring_word word v f answer.Event here own low allowed = absurd allowed
-goes_ring_word word v f (answer.Watched path) here own low allowed = absurd allowed
-goes_ring_word word v f (answer.Word other) here own low allowed = absurd allowed
-goes_ring_word word v f (answer.Port port) here own low allowed = absurd allowed
-goes_ring_word word v f (answer.Key text) here own low allowed = absurd allowed
+        → Follows v (settled idle (at (if last then stage.Grant 0 else stage.RingWord (word + 1)) v)) (if last then ring.RingFrame else ring.RingWord (word + 1))
+    by_test true t = record { goes = (own, refl, tt, port); closing = refl; own = refl }
+    by_test false t = record { goes = (own, grind (arith, nat_tests), refl, port); closing = refl; own = refl }
+word_follows word v idle f x e own low port allowed = absurd allowed
 
 -- a front that wishes a ring of one page has one, whatever the back offers
 least : (n : ℕ) → min 0 n ≡ 0
 least n = omega arith
 
--- the page was granted, which is the only one of a ring of order 0
-goes_granted : (v : FrontView) (f : ends.View) (x : FrontAnswer) → v.stage ≡ stage.Grant 0 → v.state ≡ state.Initialising → v.order ≡ 0
-    → IsAnswer (ring_ask_at ring.RingFlags f) x → Goes (bus_told v x) ring.NewPort
-goes_granted v f answer.Done here own order allowed = rw (told_at v answer.Done, here, order, least v.features.order) (own, refl)
-goes_granted v f answer.Event here own order allowed = absurd allowed
-goes_granted v f (answer.Watched path) here own order allowed = absurd allowed
-goes_granted v f (answer.Word other) here own order allowed = absurd allowed
-goes_granted v f (answer.Port port) here own order allowed = absurd allowed
-goes_granted v f (answer.Key text) here own order allowed = absurd allowed
+-- three moves make a grant, which is the only one of a ring of order 0
+grant_follows : (s : Ring) (v : FrontView) (idle : Bool) (f : ends.View) (x : FrontAnswer) → v.stage ≡ stage.Grant 0 → due v idle ≡ stage.Grant 0 → v.state ≡ state.Initialising → v.order ≡ 0 → v.port ≡ None → IsGranting s
+    → IsAnswer (ring_ask_at s f) x → Follows v (followed (ask.Grant 0) (ring_step_at s f x).stage idle v x) (ring_step_at s f x).stage
+grant_follows ring.RingFrame v idle f x here e own order port is allowed = record { goes = rw here (own, refl, tt, port); closing = refl; own = refl }
+grant_follows ring.RingFence v idle f x here e own order port is allowed = record { goes = rw here (own, refl, tt, port); closing = refl; own = refl }
+grant_follows ring.RingFlags v idle f answer.Done here e own order port is allowed =
+    let granted : step_at (stage.Grant 0) (at (stage.Grant 0) v) idle answer.Done ≡ at stage.NewPort v = rw (order, least v.features.order) refl in
+    subst (FollowsTo v _) (sym (told_at (stage.Grant 0) v idle answer.Done e ∙ ap (λ (u : FrontView). settled idle u) granted)) (record { goes = (own, refl, port); closing = refl; own = refl })
+grant_follows ring.RingFlags v idle f x here e own order port is allowed = absurd allowed
+grant_follows s v idle f x here e own order port is allowed = absurd is
 
 -- the port was made: the terms are published
-goes_ported : (v : FrontView) (x : FrontAnswer) → v.stage ≡ stage.NewPort → v.state ≡ state.Initialising → (f : ends.View)
-    → IsAnswer (ring_ask_at ring.NewPort f) x → Goes (bus_told v x) ring.Initialised
-goes_ported v (answer.Port port) here own f allowed = rw (told_at v (answer.Port port), here) (own, refl)
-goes_ported v answer.Event here own f allowed = absurd allowed
-goes_ported v (answer.Watched path) here own f allowed = absurd allowed
-goes_ported v (answer.Word other) here own f allowed = absurd allowed
-goes_ported v answer.Done here own f allowed = absurd allowed
-goes_ported v (answer.Key text) here own f allowed = absurd allowed
+port_follows : (v : FrontView) (idle : Bool) (f : ends.View) (x : FrontAnswer) → due v idle ≡ stage.NewPort → v.state ≡ state.Initialising → IsAnswer (ring_ask_at ring.NewPort f) x → Follows v (bus_told idle v x) ring.Initialised
+port_follows v idle f (answer.Port port) e own allowed =
+    subst (FollowsTo v ring.Initialised) (sym (told_at stage.NewPort v idle (answer.Port port) e)) (record { goes = (own, refl, refl); closing = refl; own = refl })
+port_follows v idle f x e own allowed = absurd allowed
 
--- three moves make a grant
-goes_granting : (s : Ring) (v : FrontView) (f : ends.View) (x : FrontAnswer) → v.stage ≡ stage.Grant 0 → v.state ≡ state.Initialising → v.order ≡ 0 → IsGranting s
-    → IsAnswer (ring_ask_at s f) x → Goes (followed (stage.Grant 0) s v x) (ring_step_at s f x).stage
-goes_granting ring.RingFrame v f x here own order is allowed = rw here (own, refl, tt)
-goes_granting ring.RingFence v f x here own order is allowed = rw here (own, refl, tt)
-goes_granting ring.RingFlags v f x here own order is allowed = goes_granted v f x here own order allowed
-goes_granting s v f x here own order is allowed = absurd is
-
--- the ring's end rests while the front waits to be connected, and after that serves
-goes_rested : (own : BusState) (s : Ring) (v : FrontView) (f : ends.View) (x : FrontAnswer) → v.stage ≡ stage.Rest → v.state ≡ own → f.stage ≡ s → FrontRests own s → is_connected s ≡ true
-    → Goes (woken (is_broken s) v x) (ring_step_at s f x).stage
-goes_rested state.Initialising s v f x here is at_stage rests moves = absurd (true≢false (sym moves ∙ ap is_connected rests))
-goes_rested state.Initialised s v f x here is at_stage rests moves = goes_woken (is_broken s) v x _ here (rw is (by_stage s rests at_stage))
+-- the ring's grant is ended in two moves, or the ring breaks
+end_follows : (s : Ring) (v : FrontView) (idle : Bool) (f : ends.View) (x : FrontAnswer) (p : ℕ) → v.stage ≡ stage.Rest → due v idle ≡ stage.EndGrant 0 → v.state ≡ state.Closing → v.gone ≡ true → v.port ≡ Some p → v.order ≡ 0
+    → is_ending_ring s ≡ true → IsAnswer (ring_ask_at s f) x → Follows v (followed (ask.EndGrant 0) (ring_step_at s f x).stage idle v x) (ring_step_at s f x).stage
+end_follows ring.RingRead v idle f (answer.Word word) p here e own gone port order is allowed = by_test (is_mapped word)
   where
-    by_stage : (s : Ring) → s ≡ ring.Initialised → f.stage ≡ s → (ring_step_at s f x).stage ≡ ring.Initialised
-    by_stage s same stays = rw same (stays ∙ same)
-goes_rested state.Connected s v f x here is at_stage rests moves =
-    goes_woken (is_broken s) v x _ here (rw is (subst (λ (t : Ring). IsServed (ring_step_at t f x).stage) at_stage (served_step f x (subst (λ (t : Ring). IsServed t) (sym at_stage) rests))))
-goes_rested own s v f x here is at_stage rests moves = absurd rests
+    by_test : (b : Bool) → let x : ends.View = (if b then ring_broken word f else ring_at (ring.RingEnd word) f) in Follows v (followed (ask.EndGrant 0) x.stage idle v (answer.Word word)) x.stage
+    by_test true = record { goes = rw here (inr refl); closing = refl; own = refl }
+    by_test false = record { goes = rw here (inl (rw (own, gone, port) refl)); closing = refl; own = refl }
+end_follows (ring.RingEnd seen) v idle f (answer.Word word) p here e own gone port order is allowed = by_test (word == seen)
+  where
+    by_test : (b : Bool) → let x : ends.View = (if b then ring_at ring.ClosePort f else ring_broken word f) in Follows v (followed (ask.EndGrant 0) x.stage idle v (answer.Word word)) x.stage
+    by_test true =
+        let ended : step_at (stage.EndGrant 0) (at (stage.EndGrant 0) v) idle answer.Done ≡ at stage.EndOtherGrants v = rw (order, least v.features.order) refl in
+        let settles : settled idle (at stage.EndOtherGrants v) ≡ at stage.ClosePort v = rw port refl in
+        subst (FollowsTo v ring.ClosePort) (sym (told_at (stage.EndGrant 0) v idle answer.Done e ∙ (ap (λ (u : FrontView). settled idle u) ended ∙ settles)))
+        (record { goes = (own, refl, rw port refl); closing = refl; own = refl })
+    by_test false = record { goes = rw here (inr refl); closing = refl; own = refl }
+end_follows ring.RingRead v idle f x p here e own gone port order is allowed = absurd allowed
+end_follows (ring.RingEnd seen) v idle f x p here e own gone port order is allowed = absurd allowed
+end_follows s v idle f x p here e own gone port order is allowed = absurd (true≢false (sym is))
+
+-- the port was closed
+closed_follows : (v : FrontView) (idle : Bool) (f : ends.View) (x : FrontAnswer) → due v idle ≡ stage.ClosePort → v.state ≡ state.Closing → IsAnswer (ring_ask_at ring.ClosePort f) x → Follows v (bus_told idle v x) ring.Left
+closed_follows v idle f answer.Done e own allowed =
+    subst (FollowsTo v ring.Left) (sym (told_at stage.ClosePort v idle answer.Done e)) (record { goes = (own, refl, refl); closing = refl; own = refl })
+closed_follows v idle f x e own allowed = absurd allowed
+
+-- a front that is through waits in its loop
+through_loops : (f : ends.View) (r : Option Request) (x : FrontAnswer) → is_through f ≡ true → f.stage ≡ ring.Loop → r ≡ None → IsAnswer (loop_ask f r) x → (loop_step f r x).stage ≡ ring.Loop
+through_loops f (Some r) x through here none allowed = absurd (cc)
+through_loops f None x through here none allowed = by_answer x (waits (f.asleep || is_through f) _ (asleep f.asleep) allowed)
+  where
+    asleep : (b : Bool) → (b || is_through f) ≡ true
+    asleep true = refl
+    asleep false = through
+
+    waits : (b : Bool) (a : FrontAsk) → b ≡ true → IsAnswer (if b then front_ask.Wait else a) x → IsAnswer front_ask.Wait x
+    waits true a is allowed = allowed
+    waits false a is allowed = absurd (true≢false (sym is))
+
+    by_answer : (x : FrontAnswer) → IsAnswer front_ask.Wait x → (loop_step f None x).stage ≡ ring.Loop
+    by_answer answer.Event allowed = here
+    by_answer (answer.Watched path) allowed = here
+    by_answer x allowed = absurd allowed
+
+no_request : (requests : List Request) (waiting : ℕ) → (length requests == 0) ≡ true → (if waiting == 0 then None else slice_get requests (length requests - waiting)) ≡ None
+no_request [] waiting none = by_test (waiting == 0)
+  where
+    by_test : (b : Bool) → (if b then None else (let none : List Request = [] in slice_get none (0 - waiting))) ≡ None
+    by_test true = refl
+    by_test false = refl
+no_request (r ∷ requests) waiting none = let some = none in absurd (grind (arith, nat_tests))
+
+made_stays : (s : Ring) (f : ends.View) (x : FrontAnswer) → f.stage ≡ s → is_made s ≡ true → is_through f ≡ true → IsAnswer (ring_ask_at s f) x → is_made (ring_step_at s f x).stage ≡ true
+made_stays ring.Initialised f x here made through allowed = ap is_made here
+made_stays ring.Loop f x here made through allowed =
+    ap is_made (through_loops f (ends.next_request f) x through here (no_request f.requests f.waiting (both_true f.closing (length f.requests == 0) through).1) allowed)
+made_stays s f x here made through allowed = absurd (true≢false (sym made))
+
+-- the end of the ring of a front that rests waits to be connected, serves, or waits to leave
+rests_on : (own : BusState) (gone : Bool) (port : Option ℕ) (f : ends.View) (x : FrontAnswer) → is_connected f.stage ≡ true → FrontRests own gone port f.stage → (own ≡ state.Closing → is_through f ≡ true)
+    → (own ≡ state.Closing → gone ≡ true → ⊥) → IsAnswer (ring_ask_at f.stage f) x → FrontRests own gone port (ring_step_of f x).stage ⊎ (is_broken (ring_step_of f x).stage ≡ true)
+rests_on state.Initialising gone port f x moves rests through left allowed = absurd (true≢false (sym moves ∙ ap is_connected rests.0))
+rests_on state.Initialised gone port f x moves rests through left allowed = inl (stays f.stage rests.0 refl, rests.1)
+  where
+    stays : (s : Ring) → s ≡ ring.Initialised → f.stage ≡ s → (ring_step_at s f x).stage ≡ ring.Initialised
+    stays s same here = rw same (here ∙ same)
+rests_on state.Connected gone port f x moves rests through left allowed = by_test (is_ready (ring_step_of f x).stage) (is_broken (ring_step_of f x).stage) refl refl (up_step f x (rw rests.0 refl))
+  where
+    by_test : (ready broken : Bool) → is_ready (ring_step_of f x).stage ≡ ready → is_broken (ring_step_of f x).stage ≡ broken → (ready || broken) ≡ true
+        → FrontRests state.Connected gone port (ring_step_of f x).stage ⊎ (is_broken (ring_step_of f x).stage ≡ true)
+    by_test true broken r b up = inl (r, rests.1)
+    by_test false broken r b up = inr (b ∙ up)
+rests_on state.Closing false None f x moves rests through left allowed = absurd (true≢false (sym moves ∙ ap is_connected rests))
+rests_on state.Closing false (Some p) f x moves rests through left allowed = inl (made_stays f.stage f x refl rests (through refl) allowed)
+rests_on state.Closing true port f x moves rests through left allowed = absurd (left refl refl)
+rests_on own gone port f x moves rests through left allowed = absurd rests
+
+-- where a front that leaves rests nothing of a request is left, so that it ends its grant next
+ending_unoccupied : (f : ends.View) → is_ending_ring f.stage ≡ true → is_through f ≡ true → is_unoccupied f ≡ true
+ending_unoccupied f ending through = by_stage f.stage ending
+  where
+    none : length f.requests ≡ 0
+    none = let zero = (both_true f.closing (length f.requests == 0) through).1 in grind (arith, nat_tests)
+
+    by_stage : (s : Ring) → is_ending_ring s ≡ true → (length f.requests + ending_of s == 0 && is_still s) ≡ true
+    by_stage ring.RingRead is = rw none refl
+    by_stage (ring.RingEnd seen) is = rw none refl
+    by_stage s is = absurd (true≢false (sym is))
+
+leaves_next : (v : FrontView) (f : ends.View) → v.stage ≡ stage.Rest → is_broken f.stage ≡ false → FrontFits v f → v.state ≡ state.Closing → v.gone ≡ true → due v (is_unoccupied f) ≡ stage.EndGrant 0
+leaves_next v f here whole h own gone = by_port v.port refl (subst (λ (g : Bool). FrontRests state.Closing g v.port f.stage) gone (subst (λ (s : BusState). FrontRests s v.gone v.port f.stage) own (whole_rests v f here whole h)))
+  where
+    closing : v.closing ≡ true
+    closing = sym (h.closing whole) ∙ (both_true f.closing (length f.requests == 0) (h.through own whole)).0
+
+    by_port : (port : Option ℕ) → v.port ≡ port → FrontRests state.Closing true port f.stage → due v (is_unoccupied f) ≡ stage.EndGrant 0
+    by_port None p rests = absurd rests
+    by_port (Some n) p rests =
+        let idle = ending_unoccupied f rests (h.through own whole) in
+        rests_due v (is_unoccupied f) true here (rw (closing, idle) refl) ∙ rw (own, gone, p) refl
+
+-- one that is closed or broken reads it no more
+over_follows : (b : FrontStage) (broken : Bool) (v : FrontView) (idle : Bool) (x : FrontAnswer) (r : Ring) → v.stage ≡ b → due v idle ≡ b → ((path : List ℕ) → settled idle (step_at b (at b v) idle (answer.Watched path)) ≡ at b v)
+    → Follows v v r → Follows v (woken broken idle v x) r
+over_follows b true v idle x r here e same unmoved = unmoved
+over_follows b false v idle (answer.Watched path) r here e same unmoved =
+    subst (FollowsTo v r) (sym (told_at b v idle (answer.Watched path) e ∙ (same path ∙ ap (λ (s : FrontStage). at s v) (sym here)))) unmoved
+over_follows b false v idle x r here e same unmoved = unmoved
+
+-- its end of the ring moves while the front rests
+rest_follows : (v : FrontView) (f : ends.View) (x : FrontAnswer) → v.stage ≡ stage.Rest → due v (is_unoccupied f) ≡ stage.Rest → FrontFits v f → is_connected f.stage ≡ true → IsAnswer (ring_ask_at f.stage f) x
+    → Follows v (woken (is_broken (ring_step_of f x).stage) (is_unoccupied f) v x) (ring_step_of f x).stage
+rest_follows v f x here e h moves allowed =
+    let goes : FrontGoesWith stage.Rest v f.stage = rw here at h.goes in
+    woken_follows (is_broken (ring_step_of f x).stage) v (is_unoccupied f) x (ring_step_of f x).stage here e (by_test (is_broken f.stage) refl) (λ whole. whole)
+  where
+    by_test : (b : Bool) → is_broken f.stage ≡ b → FrontRests v.state v.gone v.port (ring_step_of f x).stage ⊎ (is_broken (ring_step_of f x).stage ≡ true)
+    by_test true is = inr (broken_step f x is)
+    by_test false whole =
+        rests_on v.state v.gone v.port f x moves (whole_rests v f here whole h) (λ own. h.through own whole) (λ own gone. let ends : stage.Rest ≡ stage.EndGrant 0 = sym e ∙ leaves_next v f here whole h own gone in absurd (cc)) allowed
+
+-- and while the negotiation asks it to make the ring, or to give it up
+begun_follows : (b : FrontStage) (s : Ring) (v : FrontView) (idle : Bool) (f : ends.View) (x : FrontAnswer) → v.stage ≡ b → f.stage ≡ s → due v idle ≡ b → v.order ≡ 0 → FrontGoesWith b v s
+    → (b ≡ stage.Rest → Follows v (followed ask.Wait (ring_step_at s f x).stage idle v x) (ring_step_at s f x).stage)
+    → speaks (ask_at b v) ≡ false → ring_moves (ask_at b v) s ≡ true → IsAnswer (ring_ask_at s f) x → Follows v (followed (ask_at b v) (ring_step_at s f x).stage idle v x) (ring_step_at s f x).stage
+begun_follows stage.Rest s v idle f x here at_stage e order goes rests quiet moves allowed = rests refl
+begun_follows (stage.RingWord word) s v idle f x here at_stage e order goes rests quiet moves allowed = rw goes.2 (word_follows word v idle f x e goes.0 goes.1 goes.3 (rw goes.2 at allowed))
+begun_follows (stage.Grant page) s v idle f x here at_stage e order goes rests quiet moves allowed =
+    let first : stage.Grant page ≡ stage.Grant 0 = ap (λ (p : ℕ). stage.Grant p) goes.1 in
+    rw goes.1 (grant_follows s v idle f x (here ∙ first) (e ∙ first) goes.0 order goes.3 goes.2 allowed)
+begun_follows stage.NewPort s v idle f x here at_stage e order goes rests quiet moves allowed = rw goes.1 (port_follows v idle f x e goes.0 (rw goes.1 at allowed))
+begun_follows stage.ClosePort s v idle f x here at_stage e order goes rests quiet moves allowed = rw goes.1 (closed_follows v idle f x e goes.0 (rw goes.1 at allowed))
+begun_follows stage.Closed s v idle f x here at_stage e order goes rests quiet moves allowed =
+    rw goes.1 (over_follows stage.Closed (is_broken f.stage) v idle x f.stage here e (λ path. refl) (record { goes = rw here (goes.0, at_stage ∙ goes.1, goes.2); closing = refl; own = refl }))
+begun_follows (stage.Broken word) s v idle f x here at_stage e order goes rests quiet moves allowed =
+    let is : is_broken (ring_step_at s f x).stage ≡ true = subst (λ (t : Ring). is_broken (ring_step_at t f x).stage ≡ true) at_stage (broken_step f x (ap is_broken at_stage ∙ goes)) in
+    subst (λ (b : Bool). Follows v (woken b idle v x) (ring_step_at s f x).stage) (sym is) (record { goes = rw here is; closing = refl; own = refl })
+begun_follows stage.Start s v idle f x here at_stage e order goes rests quiet moves allowed = absurd (true≢false quiet)
+begun_follows stage.ReadState s v idle f x here at_stage e order goes rests quiet moves allowed = absurd (true≢false quiet)
+begun_follows (stage.ReadFeature key) s v idle f x here at_stage e order goes rests quiet moves allowed = absurd (true≢false quiet)
+begun_follows (stage.Publish key) s v idle f x here at_stage e order goes rests quiet moves allowed = absurd (true≢false quiet)
+begun_follows (stage.ReadFact key) s v idle f x here at_stage e order goes rests quiet moves allowed = absurd (true≢false quiet)
+begun_follows (stage.WriteState own) s v idle f x here at_stage e order goes rests quiet moves allowed = absurd (true≢false quiet)
+begun_follows b s v idle f x here at_stage e order goes rests quiet moves allowed = absurd goes
 
 -- a move of the ring's end, which its negotiation leaves it
-goes_followed : (b : FrontStage) (s : Ring) (v : FrontView) (f : ends.View) (x : FrontAnswer) → v.stage ≡ b → f.stage ≡ s → v.order ≡ 0 → FrontGoesWith b v.state s
-    → speaks (ask_at b v) ≡ false → ring_moves (ask_at b v) s ≡ true → IsAnswer (ring_ask_at s f) x → Goes (followed b s v x) (ring_step_at s f x).stage
-goes_followed stage.Rest s v f x here at_stage order goes quiet moves allowed = goes_rested v.state s v f x here refl at_stage goes moves
-goes_followed (stage.RingWord word) s v f x here at_stage order goes quiet moves allowed =
-    rw goes.2 (goes_ring_word word v f x here goes.0 goes.1 (rw goes.2 at allowed))
-goes_followed (stage.Grant page) s v f x here at_stage order goes quiet moves allowed =
-    let first : v.stage ≡ stage.Grant 0 = here ∙ ap (λ (p : ℕ). stage.Grant p) goes.1 in
-    rw goes.1 (goes_granting s v f x first goes.0 order goes.2 allowed)
-goes_followed stage.NewPort s v f x here at_stage order goes quiet moves allowed = rw goes.1 (goes_ported v x here goes.0 f (rw goes.1 at allowed))
-goes_followed (stage.Broken word) s v f x here at_stage order goes quiet moves allowed = rw here tt
-goes_followed stage.Start s v f x here at_stage order goes quiet moves allowed = absurd (true≢false quiet)
-goes_followed stage.ReadState s v f x here at_stage order goes quiet moves allowed = absurd (true≢false quiet)
-goes_followed (stage.ReadFeature key) s v f x here at_stage order goes quiet moves allowed = absurd (true≢false quiet)
-goes_followed (stage.Publish key) s v f x here at_stage order goes quiet moves allowed = absurd (true≢false quiet)
-goes_followed (stage.ReadFact key) s v f x here at_stage order goes quiet moves allowed = absurd (true≢false quiet)
-goes_followed (stage.WriteState own) s v f x here at_stage order goes quiet moves allowed = absurd (true≢false quiet)
-goes_followed b s v f x here at_stage order goes quiet moves allowed = absurd goes
+pub ring_fits : (v : FrontView) (f : ends.View) (x : FrontAnswer) → v.order ≡ 0 → FrontFits v f → speaks (ask_of v (is_unoccupied f)) ≡ false → ring_moves (ask_of v (is_unoccupied f)) f.stage ≡ true
+    → IsAnswer (ring_ask_at f.stage f) x → FrontFits (followed (ask_of v (is_unoccupied f)) (ring_step_of f x).stage (is_unoccupied f) v x) (ring_step_of f x)
+ring_fits v f x order h quiet moves allowed =
+    follows_fit v _ f x h
+    (due_cases (λ (d : FrontStage). due v idle ≡ d → Moves d) v idle
+    (λ e quiet moves. begun_follows v.stage f.stage v idle f x refl refl e order h.goes (λ here. rest_follows v f x here (e ∙ here) h (rests here moves) allowed) quiet moves allowed)
+    (λ here closing is_idle.
+    let is = unoccupied f is_idle in
+    closing_cases (λ (d : FrontStage). due v idle ≡ d → Moves d) v f.stage is.still (whole_rests v f here is.whole h) (λ first e quiet. absurd (true≢false quiet)) (λ own ending. leaves here own v.gone v.port refl refl ending)) refl quiet moves)
+  where
+    idle : Bool
+    idle = is_unoccupied f
 
-pub goes_ring : (v : FrontView) (f : ends.View) (x : FrontAnswer) → v.order ≡ 0 → Goes v f.stage → speaks (ask_of v false) ≡ false → ring_moves (ask_of v false) f.stage ≡ true
-    → IsAnswer (ring_ask_at f.stage f) x → Goes (followed v.stage f.stage v x) (ring_step_of f x).stage
-goes_ring v f x order goes quiet moves allowed =
-    let same = asks_at v in
-    goes_followed v.stage f.stage v f x refl refl order goes (rw same at quiet) (rw same at moves) allowed
+    Moves : FrontStage → Type 0
+    Moves d = speaks (ask_at d v) ≡ false → ring_moves (ask_at d v) f.stage ≡ true → Follows v (followed (ask_at d v) (ring_step_of f x).stage idle v x) (ring_step_of f x).stage
+
+    rests : v.stage ≡ stage.Rest → ring_moves (ask_at v.stage v) f.stage ≡ true → is_connected f.stage ≡ true
+    rests here moves = rw here at moves
+
+    leaves : v.stage ≡ stage.Rest → v.state ≡ state.Closing → (gone : Bool) (port : Option ℕ) → v.gone ≡ gone → v.port ≡ port → FrontRests state.Closing gone port f.stage → due v idle ≡ leaving gone port → Moves (leaving gone port)
+    leaves here own false port g p ending e quiet moves = rest_follows v f x here e h moves allowed
+    leaves here own true None g p ending e quiet moves = absurd ending
+    leaves here own true (Some n) g p ending e quiet moves = end_follows f.stage v idle f x n here e own g p order ending allowed
 
 -- the negotiation waits where the ring's end has no move
-goes_idle : (b : FrontStage) (v : FrontView) (x : FrontAnswer) (r : Ring) → v.stage ≡ b → FrontGoesWith b v.state r → Goes (waited b v x) r
-goes_idle stage.Rest v x r here goes = goes_woken false v x r here goes
-goes_idle b v x r here goes = rw here goes
+pub wait_fits : (v : FrontView) (f : ends.View) (x : FrontAnswer) → FrontFits v f → speaks (ask_of v (is_unoccupied f)) ≡ false → ring_moves (ask_of v (is_unoccupied f)) f.stage ≡ false
+    → FrontFits (waited (ask_of v (is_unoccupied f)) (is_unoccupied f) v x) f
+wait_fits v f x h quiet still =
+    kept
+    (due_cases (λ (d : FrontStage). due v idle ≡ d → Waits d) v idle (λ e. begun v.stage refl e h.goes)
+    (λ here closing is_idle.
+    let is = unoccupied f is_idle in
+    closing_cases (λ (d : FrontStage). due v idle ≡ d → Waits d) v f.stage is.still (whole_rests v f here is.whole h) (λ first e quiet. absurd (true≢false quiet)) (λ own ending. leaves here v.gone v.port)) refl quiet still)
+  where
+    idle : Bool
+    idle = is_unoccupied f
 
-pub goes_waited : (v : FrontView) (x : FrontAnswer) (r : Ring) → Goes v r → Goes (waited v.stage v x) r
-goes_waited v x r goes = goes_idle v.stage v x r refl goes
+    Waits : FrontStage → Type 0
+    Waits d = speaks (ask_at d v) ≡ false → ring_moves (ask_at d v) f.stage ≡ false → Follows v (waited (ask_at d v) idle v x) f.stage
 
--- whatever is learned of a move, the terms stay
-terms_woken : (broken : Bool) (v : FrontView) (x : FrontAnswer) → Terms v (woken broken v x)
-terms_woken true v x = record { abi = refl; order = refl }
-terms_woken false v (answer.Watched path) = told_terms v (answer.Watched path)
-terms_woken false v x = record { abi = refl; order = refl }
+    kept : Follows v (waited (ask_of v idle) idle v x) f.stage → FrontFits (waited (ask_of v idle) idle v x) f
+    kept follows = fits_at v _ f follows.goes follows.closing follows.own h
 
-terms_followed : (b : FrontStage) (s : Ring) (v : FrontView) (x : FrontAnswer) → Terms v (followed b s v x)
-terms_followed (stage.RingWord word) (ring.RingWord k) v x = told_terms v x
-terms_followed (stage.Grant page) ring.RingFlags v x = told_terms v x
-terms_followed stage.NewPort ring.NewPort v x = told_terms v x
-terms_followed stage.Rest s v x = terms_woken (is_broken s) v x
-terms_followed b s v x = record { abi = refl; order = refl }
+    unmoved : Follows v v f.stage
+    unmoved = record { goes = h.goes; closing = refl; own = refl }
 
-pub terms_ring : (v : FrontView) (s : Ring) (x : FrontAnswer) → Terms v (followed v.stage s v x)
-terms_ring v s x = terms_followed v.stage s v x
+    whole : (r : Ring) → is_connected r ≡ false → is_broken r ≡ false
+    whole (ring.Broken word) still = absurd (true≢false still)
+    whole r still = refl
 
-terms_idle : (b : FrontStage) (v : FrontView) (x : FrontAnswer) → Terms v (waited b v x)
-terms_idle stage.Rest v x = terms_woken false v x
-terms_idle b v x = record { abi = refl; order = refl }
+    rests : v.stage ≡ stage.Rest → due v idle ≡ stage.Rest → is_connected f.stage ≡ false → Follows v (woken false idle v x) f.stage
+    rests here e still = let is = whole f.stage still in woken_follows false v idle x f.stage here e (inl (whole_rests v f here is h)) (λ none. is)
 
-pub terms_waited : (v : FrontView) (x : FrontAnswer) → Terms v (waited v.stage v x)
-terms_waited v x = terms_idle v.stage v x
+    begun : (b : FrontStage) → v.stage ≡ b → due v idle ≡ b → FrontGoesWith b v f.stage → Waits b
+    begun stage.Rest here e goes quiet still = rests here e still
+    begun stage.Closed here e goes quiet still = over_follows stage.Closed false v idle x f.stage here e (λ path. refl) unmoved
+    begun (stage.Broken word) here e goes quiet still = over_follows (stage.Broken word) false v idle x f.stage here e (λ path. refl) unmoved
+    begun b here e goes quiet still = unmoved
+
+    leaves : v.stage ≡ stage.Rest → (gone : Bool) (port : Option ℕ) → due v idle ≡ leaving gone port → Waits (leaving gone port)
+    leaves here false port e quiet still = rests here e still
+    leaves here true None e quiet still = unmoved
+    leaves here true (Some n) e quiet still = unmoved

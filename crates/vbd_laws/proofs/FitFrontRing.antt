@@ -1,5 +1,7 @@
--- The front's end of the ring goes on with its negotiation: it is made as that asks, and a connected one stays so.
-use Rattle.std.proofs.Common.{◌≡◌, ℕ, ◌+◌, ◌*◌, ◌^◌, Bool, true, false, true≢false, if◌then◌else◌, [], ◌∷◌, length, refl, sym}
+-- What a move leaves of the front's end of the ring: a connected one stays so or breaks, and none begins to close or has more requests.
+use Rattle.std.proofs.Common.{◌≡◌, ℕ, ◌+◌, ◌*◌, ◌/◌, ◌%◌, ◌^◌, ◌||◌, Bool, true, false, true≢false, if◌then◌else◌, List, [], ◌∷◌, length, refl, sym, ap, ◌∙◌, arith}
+use Rattle.std.proofs.lemmas.Option.{none-some}
+use Rattle.std.proofs.lemmas.Bool.Decides.{nat_tests}
 use Rattle.std.specs.Prelude.{Option, Some, None, Result, Ok, Err, nat_lt, ◌==◌}
 use Rattle.blk_base.specs.Distance.{distance_of}
 use Rattle.blk_base.specs.declared.ask.FrontAnswer.{FrontAnswer}
@@ -15,92 +17,161 @@ use Rattle.blk_front.specs.declared.request.Transfer.{Transfer}
 use Rattle.blk_front.specs.declared.request.Transfer.TheVariants as transfer
 use Rattle.blk_front.specs.Request.{has_data, words_in}
 use Rattle.blk_front.specs.View.{View, next_request}
-use Rattle.blk_front.specs.Step.{at, broken, looked, issue_stage, data_stage, granted, loop_step, issued, response_at, is_mapped, ended, revoked, data_step, step_at, step_of}
-use Rattle.blk_front.specs.Submit.{is_connected, is_initialised}
+use Rattle.blk_front.specs.Step.{at, broken, looked, issue_stage, data_stage, granted, loop_step, found_at, issued, response_at, is_mapped, ended, revoked, sector_told, data_step, step_at, step_of}
+use Rattle.blk_front.specs.declared.told.Told.TheVariants as told
+use Rattle.blk_front.specs.Ask.{is_through}
+use Rattle.blk_front.specs.Submit.{is_ready}
+use Rattle.vbd_front.specs.View.{is_broken as is_broken_ring}
+use Rattle.line_text.proofs.Both.{both_true}
 
--- it is connected, and past that
-abbrev pub IsServed : Stage → Type 0
-IsServed s = (is_connected s ≡ true) × (is_initialised s ≡ false)
+-- it is connected, or broken
+abbrev pub is_up : Stage → Bool
+is_up s = is_ready s || is_broken_ring s
 
-either : (b : Bool) (x y : View) → IsServed x.stage → IsServed y.stage → IsServed (if b then x else y).stage
-either true x y p q = p
-either false x y p q = q
+-- what a move from a stage leaves
+abbrev Steps : Stage → View → View → Type 0
+Steps s v x = (x.closing ≡ v.closing) × (length v.requests ≡ 0 → length x.requests ≡ 0) × (is_up s ≡ true → is_up x.stage ≡ true)
 
-either_stage : (b : Bool) (x y : Stage) → IsServed x → IsServed y → IsServed (if b then x else y)
+either : (b : Bool) (s : Stage) (v x y : View) → Steps s v x → Steps s v y → Steps s v (if b then x else y)
+either true s v x y p q = p
+either false s v x y p q = q
+
+either_stage : (b : Bool) (x y : Stage) → is_up x ≡ true → is_up y ≡ true → is_up (if b then x else y) ≡ true
 either_stage true x y p q = p
 either_stage false x y p q = q
 
-stays : (s : Stage) (v : View) → v.stage ≡ s → IsServed s → IsServed v.stage
-stays s v here served = rw here served
+stays : (s : Stage) (v : View) → v.stage ≡ s → Steps s v v
+stays s v here = (refl, λ none. none, λ up. ap is_up here ∙ up)
 
-looked_served : (v : View) (word : ℕ) (otherwise : View) → IsServed otherwise.stage → IsServed (looked v word otherwise).stage
-looked_served v word otherwise h =
-    either (nat_lt (distance_of v.ring.cons v.ring.prod) (distance_of v.ring.cons word)) (broken word v) (if word == v.ring.cons then otherwise else record v { seen = word; stage = stage.Loop }) (refl, refl)
-    (either (word == v.ring.cons) otherwise (record v { seen = word; stage = stage.Loop }) h (refl, refl))
+-- it goes to a stage of a connected front
+goes_to : (s : Stage) (v : View) (next : Stage) → is_up next ≡ true → Steps s v (at next v)
+goes_to s v next up = (refl, λ none. none, λ was. up)
 
-issue_served : (way : Transfer) → IsServed (issue_stage way)
-issue_served transfer.Read = (refl, refl)
-issue_served (transfer.Write tag) = (refl, refl)
+broken_steps : (s : Stage) (v : View) (word : ℕ) → Steps s v (broken word v)
+broken_steps s v word = (refl, λ none. none, λ up. refl)
 
-data_stage_served : (r : Option Request) (n : ℕ) → IsServed (data_stage r n)
-data_stage_served None n = (refl, refl)
-data_stage_served (Some r) n = either_stage (nat_lt (n + 1) (words_in r)) (stage.Data (n + 1)) (stage.GrantFrame 0) (refl, refl) (refl, refl)
+-- it goes on to be made, or to be left
+makes : (s : Stage) (v : View) (next : Stage) → is_up s ≡ false → Steps s v (at next v)
+makes s v next before = (refl, λ none. none, λ up. absurd (true≢false (sym up ∙ before)))
 
-granted_served : (v : View) (r : Option Request) (place : ℕ) → v.stage ≡ stage.GrantFlags place → IsServed (granted r place v).stage
-granted_served v None place here = stays (stage.GrantFlags place) v here (refl, refl)
-granted_served v (Some r) place here = either (nat_lt (place + 1) (length r.frames.items)) _ _ (refl, refl) (refl, refl)
+looked_steps : (s : Stage) (v : View) (word : ℕ) (otherwise : View) → Steps s v otherwise → Steps s v (looked v word otherwise)
+looked_steps s v word otherwise h =
+    either (nat_lt (distance_of v.ring.cons v.ring.prod) (distance_of v.ring.cons word)) s v (broken word v) (if word == v.ring.cons then otherwise else record v { seen = word; stage = stage.Loop }) (broken_steps s v word)
+    (either (word == v.ring.cons) s v otherwise (record v { seen = word; stage = stage.Loop }) h (refl, λ none. none, λ up. refl))
 
-loop_served : (v : View) (r : Option Request) (x : FrontAnswer) → v.stage ≡ stage.Loop → IsServed (loop_step v r x).stage
-loop_served v (Some r) x here = issue_served r.transfer
-loop_served v None (answer.Word word) here =
-    either (responses_of v.ring v.seen == 0) (looked v word (record v { seen = word; stage = stage.StoreEvent })) (at (stage.ResponseHigh word) v)
-    (looked_served v word (record v { seen = word; stage = stage.StoreEvent }) (refl, refl)) (refl, refl)
-loop_served v None answer.Event here = stays stage.Loop v here (refl, refl)
-loop_served v None x here = stays stage.Loop v here (refl, refl)
+issue_up : (way : Transfer) → is_up (issue_stage way) ≡ true
+issue_up transfer.Read = refl
+issue_up (transfer.Write tag) = refl
 
-response_served : (v : View) (response : Result Response ℕ) (low : ℕ) (found : Option (ℕ × Request)) → IsServed (response_at v response low found).stage
-response_served v response low None = (refl, refl)
-response_served v (Err word) low (Some found) = (refl, refl)
-response_served v (Ok response) low (Some found) = (refl, refl)
+data_stage_up : (r : Option Request) (n : ℕ) → is_up (data_stage r n) ≡ true
+data_stage_up None n = refl
+data_stage_up (Some r) n = either_stage (nat_lt (n + 1) (words_in r)) (stage.Data (n + 1)) (stage.GrantFrame 0) refl refl
 
-ended_served : (v : View) (e : Ending) → IsServed (ended e v).stage
-ended_served v e = either (has_data e.request.transfer e.status) _ _ (refl, refl) (refl, refl)
+granted_steps : (v : View) (r : Option Request) (place : ℕ) → v.stage ≡ stage.GrantFlags place → Steps (stage.GrantFlags place) v (granted r place v)
+granted_steps v None place here = stays (stage.GrantFlags place) v here
+granted_steps v (Some r) place here = either (nat_lt (place + 1) (length r.frames.items)) (stage.GrantFlags place) v _ _ (refl, λ none. none, λ up. refl) (refl, λ none. none, λ up. refl)
 
-revoked_served : (v : View) (e : Option Ending) (place before : ℕ) → v.stage ≡ stage.GrantEnd place before → IsServed (revoked e place v).stage
-revoked_served v None place before here = stays (stage.GrantEnd place before) v here (refl, refl)
-revoked_served v (Some e) place before here = either (nat_lt (place + 1) (length e.request.frames.items)) _ _ (refl, refl) (ended_served v e)
+loop_steps : (v : View) (r : Option Request) (x : FrontAnswer) → v.stage ≡ stage.Loop → Steps stage.Loop v (loop_step v r x)
+loop_steps v (Some r) x here = goes_to stage.Loop v (issue_stage r.transfer) (issue_up r.transfer)
+loop_steps v None (answer.Word word) here =
+    either (responses_of v.ring v.seen == 0) stage.Loop v (looked v word (record v { seen = word; stage = stage.StoreEvent })) (at (stage.ResponseHigh word) v)
+    (looked_steps stage.Loop v word (record v { seen = word; stage = stage.StoreEvent }) (refl, λ none. none, λ up. refl)) (refl, λ none. none, λ up. refl)
+loop_steps v None answer.Event here = (refl, λ none. none, λ up. ap is_up here)
+loop_steps v None x here = stays stage.Loop v here
 
-data_served : (v : View) (e : Option Ending) (n word : ℕ) → v.stage ≡ stage.ReadData n → IsServed (data_step e n word v).stage
-data_served v None n word here = stays (stage.ReadData n) v here (refl, refl)
-data_served v (Some e) n word here = either (nat_lt (n + 1) (words_in e.request)) _ _ (refl, refl) (refl, refl)
+-- a request is taken out of those that there are
+none_found : (requests : List Request) (place : Option ℕ) (found : ℕ × Request) → length requests ≡ 0 → found_at requests place ≡ Some found → ⊥
+none_found [] None found none e = none-some found e
+none_found [] (Some place) found none e = none-some found e
+none_found (r ∷ requests) place found none e = omega arith
 
-served_at : (s : Stage) (v : View) (x : FrontAnswer) → v.stage ≡ s → IsServed s → IsServed (step_at s v x).stage
-served_at (stage.RingWord k) v x here p = absurd (true≢false (sym p.0))
-served_at stage.RingFrame v x here p = absurd (true≢false (sym p.0))
-served_at stage.RingFence v x here p = absurd (true≢false (sym p.0))
-served_at stage.RingFlags v x here p = absurd (true≢false (sym p.0))
-served_at stage.NewPort v x here p = absurd (true≢false (sym p.0))
-served_at stage.Initialised v x here p = absurd (true≢false p.1)
-served_at stage.Loop v x here p = loop_served v (next_request v) x here
-served_at (stage.Data n) v x here p = data_stage_served (next_request v) n
-served_at (stage.GrantFrame place) v x here p = (refl, refl)
-served_at (stage.GrantFence place) v x here p = (refl, refl)
-served_at (stage.GrantFlags place) v x here p = granted_served v (next_request v) place here
-served_at (stage.Slot k) v x here p = either_stage (k == 27) stage.Producer (stage.Slot (k + 1)) (refl, refl) (refl, refl)
-served_at stage.Producer v x here p = (refl, refl)
-served_at (stage.ProducerFence old) v x here p = (refl, refl)
-served_at (stage.RequestEvent old) v (answer.Word event) here p = either_stage (notifies old v.ring.prod event) stage.Send stage.Loop (refl, refl) (refl, refl)
-served_at stage.Send v x here p = (refl, refl)
-served_at (stage.ResponseHigh low) v (answer.Word high) here p = (refl, refl)
-served_at (stage.ResponseLast low high) v (answer.Word last) here p = response_served v (response_of (low ∷ high ∷ last ∷ [])) low (issued v (low + high * 2 ^ 32))
-served_at (stage.GrantRead place) v (answer.Word word) here p = either (is_mapped word) (broken word v) (at (stage.GrantEnd place word) v) (refl, refl) (refl, refl)
-served_at (stage.GrantEnd place before) v (answer.Word word) here p = either (word == before) (revoked v.ending place v) (broken word v) (revoked_served v v.ending place before here) (refl, refl)
-served_at (stage.ReadData n) v (answer.Word word) here p = data_served v v.ending n word here
-served_at stage.StoreEvent v x here p = (refl, refl)
-served_at stage.EventFence v x here p = (refl, refl)
-served_at stage.LookAgain v (answer.Word word) here p = looked_served v word (record v { seen = word; stage = stage.Loop; asleep = true }) (refl, refl)
-served_at s v x here p = stays s v here p
+none_issued : (v : View) (id : ℕ) → length v.requests ≡ 0 → issued v id ≡ None
+none_issued v id none = by_found (issued v id) refl
+  where
+    by_found : (found : Option (ℕ × Request)) → issued v id ≡ found → found ≡ None
+    by_found None e = refl
+    by_found (Some found) e = absurd (none_found v.requests _ found none e)
 
--- a connected front stays so, whatever it is told
-pub served_step : (v : View) (x : FrontAnswer) → IsServed v.stage → IsServed (step_of v x).stage
-served_step v x p = served_at v.stage v x refl p
+response_steps : (s : Stage) (v : View) (response : Result Response ℕ) (low : ℕ) (found : Option (ℕ × Request)) → (length v.requests ≡ 0 → found ≡ None) → Steps s v (response_at v response low found)
+response_steps s v response low None unless = broken_steps s v low
+response_steps s v (Err word) low (Some found) unless = broken_steps s v word
+response_steps s v (Ok response) low (Some found) unless = (refl, λ none. absurd (none-some found (sym (unless none))), λ up. refl)
+
+ended_steps : (s : Stage) (v : View) (e : Ending) → Steps s v (ended e v)
+ended_steps s v e = either (has_data e.request.transfer e.status) s v _ _ (refl, λ none. none, λ up. refl) (refl, λ none. none, λ up. refl)
+
+revoked_steps : (v : View) (e : Option Ending) (place before : ℕ) → v.stage ≡ stage.GrantEnd place before → Steps (stage.GrantEnd place before) v (revoked e place v)
+revoked_steps v None place before here = stays (stage.GrantEnd place before) v here
+revoked_steps v (Some e) place before here =
+    either (nat_lt (place + 1) (length e.request.frames.items)) (stage.GrantEnd place before) v _ _ (refl, λ none. none, λ up. refl) (ended_steps (stage.GrantEnd place before) v e)
+
+-- what is told of a sector leaves the rest
+told_steps : (s next : Stage) (v : View) (e : Ending) (n : ℕ) (words : List ℕ) → is_up next ≡ true → Steps s v (at next (sector_told e n words v))
+told_steps s next v e n words up = by_last (n % 128 == 127)
+  where
+    by_last : (b : Bool) → Steps s v (at next (if b then record v { words = words; told = Some (told.Sector e.request.number (n / 128) words) } else record v { words = words }))
+    by_last true = (refl, λ none. none, λ was. up)
+    by_last false = (refl, λ none. none, λ was. up)
+
+data_steps : (v : View) (e : Option Ending) (n word : ℕ) → v.stage ≡ stage.ReadData n → Steps (stage.ReadData n) v (data_step e n word v)
+data_steps v None n word here = stays (stage.ReadData n) v here
+data_steps v (Some e) n word here =
+    either (nat_lt (n + 1) (words_in e.request)) (stage.ReadData n) v _ _ (told_steps (stage.ReadData n) (stage.ReadData (n + 1)) v e n _ refl) (told_steps (stage.ReadData n) stage.Loop v e n _ refl)
+
+steps_at : (s : Stage) (v : View) (x : FrontAnswer) → v.stage ≡ s → Steps s v (step_at s v x)
+steps_at (stage.RingWord k) v x here = makes (stage.RingWord k) v (if k == 15 then stage.RingFrame else stage.RingWord (k + 1)) refl
+steps_at stage.RingFrame v x here = makes stage.RingFrame v stage.RingFence refl
+steps_at stage.RingFence v x here = makes stage.RingFence v stage.RingFlags refl
+steps_at stage.RingFlags v x here = makes stage.RingFlags v stage.NewPort refl
+steps_at stage.NewPort v x here = makes stage.NewPort v stage.Initialised refl
+steps_at stage.Loop v x here = loop_steps v (next_request v) x here
+steps_at (stage.Data n) v x here = goes_to (stage.Data n) v (data_stage (next_request v) n) (data_stage_up (next_request v) n)
+steps_at (stage.GrantFrame place) v x here = (refl, λ none. none, λ up. refl)
+steps_at (stage.GrantFence place) v x here = (refl, λ none. none, λ up. refl)
+steps_at (stage.GrantFlags place) v x here = granted_steps v (next_request v) place here
+steps_at (stage.Slot k) v x here = goes_to (stage.Slot k) v (if k == 27 then stage.Producer else stage.Slot (k + 1)) (either_stage (k == 27) stage.Producer (stage.Slot (k + 1)) refl refl)
+steps_at stage.Producer v x here = (refl, λ none. none, λ up. refl)
+steps_at (stage.ProducerFence old) v x here = (refl, λ none. none, λ up. refl)
+steps_at (stage.RequestEvent old) v (answer.Word event) here =
+    goes_to (stage.RequestEvent old) v (if notifies old v.ring.prod event then stage.Send else stage.Loop) (either_stage (notifies old v.ring.prod event) stage.Send stage.Loop refl refl)
+steps_at stage.Send v x here = (refl, λ none. none, λ up. refl)
+steps_at (stage.ResponseHigh low) v (answer.Word high) here = (refl, λ none. none, λ up. refl)
+steps_at (stage.ResponseLast low high) v (answer.Word last) here =
+    response_steps (stage.ResponseLast low high) v (response_of (low ∷ high ∷ last ∷ [])) low (issued v (low + high * 2 ^ 32)) (none_issued v (low + high * 2 ^ 32))
+steps_at (stage.GrantRead place) v (answer.Word word) here =
+    either (is_mapped word) (stage.GrantRead place) v (broken word v) (at (stage.GrantEnd place word) v) (broken_steps (stage.GrantRead place) v word) (refl, λ none. none, λ up. refl)
+steps_at (stage.GrantEnd place before) v (answer.Word word) here =
+    either (word == before) (stage.GrantEnd place before) v (revoked v.ending place v) (broken word v) (revoked_steps v v.ending place before here) (broken_steps (stage.GrantEnd place before) v word)
+steps_at (stage.ReadData n) v (answer.Word word) here = data_steps v v.ending n word here
+steps_at stage.StoreEvent v x here = (refl, λ none. none, λ up. refl)
+steps_at stage.EventFence v x here = (refl, λ none. none, λ up. refl)
+steps_at stage.LookAgain v (answer.Word word) here = looked_steps stage.LookAgain v word (record v { seen = word; stage = stage.Loop; asleep = true }) (refl, λ none. none, λ up. refl)
+steps_at stage.RingRead v (answer.Word word) here =
+    either (is_mapped word) stage.RingRead v (broken word v) (at (stage.RingEnd word) v) (broken_steps stage.RingRead v word) (makes stage.RingRead v (stage.RingEnd word) refl)
+steps_at (stage.RingEnd before) v (answer.Word word) here =
+    either (word == before) (stage.RingEnd before) v (at stage.ClosePort v) (broken word v) (makes (stage.RingEnd before) v stage.ClosePort refl) (broken_steps (stage.RingEnd before) v word)
+steps_at stage.ClosePort v x here = makes stage.ClosePort v stage.Left refl
+steps_at s v x here = stays s v here
+
+-- a connected front stays so or breaks, whatever it is told
+pub up_step : (v : View) (x : FrontAnswer) → is_up v.stage ≡ true → is_up (step_of v x).stage ≡ true
+up_step v x up = (steps_at v.stage v x refl).2 up
+
+pub closing_step : (v : View) (x : FrontAnswer) → (step_of v x).closing ≡ v.closing
+closing_step v x = (steps_at v.stage v x refl).0
+
+-- a closing front without requests has none after a move either
+pub through_step : (v : View) (x : FrontAnswer) → is_through v ≡ true → is_through (step_of v x) ≡ true
+through_step v x is =
+    let steps = steps_at v.stage v x refl in
+    let both = both_true v.closing (length v.requests == 0) is in
+    let none = steps.1 (let zero = both.1 in grind (arith, nat_tests)) in
+    rw (steps.0, none, both.0) refl
+
+-- and one that is broken stays so
+pub broken_step : (v : View) (x : FrontAnswer) → is_broken_ring v.stage ≡ true → is_broken_ring (step_of v x).stage ≡ true
+broken_step v x is = by_stage v.stage refl is
+  where
+    by_stage : (s : Stage) → v.stage ≡ s → is_broken_ring s ≡ true → is_broken_ring (step_at s v x).stage ≡ true
+    by_stage (stage.Broken word) here is = ap is_broken_ring here
+    by_stage s here is = absurd (true≢false (sym is))

@@ -1,5 +1,7 @@
 -- Each key that a negotiation sets it may set: it lies under the end's own directory, the layout is that of 64-bit guests, and no feature is offered.
-use Rattle.std.proofs.Common.{◌≡◌, ℕ, true, false, true≢false, List, [], ◌∷◌, inl, inr, refl, sym, ap, arith, decimal}
+use Rattle.std.proofs.Common.{◌≡◌, ℕ, Bool, true, false, true≢false, if◌then◌else◌, List, [], ◌∷◌, inl, inr, refl, sym, ap, ◌∙◌, arith, decimal}
+use Rattle.std.specs.Prelude.{Option, Some, None}
+use Rattle.line_text.proofs.Both.{both_true}
 use Rattle.std.proofs.lemmas.Fmt.{decimal_digit}
 use Rattle.blk_base.specs.declared.operation.Abi.TheVariants.{X64}
 use Rattle.blk_base.specs.declared.parts.End.TheVariants as end
@@ -7,6 +9,7 @@ use Rattle.blk_base.specs.declared.parts.Mapping.{Mapping}
 use Rattle.event_channel.specs.Channels.{ChannelState}
 use Rattle.blk_front.specs.declared.stage.Stage.{Stage as FrontRing}
 use Rattle.blk_front.specs.declared.stage.Stage.TheVariants as front_ring
+use Rattle.blk_front.specs.View as ends
 use Rattle.blk_front.specs.Submit.{is_connected}
 use Rattle.blk_back.specs.declared.stage.Stage.{Stage as BackRing}
 use Rattle.blk_back.specs.declared.stage.Stage.TheVariants as back_ring
@@ -14,7 +17,6 @@ use Rattle.xenbus_state.specs.declared.keys.FrontKey.{FrontKey}
 use Rattle.xenbus_state.specs.declared.keys.FrontKey.TheVariants as front_key
 use Rattle.xenbus_state.specs.declared.keys.BackKey.{BackKey}
 use Rattle.xenbus_state.specs.declared.keys.BackKey.TheVariants as back_key
-use Rattle.xenbus_state.specs.declared.state.BusState.{BusState}
 use Rattle.xenbus_state.specs.declared.state.BusState.TheVariants as state
 use Rattle.xenbus_state.specs.declared.stage.FrontStage.{FrontStage}
 use Rattle.xenbus_state.specs.declared.stage.FrontStage.TheVariants as front_stage
@@ -35,7 +37,10 @@ use Rattle.split_model.specs.Safe.{IsPorted}
 use Rattle.vbd_front.specs.Ask as front
 use Rattle.vbd_back.specs.Ask as back
 use Rattle.vbd_back.specs.View.{offer}
-use Rattle.vbd_model.specs.Fit.{IsGranting, FrontGoesWith, BackGoesWith, IsUnbound}
+use Rattle.vbd_front.specs.View.{is_unoccupied}
+use Rattle.vbd_model.specs.Fit.{is_ending_ring, FrontRests, IsGranting, FrontGoesWith, IsGivingUp, IsUnmapping, BackGoesWith, IsUnbound}
+use Rattle.vbd_laws.proofs.FitFrontBus.{FrontFits, unoccupied, due_cases, closing_cases}
+use Rattle.vbd_laws.proofs.FitFrontSpoken.{whole_rests}
 use Rattle.vbd_laws.proofs.FitBackRing.{is_past}
 
 pub front_may_set : (v : FrontView) (k : FrontKey) → v.abi ≡ X64 → may_set end.Front (path_under end.Front (front_name k)) (text_of (front_value (terms_of v) k)) ≡ true
@@ -76,9 +81,12 @@ abbrev pub BackMaySet : BackBusAsk → Type 0
 BackMaySet (back_ask.SetKey key value) = may_set end.Back (path_under end.Back (back_name key)) (text_of value) ≡ true
 BackMaySet a = Unit {0}
 
-pub front_sets : (b : FrontStage) (v : FrontView) (r : FrontRing) → v.abi ≡ X64 → FrontMaySet (front_bus.ask_at b v)
-front_sets (front_stage.Publish key) v r layout = front_may_set v key layout
-front_sets b v r layout = tt
+front_sets_at : (b : FrontStage) (v : FrontView) → v.abi ≡ X64 → FrontMaySet (front_bus.ask_at b v)
+front_sets_at (front_stage.Publish key) v layout = front_may_set v key layout
+front_sets_at b v layout = tt
+
+pub front_sets : (v : FrontView) (idle : Bool) → v.abi ≡ X64 → FrontMaySet (front_bus.ask_of v idle)
+front_sets v idle layout = front_sets_at (front_bus.due v idle) v layout
 
 unmap_sets : (v : BackView) → BackMaySet (back_bus.unmap_ask v.pages)
 unmap_sets v = by_pages v.pages
@@ -87,11 +95,18 @@ unmap_sets v = by_pages v.pages
     by_pages [] = tt
     by_pages (page ∷ pages) = tt
 
-pub back_sets : (b : BackStage) (v : BackView) → v.features ≡ offer → BackMaySet (back_bus.ask_at b v)
-back_sets (back_stage.Publish key) v offers = back_may_set v key offers
-back_sets (back_stage.PublishFact key) v offers = back_may_set v key offers
-back_sets back_stage.UnmapPage v offers = unmap_sets v
-back_sets b v offers = tt
+back_sets_at : (b : BackStage) (v : BackView) → v.features ≡ offer → BackMaySet (back_bus.ask_at b v)
+back_sets_at (back_stage.Publish key) v offers = back_may_set v key offers
+back_sets_at (back_stage.PublishFact key) v offers = back_may_set v key offers
+back_sets_at back_stage.UnmapPage v offers = unmap_sets v
+back_sets_at b v offers = tt
+
+pub back_sets : (v : BackView) → v.features ≡ offer → BackMaySet (back_bus.ask_of v)
+back_sets v offers = by_test (back_bus.says_closing v)
+  where
+    by_test : (c : Bool) → BackMaySet (if c then back_ask.SetState state.Closing else back_bus.ask_at v.stage v)
+    by_test true = tt
+    by_test false = back_sets_at v.stage v offers
 
 -- where neither the front's negotiation nor its end of the ring has the move, the ring isn't made
 granting : (r : FrontRing) → IsGranting r → is_connected r ≡ false
@@ -100,19 +115,43 @@ granting front_ring.RingFence is = refl
 granting front_ring.RingFlags is = refl
 granting r is = absurd is
 
-unconnected : (b : FrontStage) (v : FrontView) (r : FrontRing) → FrontGoesWith b v.state r → front.speaks (front_bus.ask_at b v) ≡ false → front.ring_moves (front_bus.ask_at b v) r ≡ false → is_connected r ≡ false
-unconnected front_stage.Rest v r goes quiet still = still
-unconnected (front_stage.Broken word) v r goes quiet still = still
-unconnected (front_stage.RingWord word) v r goes quiet still = ap is_connected goes.2
-unconnected (front_stage.Grant page) v r goes quiet still = granting r goes.2
-unconnected front_stage.NewPort v r goes quiet still = ap is_connected goes.1
-unconnected front_stage.Start v r goes quiet still = absurd (true≢false quiet)
-unconnected front_stage.ReadState v r goes quiet still = absurd (true≢false quiet)
-unconnected (front_stage.ReadFeature key) v r goes quiet still = absurd (true≢false quiet)
-unconnected (front_stage.Publish key) v r goes quiet still = absurd (true≢false quiet)
-unconnected (front_stage.ReadFact key) v r goes quiet still = absurd (true≢false quiet)
-unconnected (front_stage.WriteState own) v r goes quiet still = absurd (true≢false quiet)
-unconnected b v r goes quiet still = absurd goes
+unconnected_at : (b : FrontStage) (v : FrontView) (r : FrontRing) → FrontGoesWith b v r → front.speaks (front_bus.ask_at b v) ≡ false → front.ring_moves (front_bus.ask_at b v) r ≡ false → is_connected r ≡ false
+unconnected_at front_stage.Rest v r goes quiet still = still
+unconnected_at front_stage.Closed v r goes quiet still = still
+unconnected_at (front_stage.Broken word) v r goes quiet still = still
+unconnected_at (front_stage.RingWord word) v r goes quiet still = ap is_connected goes.2
+unconnected_at (front_stage.Grant page) v r goes quiet still = granting r goes.2
+unconnected_at front_stage.NewPort v r goes quiet still = ap is_connected goes.1
+unconnected_at front_stage.ClosePort v r goes quiet still = absurd (true≢false (sym (ap (front.ring_moves front_ask.ClosePort) goes.1) ∙ still))
+unconnected_at front_stage.Start v r goes quiet still = absurd (true≢false quiet)
+unconnected_at front_stage.ReadState v r goes quiet still = absurd (true≢false quiet)
+unconnected_at (front_stage.ReadFeature key) v r goes quiet still = absurd (true≢false quiet)
+unconnected_at (front_stage.Publish key) v r goes quiet still = absurd (true≢false quiet)
+unconnected_at (front_stage.ReadFact key) v r goes quiet still = absurd (true≢false quiet)
+unconnected_at (front_stage.WriteState own) v r goes quiet still = absurd (true≢false quiet)
+unconnected_at b v r goes quiet still = absurd goes
+
+-- one that leaves moves to end its grant
+unconnected_leaving : (gone : Bool) (port : Option ℕ) (v : FrontView) (r : FrontRing) → FrontRests state.Closing gone port r → front.speaks (front_bus.ask_at (front_bus.leaving gone port) v) ≡ false
+    → front.ring_moves (front_bus.ask_at (front_bus.leaving gone port) v) r ≡ false → is_connected r ≡ false
+unconnected_leaving false port v r rests quiet still = still
+unconnected_leaving true None v r rests quiet still = absurd rests
+unconnected_leaving true (Some p) v r rests quiet still = by_stage r rests still
+  where
+    by_stage : (r : FrontRing) → is_ending_ring r ≡ true → front.ring_moves (front_ask.EndGrant 0) r ≡ false → is_connected r ≡ false
+    by_stage front_ring.RingRead ending still = absurd (true≢false still)
+    by_stage (front_ring.RingEnd seen) ending still = absurd (true≢false still)
+    by_stage r ending still = absurd (true≢false (sym ending))
+
+unconnected : (v : FrontView) (f : ends.View) → FrontFits v f → front.speaks (front_bus.ask_of v (is_unoccupied f)) ≡ false → front.ring_moves (front_bus.ask_of v (is_unoccupied f)) f.stage ≡ false → is_connected f.stage ≡ false
+unconnected v f fits =
+    due_cases (λ (d : FrontStage). Waits d) v (is_unoccupied f) (unconnected_at v.stage v f.stage fits.goes)
+    (λ here closing idle.
+    let is = unoccupied f idle in
+    closing_cases (λ (d : FrontStage). Waits d) v f.stage is.still (whole_rests v f here is.whole fits) (λ first quiet. absurd (true≢false quiet)) (λ own rests. unconnected_leaving v.gone v.port v f.stage rests))
+  where
+    Waits : FrontStage → Type 0
+    Waits d = front.speaks (front_bus.ask_at d v) ≡ false → front.ring_moves (front_bus.ask_at d v) f.stage ≡ false → is_connected f.stage ≡ false
 
 unported : (r : FrontRing) (c : ChannelState) → is_connected r ≡ false → IsPorted r c → c.ports ≡ []
 unported (front_ring.RingWord k) c unmade ported = ported.1
@@ -123,9 +162,9 @@ unported front_ring.NewPort c unmade ported = ported.1
 unported r c unmade ported = absurd (true≢false unmade)
 
 -- so it has no event to take
-pub front_unpending : (b : FrontStage) (v : FrontView) (r : FrontRing) (c : ChannelState) → FrontGoesWith b v.state r → IsPorted r c → (c.ports ≡ [] → c.front_pending ≡ false)
-    → front.speaks (front_bus.ask_at b v) ≡ false → front.ring_moves (front_bus.ask_at b v) r ≡ false → c.front_pending ≡ false
-front_unpending b v r c goes ported none quiet still = none (unported r c (unconnected b v r goes quiet still) ported)
+pub front_unpending : (v : FrontView) (f : ends.View) (c : ChannelState) → FrontFits v f → IsPorted f.stage c → (c.ports ≡ [] → c.front_pending ≡ false)
+    → front.speaks (front_bus.ask_of v (is_unoccupied f)) ≡ false → front.ring_moves (front_bus.ask_of v (is_unoccupied f)) f.stage ≡ false → c.front_pending ≡ false
+front_unpending v f c fits ported none quiet still = none (unported f.stage c (unconnected v f fits quiet still) ported)
 
 -- where neither the back's negotiation nor its end of the ring has the move, no port is bound
 unbound_free : (r : BackRing) → back.ring_moves back_ask.Wait r ≡ false → is_past r ≡ false
@@ -133,23 +172,39 @@ unbound_free back_ring.MapRing still = refl
 unbound_free back_ring.Bind still = refl
 unbound_free r still = absurd (true≢false still)
 
-unbound_halted : (r : BackRing) → back.ring_moves back_ask.UnmapOthers r ≡ false → is_past r ≡ false
-unbound_halted back_ring.MapRing still = refl
-unbound_halted back_ring.Bind still = refl
-unbound_halted r still = absurd (true≢false still)
+-- one that has halted moves to give up what it holds
+giving_moves : (r : BackRing) → IsGivingUp r → back.ring_moves back_ask.UnmapOthers r ≡ true
+giving_moves (back_ring.GiveUp m) gives = refl
+giving_moves r gives = absurd gives
 
-unpast : (b : BackStage) (v : BackView) (r : BackRing) → BackGoesWith b v.state r → back.speaks (back_bus.ask_at b v) ≡ false → back.ring_moves (back_bus.ask_at b v) r ≡ false → is_past r ≡ false
-unpast back_stage.Rest v r goes quiet still = unbound_free r still
-unpast back_stage.UnmapOthers v r goes quiet still = unbound_halted r still
-unpast back_stage.MapPage v r goes quiet still = elim goes.1 [ inl first ↦ ap is_past first | inr next ↦ ap is_past next ]
-unpast back_stage.Bind v r goes quiet still = ap is_past goes.1
-unpast (back_stage.Publish key) v r goes quiet still = absurd (true≢false quiet)
-unpast (back_stage.WriteState own) v r goes quiet still = absurd (true≢false quiet)
-unpast back_stage.Watch v r goes quiet still = absurd (true≢false quiet)
-unpast back_stage.ReadState v r goes quiet still = absurd (true≢false quiet)
-unpast (back_stage.ReadKey key) v r goes quiet still = absurd (true≢false quiet)
-unpast (back_stage.PublishFact key) v r goes quiet still = absurd (true≢false quiet)
-unpast b v r goes quiet still = absurd goes
+unmapping_moves : (r : BackRing) (pages : List Mapping) → IsUnmapping r → back.ring_moves (back_bus.unmap_ask pages) r ≡ true
+unmapping_moves back_ring.UnmapRing [] unmaps = refl
+unmapping_moves back_ring.UnmapRing (page ∷ pages) unmaps = refl
+unmapping_moves back_ring.UnmapUnbound [] unmaps = refl
+unmapping_moves back_ring.UnmapUnbound (page ∷ pages) unmaps = refl
+unmapping_moves r pages unmaps = absurd unmaps
+
+unpast_at : (b : BackStage) (v : BackView) (r : BackRing) → BackGoesWith b v.state r → back.speaks (back_bus.ask_at b v) ≡ false → back.ring_moves (back_bus.ask_at b v) r ≡ false → is_past r ≡ false
+unpast_at back_stage.Rest v r goes quiet still = unbound_free r still
+unpast_at back_stage.UnmapOthers v r goes quiet still = absurd (true≢false (sym (giving_moves r goes) ∙ still))
+unpast_at back_stage.UnmapPage v r goes quiet still = absurd (true≢false (sym (unmapping_moves r v.pages goes) ∙ still))
+unpast_at back_stage.ClosePort v r goes quiet still = absurd (true≢false (sym (ap (back.ring_moves back_ask.ClosePort) goes) ∙ still))
+unpast_at back_stage.Halted v r goes quiet still = absurd (true≢false (sym (ap (back.ring_moves back_ask.Wait) goes.1) ∙ still))
+unpast_at back_stage.MapPage v r goes quiet still = elim goes.1 [ inl first ↦ ap is_past first | inr next ↦ ap is_past next ]
+unpast_at back_stage.Bind v r goes quiet still = ap is_past goes.1
+unpast_at (back_stage.Publish key) v r goes quiet still = absurd (true≢false quiet)
+unpast_at (back_stage.WriteState own) v r goes quiet still = absurd (true≢false quiet)
+unpast_at back_stage.Watch v r goes quiet still = absurd (true≢false quiet)
+unpast_at back_stage.ReadState v r goes quiet still = absurd (true≢false quiet)
+unpast_at (back_stage.ReadKey key) v r goes quiet still = absurd (true≢false quiet)
+unpast_at (back_stage.PublishFact key) v r goes quiet still = absurd (true≢false quiet)
+
+unpast : (v : BackView) (r : BackRing) → BackGoesWith v.stage v.state r → back.speaks (back_bus.ask_of v) ≡ false → back.ring_moves (back_bus.ask_of v) r ≡ false → is_past r ≡ false
+unpast v r goes = by_test (back_bus.says_closing v)
+  where
+    by_test : (c : Bool) → let a : BackBusAsk = if c then back_ask.SetState state.Closing else back_bus.ask_at v.stage v in back.speaks a ≡ false → back.ring_moves a r ≡ false → is_past r ≡ false
+    by_test true quiet still = absurd (true≢false quiet)
+    by_test false quiet still = unpast_at v.stage v r goes quiet still
 
 unpast_unpending : (r : BackRing) (c : ChannelState) → is_past r ≡ false → IsUnbound r c → c.back_pending ≡ false
 unpast_unpending back_ring.MapRing c before unbound = unbound.1
@@ -162,25 +217,10 @@ unpast_between back_ring.Bind before = refl
 unpast_between r before = absurd (true≢false before)
 
 -- so it has no event to take, and may turn to its keys
-pub back_unpending : (b : BackStage) (v : BackView) (r : BackRing) (c : ChannelState) → BackGoesWith b v.state r → IsUnbound r c
-    → back.speaks (back_bus.ask_at b v) ≡ false → back.ring_moves (back_bus.ask_at b v) r ≡ false → (c.back_pending ≡ false) × (is_between r ≡ true)
-back_unpending b v r c goes unbound quiet still = let before = unpast b v r goes quiet still in (unpast_unpending r c before unbound, unpast_between r before)
+pub back_unpending : (v : BackView) (r : BackRing) (c : ChannelState) → BackGoesWith v.stage v.state r → IsUnbound r c
+    → back.speaks (back_bus.ask_of v) ≡ false → back.ring_moves (back_bus.ask_of v) r ≡ false → (c.back_pending ≡ false) × (is_between r ≡ true)
+back_unpending v r c goes unbound quiet still = let before = unpast v r goes quiet still in (unpast_unpending r c before unbound, unpast_between r before)
 
 -- where its negotiation speaks it may turn to its keys
-pub back_turns : (b : BackStage) (v : BackView) (own : BusState) (r : BackRing) → BackGoesWith b own r → back.speaks (back_bus.ask_at b v) ≡ true → is_between r ≡ true
-back_turns (back_stage.Publish key) v own r goes says = ap is_between goes.1
-back_turns (back_stage.WriteState s) v own r goes says = written s own r goes
-  where
-    written : (s own : BusState) (r : BackRing) → BackGoesWith (back_stage.WriteState s) own r → is_between r ≡ true
-    written state.InitWait own r goes = ap is_between goes.1
-    written state.Connected own r goes = ap is_between goes.1
-    written s own r goes = absurd goes
-back_turns back_stage.Watch v own r goes says = ap is_between goes.1
-back_turns back_stage.ReadState v own r goes says = goes.1
-back_turns (back_stage.ReadKey key) v own r goes says = ap is_between goes.1
-back_turns (back_stage.PublishFact key) v own r goes says = ap is_between goes.1
-back_turns back_stage.Rest v own r goes says = absurd (true≢false (sym says))
-back_turns back_stage.MapPage v own r goes says = absurd (true≢false (sym says))
-back_turns back_stage.Bind v own r goes says = absurd (true≢false (sym says))
-back_turns back_stage.UnmapOthers v own r goes says = absurd (true≢false (sym says))
-back_turns b v own r goes says = absurd goes
+pub back_turns : (a : BackBusAsk) (r : BackRing) → back.bus_moves a r ≡ true → is_between r ≡ true
+back_turns a r moves = (both_true (back.speaks a) (back.is_between r) moves).1

@@ -1,5 +1,5 @@
--- A move of the front is what the frontend asks: its act is done, it is told the answer, and the move is shown with what it made happen.
-use Rattle.std.proofs.Common.{◌≡◌, ℕ, Bool, true, false, true≢false, if◌then◌else◌, List, [], ◌∷◌, ◌++◌, refl, sym, ap, ◌∙◌, subst, append-nil, decimal}
+-- A move of the front is what the frontend asks: its act is done, it is told the answer, and the move is shown with what it made happen. And an end that is asked to close begins to.
+use Rattle.std.proofs.Common.{◌≡◌, ℕ, Bool, true, false, true≢false, if◌then◌else◌, List, [], ◌∷◌, ◌++◌, map, refl, sym, ap, ◌∙◌, subst, append-nil, decimal}
 use Rattle.std.specs.Prelude.{Option, Some, None}
 use Rattle.std.proofs.lemmas.Option.{none-some}
 use Rattle.blk_base.specs.declared.parts.End.{End}
@@ -7,7 +7,6 @@ use Rattle.blk_base.specs.declared.parts.End.TheVariants as end
 use Rattle.blk_base.specs.declared.ask.FrontAsk.{FrontAsk}
 use Rattle.blk_base.specs.declared.ask.FrontAsk.TheVariants as front_ask
 use Rattle.blk_base.specs.declared.ask.FrontAnswer.{FrontAnswer}
-use Rattle.blk_base.specs.declared.moves.Move.{Move}
 use Rattle.blk_base.specs.declared.moves.Move.TheVariants as moves
 use Rattle.blk_base.specs.declared.moves.Mover.TheVariants as mover
 use Rattle.schedule_text.specs.declared.line.Line.{Line}
@@ -18,33 +17,37 @@ use Rattle.key_directory.specs.Directory.{Directory, written, watches_of, with_w
 use Rattle.hypervisor.specs.Hypervisor.{Hypervisor}
 use Rattle.hypervisor.specs.Act.{FrontAct, front_act, front_watched, watch_next, with_keys}
 use Rattle.grant_table.specs.Table.{GrantTable}
-use Rattle.blk_back.specs.declared.stage.Stage.{Stage as BackStage}
 use Rattle.blk_front.specs.View as front_ends
 use Rattle.blk_front.specs.Ask as front_ring
-use Rattle.blk_front.specs.Submit.{connected}
-use Rattle.xenbus_state.specs.declared.state.BusState.TheVariants as state
+use Rattle.blk_front.specs.declared.state.FrontState.{FrontState}
+use Rattle.blk_front.specs.declared.state.FrontState.TheVariants as enter
+use Rattle.blk_front.specs.State.{may_enter, enters}
+use Rattle.xenbus_state.specs.declared.front.FrontNews.{FrontNews}
+use Rattle.xenbus_state.specs.declared.front.FrontNews.TheVariants as news
 use Rattle.xenbus_state.specs.declared.front.FrontBusAsk.{FrontBusAsk}
 use Rattle.xenbus_state.specs.declared.front.FrontBusAsk.TheVariants as front_bus
 use Rattle.xenbus_state.specs.States.{state_number}
 use Rattle.xenbus_state.specs.Keys.{front_name, path_under}
 use Rattle.xenbus_state.specs.Values.{text_of}
-use Rattle.xenbus_state.specs.FrontView.{FrontView}
+use Rattle.xenbus_state.specs.FrontView.{FrontView, closed}
+use Rattle.xenbus_state.specs.FrontAsk as bus_asks
 use Rattle.split_model.specs.World as rings
-use Rattle.split_model.specs.Keys.{KeyMove, Sets, TakesWatch, may_set, watched_lines, negotiated, negotiated_lines}
+use Rattle.split_model.specs.Keys.{KeyMove, Sets, TakesWatch, may_set, watched_lines}
 use Rattle.split_model.specs.Happening as ring
-use Rattle.split_model.specs.Shown.{front_lines}
+use Rattle.split_model.specs.Shown.{front_lines, state_lines}
 use Rattle.split_model.proofs.SafeActs.{of_front, front_event, front_watch, made_front}
-use Rattle.split_model.proofs.SafeFront.{connected_kept}
+use Rattle.split_model.proofs.SafeFront.{entered_kept}
 use Rattle.vbd_front.specs.View as front_view
 use Rattle.vbd_front.specs.Ask as front
 use Rattle.vbd_front.specs.Step as front_step
 use Rattle.vbd_model.specs.World.{World, frontend_of}
-use Rattle.vbd_model.specs.Happening.{FrontMoves, front_key, connecting, front_does, front_turn, front_bus_after, DiskGoes}
+use Rattle.vbd_model.specs.Happening.{FrontMoves, front_key, entered_at, front_does, front_turn, front_bus_after, DiskGoes}
+use Rattle.vbd_model.specs.News.{news_lines}
 use Rattle.vbd_model.specs.Fit.{IsFit}
-use Rattle.vbd_laws.specs.Moves.{IsFrontMove, IsNoMove}
-use Rattle.vbd_laws.proofs.FitFrontBus.{asks_at}
+use Rattle.vbd_laws.specs.Moves.{IsFrontMove, IsClose, IsNoMove}
+use Rattle.vbd_laws.proofs.FitFront.{front_fits, all_enter}
 use Rattle.vbd_laws.proofs.KeysSet.{FrontMaySet, front_state_set, front_sets, front_unpending}
-use Rattle.vbd_laws.proofs.MovesTurns.{front_asks, front_cases, quiet_front, front_speaks}
+use Rattle.vbd_laws.proofs.MovesTurns.{front_asks, front_says, front_cases, quiet_front, front_speaks}
 
 -- where no watch fired none is taken
 none_taken : (w : Watches) → next_watch w ≡ None → taken w ≡ w
@@ -62,7 +65,7 @@ still_taken d end.Back none = ap (λ (w : Watches). with_watches d end.Back w) (
 abbrev Moved : World → FrontAct → List ring.Happening → front_view.View → Type 0
 Moved w a does v =
     (ring.after does w.rings ≡ record { front = (front_view.heard v).ring; back = w.rings.back; under = a.under })
-    × (ring.lines_of does w.rings ≡ lines.Move a.shown ∷ (front_lines v.ring.told ++ (if v.ready then lines.Ready ∷ [] else [])))
+    × (ring.lines_of does w.rings ≡ lines.Move a.shown ∷ (front_lines v.ring.told ++ news_lines v.news))
 
 abbrev Moves : World → FrontAct → List ring.Happening → FrontAsk → (FrontAnswer → front_view.View) → Type 0
 Moves w a does ask step = front_act w.rings.under ask ≡ Some a → Moved w a does (step a.answer)
@@ -71,113 +74,116 @@ Moves w a does ask step = front_act w.rings.under ask ≡ Some a → Moved w a d
 quiet_ring : (f : front_ends.View) → f.told ≡ None → f ≡ record f { told = None }
 quiet_ring f told = ap (λ t. record f { told = t }) told
 
--- the rings with this front, over these keys
-abbrev over : World → front_ends.View → Directory → rings.World
-over w f d = record { front = f; back = w.rings.back; under = with_keys w.rings.under d }
+-- the rings over these
+abbrev over : World → Hypervisor → rings.World
+over w h = record { front = w.rings.front; back = w.rings.back; under = h }
 
--- keys alone changed, and the move alone is shown
-keyed : (w : World) (d : Directory) (m : Move) → w.rings.front.told ≡ None
-    → (over w w.rings.front d ≡ over w (record w.rings.front { told = None }) d) × (lines.Move m ∷ [] ≡ lines.Move m ∷ (front_lines w.rings.front.told ++ []))
-keyed w d m told = (ap (λ (f : front_ends.View). over w f d) (quiet_ring w.rings.front told), ap (λ t. lines.Move m ∷ (front_lines t ++ [])) (sym told))
+-- the move alone is shown, and changes keys alone
+abbrev Keyed : World → KeyMove → FrontAct → Type 0
+Keyed w move a = (ring.happens w.rings (ring.Negotiates end.Front move) ≡ over w a.under) × (ring.lines_at w.rings (ring.Negotiates end.Front move) ≡ lines.Move a.shown ∷ [])
 
 -- a key that may be set is
-sets : (s : BackStage) (path text : List ℕ) (d : Directory) → may_set end.Front path text ≡ true
-    → (negotiated s end.Front (Sets path text) d ≡ written d path text) × (negotiated_lines s end.Front (Sets path text) d ≡ lines.Move (moves.SetKey mover.Front path text) ∷ [])
-sets s path text d may = (rw may refl, rw may refl)
+front_set : (w : World) (path text : List ℕ) → may_set end.Front path text ≡ true
+    → (ring.happens w.rings (ring.Negotiates end.Front (Sets path text)) ≡ over w (with_keys w.rings.under (written w.rings.under.keys path text)))
+    × (ring.lines_at w.rings (ring.Negotiates end.Front (Sets path text)) ≡ lines.Move (moves.SetKey mover.Front path text) ∷ [])
+front_set w path text may = (rw may refl, rw may refl)
 
-front_set : (w : World) (path text : List ℕ) → w.rings.front.told ≡ None → may_set end.Front path text ≡ true
-    → (ring.after (ring.Negotiates end.Front (Sets path text) ∷ []) w.rings ≡ over w (record w.rings.front { told = None }) (written w.rings.under.keys path text))
-    × (ring.lines_of (ring.Negotiates end.Front (Sets path text) ∷ []) w.rings ≡ lines.Move (moves.SetKey mover.Front path text) ∷ (front_lines w.rings.front.told ++ []))
-front_set w path text told may =
-    let set = sets w.rings.back.stage path text w.rings.under.keys may in
-    let said = keyed w (written w.rings.under.keys path text) (moves.SetKey mover.Front path text) told in
-    (ap (λ (d : Directory). over w w.rings.front d) set.0 ∙ said.0, ap (λ (ls : List Line). ls ++ []) set.1 ∙ said.1)
+keyed : (ask : FrontBusAsk) (w : World) (a : FrontAct) → FrontMaySet ask → front.speaks ask ≡ true → front_act w.rings.under (front.key_ask ask) ≡ Some a → Keyed w (front_key ask) a
+keyed front_bus.Watch w a may is e = of_front (λ (x : FrontAct). Keyed w (front_key front_bus.Watch) x) _ a (refl, refl) e
+keyed front_bus.GetState w a may is e = of_front (λ (x : FrontAct). Keyed w (front_key front_bus.GetState) x) _ a (refl, refl) e
+keyed (front_bus.GetKey key) w a may is e = of_front (λ (x : FrontAct). Keyed w (front_key (front_bus.GetKey key)) x) _ a (refl, refl) e
+keyed (front_bus.SetKey key value) w a may is e =
+    of_front (λ (x : FrontAct). Keyed w (front_key (front_bus.SetKey key value)) x) _ a (front_set w (path_under end.Front (front_name key)) (text_of value) may) e
+keyed (front_bus.SetState s) w a may is e =
+    of_front (λ (x : FrontAct). Keyed w (front_key (front_bus.SetState s)) x) _ a (front_set w front.own_state (decimal (state_number s)) (front_state_set (decimal (state_number s)))) e
+keyed ask w a may is e = absurd (true≢false (sym is))
 
--- and where it says Connected, the front is connected, and ready if it waited for that
-front_connects : (w : World) (path text : List ℕ) → w.rings.front.told ≡ None → may_set end.Front path text ≡ true
-    → (ring.after (ring.Negotiates end.Front (Sets path text) ∷ ring.Connects ∷ []) w.rings ≡ over w (record (connected w.rings.front) { told = None }) (written w.rings.under.keys path text))
-    × (ring.lines_of (ring.Negotiates end.Front (Sets path text) ∷ ring.Connects ∷ []) w.rings
-    ≡ lines.Move (moves.SetKey mover.Front path text) ∷ (front_lines (connected w.rings.front).told ++ ring.ready_lines w.rings.front.stage))
-front_connects w path text told may =
-    let set = sets w.rings.back.stage path text w.rings.under.keys may in
-    let quiet : (connected w.rings.front).told ≡ None = (connected_kept w.rings.front).1 ∙ told in
-    let ready : List Line = ring.ready_lines w.rings.front.stage in (
-      ap (λ (d : Directory). over w (connected w.rings.front) d) set.0
-          ∙ ap (λ (f : front_ends.View). over w f (written w.rings.under.keys path text)) (quiet_ring (connected w.rings.front) quiet),
-      ap (λ (ls : List Line). ls ++ (ready ++ [])) set.1
-          ∙ ap (λ (ls : List Line). lines.Move (moves.SetKey mover.Front path text) ∷ ls) (append-nil ready ∙ sym (ap (λ t. front_lines t ++ ready) quiet)),
-    )
+-- the states that the end of the ring enters tell nothing, and show what the negotiation made happen
+entered_told : (states : List FrontState) (f : front_ends.View) → (front_step.all_entered states f).told ≡ f.told
+entered_told [] f = refl
+entered_told (s ∷ states) f = entered_told states (enters s f) ∙ (entered_kept s f).told
+
+due_lines : (due : FrontBusAsk) (r : rings.World) → ring.lines_of (map ring.FrontEnters (front_step.states_due due)) r ≡ []
+due_lines (front_bus.EndGrant page) r = by_test (may_enter enter.Leaving r.front)
+  where
+    by_test : (b : Bool) → (if b then state_lines enter.Leaving else []) ++ [] ≡ []
+    by_test true = refl
+    by_test false = refl
+due_lines due r = refl
+
+entered_lines : (news : Option FrontNews) (due : FrontBusAsk) (r : rings.World) → ring.lines_of (map ring.FrontEnters (front_step.states_entered news due)) r ≡ news_lines (front_step.news_told news r.front)
+entered_lines None due r = due_lines due r
+entered_lines (Some n) due r =
+    let s : FrontState = front_step.state_of_news n in
+    ap (λ (ls : List Line). ring.enter_lines s r.front ++ ls) (due_lines due (ring.happens r (ring.FrontEnters s))) ∙ (append-nil (ring.enter_lines s r.front) ∙ by_test (may_enter s r.front))
+  where
+    by_test : (b : Bool) → (if b then state_lines (front_step.state_of_news n) else []) ≡ news_lines (if b then Some n else None)
+    by_test true = refl
+    by_test false = refl
 
 -- the negotiation speaks
-abbrev Says : FrontBusAsk → World → FrontAct → Type 0
-Says ask w a = Moved w a (ring.Negotiates end.Front (front_key ask) ∷ connecting ask) (front_step.spoken ask (frontend_of w) a.answer)
-
-says : (ask : FrontBusAsk) (w : World) (a : FrontAct) → w.rings.front.told ≡ None → FrontMaySet ask → front.speaks ask ≡ true → front_act w.rings.under (front.key_ask ask) ≡ Some a → Says ask w a
-says front_bus.Watch w a told may is e =
-    of_front (λ (x : FrontAct). Says front_bus.Watch w x) _ a (keyed w (negotiated w.rings.back.stage end.Front (front_key front_bus.Watch) w.rings.under.keys) _ told) e
-says front_bus.GetState w a told may is e = of_front (λ (x : FrontAct). Says front_bus.GetState w x) _ a (keyed w w.rings.under.keys _ told) e
-says (front_bus.GetKey key) w a told may is e = of_front (λ (x : FrontAct). Says (front_bus.GetKey key) w x) _ a (keyed w w.rings.under.keys _ told) e
-says (front_bus.SetKey key value) w a told may is e =
-    of_front (λ (x : FrontAct). Says (front_bus.SetKey key value) w x) _ a (front_set w (path_under end.Front (front_name key)) (text_of value) told may) e
-says (front_bus.SetState state.Connected) w a told may is e =
-    of_front (λ (x : FrontAct). Says (front_bus.SetState state.Connected) w x) _ a (front_connects w front.own_state (decimal (state_number state.Connected)) told (front_state_set (decimal (state_number state.Connected)))) e
-says (front_bus.SetState s) w a told may is e =
-    of_front (λ (x : FrontAct). Says (front_bus.SetState s) w x) _ a (front_set w front.own_state (decimal (state_number s)) told (front_state_set (decimal (state_number s)))) e
-says ask w a told may is e = absurd (true≢false (sym is))
+says : (w : World) (a : FrontAct) → w.rings.front.told ≡ None → Keyed w (front_key (front_asks w)) a
+    → Moved w a (front_says w (front_step.states_after (frontend_of w) a.answer)) (front_step.spoken (frontend_of w) a.answer)
+says w a told is =
+    let states : List FrontState = front_step.states_after (frontend_of w) a.answer in
+    let quiet : (front_step.all_entered states w.rings.front).told ≡ None = entered_told states w.rings.front ∙ told in
+    let due : FrontBusAsk = bus_asks.ask_of (front_step.bus_after (frontend_of w) a.answer) (front_view.is_unoccupied w.rings.front) in (
+      ap (λ (r : rings.World). ring.after (map ring.FrontEnters states) r) is.0
+          ∙ (all_enter states (over w a.under) ∙ ap (λ (f : front_ends.View). record (over w a.under) { front = f }) (quiet_ring (front_step.all_entered states w.rings.front) quiet)),
+      ap (λ (ls : List Line). ls ++ ring.lines_of (map ring.FrontEnters states) (ring.happens w.rings (ring.Negotiates end.Front (front_key (front_asks w))))) is.1
+          ∙ ap (λ (ls : List Line). lines.Move a.shown ∷ ls) (entered_lines (front_step.news_of (frontend_of w) a.answer) due _
+          ∙ sym (ap (λ t. front_lines t ++ news_lines (front_step.news_told (front_step.news_of (frontend_of w) a.answer) w.rings.front)) quiet)),
+    )
 
 -- its end of the ring moves
-moved : (w : World) (a : FrontAct) → Moves w a (ring.FrontMoves ∷ []) (front_ring.ask_of w.rings.front) (λ x. front_step.ring_step true (frontend_of w) x)
+moved : (w : World) (a : FrontAct) → Moves w a (ring.FrontMoves ∷ []) (front_ring.ask_of w.rings.front) (λ x. front_step.ring_step true (front_asks w) (frontend_of w) x)
 moved w a e = (ap (λ (act : Option FrontAct). ring.front_after w.rings act) e, ap (λ (act : Option FrontAct). ring.front_shows w.rings act ++ []) e)
 
 -- both wait, and a watch is taken
 takes : (w : World) (a : FrontAct) (next : Option (List ℕ)) → w.rings.front.told ≡ None → watch_next w.rings.under end.Front ≡ next → front_watched w.rings.under next ≡ Some a
-    → Moved w a (ring.Negotiates end.Front TakesWatch ∷ []) (front_step.ring_step false (frontend_of w) a.answer)
+    → Moved w a (ring.Negotiates end.Front TakesWatch ∷ []) (front_step.ring_step false (front_asks w) (frontend_of w) a.answer)
 takes w a None told first e = absurd (none-some a e)
 takes w a (Some path) told first e =
-    let d : Directory = with_watches w.rings.under.keys end.Front (taken (watches_of w.rings.under.keys end.Front)) in
-    let said = keyed w d (moves.Watched mover.Front path) told in
-    of_front (λ (x : FrontAct). Moved w x (ring.Negotiates end.Front TakesWatch ∷ []) (front_step.ring_step false (frontend_of w) x.answer)) (front_watch w.rings.under path) a
-    (said.0, ap (λ (n : Option (List ℕ)). watched_lines end.Front n ++ []) first ∙ said.1) e
+    of_front (λ (x : FrontAct). Moved w x (ring.Negotiates end.Front TakesWatch ∷ []) (front_step.ring_step false (front_asks w) (frontend_of w) x.answer)) (front_watch w.rings.under path) a (
+      ap (λ (f : front_ends.View). record (over w (front_watch w.rings.under path).under) { front = f }) (quiet_ring w.rings.front told),
+      ap (λ (n : Option (List ℕ)). watched_lines end.Front n ++ []) first ∙ ap (λ t. lines.Move (moves.Watched mover.Front path) ∷ (front_lines t ++ [])) (sym told),
+    ) e
 
 -- no event is pending there
 pub front_waits : (w : World) → IsFit w → front.speaks (front_asks w) ≡ false → front.ring_moves (front_asks w) w.rings.front.stage ≡ false → w.rings.under.channels.front_pending ≡ false
-front_waits w fit quiet still =
-    let same = asks_at w.front in
-    front_unpending w.front.stage w.front w.rings.front.stage w.rings.under.channels fit.front fit.safe.ported fit.unported (rw same at quiet) (rw same at still)
+front_waits w fit quiet still = front_unpending w.front w.rings.front w.rings.under.channels (front_fits w fit) fit.safe.ported fit.unported quiet still
 
 waits_watched : (h : Hypervisor) (act : Option FrontAct) → h.channels.front_pending ≡ false → front_act h front_ask.Wait ≡ act → front_watched h (watch_next h end.Front) ≡ act
 waits_watched h act none e = subst (λ (b : Bool). (if b then Some (front_event h) else front_watched h (watch_next h end.Front)) ≡ act) none e
 
 waited : (w : World) (a : FrontAct) → IsFit w → front.speaks (front_asks w) ≡ false → front.ring_moves (front_asks w) w.rings.front.stage ≡ false
-    → Moves w a (ring.Negotiates end.Front (front_key (front_asks w)) ∷ connecting (front_asks w)) front_ask.Wait (λ x. front_step.ring_step false (frontend_of w) x)
+    → Moves w a (front_says w []) front_ask.Wait (λ x. front_step.ring_step false (front_asks w) (frontend_of w) x)
 waited w a fit quiet still e =
-    let none = quiet_front (front_asks w) quiet in
     let watched = takes w a (watch_next w.rings.under end.Front) fit.safe.front_told refl (waits_watched w.rings.under (Some a) (front_waits w fit quiet still) e) in
-    subst (λ (connects : List ring.Happening). Moved w a (ring.Negotiates end.Front (front_key (front_asks w)) ∷ connects) (front_step.ring_step false (frontend_of w) a.answer)) (sym none.1)
-    (subst (λ (move : KeyMove). Moved w a (ring.Negotiates end.Front move ∷ []) (front_step.ring_step false (frontend_of w) a.answer)) (sym none.0) watched)
+    subst (λ (move : KeyMove). Moved w a (ring.Negotiates end.Front move ∷ []) (front_step.ring_step false (front_asks w) (frontend_of w) a.answer)) (sym (quiet_front (front_asks w) quiet)) watched
 
 -- each key that the negotiation sets it may set
 pub front_sets_asked : (w : World) → IsFit w → FrontMaySet (front_asks w)
-front_sets_asked w fit = subst (λ (ask : FrontBusAsk). FrontMaySet ask) (sym (asks_at w.front)) (front_sets w.front.stage w.front w.rings.front.stage fit.layout)
+front_sets_asked w fit = front_sets w.front (front_view.is_unoccupied w.rings.front) fit.layout
 
-goes : (w : World) (a : FrontAct) → IsFit w → Moves w a (front_does w) (front.ask_of (frontend_of w)) (λ x. front_step.step_of (frontend_of w) x)
-goes w a fit =
+goes : (w : World) (a : FrontAct) → IsFit w → front_turn w ≡ Some a → Moved w a (front_does w) (front_step.step_of (frontend_of w) a.answer)
+goes w a fit turn =
     front_cases (Moves w a) w
-    (λ is. says (front_asks w) w a fit.safe.front_told (front_sets_asked w fit) is)
-    (λ quiet does. moved w a) (waited w a fit)
+    (λ is e.
+    subst (λ (act : Option FrontAct). Moved w a (front_says w (entered_at w act)) (front_step.spoken (frontend_of w) a.answer)) (sym turn)
+    (says w a fit.safe.front_told (keyed (front_asks w) w a (front_sets_asked w fit) is e)))
+    (λ quiet does. moved w a) (waited w a fit) turn
 
 -- no disk is called
-connects_disk : (ask : FrontBusAsk) (r : rings.World) (d : DiskSeen) → ring.DiskRuns (connecting ask) r d d
-connects_disk (front_bus.SetState state.Connected) r d = (d, refl, refl)
-connects_disk (front_bus.SetState s) r d = refl
-connects_disk ask r d = refl
+enters_disk : (states : List FrontState) (r : rings.World) (d : DiskSeen) → ring.DiskRuns (map ring.FrontEnters states) r d d
+enters_disk [] r d = refl
+enters_disk (s ∷ states) r d = (d, refl, enters_disk states (ring.happens r (ring.FrontEnters s)) d)
 
 abbrev CallsNone : World → DiskSeen → List ring.Happening → FrontAsk → (FrontAnswer → front_view.View) → Type 0
 CallsNone w d does ask step = ring.DiskRuns does w.rings d d
 
 calls_none : (w : World) (d : DiskSeen) → DiskGoes w FrontMoves d d
-calls_none w d =
-    front_cases (CallsNone w d) w (λ is. (d, refl, connects_disk (front_asks w) _ d)) (λ quiet does. (d, refl, refl)) (λ quiet still. (d, refl, connects_disk (front_asks w) _ d))
+calls_none w d = front_cases (CallsNone w d) w (λ is. (d, refl, enters_disk (entered_at w (front_turn w)) _ d)) (λ quiet does. (d, refl, refl)) (λ quiet still. (d, refl, refl))
 
 pub front_move_is : (w : World) (a : FrontAct) → IsFit w → front_turn w ≡ Some a → IsFrontMove w a
 front_move_is w a fit e =
@@ -204,16 +210,13 @@ unwatched h (Some path) e = absurd (none-some _ (sym e))
 takes_none : (w : World) → watch_next w.rings.under end.Front ≡ None
     → (ring.after (ring.Negotiates end.Front TakesWatch ∷ []) w.rings ≡ w.rings) × (ring.lines_of (ring.Negotiates end.Front TakesWatch ∷ []) w.rings ≡ [])
 takes_none w none =
-    (ap (λ (d : Directory). over w w.rings.front d) (still_taken w.rings.under.keys end.Front none), ap (λ (n : Option (List ℕ)). watched_lines end.Front n ++ []) none)
+    (ap (λ (d : Directory). over w (with_keys w.rings.under d)) (still_taken w.rings.under.keys end.Front none), ap (λ (n : Option (List ℕ)). watched_lines end.Front n ++ []) none)
 
 waits_still : (w : World) → IsFit w → front.speaks (front_asks w) ≡ false → front.ring_moves (front_asks w) w.rings.front.stage ≡ false
-    → Still w (ring.Negotiates end.Front (front_key (front_asks w)) ∷ connecting (front_asks w)) front_ask.Wait (λ x. front_step.ring_step false (frontend_of w) x)
+    → Still w (front_says w []) front_ask.Wait (λ x. front_step.ring_step false (front_asks w) (frontend_of w) x)
 waits_still w fit quiet still e =
-    let none = quiet_front (front_asks w) quiet in
     let next = unwatched w.rings.under _ (waits_watched w.rings.under None (front_waits w fit quiet still) e) in
-    subst (λ (hs : List ring.Happening). (ring.after hs w.rings ≡ w.rings) × (ring.lines_of hs w.rings ≡ []))
-    (ap (λ (move : KeyMove). ring.Negotiates end.Front move ∷ []) (sym none.0) ∙ ap (λ (connects : List ring.Happening). ring.Negotiates end.Front (front_key (front_asks w)) ∷ connects) (sym none.1))
-    (takes_none w next)
+    subst (λ (move : KeyMove). (ring.after (ring.Negotiates end.Front move ∷ []) w.rings ≡ w.rings) × (ring.lines_of (ring.Negotiates end.Front move ∷ []) w.rings ≡ [])) (sym (quiet_front (front_asks w) quiet)) (takes_none w next)
 
 still : (w : World) → IsFit w → Still w (front_does w) (front.ask_of (frontend_of w)) (λ x. front_step.step_of (frontend_of w) x)
 still w fit =
@@ -232,3 +235,20 @@ front_move_none w fit e =
   where
     with_bus : rings.World → FrontView → World
     with_bus r u = record { rings = r; front = u; back = w.back }
+
+-- the front is asked to close
+close_shows : (may : Bool) → (if may then state_lines enter.Closing else []) ≡ news_lines (if may then Some news.Closing else None)
+close_shows true = refl
+close_shows false = refl
+
+front_close_is : (w : World) → IsFit w → IsClose w end.Front
+front_close_is w fit = record {
+  world = ap (λ (f : front_ends.View). record { rings = record { front = f; back = w.rings.back; under = w.rings.under }; front = closed w.front; back = w.back }) (quiet_ring (enters enter.Closing w.rings.front) ((entered_kept enter.Closing w.rings.front).told ∙ fit.safe.front_told));
+  lines = append-nil (ring.enter_lines enter.Closing w.rings.front) ∙ close_shows (may_enter enter.Closing w.rings.front);
+  disk = λ d. (d, refl, refl);
+}
+
+-- and either end is
+pub close_is : (w : World) (at : End) → IsFit w → IsClose w at
+close_is w end.Front fit = front_close_is w fit
+close_is w end.Back fit = record { world = refl; lines = refl; disk = λ d. refl }

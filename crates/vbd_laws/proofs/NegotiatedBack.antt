@@ -1,124 +1,398 @@
--- A move of the back before it has mapped the ring: one move of the negotiation.
-use Rattle.std.proofs.Common.{◌≡◌, sym, subst, ℕ, Bool, true, false, true≢false, List, [], ◌∷◌, refl}
-use Rattle.std.specs.Fmt.{digits}
+-- A move of the back is a move of the negotiation, or two, or none, where no map and no bind is refused.
+use Rattle.std.proofs.Common.{◌⊎◌, inl, inr, ◌≡◌, ◌∙◌, ap, sym, subst, ℕ, ◌^◌, ◌<◌, Bool, true, false, true≢false, ◌&&◌, if◌then◌else◌, List, [], ◌∷◌, length, refl, arith}
+use Rattle.std.specs.Prelude.{Option, Some, None, is_some, Result, Ok, Err}
+use Rattle.blk_base.specs.declared.parts.End.TheVariants as end
 use Rattle.blk_base.specs.declared.parts.Mapping.{Mapping}
+use Rattle.blk_base.specs.declared.parts.Mode.{Mode}
 use Rattle.blk_base.specs.declared.parts.Mode.TheVariants.{ReadWrite}
-use Rattle.event_channel.specs.Channels.{ChannelState}
-use Rattle.key_directory.specs.Watches.{Watches}
-use Rattle.key_directory.specs.Directory.{Directory}
-use Rattle.blk_back.specs.declared.stage.Stage.{Stage as BackRing}
-use Rattle.blk_back.specs.declared.stage.Stage.TheVariants as ring
-use Rattle.blk_back.specs.View as back_view
-use Rattle.xenbus_state.specs.declared.state.BusState.TheVariants as state
-use Rattle.xenbus_state.specs.declared.keys.BackKey.{BackKey}
-use Rattle.xenbus_state.specs.declared.keys.BackKey.TheVariants as key
-use Rattle.xenbus_state.specs.declared.offer.Features.{Features}
-use Rattle.xenbus_state.specs.declared.stage.BackStage.{BackStage}
-use Rattle.xenbus_state.specs.declared.stage.BackStage.TheVariants as bus
-use Rattle.xenbus_state.specs.declared.back.BackBusAsk.TheVariants as bus_ask
-use Rattle.xenbus_state.specs.BackAsk.{ask_of}
-use Rattle.xenbus_state.specs.BackView.{BackView, is_halting}
+use Rattle.blk_base.specs.declared.ask.BackAsk.{BackAsk}
+use Rattle.blk_base.specs.declared.ask.BackAsk.TheVariants as ask
+use Rattle.blk_base.specs.declared.ask.BackAnswer.{BackAnswer}
+use Rattle.blk_base.specs.declared.ask.BackAnswer.TheVariants as answer
+use Rattle.blk_base.specs.declared.moves.BackMover.TheVariants as back_mover
+use Rattle.grant_table.specs.declared.entry.MapRefusal.{MapRefusal}
+use Rattle.grant_table.specs.Table.{verdict_at}
+use Rattle.event_channel.specs.declared.channels.PortState.{PortState}
+use Rattle.event_channel.specs.declared.channels.PortState.TheVariants as port
+use Rattle.event_channel.specs.Channels.{state_of}
+use Rattle.key_directory.specs.Watches.{taken, next_watch}
+use Rattle.key_directory.specs.Directory.{Directory, watches_of, with_watches}
 use Rattle.hypervisor.specs.Hypervisor.{Hypervisor}
-use Rattle.split_model.specs.World as rings
-use Rattle.negotiation_laws.specs.Negotiation.{back_moved}
-use Rattle.vbd_back.specs.View.{offer}
-use Rattle.vbd_model.specs.World.{World}
-use Rattle.vbd_model.specs.Happening.{BackMoves, happens}
-use Rattle.vbd_model.specs.Fit.{BackGoesWith, IsUnbound, IsFit}
-use Rattle.vbd_laws.proofs.NegotiatedRun.{negotiation_of}
+use Rattle.hypervisor.specs.Act.{BackAct, Took, back_act, map_act, bind_act}
+use Rattle.blk_back.specs.declared.stage.Stage.{Stage}
+use Rattle.blk_back.specs.declared.stage.Stage.TheVariants as ring_stage
+use Rattle.blk_back.specs.declared.told.Halt.{Halt}
+use Rattle.blk_back.specs.View as ring
+use Rattle.blk_back.specs.Ask as ring_ask
+use Rattle.blk_back.specs.Step as ring_step
+use Rattle.xenbus_state.specs.declared.state.BusState.{BusState}
+use Rattle.xenbus_state.specs.declared.state.BusState.TheVariants as state
+use Rattle.xenbus_state.specs.declared.stage.BackStage.{BackStage}
+use Rattle.xenbus_state.specs.declared.stage.BackStage.TheVariants as stage
+use Rattle.xenbus_state.specs.declared.back.BackBusAsk.{BackBusAsk}
+use Rattle.xenbus_state.specs.declared.back.BackBusAsk.TheVariants as bus_ask
+use Rattle.xenbus_state.specs.FrontView.{FrontView, ring_order, pages_of}
+use Rattle.negotiation_laws.proofs.Granting.{maps_after_grants}
+use Rattle.xenbus_state.specs.BackView.{BackView, is_halting, halted}
+use Rattle.xenbus_state.specs.BackAsk.{ask_of, ask_at, says_closing, next_gref, unmap_ask}
+use Rattle.xenbus_state.specs.BackStep.{step_of, step_at, after_state, last_state, giving_up, other_pages}
+use Rattle.split_model.proofs.SafeActs.{of_back, back_takes}
+use Rattle.split_model.proofs.SafeAnswers.{IsBacks, backs_of}
+use Rattle.negotiation_laws.specs.Negotiation.{Negotiation, back_woken, back_answered, back_done, back_moved}
+use Rattle.negotiation_laws.specs.Happening.{BackMoves}
+use Rattle.vbd_back.specs.View.{View}
+use Rattle.vbd_back.specs.Ask.{bus_ask_of, speaks, key_ask, is_between, bus_moves, ring_moves}
+use Rattle.vbd_back.specs.Ask as backend_ask
+use Rattle.vbd_back.specs.Step as backend_step
+use Rattle.vbd_back.specs.Step.{settled_at, settled, bus_halted, woken, followed, waited, caught_up}
+use Rattle.vbd_model.specs.World.{World, backend_of}
+use Rattle.vbd_model.specs.Happening.{back_turn, is_backs_ring}
+use Rattle.vbd_model.specs.Fit.{IsGivingUp, IsUnmapping, BackGoesWith, BackHolds, IsFit}
+use Rattle.vbd_laws.proofs.NegotiatedRun.{negotiation_of, Reached, Joined, reached_one, reached_as}
+
+-- the negotiation with this back, over these keys
+abbrev pub with_back : Negotiation → BackView → Directory → Negotiation
+with_back n v keys = record { front = n.front; back = v; keys = keys }
 
 -- any page
-pub a_page : Mapping
+abbrev pub a_page : Mapping
 a_page = record { number = 0; gref = 0; mode = ReadWrite }
 
--- the machine with that stage of the negotiation, and an end of the ring that has mapped nothing
-abbrev at : World → BackStage → World
-at w s =
-    let x : rings.World = w.rings in
-    let b : back_view.View = x.back in
-    let v : BackView = w.back in
-    record w { rings = record x { back = record b { stage = ring.MapRing } }; back = record v { stage = s; unplugged = false; features = offer } }
+-- its negotiation was told what it asked for
+told_reached : (n : Negotiation) (b : BackBusAsk) (page : Mapping) (x : BackAnswer) (later : Directory) → ask_of n.back ≡ b → x ≡ back_answered b page n.keys → later ≡ back_done b n.keys → Reached n → Reached (with_back n (step_of n.back x) later)
+told_reached n b page x later asks answer after j =
+    let heard : x ≡ back_answered (ask_of n.back) page n.keys = answer ∙ ap (λ (c : BackBusAsk). back_answered c page n.keys) (sym asks) in
+    let keyed : later ≡ back_done (ask_of n.back) n.keys = after ∙ ap (λ (c : BackBusAsk). back_done c n.keys) (sym asks) in
+    reached_as (back_moved page n) (with_back n (step_of n.back x) later)
+    (ap (λ (y : BackAnswer). with_back n (step_of n.back y) later) heard ∙ ap (λ (d : Directory). with_back n (step_of n.back (back_answered (ask_of n.back) page n.keys)) d) keyed)
+    (reached_one n (BackMoves page) tt tt j)
 
--- a move of the negotiation, and the ring isn't mapped still
-pub record Follows (w : World) : Type 0 where
-  pub goes : negotiation_of (happens w BackMoves) ≡ back_moved a_page (negotiation_of w)
-  pub unmapped : (let v : World = happens w BackMoves in v.rings.back.stage ≡ ring.MapRing)
+-- where its end of the ring has no other mapping to give up it goes on
+others_asked : (v : BackView) → v.stage ≡ stage.UnmapOthers → ask_of v ≡ bus_ask.UnmapOthers
+others_asked v here = rw here (by_test v.unplugged)
+  where
+    by_test : (b : Bool) → (if b && false then bus_ask.SetState state.Closing else bus_ask.UnmapOthers) ≡ bus_ask.UnmapOthers
+    by_test true = refl
+    by_test false = refl
 
--- no event is pending, and these watches
-abbrev resting : World → Bool → List (List ℕ) → World
-resting w pending fired =
-    let x : rings.World = w.rings in
-    let h : Hypervisor = x.under in
-    let c : ChannelState = h.channels in
-    let d : Directory = h.keys in
-    let f : Watches = d.back in
-    at (record w { rings = record x { under = record h { channels = record c { back_pending = pending }; keys = record d { back = record f { pending = fired } } } } }) bus.Rest
+settles : (b : BackStage) (s : Stage) (n : Negotiation) → n.back.stage ≡ b → Reached n → Reached (with_back n (settled_at b s n.back) n.keys)
+settles stage.UnmapOthers (ring_stage.GiveUp m) n here j = j
+settles stage.UnmapOthers s n here j = told_reached n bus_ask.UnmapOthers a_page answer.Done n.keys (others_asked n.back here) refl refl j
+settles b s n here j = j
 
-waits : (w : World) (pending : Bool) (fired : List (List ℕ)) → pending ≡ false → Follows (resting w pending fired)
-waits w true fired e = absurd (true≢false e)
-waits w false [] e = record { goes = refl; unmapped = refl }
-waits w false (path ∷ later) e = record { goes = refl; unmapped = refl }
+settled_reached : (s : Stage) (n : Negotiation) → Reached n → Reached (with_back n (settled s n.back) n.keys)
+settled_reached s n j = settles n.back.stage s n refl j
 
-publishes : (w : World) (k : BackKey) → Follows (at w (bus.Publish k))
-unfolding digits
-publishes w key.FeatureBarrier = record { goes = refl; unmapped = refl }
-publishes w key.FeatureFlushCache = record { goes = refl; unmapped = refl }
-publishes w key.FeatureDiscard = record { goes = refl; unmapped = refl }
-publishes w key.FeaturePersistent = record { goes = refl; unmapped = refl }
-publishes w key.FeatureMaxIndirectSegments = record { goes = refl; unmapped = refl }
-publishes w key.MaxRingPageOrder = record { goes = refl; unmapped = refl }
-publishes w key.Sectors = record { goes = refl; unmapped = refl }
-publishes w key.SectorSize = record { goes = refl; unmapped = refl }
-publishes w key.Info = record { goes = refl; unmapped = refl }
+-- it asks for a key or a watch: what it is told, and what that leaves of the keys
+abbrev pub IsHeard : BackBusAsk → Directory → BackAct → Type 0
+IsHeard b keys a = (a.answer ≡ back_answered b a_page keys) × (a.under.keys ≡ back_done b keys)
 
-not_mapped : {A : Type 0} → ring.MapRing ≡ ring.Loop → A
-not_mapped e = absurd (cc)
+pub keys_heard : (b : BackBusAsk) (h : Hypervisor) (a : BackAct) → speaks b ≡ true → back_act h back_mover.Back (key_ask b) Took ≡ Some a → IsHeard b h.keys a
+keys_heard bus_ask.Watch h a says e = of_back (IsHeard bus_ask.Watch h.keys) _ a (refl, refl) e
+keys_heard bus_ask.GetState h a says e = of_back (IsHeard bus_ask.GetState h.keys) _ a (refl, refl) e
+keys_heard (bus_ask.GetKey key) h a says e = of_back (IsHeard (bus_ask.GetKey key) h.keys) _ a (refl, refl) e
+keys_heard (bus_ask.SetState s) h a says e = of_back (IsHeard (bus_ask.SetState s) h.keys) _ a (refl, refl) e
+keys_heard (bus_ask.SetKey key value) h a says e = of_back (IsHeard (bus_ask.SetKey key value) h.keys) _ a (refl, refl) e
+keys_heard b h a says e = absurd (true≢false (sym says))
 
-not_bound : {A : Type 0} → ring.MapRing ≡ ring.Bind → A
-not_bound e = absurd (cc)
+keys_told : (b : BackBusAsk) (n : Negotiation) (h : Hypervisor) (a : BackAct) → ask_of n.back ≡ b → n.keys ≡ h.keys → speaks b ≡ true → back_act h back_mover.Back (key_ask b) Took ≡ Some a → Reached n → Reached (with_back n (step_of n.back a.answer) a.under.keys)
+keys_told b n h a asks kept says e j =
+    let told = keys_heard b h a says e in
+    told_reached n b a_page a.answer a.under.keys asks (told.0 ∙ ap (λ (d : Directory). back_answered b a_page d) (sym kept)) (told.1 ∙ ap (λ (d : Directory). back_done b d) (sym kept)) j
 
--- it maps the ring in no such move
-abbrev MapsNot : World → Type 0
-MapsNot w = (gref : ℕ) → ask_of w.back ≡ bus_ask.Map gref → ⊥
+-- an act of a back that asks for no key: it takes a watch, or leaves the keys
+abbrev IsUnwatched : BackAnswer → Type 0
+IsUnwatched (answer.Watched path) = ⊥
+IsUnwatched x = Unit {0}
 
-at_stage : (w : World) (s : BackStage) → BackGoesWith s w.back.state ring.MapRing → is_halting s ≡ false → w.rings.under.channels.back_pending ≡ false → MapsNot (at w s) → Follows (at w s)
-at_stage w (bus.Publish k) fits halts quiet maps = publishes w k
-at_stage w (bus.WriteState state.InitWait) fits halts quiet maps = record { goes = refl; unmapped = refl }
-at_stage w (bus.WriteState state.Connected) fits halts quiet maps = not_mapped fits.1
-at_stage w (bus.WriteState s) fits halts quiet maps = absurd fits
-at_stage w bus.Watch fits halts quiet maps = record { goes = refl; unmapped = refl }
-at_stage w bus.Rest fits halts quiet maps = waits w w.rings.under.channels.back_pending w.rings.under.keys.back.pending quiet
-at_stage w bus.ReadState fits halts quiet maps = record { goes = refl; unmapped = refl }
-at_stage w (bus.ReadKey k) fits halts quiet maps = record { goes = refl; unmapped = refl }
-at_stage w bus.MapPage fits halts quiet maps = absurd (maps _ refl)
-at_stage w bus.Bind fits halts quiet maps = not_bound fits.1
-at_stage w (bus.PublishFact k) fits halts quiet maps = not_mapped fits.1
-at_stage w bus.UnmapOthers fits halts quiet maps = absurd (true≢false halts)
-at_stage w s fits halts quiet maps = absurd fits
+record Leaves (h : Hypervisor) (a : BackAct) : Type 0 where
+  unwatched : IsUnwatched a.answer
+  keys : a.under.keys ≡ h.keys
 
--- it may be written so
-abbrev written : World → BackRing → Bool → Features → World
-written w r b f =
-    let x : rings.World = w.rings in
-    let y : back_view.View = x.back in
-    let v : BackView = w.back in
-    record w { rings = record x { back = record y { stage = r } }; back = record v { unplugged = b; features = f } }
+record Takes (h : Hypervisor) (a : BackAct) : Type 0 where
+  path : List ℕ
+  first : next_watch h.keys.back ≡ Some path
+  answer : a.answer ≡ answer.Watched path
+  keys : a.under.keys ≡ with_watches h.keys end.Back (taken (watches_of h.keys end.Back))
 
--- what holds of it so written holds of it
-as_written : (P : World → Type 0) (w : World) → w.rings.back.stage ≡ ring.MapRing → w.back.unplugged ≡ false → w.back.features ≡ offer → P (at w w.back.stage) → P w
-as_written P w r b f p =
-    subst (λ (x : BackRing). P (written w x w.back.unplugged w.back.features)) (sym r)
-    (subst (λ (x : Bool). P (written w ring.MapRing x w.back.features)) (sym b) (subst (λ (x : Features). P (written w ring.MapRing false x)) (sym f) p))
+map_leaves : (h : Hypervisor) (gref : ℕ) (mode : Mode) (verdict : Result ℕ MapRefusal) → Leaves h (map_act h back_mover.Back gref mode verdict)
+map_leaves h gref mode (Ok frame) = record { unwatched = tt; keys = refl }
+map_leaves h gref mode (Err refusal) = record { unwatched = tt; keys = refl }
 
-written_as : (P : World → Type 0) (w : World) → w.rings.back.stage ≡ ring.MapRing → w.back.unplugged ≡ false → w.back.features ≡ offer → P w → P (at w w.back.stage)
-written_as P w r b f p =
-    subst (λ (x : Features). P (written w ring.MapRing false x)) f
-    (subst (λ (x : Bool). P (written w ring.MapRing x w.back.features)) b (subst (λ (x : BackRing). P (written w x w.back.unplugged w.back.features)) r p))
+bind_leaves : (h : Hypervisor) (p : ℕ) (s : PortState) → Leaves h (bind_act h p s)
+bind_leaves h p port.Unbound = record { unwatched = tt; keys = refl }
+bind_leaves h p port.Closed = record { unwatched = tt; keys = refl }
+bind_leaves h p port.Bound = record { unwatched = tt; keys = refl }
 
--- a move of the back
-pub back_follows : (w : World) → IsFit w → w.rings.back.stage ≡ ring.MapRing → w.back.unplugged ≡ false → is_halting w.back.stage ≡ false → MapsNot w → Follows w
-back_follows w fit same unasked halts maps =
-    as_written Follows w same unasked fit.offers
-    (at_stage w w.back.stage (subst (BackGoesWith w.back.stage w.back.state) same fit.back) halts
-    (let unbound : IsUnbound ring.MapRing w.rings.under.channels = subst (λ (r : BackRing). IsUnbound r w.rings.under.channels) same fit.unbound in unbound.1)
-    (written_as MapsNot w same unasked fit.offers maps))
+quiet_act : (h : Hypervisor) (asked : BackAsk) (a : BackAct) → IsBacks asked → back_act h back_mover.Back asked Took ≡ Some a → Leaves h a ⊎ Takes h a
+quiet_act h ask.Wait a own e = back_takes (λ (x : BackAct). Leaves h x ⊎ Takes h x) h back_mover.Back a (inl (record { unwatched = tt; keys = refl })) (λ path first. inr (record { path = path; first = first; answer = refl; keys = refl })) e
+quiet_act h ask.Fence a own e = of_back (λ (x : BackAct). Leaves h x ⊎ Takes h x) _ a (inl (record { unwatched = tt; keys = refl })) e
+quiet_act h (ask.Read m word) a own e = of_back (λ (x : BackAct). Leaves h x ⊎ Takes h x) _ a (inl (record { unwatched = tt; keys = refl })) e
+quiet_act h (ask.Write m word value) a own e = of_back (λ (x : BackAct). Leaves h x ⊎ Takes h x) _ a (inl (record { unwatched = tt; keys = refl })) e
+quiet_act h (ask.Map gref mode) a own e = of_back (λ (x : BackAct). Leaves h x ⊎ Takes h x) _ a (inl (map_leaves h gref mode (verdict_at h.pages gref mode))) e
+quiet_act h (ask.Unmap m) a own e = of_back (λ (x : BackAct). Leaves h x ⊎ Takes h x) _ a (inl (record { unwatched = tt; keys = refl })) e
+quiet_act h (ask.Bind p) a own e = of_back (λ (x : BackAct). Leaves h x ⊎ Takes h x) _ a (inl (bind_leaves h p (state_of h.channels p))) e
+quiet_act h ask.Send a own e = of_back (λ (x : BackAct). Leaves h x ⊎ Takes h x) _ a (inl (record { unwatched = tt; keys = refl })) e
+quiet_act h ask.ClosePort a own e = of_back (λ (x : BackAct). Leaves h x ⊎ Takes h x) _ a (inl (record { unwatched = tt; keys = refl })) e
+quiet_act h asked a own e = absurd own
+
+-- nothing becomes of it
+still_reached : (n : Negotiation) (h : Hypervisor) (later : Directory) → n.keys ≡ h.keys → later ≡ h.keys → Reached n → Reached (with_back n n.back later)
+still_reached n h later kept left j = reached_as n (with_back n n.back later) (ap (λ (d : Directory). with_back n n.back d) (left ∙ sym kept)) j
+
+unwoken : (v : BackView) (x : BackAnswer) → IsUnwatched x → woken v x ≡ v
+unwoken v (answer.Watched path) un = absurd un
+unwoken v x un = refl
+
+-- a waiting negotiation is told of a watch alone
+waits_reached : (n : Negotiation) (h : Hypervisor) (a : BackAct) → n.keys ≡ h.keys → ask_of n.back ≡ bus_ask.Wait → Leaves h a ⊎ Takes h a → Reached n → Reached (with_back n (woken n.back a.answer) a.under.keys)
+waits_reached n h a kept asks (inl leaves) j =
+    subst (λ (v : BackView). Reached (with_back n v a.under.keys)) (sym (unwoken n.back a.answer leaves.unwatched)) (still_reached n h a.under.keys kept leaves.keys j)
+waits_reached n h a kept asks (inr takes) j =
+    let keyed : a.under.keys ≡ back_done bus_ask.Wait n.keys = takes.keys ∙ ap (λ (d : Directory). back_done bus_ask.Wait d) (sym kept) in
+    let first : a.answer ≡ back_answered bus_ask.Wait a_page n.keys = takes.answer ∙ sym (ap back_woken (ap (λ (d : Directory). next_watch d.back) kept ∙ takes.first)) in
+    let says : woken n.back a.answer ≡ step_of n.back a.answer = rw takes.answer refl in
+    subst (λ (v : BackView). Reached (with_back n v a.under.keys)) (sym says) (told_reached n bus_ask.Wait a_page a.answer a.under.keys asks first keyed j)
+
+-- no map and no bind was refused
+abbrev pub IsGiven : BackAnswer → Type 0
+IsGiven (answer.MapRefused status) = ⊥
+IsGiven answer.BindRefused = ⊥
+IsGiven x = Unit {0}
+
+abbrev Follows : Negotiation → BackBusAsk → BackAct → Type 0
+Follows n b x = IsGiven x.answer → Reached (with_back n (followed b n.back x.answer) x.under.keys)
+
+module _ (n : Negotiation) (h : Hypervisor) (kept : n.keys ≡ h.keys) (j : Reached n) where
+  told_done : (b : BackBusAsk) (page : Mapping) (x : BackAnswer) → ask_of n.back ≡ b → x ≡ back_answered b page n.keys → back_done b n.keys ≡ n.keys → Reached (with_back n (step_of n.back x) h.keys)
+  told_done b page x asks heard done = told_reached n b page x h.keys asks heard (sym kept ∙ sym done) j
+
+  map_follows : (gref : ℕ) (verdict : Result ℕ MapRefusal) → ask_of n.back ≡ bus_ask.Map gref → Follows n (bus_ask.Map gref) (map_act h back_mover.Back 8 ReadWrite verdict)
+  map_follows gref (Ok frame) asks given = told_done (bus_ask.Map gref) _ _ asks refl refl
+  map_follows gref (Err refusal) asks given = absurd given
+
+  bind_follows : (p : ℕ) (s : PortState) → ask_of n.back ≡ bus_ask.Bind p → Follows n (bus_ask.Bind p) (bind_act h 1 s)
+  bind_follows p port.Unbound asks given = told_done (bus_ask.Bind p) a_page answer.Done asks refl refl
+  bind_follows p port.Closed asks given = absurd given
+  bind_follows p port.Bound asks given = absurd given
+
+  leaves_follows : (a : BackAct) → Leaves h a → Reached (with_back n n.back a.under.keys)
+  leaves_follows a leaves = still_reached n h a.under.keys kept leaves.keys j
+
+  -- within an entry and a reply its end of the ring leaves the keys
+  push_leaves : (r : ring.View) (a : BackAct) (s : Stage) → is_between s ≡ false → back_act h back_mover.Back (ring_ask.ask_at s r) Took ≡ Some a → Leaves h a
+  push_leaves r a (ring_stage.Fetch k) within e = of_back (Leaves h) _ a (record { unwatched = tt; keys = refl }) e
+  push_leaves r a (ring_stage.ReplyHigh p) within e = of_back (Leaves h) _ a (record { unwatched = tt; keys = refl }) e
+  push_leaves r a (ring_stage.ReplyLast p) within e = of_back (Leaves h) _ a (record { unwatched = tt; keys = refl }) e
+  push_leaves r a (ring_stage.Producer p) within e = of_back (Leaves h) _ a (record { unwatched = tt; keys = refl }) e
+  push_leaves r a (ring_stage.ProducerFence old) within e = of_back (Leaves h) _ a (record { unwatched = tt; keys = refl }) e
+  push_leaves r a (ring_stage.ResponseEvent old) within e = of_back (Leaves h) _ a (record { unwatched = tt; keys = refl }) e
+  push_leaves r a ring_stage.Send within e = of_back (Leaves h) _ a (record { unwatched = tt; keys = refl }) e
+  push_leaves r a s within e = absurd (true≢false within)
+
+  -- what its end of the ring did is told it where it asked for that
+  ring_follows : (r : ring.View) (a : BackAct) (b : BackBusAsk) (s : Stage) → ask_of n.back ≡ b → r.stage ≡ s → bus_moves b s ≡ false → ring_moves b s ≡ true → IsBacks (ring_ask.ask_at s r)
+      → back_act h back_mover.Back (ring_ask.ask_at s r) Took ≡ Some a → Follows n b a
+  ring_follows r a bus_ask.Wait s asks here quiet moves own e = λ given. waits_reached n h a kept asks (quiet_act h (ring_ask.ask_at s r) a own e) j
+  ring_follows r a (bus_ask.Map gref) ring_stage.MapRing asks here quiet moves own e = of_back (Follows n (bus_ask.Map gref)) _ a (map_follows gref (verdict_at h.pages 8 ReadWrite) asks) e
+  ring_follows r a (bus_ask.Bind p) ring_stage.Bind asks here quiet moves own e = of_back (Follows n (bus_ask.Bind p)) _ a (bind_follows p (state_of h.channels 1) asks) e
+  ring_follows r a (bus_ask.Unmap m) ring_stage.UnmapRing asks here quiet moves own e = of_back (Follows n (bus_ask.Unmap m)) _ a (λ given. told_done (bus_ask.Unmap m) a_page answer.Done asks refl refl) e
+  ring_follows r a (bus_ask.Unmap m) ring_stage.UnmapUnbound asks here quiet moves own e = of_back (Follows n (bus_ask.Unmap m)) _ a (λ given. told_done (bus_ask.Unmap m) a_page answer.Done asks refl refl) e
+  ring_follows r a bus_ask.ClosePort ring_stage.ClosePort asks here quiet moves own e = of_back (Follows n bus_ask.ClosePort) _ a (λ given. told_done bus_ask.ClosePort a_page answer.Done asks refl refl) e
+  ring_follows r a bus_ask.UnmapOthers (ring_stage.GiveUp m) asks here quiet moves own e = of_back (Follows n bus_ask.UnmapOthers) _ a (λ given. still_reached n h h.keys kept refl j) e
+  ring_follows r a bus_ask.Watch s asks here quiet moves own e = λ given. leaves_follows a (push_leaves r a s quiet e)
+  ring_follows r a bus_ask.GetState s asks here quiet moves own e = λ given. leaves_follows a (push_leaves r a s quiet e)
+  ring_follows r a (bus_ask.GetKey key) s asks here quiet moves own e = λ given. leaves_follows a (push_leaves r a s quiet e)
+  ring_follows r a (bus_ask.SetState own) s asks here quiet moves backs e = λ given. leaves_follows a (push_leaves r a s quiet e)
+  ring_follows r a (bus_ask.SetKey key value) s asks here quiet moves own e = λ given. leaves_follows a (push_leaves r a s quiet e)
+  ring_follows r a b s asks here quiet moves own e = absurd (true≢false (sym moves))
+
+-- a halting negotiation goes on halting
+state_halting : (s : BusState) → is_halting (stage.WriteState s) ≡ true → is_halting (after_state s) ≡ true
+state_halting state.Closing is = refl
+state_halting state.Closed is = refl
+state_halting s is = absurd (true≢false (sym is))
+
+last_halting : (s : BusState) → is_halting (stage.WriteState (last_state s)) ≡ true
+last_halting state.Closing = refl
+last_halting s = refl
+
+up_halting : (pages : List Mapping) (bound : Bool) (s : BusState) → is_halting (giving_up pages bound s) ≡ true
+up_halting (page ∷ pages) bound s = refl
+up_halting [] true s = refl
+up_halting [] false s = last_halting s
+
+step_halting : (s : BackStage) (v : BackView) (x : BackAnswer) → v.stage ≡ s → is_halting s ≡ true → is_halting (step_at s v x).stage ≡ true
+step_halting (stage.WriteState s) v answer.Done here is = state_halting s is
+step_halting stage.UnmapOthers v answer.Done here is = up_halting v.pages v.bound v.state
+step_halting stage.UnmapPage v answer.Done here is = up_halting (other_pages v.pages) v.bound v.state
+step_halting stage.ClosePort v answer.Done here is = last_halting v.state
+step_halting stage.Halted v x here is = rw here refl
+step_halting (stage.Publish k) v x here is = absurd (true≢false (sym is))
+step_halting stage.Watch v x here is = absurd (true≢false (sym is))
+step_halting stage.Rest v x here is = absurd (true≢false (sym is))
+step_halting stage.ReadState v x here is = absurd (true≢false (sym is))
+step_halting (stage.ReadKey k) v x here is = absurd (true≢false (sym is))
+step_halting stage.MapPage v x here is = absurd (true≢false (sym is))
+step_halting stage.Bind v x here is = absurd (true≢false (sym is))
+step_halting (stage.PublishFact k) v x here is = absurd (true≢false (sym is))
+step_halting s v x here is = rw here is
+
+told_halting : (v : BackView) (x : BackAnswer) → is_halting v.stage ≡ true → is_halting (step_of v x).stage ≡ true
+told_halting v x is = by_test (says_closing v)
+  where
+    by_test : (b : Bool) → is_halting (if b then record v { state = state.Closing } else step_at v.stage v x).stage ≡ true
+    by_test true = is
+    by_test false = step_halting v.stage v x refl is
+
+woken_halting : (v : BackView) (x : BackAnswer) → is_halting v.stage ≡ true → is_halting (woken v x).stage ≡ true
+woken_halting v (answer.Watched path) is = told_halting v (answer.Watched path) is
+woken_halting v x is = is
+
+followed_halting : (b : BackBusAsk) (v : BackView) (x : BackAnswer) → is_halting v.stage ≡ true → is_halting (followed b v x).stage ≡ true
+followed_halting (bus_ask.Map gref) v x is = told_halting v x is
+followed_halting (bus_ask.Bind p) v x is = told_halting v x is
+followed_halting (bus_ask.Unmap m) v x is = told_halting v x is
+followed_halting bus_ask.ClosePort v x is = told_halting v x is
+followed_halting bus_ask.Wait v x is = woken_halting v x is
+followed_halting b v x is = is
+
+-- so it isn't told a halt that it knows
+halted_same : (why : Option Halt) (v : BackView) → (is_some why ≡ true → is_halting v.stage ≡ true) → bus_halted why v ≡ v
+halted_same None v is = refl
+halted_same (Some why) v is = by_test (is_halting v.stage) (is refl)
+  where
+    by_test : (b : Bool) → b ≡ true → (if b then v else halted v) ≡ v
+    by_test true e = refl
+    by_test false e = absurd (true≢false (sym e))
+
+-- where neither moves, the negotiation waits, or has mapped the only page of a ring that it takes for a larger one
+abbrev IsStuck : BackBusAsk → Stage → Type 0
+IsStuck b r = (b ≡ bus_ask.Wait) ⊎ ((gref : ℕ) × (b ≡ bus_ask.Map gref) × (r ≡ ring_stage.Bind))
+
+speaks_ring : (b : BackBusAsk) (r : Stage) → speaks b ≡ true → is_between r ≡ false → ring_moves b r ≡ true
+speaks_ring b ring_stage.MapRing says within = absurd (true≢false within)
+speaks_ring b ring_stage.Bind says within = absurd (true≢false within)
+speaks_ring bus_ask.Watch r says within = refl
+speaks_ring bus_ask.GetState r says within = refl
+speaks_ring (bus_ask.GetKey key) r says within = refl
+speaks_ring (bus_ask.SetState own) r says within = refl
+speaks_ring (bus_ask.SetKey key value) r says within = refl
+speaks_ring b r says within = absurd (true≢false (sym says))
+
+says_stuck : (b : BackBusAsk) (r : Stage) → speaks b ≡ true → bus_moves b r ≡ false → ring_moves b r ≡ false → IsStuck b r
+says_stuck b r says quiet still = absurd (true≢false (sym (speaks_ring b r says (sym (ap (λ (c : Bool). c && is_between r) says) ∙ quiet)) ∙ still))
+
+moves_stuck : (b : BackBusAsk) (r : Stage) → ring_moves b r ≡ true → ring_moves b r ≡ false → IsStuck b r
+moves_stuck b r moves still = absurd (true≢false (sym moves ∙ still))
+
+giving_moves : (r : Stage) → IsGivingUp r → ring_moves bus_ask.UnmapOthers r ≡ true
+giving_moves (ring_stage.GiveUp m) is = refl
+giving_moves r is = absurd is
+
+unmapping_moves : (m : Mapping) (r : Stage) → IsUnmapping r → ring_moves (bus_ask.Unmap m) r ≡ true
+unmapping_moves m ring_stage.UnmapRing is = refl
+unmapping_moves m ring_stage.UnmapUnbound is = refl
+unmapping_moves m r is = absurd is
+
+unmap_stuck : (pages : List Mapping) (r : Stage) → IsUnmapping r → ring_moves (unmap_ask pages) r ≡ false → IsStuck (unmap_ask pages) r
+unmap_stuck [] r is still = inl refl
+unmap_stuck (m ∷ pages) r is still = moves_stuck (bus_ask.Unmap m) r (unmapping_moves m r is) still
+
+map_stuck : (gref : ℕ) (r : Stage) → (r ≡ ring_stage.MapRing) ⊎ (r ≡ ring_stage.Bind) → ring_moves (bus_ask.Map gref) r ≡ false → IsStuck (bus_ask.Map gref) r
+map_stuck gref r (inl here) still = moves_stuck (bus_ask.Map gref) r (rw here refl) still
+map_stuck gref r (inr here) still = inr (gref, refl, here)
+
+stuck_at : (s : BackStage) (v : BackView) (r : Stage) → BackGoesWith s v.state r → bus_moves (ask_at s v) r ≡ false → ring_moves (ask_at s v) r ≡ false → IsStuck (ask_at s v) r
+stuck_at (stage.Publish k) v r fits quiet still = says_stuck (ask_at (stage.Publish k) v) r refl quiet still
+stuck_at (stage.WriteState own) v r fits quiet still = says_stuck (ask_at (stage.WriteState own) v) r refl quiet still
+stuck_at stage.Watch v r fits quiet still = says_stuck (ask_at stage.Watch v) r refl quiet still
+stuck_at stage.ReadState v r fits quiet still = says_stuck (ask_at stage.ReadState v) r refl quiet still
+stuck_at (stage.ReadKey k) v r fits quiet still = says_stuck (ask_at (stage.ReadKey k) v) r refl quiet still
+stuck_at (stage.PublishFact k) v r fits quiet still = says_stuck (ask_at (stage.PublishFact k) v) r refl quiet still
+stuck_at stage.Rest v r fits quiet still = inl refl
+stuck_at stage.Halted v r fits quiet still = inl refl
+stuck_at stage.MapPage v r fits quiet still = map_stuck (next_gref v) r fits.1 still
+stuck_at stage.Bind v r fits quiet still = moves_stuck (ask_at stage.Bind v) r (rw fits.1 refl) still
+stuck_at stage.UnmapOthers v r fits quiet still = moves_stuck bus_ask.UnmapOthers r (giving_moves r fits) still
+stuck_at stage.UnmapPage v r fits quiet still = unmap_stuck v.pages r fits still
+stuck_at stage.ClosePort v r fits quiet still = moves_stuck bus_ask.ClosePort r (rw fits refl) still
+
+stuck_of : (v : BackView) (r : Stage) → BackGoesWith v.stage v.state r → bus_moves (ask_of v) r ≡ false → ring_moves (ask_of v) r ≡ false → IsStuck (ask_of v) r
+stuck_of v r fits = by_test (says_closing v)
+  where
+    by_test : (c : Bool) → (let b : BackBusAsk = if c then bus_ask.SetState state.Closing else ask_at v.stage v in bus_moves b r ≡ false → ring_moves b r ≡ false → IsStuck b r)
+    by_test true = says_stuck (bus_ask.SetState state.Closing) r refl
+    by_test false = stuck_at v.stage v r fits
+
+both_first : (p q : Bool) → (p && q) ≡ true → p ≡ true
+both_first true q e = refl
+both_first false q e = e
+
+-- the ring has one page, so no more is mapped
+one_page : (v : FrontView) → v.order ≡ 0 → pages_of v ≡ 1
+one_page v e = let least : ring_order v ≡ 0 = omega (arith, e) in ap (λ (n : ℕ). 2 ^ n) least
+
+maps_no_more : (w : World) (gref : ℕ) → IsFit w → Joined w → ask_of w.back ≡ bus_ask.Map gref → w.rings.back.stage ≡ ring_stage.Bind → ⊥
+maps_no_more w gref fit j asks here =
+    let maps = maps_after_grants j.run gref (subst (λ (n : Negotiation). ask_of n.back ≡ bus_ask.Map gref) (sym j.stands) asks) in
+    let few : length w.back.pages < pages_of w.front = subst (λ (n : Negotiation). length n.back.pages < pages_of n.front) j.stands maps.page in
+    let one = one_page w.front fit.order in
+    let holds = subst (λ (r : Stage). BackHolds r (length w.back.pages) w.back.bound) here fit.held in
+    let mapped = holds.0 in
+    omega arith
+
+-- so the negotiation goes on as a run
+module _ (w : World) (a : BackAct) (fit : IsFit w) (j : Joined w) (given : IsGiven a.answer) where
+  abbrev v : View
+  v = backend_of w
+
+  abbrev b : BackBusAsk
+  b = bus_ask_of v
+
+  abbrev n : Negotiation
+  n = negotiation_of w
+
+  abbrev GoesTo : View → Type 0
+  GoesTo x = Reached (with_back n x.bus a.under.keys)
+
+  moved_to : is_backs_ring w ≡ true → bus_moves b w.rings.back.stage ≡ false → ring_moves b w.rings.back.stage ≡ true
+      → (is_backs_ring w ≡ true → (ring_step.step_of w.rings.back a.answer).halted ≡ w.rings.back.halted)
+      → back_act w.rings.under back_mover.Back (ring_ask.ask_of w.rings.back) Took ≡ Some a → GoesTo (backend_step.ring_moved b (ring_step.step_of w.rings.back a.answer) v a.answer)
+  moved_to mine quiet moves unhalted e =
+      let later : ring.View = ring_step.step_of w.rings.back a.answer in
+      let told = ring_follows n w.rings.under refl j w.rings.back a b w.rings.back.stage refl refl quiet moves (backs_of w.rings.back) e given in
+      let same = halted_same later.halted (followed b w.back a.answer) (λ some. followed_halting b w.back a.answer (sym fit.halted ∙ (ap is_some (sym (unhalted mine)) ∙ some))) in
+      subst (λ (u : BackView). Reached (with_back n (settled later.stage u) a.under.keys)) (sym same) (settled_reached later.stage (with_back n (followed b w.back a.answer) a.under.keys) told)
+
+  waited_to : IsStuck b w.rings.back.stage → back_act w.rings.under back_mover.Back ask.Wait Took ≡ Some a → GoesTo (backend_step.ring_step false b v a.answer)
+  waited_to (inl asks) e =
+      subst (λ (c : BackBusAsk). Reached (with_back n (waited c w.back a.answer) a.under.keys)) (sym asks) (waits_reached n w.rings.under a refl asks (quiet_act w.rings.under ask.Wait a tt e) j)
+  waited_to (inr stuck) e = absurd (maps_no_more w stuck.0 fit j stuck.1 stuck.2)
+
+abbrev Moves : World → BackAct → BackAsk → View → Type 0
+Moves w a asked after = back_act w.rings.under back_mover.Back asked Took ≡ Some a → Reached (with_back (negotiation_of w) after.bus a.under.keys)
+
+pub back_goes : (w : World) (a : BackAct) → IsFit w → Joined w → back_turn w ≡ Some a → IsGiven a.answer
+    → (is_backs_ring w ≡ true → (ring_step.step_of w.rings.back a.answer).halted ≡ w.rings.back.halted)
+    → Reached (record { front = w.front; back = (backend_step.step_of (backend_of w) a.answer).bus; keys = a.under.keys })
+back_goes w a fit j e given unhalted = by_bus (bus_moves c s) refl e
+  where
+    x : View
+    x = backend_of w
+
+    c : BackBusAsk
+    c = bus_ask_of x
+
+    s : Stage
+    s = w.rings.back.stage
+
+    by_ring : (m : Bool) → ring_moves c s ≡ m → bus_moves c s ≡ false → Moves w a (backend_ask.ring_ask m x) (backend_step.ring_step m c x a.answer)
+    by_ring true moves quiet f = moved_to w a fit j given (rw (quiet, moves) refl) quiet moves unhalted f
+    by_ring false still quiet f = waited_to w a fit j given (stuck_of w.back s fit.back quiet still) f
+
+    by_bus : (m : Bool) → bus_moves c s ≡ m → Moves w a (if m then key_ask c else backend_ask.ring_ask (ring_moves c s) x) (if m then backend_step.spoken x a.answer else backend_step.ring_step (ring_moves c s) c x a.answer)
+    by_bus true says f =
+        settled_reached _ (with_back (negotiation_of w) (step_of w.back a.answer) a.under.keys)
+        (keys_told c (negotiation_of w) w.rings.under a refl refl (both_first (speaks c) (is_between s) says) f j)
+    by_bus false quiet f = by_ring (ring_moves c s) refl quiet f

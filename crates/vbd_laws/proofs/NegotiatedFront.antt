@@ -1,134 +1,488 @@
--- A move of the front before the back has mapped its ring: one move of the negotiation, or none.
-use Rattle.std.proofs.Common.{◌⊎◌, inl, inr, ◌≡◌, ◌≢◌, sym, subst, ℕ, ◌+◌, ◌^◌, ◌<◌, Bool, true, false, true≢false, List, [], ◌∷◌, refl, arith}
-use Rattle.event_channel.specs.Channels.{ChannelState}
-use Rattle.key_directory.specs.Watches.{Watches}
-use Rattle.key_directory.specs.Directory.{Directory}
-use Rattle.blk_front.specs.declared.stage.Stage.{Stage as FrontRing}
-use Rattle.blk_front.specs.declared.stage.Stage.TheVariants as ring
-use Rattle.blk_base.specs.declared.operation.Abi.{Abi}
-use Rattle.blk_base.specs.declared.operation.Abi.TheVariants.{X64}
-use Rattle.std.specs.Fmt.{digits}
-use Rattle.xenbus_state.specs.declared.keys.FrontKey.{FrontKey}
-use Rattle.xenbus_state.specs.declared.keys.FrontKey.TheVariants as key
-use Rattle.xenbus_state.specs.declared.front.FrontBusAsk.TheVariants as front_ask
-use Rattle.xenbus_state.specs.FrontAsk.{ask_of}
-use Rattle.blk_front.specs.View as front_view
+-- A move of the front is a move of the negotiation, or two, or none.
+use Rattle.std.proofs.Common.{◌⊎◌, inl, inr, ◌≡◌, ◌∙◌, ap, sym, subst, ℕ, ◌+◌, ◌≤◌, Bool, true, false, true≢false, ◌&&◌, if◌then◌else◌, List, refl, arith}
+use Rattle.std.specs.Prelude.{Option, Some, None, nat_lt, ◌==◌, length}
+use Rattle.std.proofs.lemmas.Bool.Decides.{nat_tests}
+use Rattle.blk_base.specs.declared.parts.End.TheVariants as end
+use Rattle.blk_base.specs.declared.ask.FrontAsk.{FrontAsk}
+use Rattle.blk_base.specs.declared.ask.FrontAsk.TheVariants as ask
+use Rattle.blk_base.specs.declared.ask.FrontAnswer.{FrontAnswer}
+use Rattle.blk_base.specs.declared.ask.FrontAnswer.TheVariants as answer
+use Rattle.key_directory.specs.Watches.{taken, next_watch}
+use Rattle.key_directory.specs.Directory.{Directory, watches_of, with_watches}
+use Rattle.hypervisor.specs.Hypervisor.{Hypervisor}
+use Rattle.hypervisor.specs.Act.{FrontAct, front_act}
+use Rattle.blk_front.specs.declared.stage.Stage.{Stage}
+use Rattle.blk_front.specs.declared.stage.Stage.TheVariants as ring_stage
+use Rattle.blk_front.specs.View as ring
+use Rattle.blk_front.specs.Ask as ring_ask
+use Rattle.blk_front.specs.Step as ring_step
+use Rattle.blk_front.specs.Request.{words_in}
+use Rattle.blk_front.specs.declared.request.Request.{Request}
+use Rattle.blk_front.specs.declared.request.Transfer.{Transfer}
+use Rattle.blk_front.specs.declared.request.Transfer.TheVariants as transfer
+use Rattle.xen_pages.specs.Pages.{word_of}
 use Rattle.xenbus_state.specs.declared.state.BusState.{BusState}
 use Rattle.xenbus_state.specs.declared.state.BusState.TheVariants as state
 use Rattle.xenbus_state.specs.declared.stage.FrontStage.{FrontStage}
-use Rattle.xenbus_state.specs.declared.stage.FrontStage.TheVariants as bus
-use Rattle.xenbus_state.specs.FrontView.{FrontView, is_broken}
-use Rattle.hypervisor.specs.Hypervisor.{Hypervisor}
-use Rattle.split_model.specs.World as rings
+use Rattle.xenbus_state.specs.declared.stage.FrontStage.TheVariants as stage
+use Rattle.xenbus_state.specs.declared.front.FrontBusAsk.{FrontBusAsk}
+use Rattle.xenbus_state.specs.declared.front.FrontBusAsk.TheVariants as bus_ask
+use Rattle.xenbus_state.specs.FrontView.{FrontView}
+use Rattle.xenbus_state.specs.FrontAsk.{ask_of, ask_at, leaving, closing_stage, due_at}
+use Rattle.xenbus_state.specs.FrontStep.{step_of, acted, feature_step, fact_step}
+use Rattle.blk_front.specs.Submit.{ending_of}
+use Rattle.blk_front.specs.State.{is_made, is_bare}
+use Rattle.xenbus_state.specs.declared.keys.BackKey.{BackKey}
+use Rattle.xenbus_state.specs.declared.table.FrontAction.{FrontAction}
+use Rattle.xenbus_state.specs.declared.table.FrontAction.TheVariants as action
+use Rattle.xenbus_state.specs.States.{state_read}
+use Rattle.xenbus_state.specs.Tables.{front_action}
+use Rattle.xenbus_state.specs.Reading.{count_read, fact_read}
+use Rattle.xenbus_state.specs.FrontStep as bus_step
+use Rattle.vbd_model.specs.World.{World, frontend_of}
+use Rattle.event_channel.specs.Channels.{ChannelState}
 use Rattle.split_model.specs.Safe.{IsPorted}
-use Rattle.negotiation_laws.specs.Negotiation.{front_moved}
-use Rattle.vbd_model.specs.World.{World}
-use Rattle.vbd_model.specs.Happening.{FrontMoves, happens}
-use Rattle.vbd_model.specs.Fit.{FrontRests, FrontGoesWith, IsGranting, IsFit}
-use Rattle.vbd_laws.proofs.ServedFront.{IsPlain}
-use Rattle.vbd_laws.proofs.NegotiatedRun.{negotiation_of}
+use Rattle.negotiation_laws.specs.Happening.{FrontMoves}
+use Rattle.vbd_laws.proofs.NegotiatedRun.{negotiation_of, Reached, Joined, reached_one, reached_as}
+use Rattle.vbd_model.specs.Fit.{is_ending_ring, FrontRests, IsGranting, FrontGoesWith, IsFit}
+use Rattle.split_model.proofs.SafeActs.{of_front, front_takes}
+use Rattle.split_model.proofs.SafeAnswers.{AsksNoKey, fronts_no_key}
+use Rattle.negotiation_laws.specs.Negotiation.{Negotiation, front_woken, front_answered, front_done, front_moved}
+use Rattle.vbd_front.specs.View.{View, is_broken, is_still, is_unoccupied}
+use Rattle.vbd_front.specs.Ask.{bus_ask_of, speaks, key_ask, ring_moves}
+use Rattle.vbd_front.specs.Ask as frontend_ask
+use Rattle.vbd_front.specs.Step as frontend_step
+use Rattle.vbd_model.specs.Happening.{front_turn}
+use Rattle.vbd_front.specs.Step.{settled_at, settled, bus_told, bus_after, woken, followed, waited}
 
--- the machine with these stages of the front, that layout and no close of it
-abbrev at : World → FrontStage → FrontRing → World
-at w s r =
-    let x : rings.World = w.rings in
-    let f : front_view.View = x.front in
-    let v : FrontView = w.front in
-    record w { rings = record x { front = record f { stage = r } }; front = record v { abi = X64; stage = s; closing = false } }
+-- the negotiation with this front, over these keys
+abbrev pub with_front : Negotiation → FrontView → Directory → Negotiation
+with_front n v keys = record { front = v; back = n.back; keys = keys }
 
--- nothing, or a move of the negotiation
-abbrev pub Follows : World → Type 0
-Follows w =
-    (negotiation_of (happens w FrontMoves) ≡ negotiation_of w)
-    ⊎ ((port : ℕ) × (port < 2 ^ 32) × (negotiation_of (happens w FrontMoves) ≡ front_moved false port (negotiation_of w)))
+-- this front keeps no other grants: it has none to end
+abbrev pub settled_now : (idle : Bool) → Negotiation → Negotiation
+settled_now idle n = with_front n (settled idle n.front) n.keys
 
--- before the port is made there is none
-unported : (k : ℕ) (r : FrontRing) (c : ChannelState) → r ≡ ring.RingWord k → IsPorted r c → c.ports ≡ []
-unported k r c e p = let none : IsPorted (ring.RingWord k) c = subst (λ (x : FrontRing). IsPorted x c) e p in none.1
+-- nothing, or a move, settled; the front's only port is 1
+abbrev pub Goes : (idle : Bool) (n m : Negotiation) → Type 0
+Goes idle n m = (m ≡ n) ⊎ ((port : ℕ) × (port ≤ 1) × (m ≡ settled_now idle (front_moved idle port n)))
 
-unmade : (r : FrontRing) (c : ChannelState) → r ≡ ring.NewPort → IsPorted r c → c.made ≡ 0
-unmade r c e p = let none : IsPorted ring.NewPort c = subst (λ (x : FrontRing). IsPorted x c) e p in none.0
+-- the frontend is told what its negotiation asked for
+pub record Told (b : FrontBusAsk) (port : ℕ) (keys : Directory) (a : FrontAct) : Type 0 where
+  pub answer : a.answer ≡ front_answered b port keys
+  pub keys_after : a.under.keys ≡ front_done b keys
 
--- so an event is pending or not, and these watches
-abbrev resting : World → FrontRing → Bool → List (List ℕ) → World
-resting w r pending fired =
-    let x : rings.World = w.rings in
-    let h : Hypervisor = x.under in
-    let c : ChannelState = h.channels in
-    let d : Directory = h.keys in
-    let f : Watches = d.front in
-    at (record w { rings = record x { under = record h { channels = record c { front_pending = pending }; keys = record d { front = record f { pending = fired } } } } }) bus.Rest r
+-- so the negotiation moves
+told_goes : (f : View) (n : Negotiation) (x : FrontAnswer) (later : Directory) (b : FrontBusAsk) (port : ℕ) → port ≤ 1 → n.front ≡ f.bus → bus_ask_of f ≡ b → x ≡ front_answered b port n.keys → later ≡ front_done b n.keys
+    → Goes (is_unoccupied f.ring) n (with_front n (bus_after f x) later)
+told_goes f n x later b port within same asks answer after =
+    let idle : Bool = is_unoccupied f.ring in
+    let heard : x ≡ front_answered (ask_of f.bus idle) port n.keys = answer ∙ ap (λ (c : FrontBusAsk). front_answered c port n.keys) (sym asks) in
+    let keyed : later ≡ front_done (ask_of f.bus idle) n.keys = after ∙ ap (λ (c : FrontBusAsk). front_done c n.keys) (sym asks) in
+    inr (
+      port,
+      within,
+      ap (λ (y : FrontAnswer). with_front n (bus_told idle f.bus y) later) heard
+          ∙ (ap (λ (d : Directory). with_front n (bus_told idle f.bus (front_answered (ask_of f.bus idle) port n.keys)) d) keyed
+          ∙ ap (λ (v : FrontView). with_front n (bus_told idle v (front_answered (ask_of v idle) port n.keys)) (front_done (ask_of v idle) n.keys)) (sym same)),
+    )
 
-waits : (w : World) (k : ℕ) (pending : Bool) (fired : List (List ℕ)) → pending ≡ false → Follows (resting w (ring.RingWord k) pending fired)
-waits w k true fired e = absurd (true≢false e)
-waits w k false [] e = inr (0, omega arith, refl)
-waits w k false (path ∷ later) e = inr (0, omega arith, refl)
+-- it asks for a key or a watch
+pub keys_told : (b : FrontBusAsk) (h : Hypervisor) (a : FrontAct) → speaks b ≡ true → front_act h (key_ask b) ≡ Some a → Told b 0 h.keys a
+keys_told bus_ask.Watch h a says e = of_front (Told bus_ask.Watch 0 h.keys) _ a (record { answer = refl; keys_after = refl }) e
+keys_told bus_ask.GetState h a says e = of_front (Told bus_ask.GetState 0 h.keys) _ a (record { answer = refl; keys_after = refl }) e
+keys_told (bus_ask.GetKey key) h a says e = of_front (Told (bus_ask.GetKey key) 0 h.keys) _ a (record { answer = refl; keys_after = refl }) e
+keys_told (bus_ask.SetState s) h a says e = of_front (Told (bus_ask.SetState s) 0 h.keys) _ a (record { answer = refl; keys_after = refl }) e
+keys_told (bus_ask.SetKey key value) h a says e = of_front (Told (bus_ask.SetKey key value) 0 h.keys) _ a (record { answer = refl; keys_after = refl }) e
+keys_told b h a says e = absurd (true≢false (sym says))
 
--- of an event the negotiation is told nothing
-listens : (w : World) (pending : Bool) (fired : List (List ℕ)) → Follows (resting w ring.Initialised pending fired)
-listens w true fired = inl refl
-listens w false [] = inl refl
-listens w false (path ∷ later) = inr (0, omega arith, refl)
+-- an act of a front that asks for no key: it takes a watch, or leaves the keys
+abbrev IsUnwatched : FrontAnswer → Type 0
+IsUnwatched (answer.Watched path) = ⊥
+IsUnwatched x = Unit {0}
 
-rests : (w : World) (s : BusState) (r : FrontRing) → s ≢ state.Connected → FrontRests s r → (r ≡ ring.RingWord 0 → w.rings.under.channels.front_pending ≡ false) → Follows (at w bus.Rest r)
-rests w state.Initialising r e fits quiet =
-    subst (λ (x : FrontRing). Follows (at w bus.Rest x)) (sym fits) (waits w 0 w.rings.under.channels.front_pending w.rings.under.keys.front.pending (quiet fits))
-rests w state.Initialised r e fits quiet = subst (λ (x : FrontRing). Follows (at w bus.Rest x)) (sym fits) (listens w w.rings.under.channels.front_pending w.rings.under.keys.front.pending)
-rests w state.Connected r e fits quiet = absurd (e refl)
-rests w s r e fits quiet = absurd fits
+record Leaves (h : Hypervisor) (a : FrontAct) : Type 0 where
+  unwatched : IsUnwatched a.answer
+  keys : a.under.keys ≡ h.keys
 
-grants : (w : World) (page : ℕ) (r : FrontRing) → IsGranting r → Follows (at w (bus.Grant page) r)
-grants w page ring.RingFrame fits = inl refl
-grants w page ring.RingFence fits = inl refl
-grants w page ring.RingFlags fits = inr (0, omega arith, refl)
-grants w page r fits = absurd fits
+record Takes (h : Hypervisor) (asked : FrontAsk) (a : FrontAct) : Type 0 where
+  path : List ℕ
+  waits : asked ≡ ask.Wait
+  first : next_watch h.keys.front ≡ Some path
+  answer : a.answer ≡ answer.Watched path
+  keys : a.under.keys ≡ with_watches h.keys end.Front (taken (watches_of h.keys end.Front))
 
-publishes : (w : World) (k : FrontKey) (r : FrontRing) → IsPlain (bus.Publish k) → Follows (at w (bus.Publish k) r)
-unfolding digits
-publishes w key.RingPageOrder r plain = absurd plain
-publishes w (key.RingRefOf page) r plain = absurd plain
-publishes w key.RingRef r plain = inr (0, omega arith, refl)
-publishes w key.EventChannel r plain = inr (0, omega arith, refl)
-publishes w key.Protocol r plain = inr (0, omega arith, refl)
-publishes w key.FeaturePersistent r plain = inr (0, omega arith, refl)
+quiet_act : (h : Hypervisor) (asked : FrontAsk) (a : FrontAct) → AsksNoKey asked → front_act h asked ≡ Some a → Leaves h a ⊎ Takes h asked a
+quiet_act h ask.Wait a own e =
+    front_takes (λ (x : FrontAct). Leaves h x ⊎ Takes h ask.Wait x) h a (inl (record { unwatched = tt; keys = refl })) (λ path first. inr (record { path = path; waits = refl; first = first; answer = refl; keys = refl })) e
+quiet_act h ask.Fence a own e = of_front (λ (x : FrontAct). Leaves h x ⊎ Takes h ask.Fence x) _ a (inl (record { unwatched = tt; keys = refl })) e
+quiet_act h (ask.Read frame word) a own e = of_front (λ (x : FrontAct). Leaves h x ⊎ Takes h (ask.Read frame word) x) _ a (inl (record { unwatched = tt; keys = refl })) e
+quiet_act h (ask.Write frame word value) a own e = of_front (λ (x : FrontAct). Leaves h x ⊎ Takes h (ask.Write frame word value) x) _ a (inl (record { unwatched = tt; keys = refl })) e
+quiet_act h (ask.Cas frame word old new) a own e = of_front (λ (x : FrontAct). Leaves h x ⊎ Takes h (ask.Cas frame word old new) x) _ a (inl (record { unwatched = tt; keys = refl })) e
+quiet_act h ask.NewPort a own e = of_front (λ (x : FrontAct). Leaves h x ⊎ Takes h ask.NewPort x) _ a (inl (record { unwatched = tt; keys = refl })) e
+quiet_act h ask.Send a own e = of_front (λ (x : FrontAct). Leaves h x ⊎ Takes h ask.Send x) _ a (inl (record { unwatched = tt; keys = refl })) e
+quiet_act h ask.ClosePort a own e = of_front (λ (x : FrontAct). Leaves h x ⊎ Takes h ask.ClosePort x) _ a (inl (record { unwatched = tt; keys = refl })) e
+quiet_act h (ask.GetKey path) a own e = absurd own
+quiet_act h (ask.SetKey path text) a own e = absurd own
+quiet_act h (ask.Watch path) a own e = absurd own
 
--- it doesn't connect in such a move
-abbrev ConnectsNot : World → Type 0
-ConnectsNot w = ask_of w.front false ≡ front_ask.SetState state.Connected → ⊥
+-- a front that takes a watch in its ring breaks nothing
+either_whole : (b : Bool) (s t : Stage) → is_broken s ≡ false → is_broken t ≡ false → is_broken (if b then s else t) ≡ false
+either_whole true s t p q = p
+either_whole false s t p q = q
 
--- by what the negotiation is at
-at_stage : (w : World) (s : FrontStage) (r : FrontRing) → FrontGoesWith s w.front.state r → is_broken s ≡ false → IsPlain s → w.front.state ≢ state.Connected → ConnectsNot (at w s r)
-    → (r ≡ ring.RingWord 0 → w.rings.under.channels.front_pending ≡ false) → (r ≡ ring.NewPort → w.rings.under.channels.made ≡ 0) → Follows (at w s r)
-at_stage w bus.Start r fits whole plain early asks quiet made = inr (0, omega arith, refl)
-at_stage w bus.Rest r fits whole plain early asks quiet made = rests w w.front.state r early fits quiet
-at_stage w bus.ReadState r fits whole plain early asks quiet made = inr (0, omega arith, refl)
-at_stage w (bus.ReadFeature key) r fits whole plain early asks quiet made = inr (0, omega arith, refl)
-at_stage w (bus.RingWord word) r fits whole plain early asks quiet made = subst (λ (x : FrontRing). Follows (at w (bus.RingWord word) x)) (sym fits.2) (inr (0, omega arith, refl))
-at_stage w (bus.Grant page) r fits whole plain early asks quiet made = grants w page r fits.2
-at_stage w bus.NewPort r fits whole plain early asks quiet made =
-    let none = made fits.1 in
-    subst (λ (x : FrontRing). Follows (at w bus.NewPort x)) (sym fits.1) (inr (w.rings.under.channels.made + 1, omega arith, refl))
-at_stage w (bus.Publish key) r fits whole plain early asks quiet made = publishes w key r plain
-at_stage w (bus.ReadFact key) r fits whole plain early asks quiet made = inr (0, omega arith, refl)
-at_stage w (bus.WriteState state.Initialised) r fits whole plain early asks quiet made = inr (0, omega arith, refl)
-at_stage w (bus.WriteState state.Connected) r fits whole plain early asks quiet made = absurd (asks refl)
-at_stage w (bus.WriteState s) r fits whole plain early asks quiet made = absurd fits
-at_stage w (bus.Broken word) r fits whole plain early asks quiet made = absurd (true≢false whole)
-at_stage w s r fits whole plain early asks quiet made = absurd fits
+either_view : (b : Bool) (x y : ring.View) → is_broken x.stage ≡ false → is_broken y.stage ≡ false → is_broken (if b then x else y).stage ≡ false
+either_view true x y p q = p
+either_view false x y p q = q
 
--- it may be written so
-abbrev written : World → Abi → Bool → World
-written w abi b = let v : FrontView = w.front in record w { front = record v { abi = abi; closing = b } }
+issue_whole : (way : Transfer) → is_broken (ring_step.issue_stage way) ≡ false
+issue_whole transfer.Read = refl
+issue_whole (transfer.Write tag) = refl
 
-as_written : (P : World → Type 0) (w : World) → w.front.abi ≡ X64 → w.front.closing ≡ false → P (at w w.front.stage w.rings.front.stage) → P w
-as_written P w a b p = subst (λ (x : Abi). P (written w x w.front.closing)) (sym a) (subst (λ (x : Bool). P (written w X64 x)) (sym b) p)
+loop_whole : (r : ring.View) (next : Option Request) (path : List ℕ) → is_broken r.stage ≡ false → is_broken (ring_step.loop_step r next (answer.Watched path)).stage ≡ false
+loop_whole r None path p = p
+loop_whole r (Some q) path p = issue_whole q.transfer
 
-written_as : (P : World → Type 0) (w : World) → w.front.abi ≡ X64 → w.front.closing ≡ false → P w → P (at w w.front.stage w.rings.front.stage)
-written_as P w a b p = subst (λ (x : Bool). P (written w X64 x)) b (subst (λ (x : Abi). P (written w x w.front.closing)) a p)
+data_whole : (next : Option Request) (n : ℕ) → is_broken (ring_step.data_stage next n) ≡ false
+data_whole None n = refl
+data_whole (Some q) n = either_whole (nat_lt (n + 1) (words_in q)) (ring_stage.Data (n + 1)) (ring_stage.GrantFrame 0) refl refl
 
--- a move of the front
-pub front_follows : (w : World) → IsFit w → w.front.closing ≡ false → is_broken w.front.stage ≡ false → IsPlain w.front.stage → w.front.state ≢ state.Connected → ConnectsNot w → Follows w
-front_follows w fit begun whole plain early asks =
-    as_written Follows w fit.layout begun
-    (at_stage w w.front.stage w.rings.front.stage fit.front whole plain early (written_as ConnectsNot w fit.layout begun asks)
-    (λ e. fit.unported (unported 0 w.rings.front.stage w.rings.under.channels e fit.safe.ported)) (λ e. unmade w.rings.front.stage w.rings.under.channels e fit.safe.ported))
+granted_whole : (r : ring.View) (next : Option Request) (place : ℕ) → is_broken r.stage ≡ false → is_broken (ring_step.granted next place r).stage ≡ false
+granted_whole r None place p = p
+granted_whole r (Some q) place p = either_view (nat_lt (place + 1) (length q.frames.items)) _ _ refl refl
+
+watched_whole : (s : Stage) (r : ring.View) (path : List ℕ) → r.stage ≡ s → is_broken s ≡ false → is_broken (ring_step.step_at s r (answer.Watched path)).stage ≡ false
+watched_whole (ring_stage.RingWord k) r path here p = either_whole (k == 15) ring_stage.RingFrame (ring_stage.RingWord (k + 1)) refl refl
+watched_whole ring_stage.RingFrame r path here p = refl
+watched_whole ring_stage.RingFence r path here p = refl
+watched_whole ring_stage.RingFlags r path here p = refl
+watched_whole ring_stage.NewPort r path here p = refl
+watched_whole ring_stage.Loop r path here p = loop_whole r (ring.next_request r) path (rw here refl)
+watched_whole (ring_stage.Data n) r path here p = data_whole (ring.next_request r) n
+watched_whole (ring_stage.GrantFrame place) r path here p = refl
+watched_whole (ring_stage.GrantFence place) r path here p = refl
+watched_whole (ring_stage.GrantFlags place) r path here p = granted_whole r (ring.next_request r) place (rw here refl)
+watched_whole (ring_stage.Slot k) r path here p = either_whole (k == 27) ring_stage.Producer (ring_stage.Slot (k + 1)) refl refl
+watched_whole ring_stage.Producer r path here p = refl
+watched_whole (ring_stage.ProducerFence old) r path here p = refl
+watched_whole ring_stage.Send r path here p = refl
+watched_whole ring_stage.StoreEvent r path here p = refl
+watched_whole ring_stage.EventFence r path here p = refl
+watched_whole ring_stage.ClosePort r path here p = refl
+watched_whole s r path here p = ap is_broken here ∙ p
+
+-- a waiting negotiation is told of a watch alone
+unwoken : (broken idle : Bool) (v : FrontView) (x : FrontAnswer) → IsUnwatched x → woken broken idle v x ≡ v
+unwoken false idle v (answer.Watched path) un = absurd un
+unwoken false idle v x un = refl
+unwoken true idle v x un = refl
+
+still_goes : (n : Negotiation) (h : Hypervisor) (v : FrontView) (idle : Bool) (keys : Directory) → n.front ≡ v → n.keys ≡ h.keys → keys ≡ h.keys → Goes idle n (with_front n v keys)
+still_goes n h v idle keys same kept left =
+    inl (ap (λ (x : FrontView). with_front n x keys) (sym same) ∙ ap (λ (d : Directory). with_front n n.front d) (left ∙ sym kept))
+
+-- its end of the ring moves, or waits with it: the negotiation waits
+waits_goes : (f : View) (n : Negotiation) (h : Hypervisor) (asked : FrontAsk) (a : FrontAct) (later : Stage) → n.front ≡ f.bus → n.keys ≡ h.keys → bus_ask_of f ≡ bus_ask.Wait → Leaves h a ⊎ Takes h asked a
+    → ((path : List ℕ) → a.answer ≡ answer.Watched path → is_broken later ≡ false)
+    → Goes (is_unoccupied f.ring) n (with_front n (woken (is_broken later) (is_unoccupied f.ring) f.bus a.answer) a.under.keys)
+waits_goes f n h asked a later same kept asks (inl leaves) whole =
+    let idle : Bool = is_unoccupied f.ring in
+    subst (λ (v : FrontView). Goes idle n (with_front n v a.under.keys)) (sym (unwoken (is_broken later) idle f.bus a.answer leaves.unwatched))
+    (still_goes n h f.bus idle a.under.keys same kept leaves.keys)
+waits_goes f n h asked a later same kept asks (inr takes) whole =
+    let idle : Bool = is_unoccupied f.ring in
+    let keyed : a.under.keys ≡ front_done bus_ask.Wait n.keys = takes.keys ∙ ap (λ (d : Directory). front_done bus_ask.Wait d) (sym kept) in
+    let first : a.answer ≡ front_answered bus_ask.Wait 0 n.keys = takes.answer ∙ sym (ap front_woken (ap (λ (d : Directory). next_watch d.front) kept ∙ takes.first)) in
+    let says : woken (is_broken later) idle f.bus a.answer ≡ bus_after f a.answer = rw (whole takes.path takes.answer, takes.answer) refl in
+    subst (λ (v : FrontView). Goes idle n (with_front n v a.under.keys)) (sym says)
+    (told_goes f n a.answer a.under.keys bus_ask.Wait 0 (omega arith) same asks first keyed)
+
+-- what a move of the ring's end makes of the negotiation that asked for it
+abbrev RingGoes : View → Negotiation → FrontBusAsk → Stage → FrontAct → Type 0
+RingGoes f n b s x = Goes (is_unoccupied f.ring) n (with_front n (followed b (ring_step.step_at s f.ring x.answer).stage (is_unoccupied f.ring) f.bus x.answer) x.under.keys)
+
+module _ (f : View) (n : Negotiation) (h : Hypervisor) (a : FrontAct) (same : n.front ≡ f.bus) (kept : n.keys ≡ h.keys) where
+  told_done : (b : FrontBusAsk) (x : FrontAnswer) (port : ℕ) → port ≤ 1 → bus_ask_of f ≡ b → x ≡ front_answered b port n.keys → front_done b n.keys ≡ n.keys
+      → Goes (is_unoccupied f.ring) n (with_front n (bus_after f x) h.keys)
+  told_done b x port within asks heard done = told_goes f n x h.keys b port within same asks heard (sym kept ∙ sym done)
+
+  still : Goes (is_unoccupied f.ring) n (with_front n f.bus h.keys)
+  still = still_goes n h f.bus (is_unoccupied f.ring) h.keys same kept refl
+
+  ended_goes : (b : Bool) (word page : ℕ) (x : FrontAnswer) → bus_ask_of f ≡ bus_ask.EndGrant page
+      → Goes (is_unoccupied f.ring) n (with_front n (followed (bus_ask.EndGrant page) (if b then ring_step.at ring_stage.ClosePort f.ring else ring_step.broken word f.ring).stage (is_unoccupied f.ring) f.bus x) h.keys)
+  ended_goes true word page x asks = told_done (bus_ask.EndGrant page) answer.Done 0 (omega arith) asks refl refl
+  ended_goes false word page x asks = still
+
+  read_goes : (b : Bool) (word page : ℕ) (x : FrontAnswer)
+      → Goes (is_unoccupied f.ring) n (with_front n (followed (bus_ask.EndGrant page) (if b then ring_step.broken word f.ring else ring_step.at (ring_stage.RingEnd word) f.ring).stage (is_unoccupied f.ring) f.bus x) h.keys)
+  read_goes true word page x = still
+  read_goes false word page x = still
+
+  ring_goes : (b : FrontBusAsk) (s : Stage) → bus_ask_of f ≡ b → f.ring.stage ≡ s → speaks b ≡ false → ring_moves b s ≡ true → is_broken s ≡ false → (b ≡ bus_ask.EndOtherGrants → ⊥) → (s ≡ ring_stage.NewPort → h.channels.made ≡ 0) → AsksNoKey (ring_ask.ask_at s f.ring)
+      → front_act h (ring_ask.ask_at s f.ring) ≡ Some a → RingGoes f n b s a
+  ring_goes bus_ask.Wait s asks here quiet moves whole keeps unmade own e =
+      waits_goes f n h (ring_ask.ask_at s f.ring) a (ring_step.step_at s f.ring a.answer).stage same kept asks (quiet_act h (ring_ask.ask_at s f.ring) a own e)
+      (λ path heard. rw heard (watched_whole s f.ring path here whole))
+  ring_goes (bus_ask.WriteRingWord word) (ring_stage.RingWord k) asks here quiet moves whole keeps unmade own e =
+      of_front (RingGoes f n (bus_ask.WriteRingWord word) (ring_stage.RingWord k)) _ a (told_done (bus_ask.WriteRingWord word) answer.Done 0 (omega arith) asks refl refl) e
+  ring_goes (bus_ask.Grant page) ring_stage.RingFrame asks here quiet moves whole keeps unmade own e =
+      of_front (RingGoes f n (bus_ask.Grant page) ring_stage.RingFrame) _ a still e
+  ring_goes (bus_ask.Grant page) ring_stage.RingFence asks here quiet moves whole keeps unmade own e =
+      of_front (RingGoes f n (bus_ask.Grant page) ring_stage.RingFence) _ a still e
+  ring_goes (bus_ask.Grant page) ring_stage.RingFlags asks here quiet moves whole keeps unmade own e =
+      of_front (RingGoes f n (bus_ask.Grant page) ring_stage.RingFlags) _ a (told_done (bus_ask.Grant page) answer.Done 0 (omega arith) asks refl refl) e
+  ring_goes bus_ask.NewPort ring_stage.NewPort asks here quiet moves whole keeps unmade own e =
+      of_front (RingGoes f n bus_ask.NewPort ring_stage.NewPort) _ a (told_done bus_ask.NewPort (answer.Port (h.channels.made + 1)) (h.channels.made + 1) (let none = unmade refl in omega arith) asks refl refl) e
+  ring_goes (bus_ask.EndGrant page) ring_stage.RingRead asks here quiet moves whole keeps unmade own e =
+      of_front (RingGoes f n (bus_ask.EndGrant page) ring_stage.RingRead) _ a (read_goes (ring_step.is_mapped (word_of h.pages 0 16)) (word_of h.pages 0 16) page (answer.Word (word_of h.pages 0 16))) e
+  ring_goes (bus_ask.EndGrant page) (ring_stage.RingEnd seen) asks here quiet moves whole keeps unmade own e =
+      of_front (RingGoes f n (bus_ask.EndGrant page) (ring_stage.RingEnd seen)) _ a (ended_goes (word_of h.pages 0 16 == seen) (word_of h.pages 0 16) page (answer.Word (word_of h.pages 0 16)) asks) e
+  ring_goes bus_ask.ClosePort ring_stage.ClosePort asks here quiet moves whole keeps unmade own e =
+      of_front (RingGoes f n bus_ask.ClosePort ring_stage.ClosePort) _ a (told_done bus_ask.ClosePort answer.Done 0 (omega arith) asks refl refl) e
+  ring_goes bus_ask.EndOtherGrants s asks here quiet moves whole keeps unmade own e = absurd (keeps refl)
+  ring_goes b s asks here quiet moves whole keeps unmade own e = absurd (cc)
+
+-- where the negotiation says nothing and its end of the ring has no move, it waits; and it has no other grants to end
+record Quiet (b : FrontBusAsk) (r : Stage) : Type 0 where
+  waits : speaks b ≡ false → ring_moves b r ≡ false → b ≡ bus_ask.Wait
+  keeps : b ≡ bus_ask.EndOtherGrants → ⊥
+
+says_quiet : (b : FrontBusAsk) (r : Stage) → speaks b ≡ true → Quiet b r
+says_quiet b r says = record { waits = λ quiet. absurd (true≢false (sym says ∙ quiet)); keeps = λ e. absurd (true≢false (sym says ∙ ap speaks e)) }
+
+wait_quiet : (r : Stage) → Quiet bus_ask.Wait r
+wait_quiet r = record { waits = λ quiet still. refl; keeps = λ e. cc }
+
+moves_quiet : (b : FrontBusAsk) (r : Stage) → ring_moves b r ≡ true → (b ≡ bus_ask.EndOtherGrants → ⊥) → Quiet b r
+moves_quiet b r moves keeps = record { waits = λ quiet still. absurd (true≢false (sym moves ∙ still)); keeps = keeps }
+
+ending_moves : (page : ℕ) (r : Stage) → is_ending_ring r ≡ true → ring_moves (bus_ask.EndGrant page) r ≡ true
+ending_moves page ring_stage.RingRead is = refl
+ending_moves page (ring_stage.RingEnd seen) is = refl
+ending_moves page r is = absurd (true≢false (sym is))
+
+leaving_quiet : (gone : Bool) (port : Option ℕ) (v : FrontView) (r : Stage) → FrontRests state.Closing gone port r → Quiet (ask_at (leaving gone port) v) r
+leaving_quiet false None v r fits = wait_quiet r
+leaving_quiet false (Some p) v r fits = wait_quiet r
+leaving_quiet true None v r fits = absurd fits
+leaving_quiet true (Some p) v r fits = moves_quiet (bus_ask.EndGrant 0) r (ending_moves 0 r fits) (λ e. cc)
+
+closing_quiet : (own : BusState) (v : FrontView) (r : Stage) → FrontRests own v.gone v.port r → Quiet (ask_at (closing_stage own v) v) r
+closing_quiet state.Closing v r fits = leaving_quiet v.gone v.port v r fits
+closing_quiet own v r fits = says_quiet (ask_at (closing_stage own v) v) r refl
+
+due_quiet : (c : Bool) (v : FrontView) (r : Stage) → (c ≡ true → FrontRests v.state v.gone v.port r) → Quiet (ask_at (if c then closing_stage v.state v else stage.Rest) v) r
+due_quiet true v r fits = closing_quiet v.state v r (fits refl)
+due_quiet false v r fits = wait_quiet r
+
+idle_now : (closing idle : Bool) → (closing && idle) ≡ true → idle ≡ true
+idle_now true true e = refl
+idle_now true false e = e
+idle_now false idle e = absurd (true≢false (sym e))
+
+rests_whole : (v : FrontView) (r : Stage) → FrontRests v.state v.gone v.port r ⊎ (is_broken r ≡ true) → is_broken r ≡ false → FrontRests v.state v.gone v.port r
+rests_whole v r (inl fits) whole = fits
+rests_whole v r (inr broken) whole = absurd (true≢false (sym broken ∙ whole))
+
+granting_moves : (page : ℕ) (r : Stage) → IsGranting r → ring_moves (bus_ask.Grant page) r ≡ true
+granting_moves page ring_stage.RingFrame is = refl
+granting_moves page ring_stage.RingFence is = refl
+granting_moves page ring_stage.RingFlags is = refl
+granting_moves page r is = absurd is
+
+quiet_at : (s : FrontStage) (v : FrontView) (r : Stage) (idle : Bool) → FrontGoesWith s v r → is_broken r ≡ false → Quiet (ask_at (due_at s v idle) v) r
+quiet_at stage.Rest v r idle fits whole = due_quiet (v.closing && idle) v r (λ e. rests_whole v r fits whole)
+quiet_at stage.Start v r idle fits whole = says_quiet bus_ask.Watch r refl
+quiet_at stage.ReadState v r idle fits whole = says_quiet bus_ask.GetState r refl
+quiet_at (stage.ReadFeature key) v r idle fits whole = says_quiet (bus_ask.GetKey key) r refl
+quiet_at (stage.ReadFact key) v r idle fits whole = says_quiet (bus_ask.GetKey key) r refl
+quiet_at (stage.Publish key) v r idle fits whole = says_quiet (ask_at (stage.Publish key) v) r refl
+quiet_at (stage.WriteState own) v r idle fits whole = says_quiet (bus_ask.SetState own) r refl
+quiet_at (stage.RingWord word) v r idle fits whole = moves_quiet (bus_ask.WriteRingWord word) r (rw fits.2 refl) (λ e. cc)
+quiet_at (stage.Grant page) v r idle fits whole = moves_quiet (bus_ask.Grant page) r (granting_moves page r fits.2) (λ e. cc)
+quiet_at stage.NewPort v r idle fits whole = moves_quiet bus_ask.NewPort r (rw fits.1 refl) (λ e. cc)
+quiet_at stage.ClosePort v r idle fits whole = moves_quiet bus_ask.ClosePort r (rw fits.1 refl) (λ e. cc)
+quiet_at stage.Closed v r idle fits whole = wait_quiet r
+quiet_at (stage.Broken word) v r idle fits whole = wait_quiet r
+quiet_at s v r idle fits whole = absurd fits
+
+-- a front that wrote Closing is unoccupied: no request is left, and its end of the ring is at nothing
+record IsIdleRing (r : Stage) : Type 0 where
+  still : is_still r ≡ true
+  ended : ending_of r ≡ 0
+
+early_not : {A : Type 0} (own : BusState) → own ≡ state.Initialising → own ≡ state.Closing → A
+early_not own e f = absurd (cc)
+
+later_not : {A : Type 0} (own : BusState) → own ≡ state.Initialised → own ≡ state.Closing → A
+later_not own e f = absurd (cc)
+
+last_not : {A : Type 0} (own : BusState) → own ≡ state.Closed → own ≡ state.Closing → A
+last_not own e f = absurd (cc)
+
+made_idle : (r : Stage) → is_made r ≡ true → IsIdleRing r
+made_idle ring_stage.Initialised is = record { still = refl; ended = refl }
+made_idle ring_stage.Loop is = record { still = refl; ended = refl }
+made_idle r is = absurd (true≢false (sym is))
+
+ending_idle : (r : Stage) → is_ending_ring r ≡ true → IsIdleRing r
+ending_idle ring_stage.RingRead is = record { still = refl; ended = refl }
+ending_idle (ring_stage.RingEnd seen) is = record { still = refl; ended = refl }
+ending_idle r is = absurd (true≢false (sym is))
+
+bare_idle : (r : Stage) → is_bare r ≡ true → IsIdleRing r
+bare_idle (ring_stage.RingWord k) is = record { still = refl; ended = refl }
+bare_idle ring_stage.Left is = record { still = refl; ended = refl }
+bare_idle r is = absurd (true≢false (sym is))
+
+rests_idle : (gone : Bool) (port : Option ℕ) (r : Stage) → FrontRests state.Closing gone port r → IsIdleRing r
+rests_idle false None r fits = rw fits (record { still = refl; ended = refl })
+rests_idle false (Some p) r fits = made_idle r fits
+rests_idle true (Some p) r fits = ending_idle r fits
+rests_idle true None r fits = absurd fits
+
+closing_rests : (v : FrontView) (r : Stage) → v.state ≡ state.Closing → FrontRests v.state v.gone v.port r → IsIdleRing r
+closing_rests v r e fits = rests_idle v.gone v.port r (subst (λ (own : BusState). FrontRests own v.gone v.port r) e fits)
+
+closing_idle : (s : FrontStage) (v : FrontView) (r : Stage) → FrontGoesWith s v r → v.state ≡ state.Closing → is_broken r ≡ false → IsIdleRing r
+closing_idle stage.Rest v r fits e whole = closing_rests v r e (rests_whole v r fits whole)
+closing_idle stage.ReadState v r fits e whole = closing_rests v r e fits
+closing_idle stage.Start v r fits e whole = early_not v.state fits.0 e
+closing_idle (stage.ReadFeature key) v r fits e whole = early_not v.state fits.0 e
+closing_idle (stage.RingWord word) v r fits e whole = early_not v.state fits.0 e
+closing_idle (stage.Grant page) v r fits e whole = early_not v.state fits.0 e
+closing_idle stage.NewPort v r fits e whole = early_not v.state fits.0 e
+closing_idle (stage.Publish key) v r fits e whole = early_not v.state fits.0 e
+closing_idle (stage.ReadFact key) v r fits e whole = later_not v.state fits.0 e
+closing_idle (stage.WriteState state.Initialised) v r fits e whole = early_not v.state fits.0 e
+closing_idle (stage.WriteState state.Connected) v r fits e whole = later_not v.state fits.0 e
+closing_idle (stage.WriteState state.Closed) v r fits e whole = bare_idle r fits.1
+closing_idle (stage.WriteState own) v r fits e whole = absurd fits
+closing_idle stage.ClosePort v r fits e whole = rw fits.1 (record { still = refl; ended = refl })
+closing_idle stage.Closed v r fits e whole = last_not v.state fits.0 e
+closing_idle (stage.Broken word) v r fits e whole = absurd (true≢false (sym fits ∙ whole))
+closing_idle s v r fits e whole = absurd fits
+
+none_left : (closing : Bool) (requests ending : ℕ) (still : Bool) → (closing && requests == 0) ≡ true → ending ≡ 0 → still ≡ true → (requests + ending == 0 && still) ≡ true
+none_left true requests ending still through none is =
+    let no_request : requests ≡ 0 = grind (arith, nat_tests) in
+    rw (no_request, none, is) refl
+none_left false requests ending still through none is = absurd (true≢false (sym through))
+
+pub closing_unoccupied : (w : World) → IsFit w → is_broken w.rings.front.stage ≡ false → w.front.state ≡ state.Closing → is_unoccupied w.rings.front ≡ true
+closing_unoccupied w fit whole e =
+    let idle = closing_idle w.front.stage w.front w.rings.front.stage fit.front e whole in
+    none_left w.rings.front.closing (length w.rings.front.requests) (ending_of w.rings.front.stage) (is_still w.rings.front.stage) (fit.through e whole) idle.ended idle.still
+
+-- a move writes a state only where the negotiation asks for that
+abbrev Keeps : FrontStage → FrontView → FrontView → Type 0
+Keeps s v u = (u.state ≡ v.state) ⊎ ((own : BusState) × (s ≡ stage.WriteState own) × (u.state ≡ own))
+
+acted_keeps : (s : FrontStage) (act : FrontAction) (v : FrontView) → Keeps s v (acted act v)
+acted_keeps s action.Nothing v = inl refl
+acted_keeps s action.Publish v = inl refl
+acted_keeps s action.Connect v = inl refl
+acted_keeps s action.Close v = inl refl
+acted_keeps s action.CloseAndConnect v = inl refl
+acted_keeps s action.Leave v = inl refl
+acted_keeps s (action.Break word) v = inl refl
+
+feature_keeps : (s : FrontStage) (k : BackKey) (n : Option ℕ) (v : FrontView) → Keeps s v (feature_step k n v)
+feature_keeps s k None v = inl refl
+feature_keeps s k (Some n) v = inl refl
+
+fact_keeps : (s : FrontStage) (k : BackKey) (n : Option ℕ) (v : FrontView) → Keeps s v (fact_step k n v)
+fact_keeps s k None v = inl refl
+fact_keeps s k (Some n) v = inl refl
+
+step_keeps : (s : FrontStage) (v : FrontView) (idle : Bool) (x : FrontAnswer) → Keeps s v (bus_step.step_at s v idle x)
+step_keeps stage.Rest v idle (answer.Watched path) = inl refl
+step_keeps stage.ReadState v idle (answer.Key text) = acted_keeps stage.ReadState (front_action v.state v.closing idle (state_read text)) v
+step_keeps (stage.ReadFeature k) v idle (answer.Key text) = feature_keeps (stage.ReadFeature k) k (count_read text) v
+step_keeps stage.NewPort v idle (answer.Port port) = inl refl
+step_keeps (stage.ReadFact k) v idle (answer.Key text) = fact_keeps (stage.ReadFact k) k (fact_read k text) v
+step_keeps (stage.WriteState own) v idle answer.Done = inr (own, refl, refl)
+step_keeps stage.ClosePort v idle answer.Done = inl refl
+step_keeps s v idle answer.Done = inl refl
+step_keeps s v idle x = inl refl
+
+writes_not : (s : FrontStage) (v : FrontView) (r : Stage) (own : BusState) → FrontGoesWith s v r → due_at s v false ≡ stage.WriteState own → own ≡ state.Closing → ⊥
+writes_not stage.Rest v r own fits due e = by_test v.closing due
+  where
+    by_test : (c : Bool) → (if c && false then closing_stage v.state v else stage.Rest) ≡ stage.WriteState own → ⊥
+    by_test true f = cc
+    by_test false f = cc
+writes_not (stage.WriteState state.Closing) v r own fits due e = fits
+writes_not (stage.WriteState s) v r own fits due e = cc
+writes_not s v r own fits due e = cc
+
+-- so a settled move goes where its run goes
+module _ (idle : Bool) where
+  settles : (b : FrontBusAsk) (n : Negotiation) → ask_of n.front idle ≡ b → (n.front.state ≡ state.Closing → idle ≡ true) → Reached n → Reached (with_front n (settled_at b idle n.front) n.keys)
+  settles bus_ask.EndOtherGrants n asks served j =
+      reached_as (front_moved idle 0 n) (with_front n (step_of n.front idle answer.Done) n.keys)
+      (ap (λ (b : FrontBusAsk). with_front n (step_of n.front idle (front_answered b 0 n.keys)) (front_done b n.keys)) (sym asks))
+      (reached_one n (FrontMoves idle 0) (omega arith) served j)
+  settles b n asks served j = j
+
+  reach : (n m : Negotiation) → (n.front.state ≡ state.Closing → idle ≡ true) → ((port : ℕ) → (let x : Negotiation = front_moved idle port n in x.front.state ≡ state.Closing → idle ≡ true)) → Goes idle n m → Reached n → Reached m
+  reach n m served later (inl same) j = reached_as n m same j
+  reach n m served later (inr moved) j =
+      let port : ℕ = moved.0 in
+      let next : Negotiation = front_moved idle port n in
+      let within : port ≤ 1 = moved.1 in
+      reached_as (settled_now idle next) m moved.2 (settles (ask_of next.front idle) next refl (later port) (reached_one n (FrontMoves idle port) (omega arith) served j))
+
+later_served : (w : World) (idle : Bool) → (w.front.state ≡ state.Closing → idle ≡ true) → FrontGoesWith w.front.stage w.front w.rings.front.stage → (port : ℕ)
+    → (let x : Negotiation = front_moved idle port (negotiation_of w) in x.front.state ≡ state.Closing → idle ≡ true)
+later_served w true served fits port = λ e. refl
+later_served w false served fits port = by_kept (step_keeps (due_at w.front.stage w.front false) (bus_step.at (due_at w.front.stage w.front false) w.front) false x)
+  where
+    x : FrontAnswer
+    x = front_answered (ask_of w.front false) port w.rings.under.keys
+
+    by_kept : Keeps (due_at w.front.stage w.front false) (bus_step.at (due_at w.front.stage w.front false) w.front) (step_of w.front false x) → (let u : FrontView = step_of w.front false x in u.state ≡ state.Closing → false ≡ true)
+    by_kept (inl same) e = served (sym same ∙ e)
+    by_kept (inr wrote) e = absurd (writes_not w.front.stage w.front w.rings.front.stage wrote.0 fits wrote.1 (sym wrote.2 ∙ e))
+
+-- before it has made its port the front has none
+unmade : (s : Stage) (c : ChannelState) → IsPorted s c → s ≡ ring_stage.NewPort → c.made ≡ 0
+unmade s c p e = let none : IsPorted ring_stage.NewPort c = subst (λ (x : Stage). IsPorted x c) e p in none.0
+
+-- what the front's move makes of the negotiation
+abbrev Moves : World → FrontAct → FrontAsk → View → Type 0
+Moves w a asked after = front_act w.rings.under asked ≡ Some a → Goes (is_unoccupied w.rings.front) (negotiation_of w) (with_front (negotiation_of w) after.bus a.under.keys)
+
+front_moves : (w : World) (a : FrontAct) → IsFit w → is_broken w.rings.front.stage ≡ false → Moves w a (frontend_ask.ask_of (frontend_of w)) (frontend_step.step_of (frontend_of w) a.answer)
+front_moves w a fit whole = by_speaks (speaks b) refl
+  where
+    f : View
+    f = frontend_of w
+
+    b : FrontBusAsk
+    b = bus_ask_of f
+
+    quiet : Quiet b w.rings.front.stage
+    quiet = quiet_at w.front.stage w.front w.rings.front.stage (is_unoccupied w.rings.front) fit.front whole
+
+    by_moves : (m : Bool) → ring_moves b w.rings.front.stage ≡ m → speaks b ≡ false → Moves w a (frontend_ask.ring_ask m f) (frontend_step.ring_step m b f a.answer)
+    by_moves true moves says e =
+        ring_goes f (negotiation_of w) w.rings.under a refl refl b w.rings.front.stage refl refl says moves whole quiet.keeps
+        (unmade w.rings.front.stage w.rings.under.channels fit.safe.ported) (fronts_no_key w.rings.front) e
+    by_moves false still says e =
+        subst (λ (c : FrontBusAsk). Goes (is_unoccupied w.rings.front) (negotiation_of w) (with_front (negotiation_of w) (waited c (is_unoccupied w.rings.front) w.front a.answer) a.under.keys)) (sym (quiet.waits says still))
+        (waits_goes f (negotiation_of w) w.rings.under ask.Wait a ring_stage.Loop refl refl (quiet.waits says still) (quiet_act w.rings.under ask.Wait a tt e) (λ path heard. refl))
+
+    by_speaks : (s : Bool) → speaks b ≡ s → Moves w a (if s then key_ask b else frontend_ask.ring_ask (ring_moves b w.rings.front.stage) f) (if s then frontend_step.spoken f a.answer else frontend_step.ring_step (ring_moves b w.rings.front.stage) b f a.answer)
+    by_speaks true says e =
+        let told = keys_told b w.rings.under a says e in
+        told_goes f (negotiation_of w) a.answer a.under.keys b 0 (omega arith) refl refl told.answer told.keys_after
+    by_speaks false says e = by_moves (ring_moves b w.rings.front.stage) refl says e
+
+-- so its negotiation goes on as a run
+pub front_goes : (w : World) (a : FrontAct) → IsFit w → is_broken w.rings.front.stage ≡ false → Joined w → front_turn w ≡ Some a
+    → Reached (record { front = (frontend_step.step_of (frontend_of w) a.answer).bus; back = w.back; keys = a.under.keys })
+front_goes w a fit whole j e =
+    let served = closing_unoccupied w fit whole in
+    reach (is_unoccupied w.rings.front) (negotiation_of w) _ served (later_served w (is_unoccupied w.rings.front) served fit.front) (front_moves w a fit whole e) j

@@ -1,219 +1,210 @@
--- As long as the ring isn't mapped the machine's negotiation is a run of its own; and the back maps nothing before the front's ring and port are made.
-use Rattle.std.proofs.Common.{inl, inr, ◌≡◌, ◌≢◌, ◌∙◌, ap, sym, subst, ℕ, ◌≤◌, Bool, true, false, true≢false, [], ◌∷◌, refl, arith, if◌then◌else◌}
-use Rattle.std.specs.Prelude.{Option, Some, None, Result, Ok, Err}
-use Rattle.blk_base.specs.declared.parts.End.TheVariants as end
-use Rattle.blk_base.specs.declared.parts.Mode.{Mode}
-use Rattle.blk_base.specs.declared.moves.BackMover.TheVariants as back_mover
-use Rattle.blk_base.specs.declared.ask.BackAsk.{BackAsk}
-use Rattle.blk_base.specs.declared.ask.BackAsk.TheVariants as back_ask
-use Rattle.grant_table.specs.declared.entry.MapRefusal.{MapRefusal}
-use Rattle.grant_table.specs.Table.{verdict_at}
-use Rattle.event_channel.specs.declared.channels.PortState.{PortState}
-use Rattle.event_channel.specs.declared.channels.PortState.TheVariants as port
-use Rattle.event_channel.specs.Channels.{state_of}
-use Rattle.key_directory.specs.Directory.{Directory}
-use Rattle.hypervisor.specs.Hypervisor.{Hypervisor}
-use Rattle.hypervisor.specs.Act.{FrontAct, BackAct, Outcome, Gave, Took, Failed, back_act, map_act, bind_act}
+-- What the run of the negotiation says of the machine at a moment: of its maps, of the states that the front enters, and of the back's halts.
+use Rattle.std.proofs.Common.{inl, inr, ◌≡◌, ◌∙◌, ap, sym, subst, ℕ, ◌^◌, ◌<◌, Bool, true, false, true≢false, List, [], ◌∷◌, ◌++◌, length, refl, arith, if◌then◌else◌}
+use Rattle.std.specs.Prelude.{Option, Some, None, IsSome, is_some}
+use Rattle.std.specs.List.{AllByRecursion}
+use Rattle.blk_base.specs.declared.parts.Mapping.{Mapping}
+use Rattle.blk_base.specs.declared.ask.FrontAnswer.{FrontAnswer}
+use Rattle.hypervisor.specs.Act.{FrontAct, front_act}
 use Rattle.blk_front.specs.declared.stage.Stage.{Stage as FrontRing}
 use Rattle.blk_front.specs.declared.stage.Stage.TheVariants as front_ring
-use Rattle.blk_front.specs.Submit.{is_connected}
-use Rattle.blk_back.specs.declared.stage.Stage.TheVariants as ring
-use Rattle.xenbus_state.specs.States.{state_number}
+use Rattle.blk_front.specs.declared.state.FrontState.{FrontState}
+use Rattle.blk_front.specs.declared.state.FrontState.TheVariants as entered
+use Rattle.blk_front.specs.Submit.{is_connected, is_ready}
+use Rattle.blk_front.specs.State.{is_made}
+use Rattle.xenbus_state.specs.Values.{ring_gref}
 use Rattle.xenbus_state.specs.declared.state.BusState.{BusState}
 use Rattle.xenbus_state.specs.declared.state.BusState.TheVariants as state
 use Rattle.xenbus_state.specs.declared.stage.FrontStage.{FrontStage}
 use Rattle.xenbus_state.specs.declared.stage.FrontStage.TheVariants as bus
-use Rattle.xenbus_state.specs.declared.front.FrontBusAsk.{FrontBusAsk}
-use Rattle.xenbus_state.specs.declared.front.FrontBusAsk.TheVariants as front_ask
-use Rattle.xenbus_state.specs.declared.back.BackBusAsk.TheVariants as bus_ask
 use Rattle.xenbus_state.specs.declared.stage.BackStage.{BackStage}
 use Rattle.xenbus_state.specs.declared.stage.BackStage.TheVariants as back_bus
+use Rattle.xenbus_state.specs.declared.front.FrontBusAsk.{FrontBusAsk}
+use Rattle.xenbus_state.specs.declared.front.FrontBusAsk.TheVariants as front_ask
+use Rattle.xenbus_state.specs.declared.front.FrontNews.{FrontNews}
+use Rattle.xenbus_state.specs.declared.front.FrontNews.TheVariants as news
+use Rattle.xenbus_state.specs.declared.back.BackBusAsk.TheVariants as bus_ask
 use Rattle.xenbus_state.specs.Tables.{is_connected as bus_connected}
-use Rattle.xenbus_state.specs.FrontAsk.{ask_of as front_asks}
-use Rattle.xenbus_state.specs.BackView.{is_halting}
-use Rattle.xenbus_state.specs.BackAsk.{ask_of}
-use Rattle.xenbus_state.specs.FrontView.{is_broken}
-use Rattle.split_model.specs.World as rings
-use Rattle.split_model.specs.Happening as ring_happening
-use Rattle.split_model.specs.Happening.{job_after, job_turn, front_after, front_turn, back_after, back_turn, overwritten}
-use Rattle.split_model.proofs.Overwriting.{poke_cases}
+use Rattle.xenbus_state.specs.FrontView.{FrontView, pages_of}
+use Rattle.xenbus_state.specs.FrontAsk as front_asks
+use Rattle.xenbus_state.specs.FrontStep.{news_of}
+use Rattle.xenbus_state.specs.BackView.{BackView}
+use Rattle.xenbus_state.specs.BackAsk.{says_closing, unmap_ask, ask_at, ask_of}
 use Rattle.negotiation_laws.specs.Negotiation.{Negotiation}
-use Rattle.negotiation_laws.specs.Happening as negotiated
+use Rattle.negotiation_laws.specs.Laws.{grefs_of, IsLeaving, IsHalted}
 use Rattle.negotiation_laws.proofs.Granting.{maps_after_grants, connects_to_connected}
-use Rattle.negotiation_laws.proofs.Found.{connected_after as connected_late}
+use Rattle.negotiation_laws.proofs.Found.{maps_by_terms}
+use Rattle.vbd_front.specs.View as front_view
 use Rattle.vbd_front.specs.Ask as front
+use Rattle.vbd_front.specs.Step as front_step
 use Rattle.vbd_model.specs.World.{World, frontend_of}
-use Rattle.vbd_model.specs.Happening.{Happening, FrontMoves, BackMoves, connecting, front_key, is_fronts_ring, happens}
-use Rattle.vbd_model.specs.Fit.{FrontRests, FrontGoesWith, BackRests, BackGoesWith, IsFit}
+use Rattle.vbd_model.specs.Happening.{front_turn}
+use Rattle.vbd_model.specs.Fit.{is_ending_ring, FrontRests, FrontGoesWith, IsFit}
 use Rattle.vbd_laws.proofs.ServedFront as fronts
-use Rattle.vbd_laws.proofs.ServedFront.{one_page}
-use Rattle.vbd_laws.proofs.NegotiatedRun.{Joined, joined_moves, joined_stays, open_now, unbroken_now, unhalting_now}
-use Rattle.vbd_laws.proofs.NegotiatedFront as front_moves
-use Rattle.vbd_laws.proofs.NegotiatedBack as back_moves
+use Rattle.vbd_laws.proofs.ServedFront.{IsNewsAt, news_is, one_page}
+use Rattle.vbd_laws.proofs.NegotiatedRun.{Reached, Joined, negotiation_of, breaks_at, leaves_at}
+use Rattle.vbd_laws.proofs.NegotiatedFront.{front_goes, Told, keys_told, closing_unoccupied}
 
--- from its state Initialised on the front's ring and port are made
-initialised : (r : FrontRing) → r ≡ front_ring.Initialised → is_connected r ≡ true
-initialised r e = ap is_connected e
+-- a ring that passed a test which none fails to pass that is being made is made
+connected_by : (test : FrontRing → Bool) → ((k : ℕ) → test (front_ring.RingWord k) ≡ false) → test front_ring.RingFrame ≡ false → test front_ring.RingFence ≡ false → test front_ring.RingFlags ≡ false → test front_ring.NewPort ≡ false
+    → (r : FrontRing) → test r ≡ true → is_connected r ≡ true
+connected_by test words frame fence flags port (front_ring.RingWord k) is = absurd (true≢false (sym is ∙ words k))
+connected_by test words frame fence flags port front_ring.RingFrame is = absurd (true≢false (sym is ∙ frame))
+connected_by test words frame fence flags port front_ring.RingFence is = absurd (true≢false (sym is ∙ fence))
+connected_by test words frame fence flags port front_ring.RingFlags is = absurd (true≢false (sym is ∙ flags))
+connected_by test words frame fence flags port front_ring.NewPort is = absurd (true≢false (sym is ∙ port))
+connected_by test words frame fence flags port r is = refl
 
-rests_made : (s : BusState) (r : FrontRing) → FrontRests s r → 3 ≤ state_number s → is_connected r ≡ true
-rests_made state.Initialising r fits late = absurd (omega arith)
-rests_made state.Initialised r fits late = initialised r fits
-rests_made state.Connected r fits late = fits.0
-rests_made s r fits late = absurd fits
+broken_connected : (r : FrontRing) → front_view.is_broken r ≡ true → is_connected r ≡ true
+broken_connected r is = connected_by front_view.is_broken (λ k. refl) refl refl refl refl r is
 
-early : (s : BusState) → s ≡ state.Initialising → 3 ≤ state_number s → ⊥
-early s e late = let same : state_number s ≡ 1 = ap state_number e in omega arith
+unported : {A : Type 0} (port : Option ℕ) → port ≡ None → IsSome port → A
+unported port none some = absurd (true≢false (sym some ∙ ap is_some none))
 
-ring_made : (b : FrontStage) (s : BusState) (r : FrontRing) → FrontGoesWith b s r → is_broken b ≡ false → 3 ≤ state_number s → is_connected r ≡ true
-ring_made bus.Start s r fits whole late = absurd (early s fits.0 late)
-ring_made bus.Rest s r fits whole late = rests_made s r fits late
-ring_made bus.ReadState s r fits whole late = rests_made s r fits late
-ring_made (bus.ReadFeature key) s r fits whole late = absurd (early s fits.0 late)
-ring_made (bus.RingWord word) s r fits whole late = absurd (early s fits.0 late)
-ring_made (bus.Grant page) s r fits whole late = absurd (early s fits.0 late)
-ring_made bus.NewPort s r fits whole late = absurd (early s fits.0 late)
-ring_made (bus.Publish key) s r fits whole late = absurd (early s fits.0 late)
-ring_made (bus.ReadFact key) s r fits whole late = initialised r fits.1
-ring_made (bus.WriteState state.Initialised) s r fits whole late = initialised r fits.1
-ring_made (bus.WriteState state.Connected) s r fits whole late = initialised r fits.1
-ring_made (bus.WriteState n) s r fits whole late = absurd fits
-ring_made (bus.Broken word) s r fits whole late = absurd (true≢false whole)
-ring_made b s r fits whole late = absurd fits
+-- a front with a port has made its ring
+port_rests : (own : BusState) (gone : Bool) (port : Option ℕ) (r : FrontRing) → FrontRests own gone port r → IsSome port → is_connected r ≡ true
+port_rests state.Initialising gone port r fits some = unported port fits.1 some
+port_rests state.Initialised gone port r fits some = ap is_connected fits.0
+port_rests state.Connected gone port r fits some = connected_by is_ready (λ k. refl) refl refl refl refl r fits.0
+port_rests state.Closing false None r fits some = absurd (true≢false (sym some))
+port_rests state.Closing false (Some p) r fits some = connected_by is_made (λ k. refl) refl refl refl refl r fits
+port_rests state.Closing true (Some p) r fits some = connected_by is_ending_ring (λ k. refl) refl refl refl refl r fits
+port_rests state.Closing true None r fits some = absurd fits
+port_rests own gone port r fits some = absurd fits
 
--- so they are when the back maps
-pub made_at_map : (w : World) (gref : ℕ) → IsFit w → Joined w → ask_of w.back ≡ bus_ask.Map gref → is_connected w.rings.front.stage ≡ true
-made_at_map w gref fit j asks =
-    let maps = maps_after_grants j.run gref (subst (λ (n : Negotiation). ask_of n.back ≡ bus_ask.Map gref) (sym j.stands) asks) in
-    ring_made w.front.stage w.front.state w.rings.front.stage fit.front (unbroken_now w j) (subst (λ (n : Negotiation). 3 ≤ state_number n.front.state) j.stands maps.after)
+port_connected : (s : FrontStage) (v : FrontView) (r : FrontRing) → FrontGoesWith s v r → IsSome v.port → is_connected r ≡ true
+port_connected bus.Start v r fits some = unported v.port fits.2 some
+port_connected bus.Rest v r (inl fits) some = port_rests v.state v.gone v.port r fits some
+port_connected bus.Rest v r (inr broken) some = broken_connected r broken
+port_connected bus.ReadState v r fits some = port_rests v.state v.gone v.port r fits some
+port_connected (bus.ReadFeature key) v r fits some = unported v.port fits.2 some
+port_connected (bus.RingWord word) v r fits some = unported v.port fits.3 some
+port_connected (bus.Grant page) v r fits some = unported v.port fits.3 some
+port_connected bus.NewPort v r fits some = unported v.port fits.2 some
+port_connected (bus.Publish key) v r fits some = ap is_connected fits.1
+port_connected (bus.ReadFact key) v r fits some = ap is_connected fits.1
+port_connected (bus.WriteState state.Initialised) v r fits some = ap is_connected fits.1
+port_connected (bus.WriteState state.Connected) v r fits some = ap is_connected fits.1
+port_connected (bus.WriteState state.Closed) v r fits some = unported v.port fits.2 some
+port_connected (bus.WriteState own) v r fits some = absurd fits
+port_connected bus.ClosePort v r fits some = ap is_connected fits.1
+port_connected bus.Closed v r fits some = ap is_connected fits.1
+port_connected (bus.Broken word) v r fits some = broken_connected r fits
+port_connected s v r fits some = absurd fits
 
--- what an act of a job leaves
-abbrev pub Leaves : Directory → Option BackAct → Type 0
-Leaves keys None = Unit {0}
-Leaves keys (Some a) = a.under.keys ≡ keys
+-- what the back maps and binds
+unmap_not : (pages : List Mapping) (gref : ℕ) → unmap_ask pages ≡ bus_ask.Map gref → ⊥
+unmap_not [] gref e = absurd (cc)
+unmap_not (page ∷ pages) gref e = absurd (cc)
 
-map_leaves : (h : Hypervisor) (k gref : ℕ) (mode : Mode) (verdict : Result ℕ MapRefusal) → Leaves h.keys (Some (map_act h (back_mover.Job k) gref mode verdict))
-map_leaves h k gref mode (Ok frame) = refl
-map_leaves h k gref mode (Err refusal) = refl
+maps_at : (s : BackStage) (v : BackView) (gref : ℕ) → ask_at s v ≡ bus_ask.Map gref → s ≡ back_bus.MapPage
+maps_at back_bus.MapPage v gref e = refl
+maps_at back_bus.UnmapPage v gref e = absurd (unmap_not v.pages gref e)
+maps_at back_bus.Watch v gref e = absurd (cc)
+maps_at s v gref e = absurd (cc)
 
-bind_leaves : (h : Hypervisor) (p : ℕ) (s : PortState) → Leaves h.keys (Some (bind_act h p s))
-bind_leaves h p port.Unbound = refl
-bind_leaves h p s = refl
-
-pub job_leaves : (h : Hypervisor) (k : ℕ) (ask : BackAsk) (o : Outcome) → Leaves h.keys (back_act h (back_mover.Job k) ask o)
-job_leaves h k back_ask.Wait o = tt
-job_leaves h k (back_ask.Map gref mode) o = map_leaves h k gref mode (verdict_at h.pages gref mode)
-job_leaves h k (back_ask.Bind p) o = bind_leaves h p (state_of h.channels p)
-job_leaves h k (back_ask.GetKey path) o = tt
-job_leaves h k (back_ask.SetKey path text) o = tt
-job_leaves h k (back_ask.Watch path) o = tt
-job_leaves h k (back_ask.DiskRead sector) (Gave words) = refl
-job_leaves h k (back_ask.DiskRead sector) Took = tt
-job_leaves h k (back_ask.DiskRead sector) Failed = refl
-job_leaves h k (back_ask.DiskWrite sector words) (Gave w) = tt
-job_leaves h k (back_ask.DiskWrite sector words) Took = refl
-job_leaves h k (back_ask.DiskWrite sector words) Failed = refl
-job_leaves h k back_ask.Flush (Gave w) = tt
-job_leaves h k back_ask.Flush Took = refl
-job_leaves h k back_ask.Flush Failed = refl
-job_leaves h k (back_ask.Trim sector count) (Gave w) = tt
-job_leaves h k (back_ask.Trim sector count) Took = refl
-job_leaves h k (back_ask.Trim sector count) Failed = refl
-job_leaves h k ask o = refl
-
--- the keys and the back's stage stay
-abbrev pub Stays : rings.World → rings.World → Type 0
-Stays v w = (v.under.keys ≡ w.under.keys) × (v.back.stage ≡ w.back.stage)
-
-pub job_stays : (w : rings.World) (k : ℕ) (act : Option BackAct) → Leaves w.under.keys act → Stays (job_after w k act) w
-job_stays w k None leaves = (refl, refl)
-job_stays w k (Some a) leaves = (leaves, refl)
-
--- the back's end is left as it was by the front
-moved_back : (w : rings.World) (act : Option FrontAct) → (let v : rings.World = front_after w act in v.back ≡ w.back)
-moved_back w None = refl
-moved_back w (Some a) = refl
-
-connecting_back : (a : FrontBusAsk) (w : rings.World) → (let v : rings.World = ring_happening.after (connecting a) w in v.back ≡ w.back)
-connecting_back (front_ask.SetState state.Connected) w = refl
-connecting_back (front_ask.SetState s) w = refl
-connecting_back a w = refl
-
-pub front_back : (w : World) → (let v : World = happens w FrontMoves in v.rings.back ≡ w.rings.back)
-front_back w = by_test (is_fronts_ring w)
+pub asks_map : (v : BackView) (gref : ℕ) → ask_of v ≡ bus_ask.Map gref → v.stage ≡ back_bus.MapPage
+asks_map v gref e = by_test (says_closing v) e
   where
-    a : FrontBusAsk
-    a = front.bus_ask_of (frontend_of w)
+    by_test : (b : Bool) → (if b then bus_ask.SetState state.Closing else ask_at v.stage v) ≡ bus_ask.Map gref → v.stage ≡ back_bus.MapPage
+    by_test true e = absurd (cc)
+    by_test false e = maps_at v.stage v gref e
 
-    by_test : (b : Bool)
-        → (let v : rings.World = ring_happening.after (if b then ring_happening.FrontMoves ∷ [] else ring_happening.Negotiates end.Front (front_key a) ∷ connecting a) w.rings in v.back ≡ w.rings.back)
-    by_test true = moved_back w.rings (front_turn w.rings)
-    by_test false = connecting_back a (ring_happening.happens w.rings (ring_happening.Negotiates end.Front (front_key a)))
+unbinds : (pages : List Mapping) (port : ℕ) → unmap_ask pages ≡ bus_ask.Bind port → ⊥
+unbinds [] port e = absurd (cc)
+unbinds (page ∷ pages) port e = absurd (cc)
 
--- before it has mapped the ring the back isn't connected
-rests_early : (b : BusState) → BackRests b ring.MapRing → state_number b ≤ 2
-rests_early state.InitWait fits = omega arith
-rests_early state.Connected fits = absurd (fits.0 refl)
-rests_early b fits = absurd fits
+binds_at : (s : BackStage) (v : BackView) (port : ℕ) → ask_at s v ≡ bus_ask.Bind port → (s ≡ back_bus.Bind) × (v.terms.port ≡ port)
+binds_at back_bus.Bind v port e = (refl, cc)
+binds_at back_bus.UnmapPage v port e = absurd (unbinds v.pages port e)
+binds_at back_bus.Watch v port e = absurd (cc)
+binds_at s v port e = absurd (cc)
 
-back_early : (s : BackStage) (b : BusState) → BackGoesWith s b ring.MapRing → is_halting s ≡ false → state_number b ≤ 2
-back_early (back_bus.Publish k) b fits halts = rw fits.0 (omega arith)
-back_early (back_bus.WriteState state.InitWait) b fits halts = rw fits.0 (omega arith)
-back_early (back_bus.WriteState state.Connected) b fits halts = rw fits.0 (omega arith)
-back_early (back_bus.WriteState s) b fits halts = absurd fits
-back_early back_bus.Watch b fits halts = rw fits.0 (omega arith)
-back_early back_bus.Rest b fits halts = rests_early b fits
-back_early back_bus.ReadState b fits halts = rests_early b fits.0
-back_early (back_bus.ReadKey k) b fits halts = rw fits.0 (omega arith)
-back_early back_bus.MapPage b fits halts = rw fits.0 (omega arith)
-back_early back_bus.Bind b fits halts = rw fits.0 (omega arith)
-back_early (back_bus.PublishFact k) b fits halts = rw fits.0 (omega arith)
-back_early back_bus.UnmapOthers b fits halts = absurd (true≢false halts)
-back_early s b fits halts = absurd fits
+pub asks_bind : (v : BackView) (port : ℕ) → ask_of v ≡ bus_ask.Bind port → (v.stage ≡ back_bus.Bind) × (v.terms.port ≡ port)
+asks_bind v port e = by_test (says_closing v) e
+  where
+    by_test : (b : Bool) → (if b then bus_ask.SetState state.Closing else ask_at v.stage v) ≡ bus_ask.Bind port → (v.stage ≡ back_bus.Bind) × (v.terms.port ≡ port)
+    by_test true e = absurd (cc)
+    by_test false e = binds_at v.stage v port e
 
-not_connected : (b : BusState) → state_number b ≤ 2 → bus_connected b ≡ true → ⊥
-not_connected state.Connected few e = omega arith
-not_connected state.Closing few e = omega arith
-not_connected b few e = true≢false (sym e)
+-- what the back finds as it maps: the reference of the ring's only page, and the front's port; and the front has made both
+pub record Finds (w : World) (gref : ℕ) : Type 0 where
+  pub first : gref ≡ 8
+  pub port : w.back.terms.port ≡ 1
+  pub pages : length w.back.grefs ≡ 1
+  pub made : is_connected w.rings.front.stage ≡ true
 
--- what happens before it has
-module _ (w : World) (fit : IsFit w) (j : Joined w) where
-  few_now : state_number w.back.state ≤ 2
-  few_now = back_early w.back.stage w.back.state (subst (BackGoesWith w.back.stage w.back.state) j.unmapped fit.back) (unhalting_now w j)
+only_gref : (n gref : ℕ) → n < 1 → gref ≡ ring_gref n → gref ≡ 8
+only_gref n gref few e = omega arith
 
-  early_now : w.front.state ≢ state.Connected
-  early_now e =
-      let late = subst (λ (n : Negotiation). n.front.state ≡ state.Connected → 4 ≤ state_number n.back.state) j.stands (connected_late j.run) e in
-      let few = few_now in
-      omega arith
+pub finds_now : (w : World) (gref : ℕ) → IsFit w → fronts.Speaks w.front → Joined w → ask_of w.back ≡ bus_ask.Map gref → Finds w gref
+finds_now w gref fit speaks j asks =
+    let before = subst (λ (n : Negotiation). ask_of n.back ≡ bus_ask.Map gref) (sym j.stands) asks in
+    let maps = maps_after_grants j.run gref before in
+    let terms = maps_by_terms j.run gref before in
+    let one : pages_of w.front ≡ 1 = ap (λ (n : ℕ). 2 ^ n) (one_page w.front fit.order) in
+    let few = subst (λ (n : Negotiation). length n.back.pages < pages_of n.front) j.stands maps.page in
+    let next = subst (λ (n : Negotiation). gref ≡ ring_gref (length n.back.pages)) j.stands maps.next in
+    let port = subst (λ (n : Negotiation). n.front.port ≡ Some n.back.terms.port) j.stands maps.port in
+    let grefs = subst (λ (n : Negotiation). n.back.grefs ≡ grefs_of (pages_of n.front)) j.stands terms.1 in
+    record {
+      first = only_gref (length w.back.pages) gref (subst (λ (n : ℕ). length w.back.pages < n) one few) next;
+      port = subst fronts.IsFirstPort port speaks.port;
+      pages = ap length (grefs ∙ ap grefs_of one);
+      made = port_connected w.front.stage w.front w.rings.front.stage fit.front (subst (λ (p : Option ℕ). IsSome p) (sym port) refl);
+    }
 
-  connects_not : front_asks w.front false ≡ front_ask.SetState state.Connected → ⊥
-  connects_not e =
-      let connected = connects_to_connected j.run false (subst (λ (n : Negotiation). front_asks n.front false ≡ front_ask.SetState state.Connected) (sym j.stands) e) in
-      not_connected w.back.state few_now (subst (λ (n : Negotiation). bus_connected n.back.state ≡ true) j.stands connected.0)
+-- when the front's end of the ring enters a state: it is connected to a connected back, and leaves and is closed after the back; it is never broken
+abbrev pub IsTimely : World → FrontState → Type 0
+IsTimely w entered.Connected = bus_connected w.back.state ≡ true
+IsTimely w entered.Closing = Unit {0}
+IsTimely w entered.Leaving = IsHalted w.back
+IsTimely w entered.Closed = IsHalted w.back
+IsTimely w (entered.Broken word) = ⊥
 
-  pub front_joined : fronts.Speaks w.front → Joined (happens w FrontMoves)
-  front_joined speaks = by_follows (front_moves.front_follows w fit (open_now w j).front (unbroken_now w j) speaks.stage early_now connects_not)
-    where
-      still : (let v : World = happens w FrontMoves in v.rings.back.stage ≡ ring.MapRing)
-      still = subst (λ b. b.stage ≡ ring.MapRing) (sym (front_back w)) j.unmapped
+connects_at : (n : Negotiation) (idle : Bool) → Reached n → front_asks.ask_of n.front idle ≡ front_ask.SetState state.Connected → bus_connected n.back.state ≡ true
+connects_at n idle j e =
+    let connected = connects_to_connected j.run idle (subst (λ (m : Negotiation). front_asks.ask_of m.front idle ≡ front_ask.SetState state.Connected) (sym j.stands) e) in
+    subst (λ (m : Negotiation). bus_connected m.back.state ≡ true) j.stands connected.0
 
-      by_follows : front_moves.Follows w → Joined (happens w FrontMoves)
-      by_follows (inl same) = joined_stays w (happens w FrontMoves) j same still
-      by_follows (inr (port, fits, goes)) = joined_moves w (happens w FrontMoves) (negotiated.FrontMoves false port) j fits goes still
+both_all : {A : Type 0} (P : A → Type 0) (xs ys : List A) → AllByRecursion P xs → AllByRecursion P ys → AllByRecursion P (xs ++ ys)
+both_all P [] ys p q = q
+both_all P (x ∷ xs) ys p q = (p.0, both_all P xs ys p.1 q)
 
-  pub back_joined : ((gref : ℕ) → ask_of w.back ≡ bus_ask.Map gref → ⊥) → Joined (happens w BackMoves)
-  back_joined maps =
-      let follows = back_moves.back_follows w fit j.unmapped (open_now w j).back (unhalting_now w j) maps in
-      joined_moves w (happens w BackMoves) (negotiated.BackMoves back_moves.a_page) j tt follows.goes follows.unmapped
+module _ (w : World) (a : FrontAct) (fit : IsFit w) (whole : front_view.is_broken w.rings.front.stage ≡ false) (j : Joined w) (turn : front_turn w ≡ Some a) (says : front.speaks (front.bus_ask_of (frontend_of w)) ≡ true) where
+  abbrev idle : Bool
+  idle = front_view.is_unoccupied w.rings.front
 
--- where the keys and the back's stage stay
-pub rest_joined : (w : World) (h : Happening) → Joined w → (let v : World = happens w h in (v.front ≡ w.front) × (v.back ≡ w.back) × Stays v.rings w.rings) → Joined (happens w h)
-rest_joined w h j same =
-    let v : World = happens w h in
-    joined_stays w v j
-    (ap (λ f. record { front = f; back = v.back; keys = v.rings.under.keys }) same.0 ∙ ap (λ b. record { front = w.front; back = b; keys = v.rings.under.keys }) same.1
-    ∙ ap (λ (d : Directory). record { front = w.front; back = w.back; keys = d }) same.2.0)
-    (same.2.1 ∙ j.unmapped)
+  abbrev b : FrontBusAsk
+  b = front.bus_ask_of (frontend_of w)
 
-pub poke_keys : (h : Hypervisor) (frame word value : ℕ) → (let x : Hypervisor = overwritten h frame word value in x.keys ≡ h.keys)
-poke_keys h frame word value = poke_cases (λ x shown. x.keys ≡ h.keys) h frame word value (λ framed worded. refl) refl
+  told : Told b 0 w.rings.under.keys a
+  told = keys_told b w.rings.under a says (subst (λ (s : Bool). front_act w.rings.under (if s then front.key_ask b else front.ring_ask (front.ring_moves b w.rings.front.stage) (frontend_of w)) ≡ Some a) says turn)
+
+  breaks_not : (word : ℕ) → news_of w.front idle a.answer ≡ Some (news.Broken word) → ⊥
+  breaks_not word e =
+      let breaks = breaks_at (negotiation_of w) idle 0 word j (subst (λ (x : FrontAnswer). news_of w.front idle x ≡ Some (news.Broken word)) told.answer e) in
+      true≢false (sym (closing_unoccupied w fit whole breaks.1) ∙ breaks.0)
+
+  news_timely : (n : Option FrontNews) → news_of w.front idle a.answer ≡ n → IsNewsAt (front_asks.due w.front idle) n → AllByRecursion (IsTimely w) (front_step.states_of_news n)
+  news_timely None e is = tt
+  news_timely (Some news.Ready) e is = (connects_at (negotiation_of w) idle j (ap (λ (s : FrontStage). front_asks.ask_at s w.front) is), tt)
+  news_timely (Some news.Closing) e is = (tt, tt)
+  news_timely (Some news.Closed) e is = (leaves_at (negotiation_of w) idle j (subst IsLeaving (sym (ap (λ (s : FrontStage). front_asks.ask_at s w.front) is)) tt), tt)
+  news_timely (Some (news.Broken word)) e is = absurd (breaks_not word e)
+
+  abbrev after : FrontView
+  after = front_step.bus_after (frontend_of w) a.answer
+
+  reached : Reached (record { front = after; back = w.back; keys = a.under.keys })
+  reached =
+      subst (λ (s : Bool). Reached (record { front = (if s then front_step.spoken (frontend_of w) a.answer else front_step.ring_step (front.ring_moves b w.rings.front.stage) b (frontend_of w) a.answer).bus; back = w.back; keys = a.under.keys })) says
+      (front_goes w a fit whole j turn)
+
+  due_timely : (c : FrontBusAsk) → front_asks.ask_of after idle ≡ c → AllByRecursion (IsTimely w) (front_step.states_due c)
+  due_timely (front_ask.EndGrant page) e = (leaves_at (record { front = after; back = w.back; keys = a.under.keys }) idle reached (subst IsLeaving (sym e) tt), tt)
+  due_timely c e = tt
+
+  pub states_timely : AllByRecursion (IsTimely w) (front_step.states_after (frontend_of w) a.answer)
+  states_timely =
+      both_all (IsTimely w) (front_step.states_of_news (news_of w.front idle a.answer)) (front_step.states_due (front_asks.ask_of after idle))
+      (news_timely (news_of w.front idle a.answer) refl (news_is w.front idle a.answer)) (due_timely (front_asks.ask_of after idle) refl)

@@ -1,19 +1,24 @@
 -- The negotiation of the machine, as a run of it so far.
-use Rattle.std.proofs.Common.{◌≡◌, ◌∙◌, ap, sym, subst, ℕ, ◌^◌, ◌<◌, ◌≤◌, ◌||◌, Bool, true, false, true≢false, List, [], ◌∷◌, ◌++◌, refl, arith}
-use Rattle.std.specs.List.{list_any}
+use Rattle.std.proofs.Common.{◌≡◌, ◌∙◌, ap, sym, subst, ℕ, ◌≤◌, Bool, true, false, List, [], ◌∷◌, ◌++◌, refl}
+use Rattle.std.specs.Prelude.{Some}
+use Rattle.blk_base.specs.declared.parts.Mapping.{Mapping}
 use Rattle.xenbus_state.specs.States.{state_number}
-use Rattle.xenbus_state.specs.declared.state.BusState.{BusState}
 use Rattle.xenbus_state.specs.declared.state.BusState.TheVariants as state
+use Rattle.xenbus_state.specs.declared.table.BackHalt.{BackHalt}
 use Rattle.xenbus_state.specs.FrontView.{is_broken}
+use Rattle.xenbus_state.specs.FrontAsk as front
 use Rattle.xenbus_state.specs.BackView.{is_halting}
-use Rattle.blk_back.specs.declared.stage.Stage.TheVariants as ring
-use Rattle.negotiation_laws.specs.Negotiation.{Negotiation}
-use Rattle.negotiation_laws.specs.Happening.{Happening, FrontMoves, BackMoves, FrontCloses, BackCloses, happened, after, IsServed, AreServed}
+use Rattle.xenbus_state.specs.BackAsk as back
+use Rattle.xenbus_state.specs.BackStep.{halt_of}
+use Rattle.xenbus_state.specs.FrontStep.{news_of}
+use Rattle.xenbus_state.specs.declared.front.FrontNews.TheVariants as news
+use Rattle.negotiation_laws.specs.Negotiation.{Negotiation, front_answered, back_answered}
+use Rattle.negotiation_laws.specs.Happening.{Happening, happened, after, IsServed, AreServed}
 use Rattle.negotiation_laws.specs.Within.{HasPort, HavePorts}
 use Rattle.negotiation_laws.specs.Run.{NegotiationRun, now, begins, IsServedRun}
-use Rattle.negotiation_laws.specs.Laws.{closes, IsOpen}
-use Rattle.negotiation_laws.proofs.Open.{only_a_close}
-use Rattle.negotiation_laws.proofs.Unbroken.{never_broken}
+use Rattle.negotiation_laws.specs.Laws.{IsLeaving, IsHalted, gone_halt}
+use Rattle.negotiation_laws.proofs.Unbroken.{never_broken, halts_as_gone, breaks_only_unserved}
+use Rattle.negotiation_laws.proofs.Leaving.{leaves_after}
 use Rattle.negotiation_laws.proofs.Holds.{holds}
 use Rattle.vbd_model.specs.World.{World}
 
@@ -21,14 +26,14 @@ use Rattle.vbd_model.specs.World.{World}
 abbrev pub negotiation_of : World → Negotiation
 negotiation_of w = record { front = w.front; back = w.back; keys = w.rings.under.keys }
 
--- it came from its beginning, with no close and at no moment with a closing front; and the ring isn't mapped yet
-pub record Joined (w : World) : Type 0 where
+-- it came from its beginning, and at no moment had a front that wrote Closing a request left
+pub record Reached (n : Negotiation) : Type 0 where
   pub run : NegotiationRun
-  pub begun : run.front.closing ≡ false
-  pub unclosed : list_any closes run.happenings ≡ false
   pub served : IsServedRun run
-  pub stands : now run ≡ negotiation_of w
-  pub unmapped : w.rings.back.stage ≡ ring.MapRing
+  pub stands : now run ≡ n
+
+abbrev pub Joined : World → Type 0
+Joined w = Reached (negotiation_of w)
 
 -- one happening more
 after_one : (hs : List Happening) (h : Happening) (n : Negotiation) → after (hs ++ h ∷ []) n ≡ happened h (after hs n)
@@ -43,78 +48,49 @@ served_one : (hs : List Happening) (h : Happening) (n : Negotiation) → AreServ
 served_one [] h n are is = (is, tt)
 served_one (x ∷ hs) h n are is = (are.0, served_one hs h (happened x n) are.1 is)
 
-neither : (a b c : Bool) → (a || b) ≡ false → (b ≡ false → c ≡ false) → (a || c) ≡ false
-neither false b c e f = f e
-neither true b c e f = absurd (true≢false e)
-
-unclosed_one : (hs : List Happening) (h : Happening) → list_any closes hs ≡ false → closes h ≡ false → list_any closes (hs ++ h ∷ []) ≡ false
-unclosed_one [] h e f = neither (closes h) false false (neither (closes h) (closes h) false (by_same (closes h) f) (λ g. refl)) (λ g. refl)
-  where
-    by_same : (b : Bool) → b ≡ false → (b || b) ≡ false
-    by_same false g = refl
-    by_same true g = absurd (true≢false g)
-unclosed_one (x ∷ hs) h e f = neither (closes x) (list_any closes hs) (list_any closes (hs ++ h ∷ [])) e (λ g. unclosed_one hs h g f)
-
--- neither end closes
-pub open_now : (w : World) → Joined w → IsOpen (negotiation_of w)
-open_now w j = subst IsOpen j.stands (only_a_close j.run j.begun j.unclosed)
-
--- nor is the front broken
-pub unbroken_now : (w : World) → Joined w → is_broken w.front.stage ≡ false
-unbroken_now w j = subst (λ (n : Negotiation). is_broken n.front.stage ≡ false) j.stands (never_broken j.run j.served)
-
--- nor does the back halt
-few : (b : Bool) (n : ℕ) → (b ≡ true → 5 ≤ n) → n ≤ 4 → b ≡ false
-few false n late low = refl
-few true n late low = absurd (let five = late refl in omega arith)
-
-pub unhalting_now : (w : World) → Joined w → is_halting w.back.stage ≡ false
-unhalting_now w j =
-    let r = j.run in
-    let kept = holds r.front r.offer r.facts r.happenings r.within r.ports in
-    let o = only_a_close r j.begun j.unclosed in
-    subst (λ (n : Negotiation). is_halting n.back.stage ≡ false) j.stands (few (is_halting (now r).back.stage) (state_number (now r).front.state) kept.back.halting_after o.front_state)
-
--- a happening of neither end's close
-abbrev pub IsMove : Happening → Type 0
-IsMove (FrontMoves idle port) = port < 2 ^ 32
-IsMove (BackMoves page) = Unit {0}
-IsMove h = ⊥
-
-move_ports : (h : Happening) → IsMove h → HasPort h
-move_ports (FrontMoves idle port) is = is
-move_ports (BackMoves page) is = tt
-move_ports FrontCloses is = absurd is
-move_ports BackCloses is = absurd is
-
-move_closes : (h : Happening) → IsMove h → closes h ≡ false
-move_closes (FrontMoves idle port) is = refl
-move_closes (BackMoves page) is = refl
-move_closes FrontCloses is = absurd is
-move_closes BackCloses is = absurd is
-
-below_closing : (own : BusState) → state_number own ≤ 4 → own ≡ state.Closing → ⊥
-below_closing own low e = let same : state_number own ≡ 5 = ap state_number e in omega arith
-
-move_served : (h : Happening) (n : Negotiation) → IsMove h → IsOpen n → IsServed h n
-move_served (FrontMoves idle port) n is o = λ e. absurd (below_closing n.front.state o.front_state e)
-move_served (BackMoves page) n is o = tt
-move_served FrontCloses n is o = absurd is
-move_served BackCloses n is o = absurd is
-
--- the negotiation goes on by a move
-pub joined_moves : (w v : World) (h : Happening) → Joined w → IsMove h → negotiation_of v ≡ happened h (negotiation_of w) → v.rings.back.stage ≡ ring.MapRing → Joined v
-joined_moves w v h j is goes still =
+pub reached_one : (n : Negotiation) (h : Happening) → HasPort h → IsServed h n → Reached n → Reached (happened h n)
+reached_one n h port served j =
     let r = j.run in
     record {
-      run = record { front = r.front; offer = r.offer; facts = r.facts; happenings = r.happenings ++ h ∷ []; within = r.within; ports = ports_one r.happenings h r.ports (move_ports h is) };
-      begun = j.begun;
-      unclosed = unclosed_one r.happenings h j.unclosed (move_closes h is);
-      served = served_one r.happenings h (begins r) j.served (move_served h (now r) is (only_a_close r j.begun j.unclosed));
-      stands = after_one r.happenings h (begins r) ∙ ap (happened h) j.stands ∙ sym goes;
-      unmapped = still;
+      run = record { front = r.front; offer = r.offer; facts = r.facts; happenings = r.happenings ++ h ∷ []; within = r.within; ports = ports_one r.happenings h r.ports port };
+      served = served_one r.happenings h (begins r) j.served (subst (IsServed h) (sym j.stands) served);
+      stands = after_one r.happenings h (begins r) ∙ ap (happened h) j.stands;
     }
 
--- or stays as it is
-pub joined_stays : (w v : World) → Joined w → negotiation_of v ≡ negotiation_of w → v.rings.back.stage ≡ ring.MapRing → Joined v
-joined_stays w v j same still = record { run = j.run; begun = j.begun; unclosed = j.unclosed; served = j.served; stands = j.stands ∙ sym same; unmapped = still }
+-- what is the same was reached too
+pub reached_as : (n m : Negotiation) → m ≡ n → Reached n → Reached m
+reached_as n m same j = subst Reached (sym same) j
+
+-- the front isn't broken, and it reads nothing that breaks it unless a request is left
+pub unbroken_at : (n : Negotiation) → Reached n → is_broken n.front.stage ≡ false
+unbroken_at n j = subst (λ (m : Negotiation). is_broken m.front.stage ≡ false) j.stands (never_broken j.run j.served)
+
+abbrev BreaksBusy : (idle : Bool) (port word : ℕ) → Negotiation → Type 0
+BreaksBusy idle port word m = news_of m.front idle (front_answered (front.ask_of m.front idle) port m.keys) ≡ Some (news.Broken word) → (idle ≡ false) × (m.front.state ≡ state.Closing)
+
+pub breaks_at : (n : Negotiation) (idle : Bool) (port word : ℕ) → Reached n → news_of n.front idle (front_answered (front.ask_of n.front idle) port n.keys) ≡ Some (news.Broken word) → (idle ≡ false) × (n.front.state ≡ state.Closing)
+breaks_at n idle port word j = subst (BreaksBusy idle port word) j.stands (λ e. let breaks = breaks_only_unserved j.run idle port word e in (breaks.1, breaks.2))
+
+-- it leaves only a back that has halted and is closed
+abbrev LeavesHalted : (idle : Bool) → Negotiation → Type 0
+LeavesHalted idle m = IsLeaving (front.ask_of m.front idle) → IsHalted m.back
+
+pub leaves_at : (n : Negotiation) (idle : Bool) → Reached n → IsLeaving (front.ask_of n.front idle) → IsHalted n.back
+leaves_at n idle j = subst (LeavesHalted idle) j.stands (leaves_after j.run idle)
+
+-- the back halts only as the front wrote Closing, and after it did
+abbrev HaltsGone : Mapping → BackHalt → Negotiation → Type 0
+HaltsGone page reason m = halt_of m.back (back_answered (back.ask_of m.back) page m.keys) ≡ Some reason → (m.front.state ≡ state.Closing) × (reason ≡ gone_halt m.back.unplugged state.Closing)
+
+pub halts_at : (n : Negotiation) (page : Mapping) (reason : BackHalt) → Reached n → halt_of n.back (back_answered (back.ask_of n.back) page n.keys) ≡ Some reason
+    → (n.front.state ≡ state.Closing) × (reason ≡ gone_halt n.back.unplugged state.Closing)
+halts_at n page reason j = subst (HaltsGone page reason) j.stands (halts_as_gone j.run page reason)
+
+abbrev HaltsLate : Negotiation → Type 0
+HaltsLate m = is_halting m.back.stage ≡ true → 5 ≤ state_number m.front.state
+
+pub late_at : (n : Negotiation) → Reached n → is_halting n.back.stage ≡ true → 5 ≤ state_number n.front.state
+late_at n j =
+    let r = j.run in
+    let kept = holds r.front r.offer r.facts r.happenings r.within r.ports in
+    subst HaltsLate j.stands kept.back.halting_after

@@ -21,26 +21,32 @@ use Rattle.xenbus_state.specs.declared.table.BackAction.{BackAction}
 use Rattle.xenbus_state.specs.declared.table.BackAction.TheVariants as action
 use Rattle.xenbus_state.specs.declared.back.BackBusAsk.{BackBusAsk}
 use Rattle.xenbus_state.specs.declared.back.BackBusAsk.TheVariants as back_ask
-use Rattle.xenbus_state.specs.States.{state_read}
+use Rattle.xenbus_state.specs.declared.table.BackHalt.{BackHalt}
+use Rattle.xenbus_state.specs.declared.table.BackHalt.TheVariants as bus_halt
+use Rattle.xenbus_state.specs.States.{state_read, state_number}
+use Rattle.xenbus_state.specs.Keys.{front_name}
 use Rattle.xenbus_state.specs.Numbers.{number_of}
-use Rattle.xenbus_state.specs.Tables.{back_action}
+use Rattle.xenbus_state.specs.Tables.{back_action, is_connected, bad_order, front_gone}
 use Rattle.xenbus_state.specs.Programs.{next_feature, next_fact, after_page}
 use Rattle.xenbus_state.specs.Reading.{count_read}
 use Rattle.xenbus_state.specs.BackReading.{order_of, layout_read, with_order, with_gref, with_port, with_layout, with_persistent, key_read}
 use Rattle.xenbus_state.specs.Values.{back_value}
-use Rattle.xenbus_state.specs.BackView.{BackView}
+use Rattle.xenbus_state.specs.BackView.{BackView, is_halting, halted, stopped, unplugged}
 use Rattle.xenbus_state.specs.BackAsk.{says_closing, unmap_ask, ask_at, ask_of}
-use Rattle.xenbus_state.specs.BackStep.{acted, kept_or_halted, after_state, giving_up, other_pages, after_feature, after_fact, step_at, step_of}
+use Rattle.xenbus_state.specs.BackStep.{acted, action_halt, kept_or_halted, key_halt, halt_at, halt_of, after_state, giving_up, other_pages, after_feature, after_fact, step_at, step_of}
 use Rattle.xenbus_state.proofs.Powers.{few_pages}
+use Rattle.line_text.specs.Texts.{is_key_name}
+use Rattle.blk_back.specs.declared.told.Halt.{Halt}
 use Rattle.blk_back.specs.declared.stage.Stage.{Stage as BackRing}
 use Rattle.blk_back.specs.declared.stage.Stage.TheVariants as ring
-use Rattle.machine_pipeline.specs.Allowed.{IsSpelled}
+use Rattle.machine_pipeline.specs.Allowed.{IsSpelled, IsSaid}
 use Rattle.vbd_back.specs.View.{View, offer}
 use Rattle.vbd_back.specs.Ask as back
 use Rattle.vbd_back.specs.Step as back_step
 use Rattle.vbd_model.specs.World.{World, backend_of}
 use Rattle.vbd_model.specs.Happening.{back_key as key_move, back_turn, back_bus_after}
-use Rattle.vbd_laws.proofs.ServedTexts.{number_text, page_path, front_state_path, back_state_path, back_path, ring_path, order_path, port_path, layout_path, persistent_path, flag_text, state_text}
+use Rattle.vbd_laws.proofs.NegotiatedBack.{IsGiven}
+use Rattle.vbd_laws.proofs.ServedTexts.{few_states, page_name, state_name, ring_name, order_name, port_name, layout_name, persistent_name, number_text, page_path, front_state_path, back_state_path, back_path, ring_path, order_path, port_path, layout_path, persistent_path, flag_text, state_text}
 
 -- a page whose reference it reads is one of 16
 abbrev pub IsPlain : BackStage → Type 0
@@ -148,36 +154,50 @@ told_speaks v a h = by_test (says_closing v)
     by_test true = record { sectors = h.sectors; order = h.order; stage = h.stage }
     by_test false = step_speaks v.stage v a h
 
--- what the negotiation becomes in a move of the back: it is told the answer, or nothing
-module _ (P : BackView → Type 0) (x : View) (a : BackAnswer) (p : P x.bus) (told : P (step_of x.bus a)) where
-  woken_is : (halted : Bool) (c : BackAnswer) → P (step_of x.bus c) → P (back_step.woken halted x.bus c)
-  woken_is false (answer.Watched path) q = q
-  woken_is false c q = p
-  woken_is true c q = p
+stopped_speaks : (v : BackView) → Speaks v → Speaks (stopped v)
+stopped_speaks v h = by_test (is_halting v.stage)
+  where
+    by_test : (b : Bool) → Speaks (if b then v else halted v)
+    by_test true = h
+    by_test false = at_speaks bus.UnmapOthers v tt h
 
-  followed_is : (s : BackStage) (r : BackRing) (halted : Bool) → P (back_step.followed s r halted x.bus a)
-  followed_is bus.MapPage ring.MapRing halted = told
-  followed_is bus.Bind ring.Bind halted = told
-  followed_is bus.Rest r halted = woken_is halted a told
-  followed_is s r halted = p
+-- what the negotiation becomes in a move of the back: what it is told, and a halt, keep this
+module _ (P : BackView → Type 0) (told : (v : BackView) (a : BackAnswer) → P v → P (step_of v a)) (stops : (v : BackView) → P v → P (stopped v)) where
+  settled_is : (s : BackStage) (r : BackRing) (v : BackView) → P v → P (back_step.settled_at s r v)
+  settled_is bus.UnmapOthers (ring.GiveUp m) v p = p
+  settled_is bus.UnmapOthers r v p = told v answer.Done p
+  settled_is s r v p = p
 
-  waited_is : (s : BackStage) → P (back_step.waited s x.bus a)
-  waited_is bus.Rest = woken_is false a told
-  waited_is s = p
+  halted_is : (why : Option Halt) (v : BackView) → P v → P (back_step.bus_halted why v)
+  halted_is None v p = p
+  halted_is (Some why) v p = stops v p
 
-  ring_is : (b : Bool) → (let y : View = back_step.ring_step b x a in P y.bus)
-  ring_is true = followed_is x.bus.stage x.ring.stage _
-  ring_is false = waited_is x.bus.stage
+  woken_is : (v : BackView) (a : BackAnswer) → P v → P (back_step.woken v a)
+  woken_is v (answer.Watched path) p = told v (answer.Watched path) p
+  woken_is v a p = p
 
-  step_is : (let y : View = back_step.step_of x a in P y.bus)
-  step_is = by_test (back.speaks (back.bus_ask_of x))
+  followed_is : (b : BackBusAsk) (v : BackView) (a : BackAnswer) → P v → P (back_step.followed b v a)
+  followed_is (back_ask.Map gref) v a p = told v a p
+  followed_is (back_ask.Bind port) v a p = told v a p
+  followed_is (back_ask.Unmap m) v a p = told v a p
+  followed_is back_ask.ClosePort v a p = told v a p
+  followed_is back_ask.Wait v a p = woken_is v a p
+  followed_is b v a p = p
+
+  waited_is : (b : BackBusAsk) (v : BackView) (a : BackAnswer) → P v → P (back_step.waited b v a)
+  waited_is back_ask.Wait v a p = woken_is v a p
+  waited_is b v a p = p
+
+  ring_is : (moves : Bool) (b : BackBusAsk) (x : View) (a : BackAnswer) → P x.bus → (let y : View = back_step.ring_step moves b x a in P y.bus)
+  ring_is true b x a p = settled_is _ _ _ (halted_is _ _ (followed_is b x.bus a p))
+  ring_is false b x a p = waited_is b x.bus a p
+
+  step_is : (x : View) (a : BackAnswer) → P x.bus → (let y : View = back_step.step_of x a in P y.bus)
+  step_is x a p = by_test (back.bus_moves (back.bus_ask_of x) x.ring.stage) (back.bus_ask_of x)
     where
-      b : BackBusAsk
-      b = back.bus_ask_of x
-
-      by_test : (speaks : Bool) → (let y : View = if speaks then record x { bus = step_of x.bus a } else back_step.ring_step (back.ring_moves b x.ring.stage) x a in P y.bus)
-      by_test true = told
-      by_test false = ring_is (back.ring_moves b x.ring.stage)
+      by_test : (moves : Bool) (b : BackBusAsk) → (let y : View = if moves then back_step.spoken x a else back_step.ring_step (back.ring_moves b x.ring.stage) b x a in P y.bus)
+      by_test true b = settled_is _ _ _ (told x.bus a p)
+      by_test false b = ring_is (back.ring_moves b x.ring.stage) b x a p
 
 -- a move of the back
 pub back_speaks : (w : World) → Speaks w.back → Speaks (back_bus_after w (back_turn w))
@@ -185,7 +205,15 @@ back_speaks w h = by_act (back_turn w)
   where
     by_act : (act : Option BackAct) → Speaks (back_bus_after w act)
     by_act None = h
-    by_act (Some a) = step_is Speaks (backend_of w) a.answer h (told_speaks w.back a.answer h)
+    by_act (Some a) = step_is Speaks told_speaks stopped_speaks (backend_of w) a.answer h
+
+-- a close of it
+pub unplugged_speaks : (v : BackView) → Speaks v → Speaks (unplugged v)
+unplugged_speaks v h = by_test (is_halting v.stage)
+  where
+    by_test : (b : Bool) → Speaks (if b then v else record v { unplugged = true })
+    by_test true = h
+    by_test false = record { sectors = h.sectors; order = h.order; stage = h.stage }
 
 -- what it does with the keys
 info_text : (read_only : Bool) → (if read_only then 4 else 0) < 2 ^ 64
@@ -237,3 +265,81 @@ asked_spelled v e h = by_test (says_closing v)
 
 pub back_spelled : (w : World) → w.back.features ≡ offer → Speaks w.back → IsSpelled (key_move (back.bus_ask_of (backend_of w)))
 back_spelled w e h = asked_spelled w.back e h
+
+-- a halt that it makes of what it read is a line of the grammar
+abbrev IsReadKey : FrontKey → Type 0
+IsReadKey (key.RingRefOf page) = page < 16
+IsReadKey k = Unit {0}
+
+-- it is one of these, where no map and no bind is refused
+abbrev pub IsRead : Option BackHalt → Type 0
+IsRead (Some (bus_halt.BadKey k)) = IsReadKey k
+IsRead (Some (bus_halt.BadPort port)) = ⊥
+IsRead (Some (bus_halt.MapRefused gref status)) = ⊥
+IsRead why = Unit {0}
+
+gone_read : (unplugged : Bool) (s : BusState) → IsRead (action_halt (front_gone unplugged s))
+gone_read true s = tt
+gone_read false s = tt
+
+either_read : (b : Bool) (x y : BackAction) → IsRead (action_halt x) → IsRead (action_halt y) → IsRead (action_halt (if b then x else y))
+either_read true x y p q = p
+either_read false x y p q = q
+
+action_read : (own : BusState) (unplugged : Bool) (read : Option BusState) → IsRead (action_halt (back_action own unplugged read))
+action_read own unplugged None = tt
+action_read own unplugged (Some state.Initialising) = either_read (is_connected own) (bad_order state.Initialising) action.Nothing tt tt
+action_read own unplugged (Some state.InitWait) = tt
+action_read own unplugged (Some state.Initialised) = either_read (is_connected own) action.Nothing action.Connect tt tt
+action_read own unplugged (Some state.Connected) = either_read (is_connected own) action.Nothing action.Connect tt tt
+action_read own unplugged (Some state.Closing) = gone_read unplugged state.Closing
+action_read own unplugged (Some state.Closed) = gone_read unplugged state.Closed
+action_read own unplugged (Some state.Unknown) = gone_read unplugged state.Unknown
+action_read own unplugged (Some state.Reconfiguring) = tt
+action_read own unplugged (Some state.Reconfigured) = tt
+
+plain_read : (k : FrontKey) → IsPlain (bus.ReadKey k) → IsReadKey k
+plain_read key.RingPageOrder p = tt
+plain_read key.RingRef p = tt
+plain_read (key.RingRefOf page) p = p
+plain_read key.EventChannel p = tt
+plain_read key.Protocol p = tt
+plain_read key.FeaturePersistent p = tt
+
+key_read_halt : (k : FrontKey) (o : Option BackView) → IsPlain (bus.ReadKey k) → IsRead (key_halt k o)
+key_read_halt k None p = plain_read k p
+key_read_halt k (Some v) p = tt
+
+halt_at_read : (s : BackStage) (v : BackView) (a : BackAnswer) → IsGiven a → IsPlain s → IsRead (halt_at s v a)
+halt_at_read bus.ReadState v (answer.Key text) given p = action_read v.state v.unplugged (state_read text)
+halt_at_read (bus.ReadKey k) v (answer.Key text) given p = key_read_halt k (key_read k text v) p
+halt_at_read bus.MapPage v (answer.MapRefused status) given p = absurd given
+halt_at_read bus.Bind v answer.BindRefused given p = absurd given
+halt_at_read s v a given p = tt
+
+pub halt_read : (v : BackView) (a : BackAnswer) → IsGiven a → Speaks v → IsRead (halt_of v a)
+halt_read v a given h = by_test (says_closing v)
+  where
+    by_test : (b : Bool) → IsRead (if b then None else halt_at v.stage v a)
+    by_test true = tt
+    by_test false = halt_at_read v.stage v a given h.stage
+
+state_word : (s : BusState) → state_number s < 2 ^ 32
+state_word s = let few = few_states s in omega arith
+
+key_said : (k : FrontKey) → IsReadKey k → is_key_name (front_name k) ≡ true
+key_said key.RingPageOrder read = order_name
+key_said key.RingRef read = ring_name
+key_said (key.RingRefOf page) read = page_name page read
+key_said key.EventChannel read = port_name
+key_said key.Protocol read = layout_name
+key_said key.FeaturePersistent read = persistent_name
+
+pub halt_said : (why : BackHalt) → IsRead (Some why) → IsSaid (back_step.ring_halt why)
+halt_said (bus_halt.Gone s) read = record { widths = state_word s; allowed = refl }
+halt_said (bus_halt.Unplugged s) read = record { widths = state_word s; allowed = refl }
+halt_said bus_halt.BadState read = record { widths = tt; allowed = state_name }
+halt_said (bus_halt.BadKey k) read = record { widths = tt; allowed = key_said k read }
+halt_said (bus_halt.BadOrder s) read = record { widths = state_word s; allowed = refl }
+halt_said (bus_halt.BadPort port) read = absurd read
+halt_said (bus_halt.MapRefused gref status) read = absurd read

@@ -1,5 +1,5 @@
 -- What the front's negotiation says is of the grammar: its port is the first, and its ring has one page.
-use Rattle.std.proofs.Common.{◌≡◌, sym, subst, ℕ, ◌+◌, ◌^◌, ◌<◌, ◌==◌, ◌&&◌, Bool, true, false, List, arith, if◌then◌else◌}
+use Rattle.std.proofs.Common.{◌≡◌, refl, sym, subst, ℕ, ◌+◌, ◌^◌, ◌<◌, ◌==◌, ◌&&◌, ◌||◌, Bool, true, false, List, arith, if◌then◌else◌}
 use Rattle.std.specs.Prelude.{Option, Some, None, nat_lt, unwrap_or}
 use Rattle.blk_base.specs.declared.ask.FrontAnswer.{FrontAnswer}
 use Rattle.blk_base.specs.declared.ask.FrontAnswer.TheVariants as answer
@@ -20,13 +20,15 @@ use Rattle.xenbus_state.specs.declared.table.FrontAction.{FrontAction}
 use Rattle.xenbus_state.specs.declared.table.FrontAction.TheVariants as action
 use Rattle.xenbus_state.specs.declared.front.FrontBusAsk.{FrontBusAsk}
 use Rattle.xenbus_state.specs.declared.front.FrontBusAsk.TheVariants as front_ask
+use Rattle.xenbus_state.specs.declared.front.FrontNews.{FrontNews}
+use Rattle.xenbus_state.specs.declared.front.FrontNews.TheVariants as news
 use Rattle.xenbus_state.specs.States.{state_read}
-use Rattle.xenbus_state.specs.Tables.{front_action}
+use Rattle.xenbus_state.specs.Tables.{front_action, on_offer, on_connected, on_closing, on_gone}
 use Rattle.xenbus_state.specs.Programs.{next_feature, next_fact, first_published, next_published}
 use Rattle.xenbus_state.specs.Reading.{count_read, fact_read}
-use Rattle.xenbus_state.specs.FrontView.{FrontView, ring_order, pages_of}
-use Rattle.xenbus_state.specs.FrontAsk.{due, due_at, closing_stage, ask_at}
-use Rattle.xenbus_state.specs.FrontStep.{at, acted, feature_step, fact_step, after, after_feature, after_fact, after_published, after_grants, after_state, step_at, step_of}
+use Rattle.xenbus_state.specs.FrontView.{FrontView, ring_order, pages_of, is_broken, closed}
+use Rattle.xenbus_state.specs.FrontAsk.{due, due_at, leaving, closing_stage, ask_at, ask_of}
+use Rattle.xenbus_state.specs.FrontStep.{at, acted, feature_step, fact_step, after, after_feature, after_fact, after_published, after_grants, after_state, closing_news, action_news, read_news, written_news, news_at, news_of, step_at, step_of}
 use Rattle.blk_front.specs.declared.stage.Stage.{Stage as FrontRing}
 use Rattle.blk_front.specs.declared.stage.Stage.TheVariants as ring
 use Rattle.split_model.proofs.SafeAnswers.{IsFronts, fronts_at}
@@ -54,22 +56,27 @@ pub record Speaks (v : FrontView) : Type 0 where
   pub port : IsFirstPort v.port
   pub stage : IsPlain v.stage
 
--- a port that it is told is the first
-abbrev pub TellsFirst : FrontAnswer → Type 0
-TellsFirst (answer.Port port) = port ≡ 1
-TellsFirst a = Unit {0}
+-- a port that it is told is the first, of a ring of one page
+abbrev pub TellsFirst : FrontView → FrontAnswer → Type 0
+TellsFirst v (answer.Port port) = (port ≡ 1) × (v.order ≡ 0)
+TellsFirst v a = Unit {0}
 
 either_plain : (b : Bool) (s t : FrontStage) → IsPlain s → IsPlain t → IsPlain (if b then s else t)
 either_plain true s t p q = p
 either_plain false s t p q = q
 
-due_plain : (s : FrontStage) (v : FrontView) → IsPlain s → IsPlain (due_at s v false)
-due_plain bus.Rest v p = by_closing v.closing
-  where
-    by_closing : (b : Bool) → IsPlain (if b && false then closing_stage v.state v else bus.Rest)
-    by_closing true = tt
-    by_closing false = tt
-due_plain s v p = p
+leaving_plain : (gone : Bool) (port : Option ℕ) → IsPlain (leaving gone port)
+leaving_plain false port = tt
+leaving_plain true None = tt
+leaving_plain true (Some port) = tt
+
+closing_plain : (own : BusState) (v : FrontView) → IsPlain (closing_stage own v)
+closing_plain state.Closing v = leaving_plain v.gone v.port
+closing_plain own v = tt
+
+due_plain : (s : FrontStage) (v : FrontView) (idle : Bool) → IsPlain s → IsPlain (due_at s v idle)
+due_plain bus.Rest v idle p = either_plain (v.closing && idle) (closing_stage v.state v) bus.Rest (closing_plain v.state v) tt
+due_plain s v idle p = p
 
 acted_speaks : (act : FrontAction) (v : FrontView) → IsFirstPort v.port → Speaks (acted act v)
 acted_speaks action.Nothing v p = record { port = p; stage = tt }
@@ -127,56 +134,58 @@ after_plain (bus.EndGrant page) v p = either_plain (nat_lt (page + 1) (pages_of 
 after_plain bus.EndOtherGrants v p = grants_plain v.port
 after_plain s v p = p
 
-step_speaks : (s : FrontStage) (v : FrontView) (a : FrontAnswer) → v.order ≡ 0 → TellsFirst a → IsFirstPort v.port → IsPlain s → Speaks (step_at s (at s v) false a)
-step_speaks bus.Rest v (answer.Watched path) e told p q = record { port = p; stage = tt }
-step_speaks bus.ReadState v (answer.Key text) e told p q = acted_speaks (front_action v.state v.closing false (state_read text)) (at bus.ReadState v) p
-step_speaks (bus.ReadFeature k) v (answer.Key text) e told p q = feature_speaks k (count_read text) (at (bus.ReadFeature k) v) p
-step_speaks bus.NewPort v (answer.Port port) e told p q = record { port = told; stage = first_plain (ring_order v) (one_page v e) }
-step_speaks (bus.ReadFact k) v (answer.Key text) e told p q = fact_speaks k (fact_read k text) (at (bus.ReadFact k) v) p
-step_speaks (bus.WriteState s) v answer.Done e told p q = record { port = p; stage = state_plain s }
-step_speaks bus.ClosePort v answer.Done e told p q = record { port = tt; stage = tt }
-step_speaks s v answer.Done e told p q = record { port = p; stage = after_plain s (at s v) q }
-step_speaks s v a e told p q = record { port = p; stage = q }
+step_speaks : (s : FrontStage) (v : FrontView) (idle : Bool) (a : FrontAnswer) → TellsFirst v a → IsFirstPort v.port → IsPlain s → Speaks (step_at s (at s v) idle a)
+step_speaks bus.Rest v idle (answer.Watched path) told p q = record { port = p; stage = tt }
+step_speaks bus.ReadState v idle (answer.Key text) told p q = acted_speaks (front_action v.state v.closing idle (state_read text)) (at bus.ReadState v) p
+step_speaks (bus.ReadFeature k) v idle (answer.Key text) told p q = feature_speaks k (count_read text) (at (bus.ReadFeature k) v) p
+step_speaks bus.NewPort v idle (answer.Port port) told p q = record { port = told.0; stage = first_plain (ring_order v) (one_page v told.1) }
+step_speaks (bus.ReadFact k) v idle (answer.Key text) told p q = fact_speaks k (fact_read k text) (at (bus.ReadFact k) v) p
+step_speaks (bus.WriteState s) v idle answer.Done told p q = record { port = p; stage = state_plain s }
+step_speaks bus.ClosePort v idle answer.Done told p q = record { port = tt; stage = tt }
+step_speaks s v idle answer.Done told p q = record { port = p; stage = after_plain s (at s v) q }
+step_speaks s v idle a told p q = record { port = p; stage = q }
 
-told_speaks : (v : FrontView) (a : FrontAnswer) → v.order ≡ 0 → TellsFirst a → Speaks v → Speaks (step_of v false a)
-told_speaks v a e told h = step_speaks (due v false) v a e told h.port (due_plain v.stage v h.stage)
+one_speaks : (v : FrontView) (idle : Bool) (a : FrontAnswer) → TellsFirst v a → Speaks v → Speaks (step_of v idle a)
+one_speaks v idle a told h = step_speaks (due v idle) v idle a told h.port (due_plain v.stage v idle h.stage)
 
--- what the negotiation becomes in a move of the front: it is told the answer, or nothing
-module _ (P : FrontView → Type 0) (x : View) (a : FrontAnswer) (p : P x.bus) (told : P (step_of x.bus false a)) where
-  spoken_is : (b : FrontBusAsk) → (let y : View = front_step.spoken b x a in P y.bus)
-  spoken_is (front_ask.SetState state.Connected) = told
-  spoken_is (front_ask.SetState s) = told
-  spoken_is b = told
+settled_speaks : (b : FrontBusAsk) (v : FrontView) (idle : Bool) → Speaks v → Speaks (front_step.settled_at b idle v)
+settled_speaks front_ask.EndOtherGrants v idle h = one_speaks v idle answer.Done tt h
+settled_speaks b v idle h = h
 
-  woken_is : (broken : Bool) (c : FrontAnswer) → P (step_of x.bus false c) → P (front_step.woken broken x.bus c)
+told_speaks : (v : FrontView) (idle : Bool) (a : FrontAnswer) → TellsFirst v a → Speaks v → Speaks (front_step.bus_told idle v a)
+told_speaks v idle a told h = let u : FrontView = step_of v idle a in settled_speaks (ask_of u idle) u idle (one_speaks v idle a told h)
+
+-- what the negotiation becomes in a move of the front: it is told the answer, that all is done, or nothing
+module _ (P : FrontView → Type 0) (x : View) (a : FrontAnswer) (p : P x.bus)
+    (told : P (front_step.bus_told (view.is_unoccupied x.ring) x.bus a)) (done : P (front_step.bus_told (view.is_unoccupied x.ring) x.bus answer.Done)) where
+  woken_is : (broken : Bool) (c : FrontAnswer) → P (front_step.bus_told (view.is_unoccupied x.ring) x.bus c) → P (front_step.woken broken (view.is_unoccupied x.ring) x.bus c)
   woken_is false (answer.Watched path) q = q
   woken_is false c q = p
   woken_is true c q = p
 
-  followed_is : (s : FrontStage) (r : FrontRing) → P (front_step.followed s r x.bus a)
-  followed_is (bus.RingWord word) (ring.RingWord k) = told
-  followed_is (bus.Grant page) ring.RingFlags = told
-  followed_is bus.NewPort ring.NewPort = told
-  followed_is bus.Rest r = woken_is (view.is_broken r) a told
-  followed_is s r = p
+  followed_is : (b : FrontBusAsk) (later : FrontRing) → P (front_step.followed b later (view.is_unoccupied x.ring) x.bus a)
+  followed_is (front_ask.WriteRingWord word) later = told
+  followed_is (front_ask.Grant page) ring.NewPort = told
+  followed_is front_ask.NewPort later = told
+  followed_is (front_ask.EndGrant page) ring.ClosePort = done
+  followed_is front_ask.ClosePort later = told
+  followed_is front_ask.Wait later = woken_is (view.is_broken later) a told
+  followed_is b later = p
 
-  waited_is : (s : FrontStage) → P (front_step.waited s x.bus a)
-  waited_is bus.Rest = woken_is false a told
-  waited_is s = p
+  waited_is : (b : FrontBusAsk) → P (front_step.waited b (view.is_unoccupied x.ring) x.bus a)
+  waited_is front_ask.Wait = woken_is false a told
+  waited_is b = p
 
-  ring_is : (b : Bool) → (let y : View = front_step.ring_step b x a in P y.bus)
-  ring_is true = followed_is x.bus.stage x.ring.stage
-  ring_is false = waited_is x.bus.stage
+  ring_is : (moves : Bool) (b : FrontBusAsk) → (let y : View = front_step.ring_step moves b x a in P y.bus)
+  ring_is true b = followed_is b _
+  ring_is false b = waited_is b
 
   step_is : (let y : View = front_step.step_of x a in P y.bus)
-  step_is = by_test (front.speaks (front.bus_ask_of x))
+  step_is = by_test (front.speaks (front.bus_ask_of x)) (front.bus_ask_of x)
     where
-      b : FrontBusAsk
-      b = front.bus_ask_of x
-
-      by_test : (speaks : Bool) → (let y : View = if speaks then front_step.spoken b x a else front_step.ring_step (front.ring_moves b x.ring.stage) x a in P y.bus)
-      by_test true = spoken_is b
-      by_test false = ring_is (front.ring_moves b x.ring.stage)
+      by_test : (speaks : Bool) (b : FrontBusAsk) → (let y : View = if speaks then front_step.spoken x a else front_step.ring_step (front.ring_moves b x.ring.stage) b x a in P y.bus)
+      by_test true b = told
+      by_test false b = ring_is (front.ring_moves b x.ring.stage) b
 
 -- a port is asked for only where none was made
 abbrev AsksFirst : ℕ → FrontAsk → Type 0
@@ -187,23 +196,23 @@ fronts_first : (c : ChannelState) (a : FrontAsk) → IsFronts c a → AsksFirst 
 fronts_first c ask.NewPort is = is.0
 fronts_first c a is = tt
 
-abbrev Tells : Option FrontAct → Type 0
-Tells None = Unit {0}
-Tells (Some a) = TellsFirst a.answer
+abbrev Tells : FrontView → Option FrontAct → Type 0
+Tells v None = Unit {0}
+Tells v (Some a) = TellsFirst v a.answer
 
-either_tells : (b : Bool) (x y : Option FrontAct) → Tells x → Tells y → Tells (if b then x else y)
-either_tells true x y p q = p
-either_tells false x y p q = q
+either_tells : (b : Bool) (v : FrontView) (x y : Option FrontAct) → Tells v x → Tells v y → Tells v (if b then x else y)
+either_tells true v x y p q = p
+either_tells false v x y p q = q
 
-watched_tells : (h : Hypervisor) (path : Option (List ℕ)) → Tells (front_watched h path)
-watched_tells h None = tt
-watched_tells h (Some path) = tt
+watched_tells : (h : Hypervisor) (v : FrontView) (path : Option (List ℕ)) → Tells v (front_watched h path)
+watched_tells h v None = tt
+watched_tells h v (Some path) = tt
 
-act_tells : (h : Hypervisor) (a : FrontAsk) → AsksFirst h.channels.made a → Tells (front_act h a)
-act_tells h ask.Wait first = either_tells (is_pending h.channels end.Front) _ (front_watched h (watch_next h end.Front)) tt (watched_tells h (watch_next h end.Front))
-act_tells h ask.NewPort first = omega arith
-act_tells h (ask.SetKey path text) first = either_tells (is_own_path end.Front path) _ None tt tt
-act_tells h a first = tt
+act_tells : (h : Hypervisor) (v : FrontView) (a : FrontAsk) → v.order ≡ 0 → AsksFirst h.channels.made a → Tells v (front_act h a)
+act_tells h v ask.Wait one first = either_tells (is_pending h.channels end.Front) v _ (front_watched h (watch_next h end.Front)) tt (watched_tells h v (watch_next h end.Front))
+act_tells h v ask.NewPort one first = (omega arith, one)
+act_tells h v (ask.SetKey path text) one first = either_tells (is_own_path end.Front path) v _ None tt tt
+act_tells h v a one first = tt
 
 key_first : (made : ℕ) (b : FrontBusAsk) → AsksFirst made (front.key_ask b)
 key_first made front_ask.Watch = tt
@@ -229,11 +238,22 @@ asks_first w fit = by_test (front.speaks b)
 
 -- a move of the front
 pub front_speaks : (w : World) → IsFit w → Speaks w.front → Speaks (front_bus_after w (front_turn w))
-front_speaks w fit h = by_act (front_turn w) (act_tells w.rings.under (front.ask_of (frontend_of w)) (asks_first w fit))
+front_speaks w fit h = by_act (front_turn w) (act_tells w.rings.under w.front (front.ask_of (frontend_of w)) fit.order (asks_first w fit))
   where
-    by_act : (act : Option FrontAct) → Tells act → Speaks (front_bus_after w act)
+    idle : Bool
+    idle = view.is_unoccupied w.rings.front
+
+    by_act : (act : Option FrontAct) → Tells w.front act → Speaks (front_bus_after w act)
     by_act None tells = h
-    by_act (Some a) tells = step_is Speaks (frontend_of w) a.answer h (told_speaks w.front a.answer fit.order tells h)
+    by_act (Some a) tells = step_is Speaks (frontend_of w) a.answer h (told_speaks w.front idle a.answer tells h) (told_speaks w.front idle answer.Done tt h)
+
+-- a close of it
+pub closed_speaks : (v : FrontView) → Speaks v → Speaks (closed v)
+closed_speaks v h = by_test (v.closing || is_broken v.stage)
+  where
+    by_test : (b : Bool) → Speaks (if b then v else record v { closing = true })
+    by_test true = h
+    by_test false = record { port = h.port; stage = h.stage }
 
 -- what it does with the keys
 small_port : (port : Option ℕ) → IsFirstPort port → unwrap_or port 0 < 2 ^ 64
@@ -255,4 +275,77 @@ at_spelled (bus.WriteState s) v p q = (front_state_path, state_text s)
 at_spelled s v p q = tt
 
 pub front_spelled : (w : World) → Speaks w.front → IsSpelled (front_key (front.bus_ask_of (frontend_of w)))
-front_spelled w h = at_spelled (due w.front false) w.front h.port (due_plain w.front.stage w.front h.stage)
+front_spelled w h = let idle : Bool = view.is_unoccupied w.rings.front in at_spelled (due w.front idle) w.front h.port (due_plain w.front.stage w.front idle h.stage)
+
+-- it is connected and closed as it writes so, and a word that breaks it is one of 0, 6 and 9
+abbrev pub IsNewsAt : FrontStage → Option FrontNews → Type 0
+IsNewsAt s (Some news.Ready) = s ≡ bus.WriteState state.Connected
+IsNewsAt s (Some news.Closed) = s ≡ bus.WriteState state.Closed
+IsNewsAt s (Some (news.Broken word)) = word < 2 ^ 32
+IsNewsAt s n = Unit {0}
+
+abbrev IsWordAction : FrontAction → Type 0
+IsWordAction (action.Break word) = word < 2 ^ 32
+IsWordAction act = Unit {0}
+
+either_word : (b : Bool) (x y : FrontAction) → IsWordAction x → IsWordAction y → IsWordAction (if b then x else y)
+either_word true x y p q = p
+either_word false x y p q = q
+
+offer_word : (own : BusState) → IsWordAction (on_offer own)
+offer_word state.Initialising = tt
+offer_word own = tt
+
+connected_word : (own : BusState) → IsWordAction (on_connected own)
+connected_word state.Initialised = tt
+connected_word own = tt
+
+closing_word : (own : BusState) (idle : Bool) → IsWordAction (on_closing own idle)
+closing_word state.Initialised false = tt
+closing_word own idle = tt
+
+gone_word : (idle : Bool) (word : ℕ) → word < 2 ^ 32 → IsWordAction (on_gone idle word)
+gone_word true word few = tt
+gone_word false word few = few
+
+action_word : (own : BusState) (closing idle : Bool) (read : Option BusState) → IsWordAction (front_action own closing idle read)
+action_word own closing idle None = omega arith
+action_word own closing idle (Some state.InitWait) = either_word (closing && idle) action.Nothing (on_offer own) tt (offer_word own)
+action_word own closing idle (Some state.Connected) = either_word (closing && idle) action.Nothing (on_connected own) tt (connected_word own)
+action_word own closing idle (Some state.Closing) = closing_word own idle
+action_word own closing idle (Some state.Closed) = gone_word idle 6 (omega arith)
+action_word own closing idle (Some state.Unknown) = gone_word idle 0 (omega arith)
+action_word own closing idle (Some state.Initialising) = tt
+action_word own closing idle (Some state.Initialised) = tt
+action_word own closing idle (Some state.Reconfiguring) = tt
+action_word own closing idle (Some state.Reconfigured) = tt
+
+begun_is : (s : FrontStage) (closing : Bool) → IsNewsAt s (closing_news closing)
+begun_is s true = tt
+begun_is s false = tt
+
+acted_is : (s : FrontStage) (act : FrontAction) (closing : Bool) → IsWordAction act → IsNewsAt s (action_news act closing)
+acted_is s (action.Break word) closing few = few
+acted_is s action.Close closing few = begun_is s closing
+acted_is s action.CloseAndConnect closing few = begun_is s closing
+acted_is s action.Leave closing few = begun_is s closing
+acted_is s act closing few = tt
+
+read_is : (s : FrontStage) (n : Option ℕ) → IsNewsAt s (read_news n)
+read_is s None = omega arith
+read_is s (Some n) = tt
+
+written_is : (s : BusState) → IsNewsAt (bus.WriteState s) (written_news s)
+written_is state.Connected = refl
+written_is state.Closed = refl
+written_is s = tt
+
+news_at_is : (s : FrontStage) (v : FrontView) (idle : Bool) (a : FrontAnswer) → IsNewsAt s (news_at s v idle a)
+news_at_is bus.ReadState v idle (answer.Key text) = acted_is bus.ReadState (front_action v.state v.closing idle (state_read text)) v.closing (action_word v.state v.closing idle (state_read text))
+news_at_is (bus.ReadFeature k) v idle (answer.Key text) = read_is (bus.ReadFeature k) (count_read text)
+news_at_is (bus.ReadFact k) v idle (answer.Key text) = read_is (bus.ReadFact k) (fact_read k text)
+news_at_is (bus.WriteState s) v idle answer.Done = written_is s
+news_at_is s v idle a = tt
+
+pub news_is : (v : FrontView) (idle : Bool) (a : FrontAnswer) → IsNewsAt (due v idle) (news_of v idle a)
+news_is v idle a = news_at_is (due v idle) (at (due v idle) v) idle a

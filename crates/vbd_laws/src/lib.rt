@@ -1,11 +1,12 @@
 //! Laws of the machine whose ends negotiate (`io/xenbus.h`) and then serve a ring (`io/blkif.h`): it
 //! is fit whatever happens, each move of an end is what that end asks and is answered, and whatever
-//! happens is possible for the machine of the ring, of whose reports the other laws speak. The runner
-//! stands on it.
+//! happens is possible for the machine of the ring, of whose reports the other laws speak, and served
+//! until a word is overwritten. The runner stands on it.
 #![tactic(auto)]
 
 ghost use Rattle.std.specs.Prelude.{◌≡◌, ◌+◌, ◌^◌, ◌<◌, ◌≤◌, List, length, true, Some, None};
 ghost use Rattle.blk_base.specs.Options.{Options};
+ghost use Rattle.blk_base.specs.declared.parts.End.{End};
 ghost use Rattle.hypervisor.specs.Act.{FrontAct, BackAct};
 ghost use Rattle.hypervisor.specs.May.{FrontMay, BackMay};
 ghost use Rattle.back_jobs.specs.Hands.{Names};
@@ -16,12 +17,12 @@ ghost use Rattle.vbd_model.specs.World.{World, start_of, frontend_of, backend_of
 ghost use Rattle.vbd_model.specs.Happening.{Happening, FrontMoves, BackMoves, front_turn, back_turn, happens, after};
 ghost use Rattle.vbd_model.specs.Kind.{are_carried};
 ghost use Rattle.vbd_model.specs.Fit.{IsFit};
-ghost use Rattle.vbd_laws.specs.Moves.{IsFrontMove, IsBackMove, IsNoMove};
-ghost use Rattle.vbd_laws.specs.Served.{RingsPossible, RingGoesByTheTerms};
+ghost use Rattle.vbd_laws.specs.Moves.{IsFrontMove, IsBackMove, IsClose, IsNoMove};
+ghost use Rattle.vbd_laws.specs.Served.{RingsPossible, RingsServed, RingGoesByTheTerms};
 
 /// The machine is fit at the start, under options that are carried out, and stays so, whatever
-/// happens: its rings are safe, each negotiation goes with its end of the ring, and no event is
-/// pending where no port is made or bound.
+/// happens: its rings are safe, each negotiation goes with its end of the ring, closes and halts with
+/// it, and no event is pending where no port is made or bound.
 pub fn the_machine_stays_fit()
     ensures start { (config : Options) → are_carried config ≡ true → IsFit (start_of config) }
     ensures kept { (w : World) (h : Happening) → IsFit w → IsFit (happens w h) }
@@ -29,13 +30,15 @@ pub fn the_machine_stays_fit()
 {}
 
 /// A move of an end of a fit machine is the act that the end asks for, told to it, with the lines of
-/// the move and of what it made happen. Where there is no act, nothing happens. Neither calls the
-/// disk; the front makes no mapping, the back one at most.
+/// the move and of what it made happen. Where there is no act, nothing happens. An end that is asked to
+/// close begins to, and shows that. None of it calls the disk; the front makes no mapping, the back one
+/// at most.
 pub fn a_move_is_what_its_end_asks()
     ensures front { (w : World) (a : FrontAct) → IsFit w → front_turn w ≡ Some a → IsFrontMove w a }
     ensures front_none { (w : World) → IsFit w → front_turn w ≡ None → IsNoMove w FrontMoves }
     ensures back { (w : World) (a : BackAct) → IsFit w → back_turn w ≡ Some a → IsBackMove w a }
     ensures back_none { (w : World) → IsFit w → back_turn w ≡ None → IsNoMove w BackMoves }
+    ensures closes { (w : World) (at : End) → IsFit w → IsClose w at }
 {}
 
 /// While the machine is fit, what its ends ask may be carried out: by the front, a port, each word of
@@ -48,10 +51,17 @@ pub fn every_ask_may_be_carried_out()
 {}
 
 /// Whatever a schedule makes happen is possible for the machine of the ring: the back's end of the
-/// ring moves only once the front has made its ring and its port, and each path and text of a key is
-/// of the grammar.
+/// ring moves only once the front has made its ring and its port, or after a halt, and each path and
+/// text of a key, each reason of a halt and each word that breaks the front is of the grammar.
 pub fn whatever_happens_is_possible()
     ensures { RingsPossible }
+{}
+
+/// What happens before a hostile hand first overwrites a word is served by the machine of the ring:
+/// the front connects, closes and leaves in order and is never broken, and leaves after the back; the
+/// back halts only as its front closes, with no request left.
+pub fn the_honest_part_is_served()
+    ensures { RingsServed }
 {}
 
 /// The back's end of the ring maps the reference and binds the port that its negotiation read of the

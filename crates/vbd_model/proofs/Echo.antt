@@ -1,6 +1,6 @@
 -- What happens echoes the schedule: an event's lines of the kinds that echo are those that answer it.
 use Rattle.std.proofs.Common.{◌≡◌, ℕ, zero, suc, List, [], ◌∷◌, ◌++◌, Bool, true, false, if◌then◌else◌, refl, ap, sym, ◌∙◌, subst}
-use Rattle.std.specs.Prelude.{◌*◌, ◌^◌, replicate}
+use Rattle.std.specs.Prelude.{◌*◌, ◌^◌, map, replicate}
 use Rattle.std.specs.List.{AllByRecursion}
 use Rattle.blk_base.specs.declared.parts.End.TheVariants as end
 use Rattle.blk_front.specs.Submit as front_submit
@@ -9,44 +9,61 @@ use Rattle.schedule_text.specs.declared.event.Event.TheVariants as events
 use Rattle.schedule_text.specs.declared.line.Line.{Line}
 use Rattle.schedule_text.specs.declared.line.Line.TheVariants as lines
 use Rattle.plain_disk.specs.Echo.{Answers, AnswersAll, AnswersSettle, AnswersLook, AreRingWords}
-use Rattle.xenbus_state.specs.declared.state.BusState.TheVariants as state
-use Rattle.xenbus_state.specs.declared.front.FrontBusAsk.{FrontBusAsk}
-use Rattle.xenbus_state.specs.declared.front.FrontBusAsk.TheVariants as front_ask
+use Rattle.blk_front.specs.declared.state.FrontState.{FrontState}
+use Rattle.blk_back.specs.declared.told.Halt.{Halt}
 use Rattle.split_model.specs.Happening as ring
 use Rattle.split_model.proofs.Echo.{echo_of, echo-append, is_move as is_ring_move, moves_silent as ring_moves_silent, are_moves-append as ring_moves-append, submit_answers, poke_echo, dump_answers}
 use Rattle.vbd_front.specs.Ask as front
 use Rattle.vbd_back.specs.Ask as back
 use Rattle.vbd_model.specs.World.{World, is_quiet, frontend_of, backend_of}
-use Rattle.vbd_model.specs.Happening.{Happening, FrontMoves, BackMoves, JobMoves, Submits, Notifies, Pokes, Dumps, Looks, Settles, front_key, back_key, connecting, is_fronts_ring, is_backs_ring, does, happens, lines_at, after, lines_of, all_does}
+use Rattle.vbd_model.specs.Happening.{Happening, FrontMoves, BackMoves, JobMoves, Closes, Submits, Notifies, Pokes, Dumps, Looks, Settles, front_key, back_key, entered_at, halted_at, front_enters, back_halts, front_turn, back_turn, is_fronts_ring, is_backs_ring, does, happens, after, lines_of, all_does}
 use Rattle.vbd_model.specs.Kind.{is_carried, Makes, AreOf, AreOfAll, AreJobMoves, AreEachJobs, round_start, IsRound, AreRounds, never}
 use Rattle.vbd_model.proofs.Running.{lines_of-append, lines_lift}
 pub use Rattle.split_model.proofs.Echo.{echo_of, kept_echo}
 
--- a move of an end or of a job, or a spurious event
+-- a move of an end or of a job, a close, or a spurious event
 abbrev pub is_move : Happening → Bool
 is_move FrontMoves = true
 is_move BackMoves = true
 is_move (JobMoves number outcome) = true
+is_move (Closes at) = true
 is_move (Notifies at) = true
 is_move h = false
 
 -- what a move is to the ring's machine are moves too
-connecting_moves : (a : FrontBusAsk) → AllByRecursion (λ (h : ring.Happening). is_ring_move h ≡ true) (connecting a)
-connecting_moves (front_ask.SetState state.Connected) = (refl, tt)
-connecting_moves a = tt
+abbrev AreRingMoves : List ring.Happening → Type 0
+AreRingMoves hs = AllByRecursion (λ (x : ring.Happening). is_ring_move x ≡ true) hs
 
-front_does_moves : (ringed : Bool) (a : FrontBusAsk) → AllByRecursion (λ (h : ring.Happening). is_ring_move h ≡ true) (if ringed then ring.FrontMoves ∷ [] else ring.Negotiates end.Front (front_key a) ∷ connecting a)
-front_does_moves true a = (refl, tt)
-front_does_moves false a = (refl, connecting_moves a)
+states_move : (states : List FrontState) → AreRingMoves (map ring.FrontEnters states)
+states_move [] = tt
+states_move (s ∷ states) = (refl, states_move states)
 
-does_moves : (w : World) (h : Happening) → is_move h ≡ true → AllByRecursion (λ (x : ring.Happening). is_ring_move x ≡ true) (does w h)
-does_moves w FrontMoves m = front_does_moves (is_fronts_ring w) (front.bus_ask_of (frontend_of w))
-does_moves w BackMoves m = back_does_moves (is_backs_ring w)
-  where
-    back_does_moves : (ringed : Bool) → AllByRecursion (λ (x : ring.Happening). is_ring_move x ≡ true) (if ringed then ring.BackMoves ∷ [] else ring.Negotiates end.Back (back_key (back.bus_ask_of (backend_of w))) ∷ [])
-    back_does_moves true = (refl, tt)
-    back_does_moves false = (refl, tt)
+halts_move : (reasons : List Halt) → AreRingMoves (map ring.BackHalts reasons)
+halts_move [] = tt
+halts_move (why ∷ reasons) = (refl, halts_move reasons)
+
+enters_move : (speaks : Bool) (w : World) → AreRingMoves (front_enters speaks w)
+enters_move true w = states_move (entered_at w (front_turn w))
+enters_move false w = tt
+
+halting_moves : (speaks : Bool) (w : World) → AreRingMoves (back_halts speaks w)
+halting_moves true w = halts_move (halted_at w (back_turn w))
+halting_moves false w = tt
+
+front_does_moves : (ringed speaks : Bool) (w : World) → AreRingMoves (if ringed then ring.FrontMoves ∷ [] else ring.Negotiates end.Front (front_key (front.bus_ask_of (frontend_of w))) ∷ front_enters speaks w)
+front_does_moves true speaks w = (refl, tt)
+front_does_moves false speaks w = (refl, enters_move speaks w)
+
+back_does_moves : (ringed speaks : Bool) (w : World) → AreRingMoves (if ringed then ring.BackMoves ∷ [] else ring.Negotiates end.Back (back_key (back.bus_ask_of (backend_of w))) ∷ back_halts speaks w)
+back_does_moves true speaks w = (refl, tt)
+back_does_moves false speaks w = (refl, halting_moves speaks w)
+
+does_moves : (w : World) (h : Happening) → is_move h ≡ true → AreRingMoves (does w h)
+does_moves w FrontMoves m = front_does_moves (is_fronts_ring w) (front.speaks (front.bus_ask_of (frontend_of w))) w
+does_moves w BackMoves m = back_does_moves (is_backs_ring w) (back.bus_moves (back.bus_ask_of (backend_of w)) w.rings.back.stage) w
 does_moves w (JobMoves number outcome) m = (refl, tt)
+does_moves w (Closes end.Front) m = (refl, tt)
+does_moves w (Closes end.Back) m = tt
 does_moves w (Notifies at) m = (refl, tt)
 does_moves w (Submits job) m = absurd (cc)
 does_moves w (Pokes frame word value) m = absurd (cc)
@@ -61,9 +78,6 @@ all_do_moves (h ∷ hs) w m = ring_moves-append (does w h) (all_does hs (happens
 -- moves show no line that echoes
 pub moves_silent : (hs : List Happening) (w : World) → AllByRecursion (λ (h : Happening). is_move h ≡ true) hs → echo_of (lines_of hs w) ≡ []
 moves_silent hs w m = ap echo_of (lines_lift hs w) ∙ ring_moves_silent (all_does hs w) w.rings (all_do_moves hs w m)
-
-pub move_silent : (w : World) (h : Happening) → is_move h ≡ true → echo_of (lines_at w h) ≡ []
-move_silent w h m = ring_moves_silent (does w h) w.rings (does_moves w h m)
 
 pub are_moves-append : (a b : List Happening) → AllByRecursion (λ (h : Happening). is_move h ≡ true) a → AllByRecursion (λ (h : Happening). is_move h ≡ true) b → AllByRecursion (λ (h : Happening). is_move h ≡ true) (a ++ b)
 are_moves-append [] b p q = q
@@ -136,7 +150,7 @@ made_echo order events.Look w hs c k =
     (a.0, ap (λ (l : List Happening). echo_of (lines_of l w)) k ∙ a.1, a.2)
 made_echo order (events.Notify at) w hs c k = ap (λ (l : List Happening). echo_of (lines_of l w)) k
 made_echo order events.Suspend w hs c k = absurd k
-made_echo order (events.Close at) w hs c k = absurd k
+made_echo order (events.Close at) w hs c k = ap (λ (l : List Happening). echo_of (lines_of l w)) k ∙ moves_silent (Closes at ∷ []) w (refl, tt)
 made_echo order (events.Poke frame word value) w hs c k = ap echo_of (shows_same w (Pokes frame word value) (ring.Pokes frame word value) hs refl k.0) ∙ poke_echo w.rings frame word value c
 made_echo order (events.Key name text) w hs c k = absurd k
 made_echo order events.Dump w hs c k =

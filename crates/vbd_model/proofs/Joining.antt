@@ -1,4 +1,4 @@
--- What is put behind what: moves behind moves, a round behind rounds, and what an event's happenings are then.
+-- What comes after what: moves after moves, a round after rounds, and what an event's happenings are then.
 use Rattle.std.proofs.Common.{◌≡◌, ℕ, zero, suc, ◌+◌, ◌-◌, ◌<◌, ◌≤◌, inl, inr, Bool, true, false, if◌then◌else◌, List, [], ◌∷◌, ◌++◌, length, Some, refl, ap, sym, ◌∙◌, subst, append_assoc, length-append, arith}
 use Rattle.std.specs.Prelude.{replicate}
 use Rattle.std.proofs.lemmas.List.{append-nil, replicate_more, replicate-append-replicate}
@@ -32,9 +32,6 @@ all_begins all xs p = ([], sym p ∙ sym (append-nil xs))
 pub begins_before : (one other xs : List Happening) → IsBeginning xs one → IsBeginning xs (one ++ other)
 begins_before one other xs b = (b.0 ++ other, ap (λ l. l ++ other) b.1 ∙ append_assoc xs b.0 other)
 
-pub begins_behind : (one other xs ys : List Happening) → xs ≡ one → IsBeginning ys other → IsBeginning (xs ++ ys) (one ++ other)
-begins_behind one other xs ys p b = (b.0, both_are xs (ys ++ b.0) one other (sym p) b.1 ∙ sym (append_assoc xs ys b.0))
-
 -- one more of the same
 pub once_more : (n : ℕ) (h : Happening) (xs ys : List Happening) → xs ≡ replicate n h → ys ≡ h ∷ [] → xs ++ ys ≡ replicate (n + 1) h
 once_more n h xs ys p q = both_are (replicate n h) (h ∷ []) xs ys p q ∙ replicate_more n h
@@ -49,30 +46,30 @@ pub once_more_begins : (n count : ℕ) (h : Happening) (xs ys : List Happening) 
 once_more_begins n count h xs ys less p q = first_of_same (n + 1) count h (xs ++ ys) (omega arith) (once_more n h xs ys p q)
 
 -- one more move of a job
-job_moves_behind : (number : ℕ) (outcome : Outcome) (hs : List Happening) → IsGiven outcome → AreJobMoves number hs → AreJobMoves number (hs ++ JobMoves number outcome ∷ [])
-job_moves_behind number outcome [] given m = (outcome, refl, given, tt)
-job_moves_behind number outcome (h ∷ hs) given m = (m.0, m.1, m.2, job_moves_behind number outcome hs given m.3)
+job_moves_after : (number : ℕ) (outcome : Outcome) (hs : List Happening) → IsGiven outcome → AreJobMoves number hs → AreJobMoves number (hs ++ JobMoves number outcome ∷ [])
+job_moves_after number outcome [] given m = (outcome, refl, given, tt)
+job_moves_after number outcome (h ∷ hs) given m = (m.0, m.1, m.2, job_moves_after number outcome hs given m.3)
 
 pub job_moves_more : (number moved n : ℕ) (xs ys : List Happening) → moved ≡ number → AreSomeJobMoves number n xs → IsJobMove moved ys → AreSomeJobMoves number (n + 1) (xs ++ ys)
 job_moves_more number moved n xs ys same m j =
     let longer : length (xs ++ ys) ≡ n + 1 = length-append xs ys ∙ (ap (λ l. length xs + length l) j.1 ∙ ap (λ k. k + 1) m.1) in
     let this : ys ≡ JobMoves number j.0 ∷ [] = j.1 ∙ ap (λ k. JobMoves k j.0 ∷ []) same in
-    (subst (λ l. AreJobMoves number (xs ++ l)) (sym this) (job_moves_behind number j.0 xs j.2 m.0), longer)
+    (subst (λ l. AreJobMoves number (xs ++ l)) (sym this) (job_moves_after number j.0 xs j.2 m.0), longer)
 
 pub few_job_moves : (number n count : ℕ) (xs : List Happening) → n ≤ count → AreSomeJobMoves number n xs → AreFewJobMoves number count xs
 few_job_moves number n count xs le m =
     let long : length xs ≡ n = m.1 in
     (m.0, omega arith)
 
--- a move of the next job, behind those of the jobs before it
-each_behind : (from mid next : ℕ) (outcome : Outcome) (w : World) (hs : List Happening) → IsGiven outcome → AreEachJobs from mid w hs → next_job_of (let v : World = after hs w in v.rings.back) mid ≡ Some next → AreEachJobs from next w (hs ++ JobMoves next outcome ∷ [])
-each_behind from mid next outcome w [] given e n = (next, outcome, refl, given, subst (λ (m : ℕ). next_job_of w.rings.back m ≡ Some next) e n, refl)
-each_behind from mid next outcome w (h ∷ hs) given e n = (e.0, e.1, e.2, e.3, e.4, each_behind e.0 mid next outcome (happens w h) hs given e.5 n)
+-- a move of the next job, after those of the jobs before it
+each_after : (from mid next : ℕ) (outcome : Outcome) (w : World) (hs : List Happening) → IsGiven outcome → AreEachJobs from mid w hs → next_job_of (let v : World = after hs w in v.rings.back) mid ≡ Some next → AreEachJobs from next w (hs ++ JobMoves next outcome ∷ [])
+each_after from mid next outcome w [] given e n = (next, outcome, refl, given, subst (λ (m : ℕ). next_job_of w.rings.back m ≡ Some next) e n, refl)
+each_after from mid next outcome w (h ∷ hs) given e n = (e.0, e.1, e.2, e.3, e.4, each_after e.0 mid next outcome (happens w h) hs given e.5 n)
 
 pub each_more : (last next : ℕ) (w v : World) (xs ys : List Happening) → next_job_of v.rings.back last ≡ Some next → AreEachJobs 0 last w xs → v ≡ after xs w → IsJobMove next ys → AreEachJobs 0 next w (xs ++ ys)
 each_more last next w v xs ys n e here j =
     subst (λ l. AreEachJobs 0 next w (xs ++ l)) (sym j.1)
-    (each_behind 0 last next j.0 w xs j.2 e (subst (λ (u : World). next_job_of u.rings.back last ≡ Some next) here n))
+    (each_after 0 last next j.0 w xs j.2 e (subst (λ (u : World). next_job_of u.rings.back last ≡ Some next) here n))
 
 -- a move of a job leaves as many jobs above each number
 pub moved_above : (last number : ℕ) (a b : Moment) → Leads (IsJobMove number) a b → above last b.world.rings.back ≡ above last a.world.rings.back
@@ -94,28 +91,22 @@ round_of w v xs ys p here jobs = record { jobs = ys; all = ap (λ l. l ++ ys) p;
 pub round_begun : (w v : World) (xs ys : List Happening) → xs ≡ round_start → v ≡ after xs w → HasEachJobs v ys → IsRoundSoFar w (xs ++ ys)
 round_begun w v xs ys p here jobs = inr (record { jobs = ys; all = ap (λ l. l ++ ys) p; are_jobs = subst (λ (u : World). HasEachJobs u ys) (here ∙ ap (λ l. after l w) p) jobs })
 
-pub round_in_front : (w : World) (xs : List Happening) → IsBeginning xs (FrontMoves ∷ []) → IsRoundSoFar w xs
-round_in_front w xs b = inl (begins_before (FrontMoves ∷ []) (BackMoves ∷ []) xs b)
-
-pub round_in_back : (w : World) (xs ys : List Happening) → xs ≡ FrontMoves ∷ [] → ys ≡ BackMoves ∷ [] → IsRoundSoFar w (xs ++ ys)
-round_in_back w xs ys p q = inl (all_begins round_start (xs ++ ys) (both_are (FrontMoves ∷ []) (BackMoves ∷ []) xs ys p q))
-
 -- one more round
-rounds_behind : (test : World → Bool) (n : ℕ) (w : World) (hs round : List Happening) → AreRounds test n w hs → test (after hs w) ≡ false → IsRound (after hs w) round → AreRounds test (suc n) w (hs ++ round)
-rounds_behind test zero w hs round are goes is_round =
+rounds_after : (test : World → Bool) (n : ℕ) (w : World) (hs round : List Happening) → AreRounds test n w hs → test (after hs w) ≡ false → IsRound (after hs w) round → AreRounds test (suc n) w (hs ++ round)
+rounds_after test zero w hs round are goes is_round =
     let here : after hs w ≡ w = ap (λ l. after l w) are in
     (subst (λ u. test u ≡ false) here goes, (round, [], ap (λ l. l ++ round) are ∙ sym (append-nil round), subst (λ u. IsRound u round) here is_round, refl))
-rounds_behind test (suc n) w hs round are goes is_round =
+rounds_after test (suc n) w hs round are goes is_round =
     let first = are.1.0 in
     let rest = are.1.1 in
     let here : after hs w ≡ after rest (after first w) = ap (λ l. after l w) are.1.2 ∙ after-append first rest w in
-    (are.0, (first, rest ++ round, ap (λ l. l ++ round) are.1.2 ∙ append_assoc first rest round, are.1.3, rounds_behind test n (after first w) rest round are.1.4 (subst (λ u. test u ≡ false) here goes) (subst (λ u. IsRound u round) here is_round)))
+    (are.0, (first, rest ++ round, ap (λ l. l ++ round) are.1.2 ∙ append_assoc first rest round, are.1.3, rounds_after test n (after first w) rest round are.1.4 (subst (λ u. test u ≡ false) here goes) (subst (λ u. IsRound u round) here is_round)))
 
 pub rounds_more : (test : World → Bool) (n : ℕ) (w v : World) (xs ys : List Happening) → test v ≡ false → AreRounds test n w xs → v ≡ after xs w → IsRound v ys → AreRounds test (n + 1) w (xs ++ ys)
 rounds_more test n w v xs ys goes are here is_round =
     let next : n + 1 ≡ suc n = omega arith in
     subst (λ m. AreRounds test m w (xs ++ ys)) (sym next)
-    (rounds_behind test n w xs ys are (subst (λ u. test u ≡ false) here goes) (subst (λ u. IsRound u ys) here is_round))
+    (rounds_after test n w xs ys are (subst (λ u. test u ≡ false) here goes) (subst (λ u. IsRound u ys) here is_round))
 
 -- rounds, and one that was begun
 pub rounds_begun : (test : World → Bool) (n bound : ℕ) (w v : World) (xs ys : List Happening) → n < bound → test v ≡ false → AreRounds test n w xs → v ≡ after xs w → IsRoundSoFar v ys → AreRoundsSoFar test bound w (xs ++ ys)

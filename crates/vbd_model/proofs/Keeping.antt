@@ -5,7 +5,7 @@ use Rattle.hypervisor.specs.Act.{FrontAct, BackAct, Took}
 use Rattle.split_model.specs.World as rings
 use Rattle.split_model.specs.Happening as ring
 use Rattle.split_model.proofs.Running.{runs_attachment as ring_runs_attachment}
-use Rattle.split_model.proofs.SafeFront.{sectors_front, connected_kept, submit_kept}
+use Rattle.split_model.proofs.SafeFront.{sectors_front, entered_kept, submit_kept}
 use Rattle.vbd_model.specs.World.{World}
 use Rattle.vbd_model.specs.Happening.{Happening, does, happens, after, DiskGoes}
 
@@ -31,7 +31,8 @@ ring_sectors_kept w ring.FrontMoves = front_sectors_at w (ring.front_turn w)
 ring_sectors_kept w ring.BackMoves = back_sectors_at w (ring.back_turn w Took)
 ring_sectors_kept w (ring.JobMoves number outcome) = job_sectors_at w number (ring.job_turn w number outcome)
 ring_sectors_kept w (ring.Negotiates at move) = refl
-ring_sectors_kept w ring.Connects = let kept = connected_kept w.front in kept.0
+ring_sectors_kept w (ring.FrontEnters state) = (entered_kept state w.front).sectors
+ring_sectors_kept w (ring.BackHalts why) = refl
 ring_sectors_kept w (ring.Submits job) = let kept = submit_kept w.front job in kept.sectors
 ring_sectors_kept w (ring.Notifies at) = refl
 ring_sectors_kept w (ring.Pokes frame word value) = refl

@@ -36,7 +36,7 @@ pub disk_runs-append : (first rest : List Happening) (w : World) (a b c : DiskSe
 disk_runs-append [] rest w a b c p q = subst (λ x. DiskRuns rest w x c) p q
 disk_runs-append (h ∷ first) rest w a b c p q = (p.0, p.1, disk_runs-append first rest (happens w h) p.0 b c p.2 q)
 
--- what more is to the ring's machine comes behind the rest
+-- what more is to the ring's machine comes after the rest
 pub all_does-append : (first rest : List Happening) (w : World) → all_does (first ++ rest) w ≡ all_does first w ++ all_does rest (after first w)
 all_does-append [] rest w = refl
 all_does-append (h ∷ first) rest w =

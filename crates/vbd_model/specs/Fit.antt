@@ -1,10 +1,12 @@
 -- What is true of the machine at every moment: each end's negotiation and its end of the ring go together, and no event is pending at an end whose port isn't bound.
-use Rattle.std.specs.Prelude.{◌≡◌, ◌<◌, ◌⊎◌, true, false, []}
+use Rattle.std.specs.Prelude.{◌≡◌, ℕ, ◌<◌, ◌⊎◌, Bool, true, false, List, [], length, Option, Some, None, IsSome, is_some}
 use Rattle.blk_base.specs.declared.operation.Abi.TheVariants.{X64}
 use Rattle.event_channel.specs.Channels.{ChannelState, is_bound}
 use Rattle.blk_front.specs.declared.stage.Stage.{Stage as FrontRing}
 use Rattle.blk_front.specs.declared.stage.Stage.TheVariants as front_ring
-use Rattle.blk_front.specs.Submit.{is_connected, is_initialised}
+use Rattle.blk_front.specs.Ask.{is_through}
+use Rattle.blk_front.specs.Submit.{is_ready}
+use Rattle.blk_front.specs.State.{is_made, is_bare}
 use Rattle.blk_back.specs.declared.stage.Stage.{Stage as BackRing}
 use Rattle.blk_back.specs.declared.stage.Stage.TheVariants as back_ring
 use Rattle.xenbus_state.specs.declared.state.BusState.{BusState}
@@ -13,17 +15,28 @@ use Rattle.xenbus_state.specs.declared.stage.FrontStage.{FrontStage}
 use Rattle.xenbus_state.specs.declared.stage.FrontStage.TheVariants as front
 use Rattle.xenbus_state.specs.declared.stage.BackStage.{BackStage}
 use Rattle.xenbus_state.specs.declared.stage.BackStage.TheVariants as back
-use Rattle.split_model.specs.Keys.{is_between}
+use Rattle.xenbus_state.specs.FrontView.{FrontView}
+use Rattle.xenbus_state.specs.BackView.{BackView, is_halting}
 use Rattle.split_model.specs.Safe.{IsSafe}
+use Rattle.vbd_front.specs.View.{is_broken}
 use Rattle.vbd_back.specs.View.{offer}
 use Rattle.vbd_model.specs.World.{World}
 
--- where the front's end of the ring stands as its negotiation rests after it wrote this state
-abbrev pub FrontRests : BusState → FrontRing → Type 0
-FrontRests state.Initialising r = r ≡ front_ring.RingWord 0
-FrontRests state.Initialised r = r ≡ front_ring.Initialised
-FrontRests state.Connected r = (is_connected r ≡ true) × (is_initialised r ≡ false)
-FrontRests s r = ⊥
+-- the grant of the ring is being ended
+abbrev pub is_ending_ring : FrontRing → Bool
+is_ending_ring front_ring.RingRead = true
+is_ending_ring (front_ring.RingEnd seen) = true
+is_ending_ring r = false
+
+-- where the front's end of the ring stands as its negotiation rests after it wrote this state, has read that the back is gone or not, and has this port
+abbrev pub FrontRests : BusState → (gone : Bool) → Option ℕ → FrontRing → Type 0
+FrontRests state.Initialising gone port r = (r ≡ front_ring.RingWord 0) × (port ≡ None)
+FrontRests state.Initialised gone port r = (r ≡ front_ring.Initialised) × IsSome port
+FrontRests state.Connected gone port r = (is_ready r ≡ true) × IsSome port
+FrontRests state.Closing false None r = r ≡ front_ring.RingWord 0
+FrontRests state.Closing false (Some port) r = is_made r ≡ true
+FrontRests state.Closing true (Some port) r = is_ending_ring r ≡ true
+FrontRests s gone port r = ⊥
 
 -- the three moves of a grant: the frame, a fence, the flags
 abbrev pub IsGranting : FrontRing → Type 0
@@ -32,42 +45,87 @@ IsGranting front_ring.RingFence = Unit {0}
 IsGranting front_ring.RingFlags = Unit {0}
 IsGranting r = ⊥
 
--- and as it is at this
-abbrev pub FrontGoesWith : FrontStage → BusState → FrontRing → Type 0
-FrontGoesWith front.Start s r = (s ≡ state.Initialising) × (r ≡ front_ring.RingWord 0)
-FrontGoesWith front.Rest s r = FrontRests s r
-FrontGoesWith front.ReadState s r = FrontRests s r
-FrontGoesWith (front.ReadFeature key) s r = (s ≡ state.Initialising) × (r ≡ front_ring.RingWord 0)
-FrontGoesWith (front.RingWord word) s r = (s ≡ state.Initialising) × (word < 16) × (r ≡ front_ring.RingWord word)
-FrontGoesWith (front.Grant page) s r = (s ≡ state.Initialising) × (page ≡ 0) × IsGranting r
-FrontGoesWith front.NewPort s r = (s ≡ state.Initialising) × (r ≡ front_ring.NewPort)
-FrontGoesWith (front.Publish key) s r = (s ≡ state.Initialising) × (r ≡ front_ring.Initialised)
-FrontGoesWith (front.ReadFact key) s r = (s ≡ state.Initialised) × (r ≡ front_ring.Initialised)
-FrontGoesWith (front.WriteState state.Initialised) s r = (s ≡ state.Initialising) × (r ≡ front_ring.Initialised)
-FrontGoesWith (front.WriteState state.Connected) s r = (s ≡ state.Initialised) × (r ≡ front_ring.Initialised)
-FrontGoesWith (front.Broken word) s r = Unit {0}
-FrontGoesWith b s r = ⊥
+-- and as it is at this; a ring that is broken leaves it at rest
+abbrev pub FrontGoesWith : FrontStage → FrontView → FrontRing → Type 0
+FrontGoesWith front.Start v r = (v.state ≡ state.Initialising) × (r ≡ front_ring.RingWord 0) × (v.port ≡ None)
+FrontGoesWith front.Rest v r = FrontRests v.state v.gone v.port r ⊎ (is_broken r ≡ true)
+FrontGoesWith front.ReadState v r = FrontRests v.state v.gone v.port r
+FrontGoesWith (front.ReadFeature key) v r = (v.state ≡ state.Initialising) × (r ≡ front_ring.RingWord 0) × (v.port ≡ None)
+FrontGoesWith (front.RingWord word) v r = (v.state ≡ state.Initialising) × (word < 16) × (r ≡ front_ring.RingWord word) × (v.port ≡ None)
+FrontGoesWith (front.Grant page) v r = (v.state ≡ state.Initialising) × (page ≡ 0) × IsGranting r × (v.port ≡ None)
+FrontGoesWith front.NewPort v r = (v.state ≡ state.Initialising) × (r ≡ front_ring.NewPort) × (v.port ≡ None)
+FrontGoesWith (front.Publish key) v r = (v.state ≡ state.Initialising) × (r ≡ front_ring.Initialised) × IsSome v.port
+FrontGoesWith (front.ReadFact key) v r = (v.state ≡ state.Initialised) × (r ≡ front_ring.Initialised) × IsSome v.port
+FrontGoesWith (front.WriteState state.Initialised) v r = (v.state ≡ state.Initialising) × (r ≡ front_ring.Initialised) × IsSome v.port
+FrontGoesWith (front.WriteState state.Connected) v r = (v.state ≡ state.Initialised) × (r ≡ front_ring.Initialised) × IsSome v.port
+FrontGoesWith (front.WriteState state.Closed) v r = (v.state ≡ state.Closing) × (is_bare r ≡ true) × (v.port ≡ None)
+FrontGoesWith front.ClosePort v r = (v.state ≡ state.Closing) × (r ≡ front_ring.ClosePort) × IsSome v.port
+FrontGoesWith front.Closed v r = (v.state ≡ state.Closed) × (r ≡ front_ring.Closed) × (v.closing ≡ true)
+FrontGoesWith (front.Broken word) v r = is_broken r ≡ true
+FrontGoesWith b v r = ⊥
 
--- where the back's end of the ring stands as its negotiation rests after it wrote this state
+-- the back's end of the ring has its page and its port, and hasn't halted
+abbrev pub is_serving : BackRing → Bool
+is_serving back_ring.MapRing = false
+is_serving back_ring.Bind = false
+is_serving (back_ring.GiveUp m) = false
+is_serving back_ring.UnmapRing = false
+is_serving back_ring.ClosePort = false
+is_serving back_ring.UnmapUnbound = false
+is_serving back_ring.Halted = false
+is_serving r = true
+
+-- where it stands as its negotiation rests after it wrote this state, and as that reads the front's
 abbrev pub BackRests : BusState → BackRing → Type 0
 BackRests state.InitWait r = r ≡ back_ring.MapRing
-BackRests state.Connected r = (r ≡ back_ring.MapRing → ⊥) × (r ≡ back_ring.Bind → ⊥)
+BackRests state.Connected r = is_serving r ≡ true
+BackRests state.Closing r = is_serving r ≡ true
 BackRests s r = ⊥
 
--- before anything of the front is mapped; after its port is bound, and between an entry and the next and between replies
+abbrev pub BackReads : BusState → BackRing → Type 0
+BackReads state.InitWait r = r ≡ back_ring.MapRing
+BackReads state.Connected r = r ≡ back_ring.Loop
+BackReads state.Closing r = r ≡ back_ring.Loop
+BackReads s r = ⊥
+
+-- a mapping of a job is given up; the ring's page is
+abbrev pub IsGivingUp : BackRing → Type 0
+IsGivingUp (back_ring.GiveUp m) = Unit {0}
+IsGivingUp r = ⊥
+
+abbrev pub IsUnmapping : BackRing → Type 0
+IsUnmapping back_ring.UnmapRing = Unit {0}
+IsUnmapping back_ring.UnmapUnbound = Unit {0}
+IsUnmapping r = ⊥
+
+-- before anything of the front is mapped; after its port is bound; and after a halt
 abbrev pub BackGoesWith : BackStage → BusState → BackRing → Type 0
 BackGoesWith (back.Publish key) s r = (s ≡ state.Initialising) × (r ≡ back_ring.MapRing)
 BackGoesWith (back.WriteState state.InitWait) s r = (s ≡ state.Initialising) × (r ≡ back_ring.MapRing)
 BackGoesWith (back.WriteState state.Connected) s r = (s ≡ state.InitWait) × (r ≡ back_ring.Loop)
+BackGoesWith (back.WriteState state.Closing) s r = r ≡ back_ring.Halted
+BackGoesWith (back.WriteState state.Closed) s r = (s ≡ state.Closing) × (r ≡ back_ring.Halted)
 BackGoesWith back.Watch s r = (s ≡ state.InitWait) × (r ≡ back_ring.MapRing)
 BackGoesWith back.Rest s r = BackRests s r
-BackGoesWith back.ReadState s r = BackRests s r × (is_between r ≡ true)
+BackGoesWith back.ReadState s r = BackReads s r
 BackGoesWith (back.ReadKey key) s r = (s ≡ state.InitWait) × (r ≡ back_ring.MapRing)
 BackGoesWith back.MapPage s r = (s ≡ state.InitWait) × ((r ≡ back_ring.MapRing) ⊎ (r ≡ back_ring.Bind))
 BackGoesWith back.Bind s r = (s ≡ state.InitWait) × (r ≡ back_ring.Bind)
 BackGoesWith (back.PublishFact key) s r = (s ≡ state.InitWait) × (r ≡ back_ring.Loop)
-BackGoesWith back.UnmapOthers s r = Unit {0}
+BackGoesWith back.UnmapOthers s r = IsGivingUp r
+BackGoesWith back.UnmapPage s r = IsUnmapping r
+BackGoesWith back.ClosePort s r = r ≡ back_ring.ClosePort
+BackGoesWith back.Halted s r = (s ≡ state.Closed) × (r ≡ back_ring.Halted)
 BackGoesWith b s r = ⊥
+
+-- the pages and the port that the negotiation counts are those that the end of the ring holds
+abbrev pub BackHolds : BackRing → (pages : ℕ) → (bound : Bool) → Type 0
+BackHolds back_ring.MapRing pages bound = (pages ≡ 0) × (bound ≡ false)
+BackHolds back_ring.Bind pages bound = (pages ≡ 1) × (bound ≡ false)
+BackHolds back_ring.UnmapUnbound pages bound = (pages ≡ 1) × (bound ≡ false)
+BackHolds back_ring.ClosePort pages bound = (pages ≡ 0) × (bound ≡ true)
+BackHolds back_ring.Halted pages bound = (pages ≡ 0) × (bound ≡ false)
+BackHolds r pages bound = (pages ≡ 1) × (bound ≡ true)
 
 -- no port is bound, and no event is pending at the back, before it binds
 abbrev pub IsUnbound : BackRing → ChannelState → Type 0
@@ -75,14 +133,17 @@ IsUnbound back_ring.MapRing c = (is_bound c ≡ false) × (c.back_pending ≡ fa
 IsUnbound back_ring.Bind c = (is_bound c ≡ false) × (c.back_pending ≡ false)
 IsUnbound r c = Unit {0}
 
--- the machine is safe; each negotiation goes with its end of the ring; the front names the layout of 64-bit guests and a ring of one page, and the back offers what it offers and isn't asked to close; and no event is pending where no port is made, or none is bound yet
+-- the machine is safe; each negotiation goes with its end of the ring, closes and halts with it, and a front that wrote Closing has no request left; the front names the layout of 64-bit guests and a ring of one page, and the back offers what it offers; and no event is pending where no port is made, or none is bound yet
 pub record IsFit (w : World) : Type 0 where
   pub safe : IsSafe w.rings
   pub layout : w.front.abi ≡ X64
   pub order : w.front.order ≡ 0
   pub offers : w.back.features ≡ offer
-  pub plugged : w.back.unplugged ≡ false
-  pub front : FrontGoesWith w.front.stage w.front.state w.rings.front.stage
+  pub front : FrontGoesWith w.front.stage w.front w.rings.front.stage
+  pub closing : is_broken w.rings.front.stage ≡ false → w.rings.front.closing ≡ w.front.closing
+  pub through : w.front.state ≡ state.Closing → is_broken w.rings.front.stage ≡ false → is_through w.rings.front ≡ true
   pub back : BackGoesWith w.back.stage w.back.state w.rings.back.stage
+  pub held : BackHolds w.rings.back.stage (length w.back.pages) w.back.bound
+  pub halted : is_some w.rings.back.halted ≡ is_halting w.back.stage
   pub unported : w.rings.under.channels.ports ≡ [] → w.rings.under.channels.front_pending ≡ false
   pub unbound : IsUnbound w.rings.back.stage w.rings.under.channels

@@ -1,5 +1,5 @@
 -- What may happen to the machine, and what that is to the ends of its ring and to each end's negotiation.
-use Rattle.std.specs.Prelude.{◌≡◌, ℕ, Bool, false, List, [], ◌∷◌, ◌++◌, Option, Some, None, if◌then◌else◌, decimal}
+use Rattle.std.specs.Prelude.{◌≡◌, ℕ, Bool, false, List, [], ◌∷◌, ◌++◌, map, Option, Some, None, if◌then◌else◌, decimal}
 use Rattle.blk_base.specs.declared.config.Job.{Job}
 use Rattle.blk_io.specs.Disk.{DiskSeen}
 use Rattle.blk_base.specs.declared.parts.End.{End}
@@ -7,7 +7,10 @@ use Rattle.blk_base.specs.declared.parts.End.TheVariants as end
 use Rattle.blk_base.specs.declared.moves.BackMover.TheVariants as back_mover
 use Rattle.schedule_text.specs.declared.line.Line.{Line}
 use Rattle.hypervisor.specs.Act.{FrontAct, BackAct, Outcome, Took, front_act, back_act}
-use Rattle.xenbus_state.specs.declared.state.BusState.TheVariants as state
+use Rattle.blk_front.specs.declared.state.FrontState.{FrontState}
+use Rattle.blk_front.specs.declared.state.FrontState.TheVariants as front_state
+use Rattle.blk_back.specs.declared.told.Halt.{Halt}
+use Rattle.xenbus_state.specs.declared.table.BackHalt.{BackHalt}
 use Rattle.xenbus_state.specs.declared.front.FrontBusAsk.{FrontBusAsk}
 use Rattle.xenbus_state.specs.declared.front.FrontBusAsk.TheVariants as front_ask
 use Rattle.xenbus_state.specs.declared.back.BackBusAsk.{BackBusAsk}
@@ -15,8 +18,8 @@ use Rattle.xenbus_state.specs.declared.back.BackBusAsk.TheVariants as back_ask
 use Rattle.xenbus_state.specs.States.{state_number}
 use Rattle.xenbus_state.specs.Keys.{front_name, back_name, path_under}
 use Rattle.xenbus_state.specs.Values.{text_of}
-use Rattle.xenbus_state.specs.FrontView.{FrontView}
-use Rattle.xenbus_state.specs.BackView.{BackView}
+use Rattle.xenbus_state.specs.FrontView.{FrontView, closed}
+use Rattle.xenbus_state.specs.BackView.{BackView, unplugged}
 use Rattle.split_model.specs.Keys.{KeyMove, Gets, Sets, Watches, TakesWatch}
 use Rattle.split_model.specs.Happening as ring
 use Rattle.vbd_front.specs.Ask as front
@@ -25,11 +28,12 @@ use Rattle.vbd_back.specs.Ask as back
 use Rattle.vbd_back.specs.Step as back_step
 use Rattle.vbd_model.specs.World.{World, frontend_of, backend_of}
 
--- a move of the front, of the back, or of the job of a number with what the disk answers it; a submission; a spurious event at an end's bound port; a word of the guest's memory overwritten by a hostile hand; a look at the words of the ring, at whether all is quiet, with what was found, and one when the rounds are over
+-- a move of the front, of the back, or of the job of a number with what the disk answers it; an end that is asked to close; a submission; a spurious event at an end's bound port; a word of the guest's memory overwritten by a hostile hand; a look at the words of the ring, at whether all is quiet, with what was found, and one when the rounds are over
 pub data Happening : Type 0 where
   FrontMoves : Happening
   BackMoves : Happening
   JobMoves : (number : ℕ) (outcome : Outcome) → Happening
+  Closes : (at : End) → Happening
   Submits : (job : Job) → Happening
   Notifies : (at : End) → Happening
   Pokes : (frame word value : ℕ) → Happening
@@ -54,11 +58,6 @@ back_key (back_ask.SetState s) = Sets back.own_state (decimal (state_number s))
 back_key (back_ask.SetKey key value) = Sets (path_under end.Back (back_name key)) (text_of value)
 back_key a = TakesWatch
 
--- the front is connected as it writes Connected (XenbusStateConnected of `io/xenbus.h`)
-abbrev pub connecting : FrontBusAsk → List ring.Happening
-connecting (front_ask.SetState state.Connected) = ring.Connects ∷ []
-connecting a = []
-
 -- the end of the ring has the move, which its negotiation leaves it
 abbrev pub is_fronts_ring : World → Bool
 is_fronts_ring w =
@@ -68,30 +67,7 @@ is_fronts_ring w =
 abbrev pub is_backs_ring : World → Bool
 is_backs_ring w =
     let a : BackBusAsk = back.bus_ask_of (backend_of w) in
-    if back.speaks a then false else back.ring_moves a w.rings.back.stage
-
--- what a move of an end is to the ring's machine: a move of its end of the ring, or of its negotiation with the keys
-abbrev pub front_does : World → List ring.Happening
-front_does w =
-    let a : FrontBusAsk = front.bus_ask_of (frontend_of w) in
-    if is_fronts_ring w then ring.FrontMoves ∷ [] else ring.Negotiates end.Front (front_key a) ∷ connecting a
-
-abbrev pub back_does : World → List ring.Happening
-back_does w =
-    let a : BackBusAsk = back.bus_ask_of (backend_of w) in
-    if is_backs_ring w then ring.BackMoves ∷ [] else ring.Negotiates end.Back (back_key a) ∷ []
-
--- what something that happens is to the ring's machine
-abbrev pub does : World → Happening → List ring.Happening
-does w FrontMoves = front_does w
-does w BackMoves = back_does w
-does w (JobMoves number outcome) = ring.JobMoves number outcome ∷ []
-does w (Submits job) = ring.Submits job ∷ []
-does w (Notifies at) = ring.Notifies at ∷ []
-does w (Pokes frame word value) = ring.Pokes frame word value ∷ []
-does w Dumps = ring.Dumps ∷ []
-does w (Looks quiet) = ring.Looks quiet ∷ []
-does w (Settles quiet) = ring.Settles quiet ∷ []
+    if back.bus_moves a w.rings.back.stage then false else back.ring_moves a w.rings.back.stage
 
 -- the acts of both ends as the machine stands, by what each asks
 abbrev pub front_turn : World → Option FrontAct
@@ -99,6 +75,54 @@ front_turn w = front_act w.rings.under (front.ask_of (frontend_of w))
 
 abbrev pub back_turn : World → Option BackAct
 back_turn w = back_act w.rings.under back_mover.Back (back.ask_of (backend_of w)) Took
+
+-- what comes of an answer to the front's negotiation for its end of the ring, which enters states, and to the back's, whose end may halt
+abbrev pub entered_at : World → Option FrontAct → List FrontState
+entered_at w None = []
+entered_at w (Some a) = front_step.states_after (frontend_of w) a.answer
+
+abbrev pub reasons_of : Option BackHalt → List Halt
+reasons_of None = []
+reasons_of (Some why) = back_step.ring_halt why ∷ []
+
+abbrev pub halted_at : World → Option BackAct → List Halt
+halted_at w None = []
+halted_at w (Some a) = reasons_of (back_step.halt_of (backend_of w) a.answer)
+
+abbrev pub front_enters : (speaks : Bool) → World → List ring.Happening
+front_enters speaks w = if speaks then map ring.FrontEnters (entered_at w (front_turn w)) else []
+
+abbrev pub back_halts : (speaks : Bool) → World → List ring.Happening
+back_halts speaks w = if speaks then map ring.BackHalts (halted_at w (back_turn w)) else []
+
+-- what a move of an end is to the ring's machine: a move of its end of the ring; or of its negotiation with the keys, and what comes of it for its end of the ring
+abbrev pub front_does : World → List ring.Happening
+front_does w =
+    let a : FrontBusAsk = front.bus_ask_of (frontend_of w) in
+    if is_fronts_ring w then ring.FrontMoves ∷ [] else ring.Negotiates end.Front (front_key a) ∷ front_enters (front.speaks a) w
+
+abbrev pub back_does : World → List ring.Happening
+back_does w =
+    let a : BackBusAsk = back.bus_ask_of (backend_of w) in
+    if is_backs_ring w then ring.BackMoves ∷ [] else ring.Negotiates end.Back (back_key a) ∷ back_halts (back.bus_moves a w.rings.back.stage) w
+
+-- a front that is asked to close begins to close; a back writes Closing in its next move
+abbrev pub closes_does : End → List ring.Happening
+closes_does end.Front = ring.FrontEnters front_state.Closing ∷ []
+closes_does end.Back = []
+
+-- what something that happens is to the ring's machine
+abbrev pub does : World → Happening → List ring.Happening
+does w FrontMoves = front_does w
+does w BackMoves = back_does w
+does w (JobMoves number outcome) = ring.JobMoves number outcome ∷ []
+does w (Closes at) = closes_does at
+does w (Submits job) = ring.Submits job ∷ []
+does w (Notifies at) = ring.Notifies at ∷ []
+does w (Pokes frame word value) = ring.Pokes frame word value ∷ []
+does w Dumps = ring.Dumps ∷ []
+does w (Looks quiet) = ring.Looks quiet ∷ []
+does w (Settles quiet) = ring.Settles quiet ∷ []
 
 -- each end's negotiation after its act
 abbrev pub front_bus_after : World → Option FrontAct → FrontView
@@ -112,10 +136,12 @@ back_bus_after w (Some a) = (back_step.step_of (backend_of w) a.answer).bus
 -- what something that happens makes of each end's negotiation
 abbrev pub front_bus : World → Happening → FrontView
 front_bus w FrontMoves = front_bus_after w (front_turn w)
+front_bus w (Closes end.Front) = closed w.front
 front_bus w h = w.front
 
 abbrev pub back_bus : World → Happening → BackView
 back_bus w BackMoves = back_bus_after w (back_turn w)
+back_bus w (Closes end.Back) = unplugged w.back
 back_bus w h = w.back
 
 abbrev pub happens : World → Happening → World

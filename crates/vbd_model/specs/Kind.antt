@@ -14,7 +14,7 @@ use Rattle.blk_front.specs.Submit.{unfinished, sectors_owed}
 use Rattle.blk_back.specs.Step.{next_job_of}
 use Rattle.vbd_model.specs.World.{World, is_quiet}
 use Rattle.split_model.specs.Happening.{is_guest_word}
-use Rattle.vbd_model.specs.Happening.{Happening, FrontMoves, BackMoves, JobMoves, Submits, Notifies, Pokes, Dumps, Looks, Settles, happens, after}
+use Rattle.vbd_model.specs.Happening.{Happening, FrontMoves, BackMoves, JobMoves, Closes, Submits, Notifies, Pokes, Dumps, Looks, Settles, happens, after}
 
 abbrev pub is_x64 : Abi → Bool
 is_x64 X64 = true
@@ -40,6 +40,7 @@ is_carried (events.Turn n) = is_number n
 is_carried events.Settle = true
 is_carried events.Look = true
 is_carried (events.Notify at) = true
+is_carried (events.Close at) = true
 is_carried (events.Poke frame word value) = is_guest_word frame word
 is_carried events.Dump = true
 is_carried event = false
@@ -151,6 +152,7 @@ Makes (events.Turn n) w hs = AreRounds never n w hs
 Makes events.Settle w hs = IsSettling w hs
 Makes events.Look w hs = hs ≡ Looks (is_quiet w) ∷ []
 Makes (events.Notify at) w hs = hs ≡ Notifies at ∷ []
+Makes (events.Close at) w hs = hs ≡ Closes at ∷ []
 Makes (events.Poke frame word value) w hs = (hs ≡ Pokes frame word value ∷ []) × (value < 2 ^ 32)
 Makes events.Dump w hs = hs ≡ Dumps ∷ []
 Makes event w hs = ⊥

@@ -1,5 +1,6 @@
 pub mod World
 pub mod Happening
+pub mod News
 pub mod Possible
 pub mod Fit
 pub mod Kind

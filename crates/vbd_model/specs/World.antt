@@ -1,5 +1,5 @@
 -- The machine with the negotiation of its ends.
-use Rattle.std.specs.Prelude.{Bool, false, ◌&&◌}
+use Rattle.std.specs.Prelude.{Bool, ◌&&◌, None}
 use Rattle.blk_base.specs.Options.{Options}
 use Rattle.xenbus_state.specs.FrontView.{FrontView, start_of as front_bus_start}
 use Rattle.xenbus_state.specs.BackView.{BackView, start_of as back_bus_start}
@@ -7,6 +7,7 @@ use Rattle.xenbus_state.specs.BackAsk.{ask_of as back_bus_ask}
 use Rattle.xenbus_state.specs.Offer.{facts_of}
 use Rattle.split_model.specs.World as rings
 use Rattle.vbd_front.specs.View as front
+use Rattle.vbd_front.specs.Ask as front_ask
 use Rattle.vbd_back.specs.View as back
 
 -- the ends of the ring with what lies under both, and each end's negotiation
@@ -21,11 +22,11 @@ start_of config = record { rings = rings.start_of config; front = front_bus_star
 
 -- both ends, each with its negotiation
 abbrev pub frontend_of : World → front.View
-frontend_of w = record { ring = w.rings.front; bus = w.front; ready = false }
+frontend_of w = record { ring = w.rings.front; bus = w.front; news = None }
 
 abbrev pub backend_of : World → back.View
 backend_of w = record { ring = w.rings.back; bus = w.back }
 
--- quiet: both ends wait once the front was connected, no job is held, and neither an event nor a watch is pending
+-- quiet: both ends wait, and not for their own negotiation, no job is held, and neither an event nor a watch is pending
 abbrev pub is_quiet : World → Bool
-is_quiet w = front.rests w.front.stage && back.rests (back_bus_ask w.back) && rings.is_quiet w.rings
+is_quiet w = front.rests (front_ask.bus_ask_of (frontend_of w)) && back.rests (back_bus_ask w.back) && rings.is_quiet w.rings

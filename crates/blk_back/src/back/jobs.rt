@@ -90,7 +90,16 @@ impl Back {
         }
     }
 
+    /// What it is doing.
+    #[inline(always)]
+    pub fn stage(&self) -> Stage
+        ensures { result ≡ self.now.stage }
+    {
+        self.stage
+    }
+
     /// Why it halted; `None` exactly where it didn't.
+    #[inline(always)]
     pub fn halted(&self) -> Option<Halt>
         ensures { result ≡ self.now.halted }
     {

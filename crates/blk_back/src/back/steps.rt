@@ -4,7 +4,7 @@ ghost use Rattle.blk_base.specs.declared.parts.Mode.TheVariants.{ReadWrite};
 ghost use Rattle.blk_base.specs.declared.ask.BackAnswer.TheVariants.{Word, Done, Mapped, MapRefused, BindRefused};
 ghost use Rattle.blk_back.specs.declared.stage.Stage.TheVariants as stage;
 ghost use Rattle.blk_back.specs.Ask.{loop_ask, next_reply, IsAnswer};
-ghost use Rattle.blk_back.specs.Step.{step_at, loop_step, loop_word, looked, overrun, give_up, fetched, fetch_step, replied};
+ghost use Rattle.blk_back.specs.Step.{step_at, loop_step, loop_word, looked, halts, overrun, give_up, fetched, fetch_step, replied};
 
 use super::Back;
 use crate::stage::{Reply, Stage};
@@ -111,6 +111,28 @@ impl Back {
             if word == self.ring.cons() {
                 self.asleep = true;
             }
+        }
+    }
+
+    /// Halts for what its negotiation found, where no step is begun; else nothing changes. An overrun
+    /// isn't for it to find. A back that has mapped the ring gives up its jobs' mappings and the
+    /// ring's page, and closes its port. It takes no memory.
+    pub fn halt(&mut self, why: Halt)
+        ensures { self.new ≡ halts why self.old }
+    {
+        if matches!(why, Halt::Overrun { .. }) {
+            return;
+        }
+        match self.stage {
+            Stage::MapRing => {
+                self.halted = Some(why);
+                self.stage = Stage::Halted;
+            }
+            Stage::Loop => {
+                self.halted = Some(why);
+                self.give_up();
+            }
+            _ => {}
         }
     }
 

@@ -5,7 +5,7 @@ ghost use Rattle.blk_front.specs.declared.stage.Stage.TheVariants as stage;
 ghost use Rattle.blk_front.specs.View.{next_request};
 ghost use Rattle.blk_front.specs.Ask.{loop_ask, IsAnswer};
 ghost use Rattle.blk_front.specs.Sound.{AreAscending};
-ghost use Rattle.blk_front.specs.Step.{step_at, loop_step, loop_word, looked, broken, found_at, issued, taken, response_step, end_step, exchanged, ended, finished, pushed, entry_request, data_step, issue_stage, IsTaking, IsRevoking, IsEndingStage};
+ghost use Rattle.blk_front.specs.Step.{step_at, loop_step, loop_word, looked, broken, found_at, issued, taken, response_step, end_step, exchanged, ring_read, ring_ended, ended, finished, pushed, entry_request, data_step, issue_stage, IsTaking, IsRevoking, IsEndingStage};
 ghost use Rattle.blk_front.specs.Request.{IsShaped};
 ghost use Rattle.blk_layout.specs.Entry.{raw_of};
 ghost use Rattle.blk_front.specs.declared.request.Request.{Request};
@@ -88,6 +88,32 @@ impl Front {
             if word == self.ring.cons() {
                 self.asleep = true;
             }
+        }
+    }
+
+    /// The entry of the ring's grant was read.
+    #[inline(never)]
+    pub(super) fn read_ring_grant(&mut self, word: u32)
+        requires { self.old.stage ≡ stage.RingRead }
+        ensures { self.new ≡ ring_read self.old word }
+    {
+        if word / 8 % 4 != 0 {
+            self.break_with(word);
+        } else {
+            self.stage = Stage::RingEnd(word);
+        }
+    }
+
+    /// The ring's grant was ended, if its entry was still as it was read.
+    #[inline(never)]
+    pub(super) fn ended_ring_grant(&mut self, seen: u32, word: u32)
+        requires { self.old.stage ≡ stage.RingEnd seen }
+        ensures { self.new ≡ ring_ended self.old seen word }
+    {
+        if word == seen {
+            self.stage = Stage::ClosePort;
+        } else {
+            self.break_with(word);
         }
     }
 

@@ -4,7 +4,7 @@ ghost use Rattle.arrayvec.specs.ArrayVec.{array_vec_len};
 ghost use Rattle.blk_front.specs.declared.request.Request.{Request};
 ghost use Rattle.blk_front.specs.Request.{IsShaped, frames_for};
 ghost use Rattle.blk_front.specs.Ask.{ask_of};
-ghost use Rattle.blk_front.specs.Submit.{submit_of, submit_one, is_ready, is_connected, is_initialised, connected, is_idle, wish_of, accepted, unfinished, ending_of, ending_sectors, sectors_owed, is_wait};
+ghost use Rattle.blk_front.specs.Submit.{submit_of, submit_one, is_ready, is_connected, is_initialised, is_idle, wish_of, accepted, unfinished, ending_of, ending_sectors, sectors_owed, is_wait};
 ghost use Rattle.blk_front.specs.Pool.{taking};
 
 use super::Front;
@@ -25,6 +25,9 @@ impl Front {
     {
         if self.last == 4294967295 {
             return Err(Refusal::Spent);
+        }
+        if self.closing {
+            return Err(Refusal::Closing);
         }
         if !is_ready(self.stage) {
             return Err(Refusal::NotReady);
@@ -86,7 +89,15 @@ impl Front {
         self.requests.len() as u32 + ending_of(self.stage)
     }
 
-    /// Whether its ring and the port of its events are made.
+    /// What it is doing.
+    #[inline(always)]
+    pub fn stage(&self) -> Stage
+        ensures { result ≡ self.now.stage }
+    {
+        self.stage
+    }
+
+    /// Whether its ring and the port of its events are made, or it is past that.
     pub fn is_connected(&self) -> bool
         ensures { result ≡ is_connected self.now.stage }
     {
@@ -100,19 +111,7 @@ impl Front {
         )
     }
 
-    /// Connects a front that waits for it, and says whether it did. No other front changes.
-    pub fn connect(&mut self) -> bool
-        ensures front { self.new ≡ connected self.old }
-        ensures done { result ≡ is_initialised self.old.stage }
-    {
-        let waits = matches!(self.stage, Stage::Initialised);
-        if waits {
-            self.stage = Stage::Loop;
-        }
-        waits
-    }
-
-    /// Whether it is connected, or broken, and asks for nothing but an event.
+    /// Whether it is connected, closed or broken, and asks for nothing but an event.
     #[inline(always)]
     pub fn idle(&self) -> bool
         ensures { result ≡ is_idle self.now }
@@ -132,7 +131,8 @@ impl Front {
     fn waits(&self) -> bool
         ensures { result ≡ is_idle self.now }
     {
-        !matches!(self.stage, Stage::Initialised) && matches!(self.ask(), FrontAsk::Wait)
+        !matches!(self.stage, Stage::Initialised | Stage::Left)
+            && matches!(self.ask(), FrontAsk::Wait)
     }
 
     /// How many requests are unfinished, and how many sectors they move.
@@ -206,16 +206,21 @@ fn sectors_of(requests: &[Request]) -> u64
 fn is_ready(stage: Stage) -> bool
     ensures { result ≡ is_ready stage }
 {
-    !matches!(
-        stage,
+    match stage {
         Stage::RingWord(_)
-            | Stage::RingFrame
-            | Stage::RingFence
-            | Stage::RingFlags
-            | Stage::NewPort
-            | Stage::Initialised
-            | Stage::Broken(_)
-    )
+        | Stage::RingFrame
+        | Stage::RingFence
+        | Stage::RingFlags
+        | Stage::NewPort
+        | Stage::Initialised => false,
+        Stage::RingRead
+        | Stage::RingEnd(_)
+        | Stage::ClosePort
+        | Stage::Left
+        | Stage::Closed
+        | Stage::Broken(_) => false,
+        _ => true,
+    }
 }
 
 // The sectors of a read or a write, and which way they go.

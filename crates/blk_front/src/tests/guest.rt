@@ -2,7 +2,7 @@
 ghost use Rattle.std.specs.Prelude.{IfSome};
 ghost use Rattle.blk_front.specs.Ask.{IsAnswer};
 
-use crate::{Front, Told};
+use crate::{Front, FrontState, Told};
 use blk_base::{Abi, Config, Endpoint, FrontAnswer, FrontAsk, Job, SectorCount};
 use std::alloc::Global;
 use std::process::Abort;
@@ -66,7 +66,7 @@ impl Memory {
                 Some(FrontAnswer::Word(seen))
             }
             FrontAsk::NewPort => Some(FrontAnswer::Port(1)),
-            FrontAsk::Send => Some(FrontAnswer::Done),
+            FrontAsk::Send | FrontAsk::ClosePort => Some(FrontAnswer::Done),
             _ => None,
         }
     }
@@ -92,6 +92,7 @@ fn kept(ask: &FrontAsk) -> Option<FrontAsk<'static>> {
         }),
         FrontAsk::NewPort => Some(FrontAsk::NewPort),
         FrontAsk::Send => Some(FrontAsk::Send),
+        FrontAsk::ClosePort => Some(FrontAsk::ClosePort),
         _ => None,
     }
 }
@@ -180,7 +181,7 @@ pub fn asks(
 pub fn connect(rt: &impl Abort, front: &mut Front, memory: &mut Memory) -> Result<(), Fail> {
     quiet_moves(rt, front, memory, 19)?;
     asks(rt, front, memory, &[FrontAsk::NewPort])?;
-    assert!(rt; front.connect());
+    assert!(rt; front.enter(FrontState::Connected));
     Ok(())
 }
 

@@ -51,22 +51,22 @@ impl Backend {
 
     /// Whether it asks for nothing but an event or a watch.
     #[inline(always)]
+    #[tactic(auto, using(crate::proofs::Turns::open_asks))]
     pub fn waits(&self) -> bool
         ensures { result ≡ is_waiting self.now }
     {
-        match self.turn() {
+        match self.turn {
             Turn::Ring => self.ring.waits(),
-            Turn::Keys | Turn::Connect => false,
-            Turn::Neither => true,
+            _ => matches!(self.ask_by_turn(), BackAsk::Wait),
         }
     }
 
     /// Whether the ring's end asks for nothing but an event, no job is held, and the negotiation has
-    /// begun nothing or has given the front up.
+    /// begun nothing, or has halted and given all up.
     pub fn idle(&self) -> bool
         ensures { result ≡ is_idle self.now }
     {
-        matches!(self.bus.ask(), BackBusAsk::Wait | BackBusAsk::UnmapOthers) && self.ring.idle()
+        matches!(self.bus.ask(), BackBusAsk::Wait) && self.ring.idle()
     }
 
     /// What happened at the ring in the last move, once; `None` exactly where nothing is left to tell.

@@ -54,3 +54,12 @@ invariant_of-self-in-Poke g c =
 pub returns-in-Notify-clause-goes : goal.returns-in-Notify-clause-goes
 returns-in-Notify-clause-goes g c =
     rw (c.in-Notify.is, ← c.self.view_is) (goes_one _ _ (10 ^ 10) (Notifies c.in-Notify.at) _ _ _ refl refl c.notify.ensures (rw c.notify.ensures (omega arith)) (rw c.notify.ensures refl) (_, refl, refl) (gained_none _))
+
+pub invariant_of-self-in-Close : goal.invariant_of-self-in-Close
+invariant_of-self-in-Close g c =
+    let few : c.self.inside.events < 10 ^ 9 = subst (λ (m : Run). m.events < 10 ^ 9) (sym c.self.view_is) c.requires.few in
+    let went = c.close.ensures (g.D.SectorDisk.seen c.args.disk.now) in
+    within_on c.self.inside.split c.close.new.self c.self.inside.events 0 (omega arith) few went.keeps.made c.self.invariant
+
+pub returns-in-Close-clause-goes : goal.returns-in-Close-clause-goes
+returns-in-Close-clause-goes g c = rw (c.in-Close.is, ← c.self.view_is) (goes_as _ _ _ _ 0 (10 ^ 10) _ _ _ (omega arith) (λ hs k. k) (λ hs k. k) (c.close.ensures (g.D.SectorDisk.seen c.args.disk.now)))

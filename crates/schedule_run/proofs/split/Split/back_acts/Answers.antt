@@ -1,4 +1,4 @@
-use Rattle.std.proofs.Common.{◌≡◌, ◌∷◌, [], ◌++◌, refl, sym, subst}
+use Rattle.std.proofs.Common.{◌∷◌, [], ◌++◌, sym, subst}
 use Rattle.std.specs.Prelude.{Some, None}
 use Rattle.split_model.specs.Shown.{back_lines, halt_lines}
 use Rattle.blk_base.specs.declared.moves.BackMover.TheVariants.{Back}
@@ -7,10 +7,10 @@ use Rattle.hypervisor.specs.Hypervisor.{Hypervisor}
 use Rattle.hypervisor.specs.Act.{back_shown, Took}
 use Rattle.vbd_model.specs.World.{World}
 use Rattle.vbd_model.specs.Fit.{IsFit}
-use Rattle.schedule_run.specs.Inside.{HasHeard, world_of}
+use Rattle.schedule_run.specs.Inside.{world_of}
 use Rattle.schedule_run.proofs.Asked.{said_so, said_nothing}
 use Rattle.schedule_run.proofs.Answered.{back_told}
-use Rattle.schedule_run.proofs.Moving.{back_asked_may, BackSaid, back_lines_as, back_fit, back_goes_as, back_rests, back_lacks}
+use Rattle.schedule_run.proofs.Moving.{back_asked_may, back_lines_as, back_fit, back_goes_as, back_rests, back_lacks}
 use Rattle.schedule_run.proofs.split.Split.back_acts.Goals as goal
 
 pub back-requires : goal.back-requires

@@ -3,7 +3,6 @@ use Rattle.std.specs.Prelude.{Ok}
 use Rattle.std.proofs.lemmas.Result.{err_from_is_err_and}
 use Rattle.schedule_text.specs.Recorder.{Gained}
 use Rattle.split_model.specs.Happening.{ring_lines}
-use Rattle.vbd_model.specs.World.{World}
 use Rattle.schedule_run.proofs.Moving.{dumped_goes}
 use Rattle.split_model.proofs.Overwriting.{shown_on, stopped_on}
 use Rattle.schedule_run.proofs.split.Split.dump.Goals as goal

@@ -1,10 +1,7 @@
-use Rattle.std.proofs.Common.{◌≡◌, ◌∷◌, [], refl, sym, ap, ◌∙◌, subst}
-use Rattle.blk_base.specs.declared.ask.FrontAsk.{FrontAsk}
+use Rattle.std.proofs.Common.{◌∷◌, []}
 use Rattle.schedule_text.specs.declared.line.Line.TheVariants.{Move}
 use Rattle.hypervisor.specs.Act.{front_shown}
-use Rattle.vbd_front.specs.Ask.{ask_of}
-use Rattle.vbd_front.specs.View.{View}
-use Rattle.vbd_model.specs.World.{World, frontend_of}
+use Rattle.vbd_model.specs.World.{World}
 use Rattle.schedule_run.specs.Inside.{world_of}
 use Rattle.schedule_run.proofs.Asked.{front_told_so, front_told_none}
 use Rattle.schedule_run.proofs.Answered.{front_told}

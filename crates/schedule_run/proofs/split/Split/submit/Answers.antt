@@ -1,4 +1,4 @@
-use Rattle.std.proofs.Common.{◌∷◌, [], refl, ap, ◌∙◌}
+use Rattle.std.proofs.Common.{refl, ap, ◌∙◌}
 use Rattle.split_model.specs.Happening as ring
 use Rattle.split_model.proofs.Moving.{submitted, submit_goes}
 use Rattle.vbd_front.specs.View.{View}
@@ -12,7 +12,7 @@ pub invariant_of-self : goal.invariant_of-self
 invariant_of-self g c =
     let w : World = world_of c.self.inside.front c.self.inside.back c.self.inside.under in
     front_part_fit (Submits c.args.job) (ring.Submits c.args.job) w c.submit-answer.new.self refl refl refl
-    (ap (λ (v : View). v.ready) c.submit-answer.ensures.front ∙ c.self.invariant.0) (ap (λ (v : View). v.bus) c.submit-answer.ensures.front)
+    (ap (λ (v : View). v.news) c.submit-answer.ensures.front ∙ c.self.invariant.0) (ap (λ (v : View). v.bus) c.submit-answer.ensures.front)
     (submitted w.rings c.args.job c.submit-answer.new.self.ring (ap (λ (v : View). v.ring) c.submit-answer.ensures.front)) c.self.invariant.1
 
 pub returns-clause-goes : goal.returns-clause-goes

@@ -1,0 +1,45 @@
+-- When the front may enter a state that its negotiation has it enter, and what that makes of it (`io/xenbus.h`).
+use Rattle.std.specs.Prelude.{Bool, true, false, not, ◌&&◌, if◌then◌else◌}
+use Rattle.blk_front.specs.declared.stage.Stage.{Stage}
+use Rattle.blk_front.specs.declared.stage.Stage.TheVariants as stage
+use Rattle.blk_front.specs.declared.state.FrontState.{FrontState}
+use Rattle.blk_front.specs.declared.state.FrontState.TheVariants as state
+use Rattle.blk_front.specs.Submit.{is_initialised}
+use Rattle.blk_front.specs.View.{View}
+use Rattle.blk_front.specs.Ask.{is_through}
+
+-- neither closed nor broken
+abbrev pub is_open : Stage → Bool
+is_open stage.Closed = false
+is_open (stage.Broken word) = false
+is_open s = true
+
+-- it has made its ring and its port, and is at nothing in particular
+abbrev pub is_made : Stage → Bool
+is_made stage.Initialised = true
+is_made stage.Loop = true
+is_made s = false
+
+-- it has given up its ring and its port, or made none
+abbrev pub is_bare : Stage → Bool
+is_bare (stage.RingWord k) = true
+is_bare stage.Left = true
+is_bare s = false
+
+-- It is connected where it waits for it, and begins to close once. It leaves, and is closed, only with no request left, and is closed only without a ring.
+abbrev pub may_enter : FrontState → View → Bool
+may_enter state.Connected v = is_initialised v.stage
+may_enter state.Closing v = not v.closing && is_open v.stage
+may_enter state.Leaving v = is_through v && is_made v.stage
+may_enter state.Closed v = is_through v && is_bare v.stage
+may_enter (state.Broken word) v = is_open v.stage
+
+abbrev pub in_state : FrontState → View → View
+in_state state.Connected v = record v { stage = stage.Loop }
+in_state state.Closing v = record v { closing = true }
+in_state state.Leaving v = record v { stage = stage.RingRead }
+in_state state.Closed v = record v { stage = stage.Closed }
+in_state (state.Broken word) v = record v { stage = stage.Broken word }
+
+abbrev pub enters : FrontState → View → View
+enters s v = if may_enter s v then in_state s v else v

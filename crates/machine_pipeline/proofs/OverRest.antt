@@ -1,0 +1,127 @@
+-- Whatever else happens once the back has halted: submissions are refused, and the front is closed once it left.
+use Rattle.std.proofs.Common.{◌≡◌, ℕ, ◌==◌, inr, not, if◌then◌else◌, Bool, true, false, [], ◌∷◌, length, map, refl, ap, sym, ◌∙◌, subst, true≢false}
+use Rattle.std.specs.Prelude.{Some, None, Result, Err}
+use Rattle.std.proofs.lemmas.List.{length-map}
+use Rattle.blk_base.specs.Options.{Options}
+use Rattle.blk_base.specs.declared.config.Job.{Job}
+use Rattle.blk_base.specs.declared.parts.End.{End}
+use Rattle.blk_base.specs.declared.parts.End.TheVariants as end
+use Rattle.schedule_text.specs.declared.line.Line.{Line}
+use Rattle.schedule_text.specs.declared.line.Line.TheVariants as lines
+use Rattle.pipeline_laws.specs.Station.{asked}
+use Rattle.pipeline_laws.specs.Pipeline.{Pipeline, Refuses, Connects, Closes}
+use Rattle.pipeline_laws.specs.Allowed.{is_aside, refusal_now}
+use Rattle.blk_front.specs.declared.stage.Stage.{Stage as FrontStage}
+use Rattle.blk_front.specs.declared.stage.Stage.TheVariants as front
+use Rattle.blk_front.specs.declared.state.FrontState.{FrontState}
+use Rattle.blk_front.specs.declared.state.FrontState.TheVariants as states
+use Rattle.blk_front.specs.declared.told.Refusal.{Refusal}
+use Rattle.blk_front.specs.declared.told.Refusal.TheVariants as refusal
+use Rattle.blk_front.specs.State.{is_open, is_made, is_bare, may_enter, in_state}
+use Rattle.blk_front.specs.Ask.{is_through}
+use Rattle.blk_front.specs.Submit.{is_ready, wish_of, submit_one}
+use Rattle.blk_front.specs.View.{View}
+use Rattle.blk_back.specs.declared.stage.Stage.{Stage as BackStage}
+use Rattle.blk_back.specs.declared.stage.Stage.TheVariants as back
+use Rattle.blk_back.specs.declared.told.Halt.{Halt}
+use Rattle.split_model.specs.World.{World}
+use Rattle.split_model.specs.Keys.{KeyMove}
+use Rattle.split_model.specs.Shown.{state_lines, refusal_word, halt_lines}
+use Rattle.split_model.specs.Happening.{Negotiates, FrontEnters, BackHalts, Submits, Notifies, submit_line, happens, lines_at}
+use Rattle.split_model.proofs.Keys.{negotiated_lines_are}
+use Rattle.split_model.proofs.States.{enters_cases, halts_cases}
+use Rattle.machine_pipeline.specs.Allowed.{MayEnter}
+use Rattle.machine_pipeline.specs.Step.{IsSame}
+use Rattle.machine_pipeline.proofs.Turns.{no_move}
+use Rattle.machine_pipeline.proofs.Keyed.{asides_do}
+use Rattle.machine_pipeline.proofs.Connecting.{initialised_is, yet_open}
+use Rattle.line_text.proofs.Both.{both_true}
+use Rattle.machine_pipeline.proofs.OverMoves.{no_halt}
+use Rattle.machine_pipeline.proofs.Over.{IsGivingUp, IsUnmapped, IsLeaving, Over, HasGone, over_at, unclosed}
+
+-- what an end does with the keys
+pub keys_end : (config : Options) (w : World) (d : Pipeline) (at : End) (move : KeyMove) → Over config w d w.front.stage w.back.stage → HasGone None IsSame config (lines_at w (Negotiates at move)) (happens w (Negotiates at move)) d
+keys_end config w d at move o = record {
+  step = None;
+  does = asides_do d _ (negotiated_lines_are (λ (line : Line). is_aside line ≡ true) w.back.stage at move w.under.keys (λ path. refl) (λ path text. refl) (λ path. refl) (λ path. refl));
+  kept = inr o;
+}
+
+-- a spurious event
+pub notified_ends : (config : Options) (w : World) (d : Pipeline) (at : End) → Over config w d w.front.stage w.back.stage → HasGone None IsSame config [] (happens w (Notifies at)) d
+notified_ends config w d end.Front o = record { step = None; does = no_move IsSame d (λ a b same. same); kept = inr o }
+notified_ends config w d end.Back o = record { step = None; does = no_move IsSame d (λ a b same. same); kept = inr o }
+
+-- a submission is refused
+pub submit_ends : (config : Options) (w : World) (d : Pipeline) (job : Job) → Over config w d w.front.stage w.back.stage → HasGone (Some job) IsSame config (lines_at w (Submits job)) (happens w (Submits job)) d
+submit_ends config w d job o = by_test (w.front.last == 4294967295) refl
+  where
+    spent_at : (length (map asked d.requests) == 4294967295) ≡ (w.front.last == 4294967295)
+    spent_at = ap (λ (n : ℕ). n == 4294967295) (length-map d.requests asked ∙ o.counted)
+
+    refused : (r : Refusal) → refusal_now d job ≡ Some (refusal_word r) → HasGone (Some job) IsSame config (lines.Refuse (refusal_word r) ∷ []) w d
+    refused r same = record { step = Some (Refuses job (refusal_word r)); does = record { asides = []; aside = refl; shows = refl; asks = refl; allowed = same; disk = λ a b e. e }; kept = inr o }
+
+    otherwise : Result ℕ Refusal × View
+    otherwise = if not (is_ready w.front.stage) then (Err refusal.NotReady, w.front) else submit_one w.front (wish_of job)
+
+    by_test : (b : Bool) → (w.front.last == 4294967295) ≡ b
+        → (let y : Result ℕ Refusal × View = (if b then (Err refusal.Spent, w.front) else (if w.front.closing then (Err refusal.Closing, w.front) else otherwise)) in
+        HasGone (Some job) IsSame config (submit_line job y.0 ∷ []) (record { front = y.1; back = w.back; under = w.under }) d)
+    by_test true t = refused refusal.Spent (rw (spent_at ∙ t) refl)
+    by_test false t =
+        subst (λ (b : Bool). let y : Result ℕ Refusal × View = (if b then (Err refusal.Closing, w.front) else otherwise) in
+        HasGone (Some job) IsSame config (submit_line job y.0 ∷ []) (record { front = y.1; back = w.back; under = w.under }) d) (sym o.closes)
+        (refused refusal.Closing (rw (spent_at ∙ t, o.closing) refl))
+
+-- the machine with its front at that stage
+abbrev staged : World → FrontStage → World
+staged w s = record { front = (let v : View = w.front in record v { stage = s }); back = w.back; under = w.under }
+
+-- it is connected, but serves nothing
+connects_late : (config : Options) (w : World) (d : Pipeline) → Over config w d front.Initialised w.back.stage → HasGone None IsSame config (lines.Ready ∷ []) (staged w front.Loop) d
+connects_late config w d o = record {
+  step = Some Connects;
+  does = record { asides = []; aside = refl; shows = refl; asks = refl; allowed = (o.front_at.0, o.closed); disk = λ a b e. e };
+  kept = inr (over_at o (refl, refl, refl) o.closed o.memory o.back_at o.front_at.2 o.ring);
+}
+
+-- the back has left: the ring's grant is ended next
+leaves_ring : (config : Options) (w : World) (d : Pipeline) (s : FrontStage) → is_made s ≡ true → w.back.stage ≡ back.Halted → Over config w d s w.back.stage → HasGone None IsSame config [] (staged w front.RingRead) d
+leaves_ring config w d s made halted o = record {
+  step = None;
+  does = no_move IsSame d (λ a b same. same);
+  kept = inr (over_at o (refl, refl, refl) (o.closed ∙ unclosed is_made refl s made) o.memory o.back_at (halted, by_stage s made (subst (λ (b : BackStage). IsLeaving d.front.connected w.under.channels.made w.under.pages b s) halted o.front_at)) o.ring);
+}
+  where
+    by_stage : (s : FrontStage) → is_made s ≡ true → IsLeaving d.front.connected w.under.channels.made w.under.pages back.Halted s → IsUnmapped w.under.pages back.Halted
+    by_stage front.Initialised t p = p.2
+    by_stage front.Loop t p = p
+    by_stage s t p = absurd (true≢false (sym t))
+
+-- it is closed
+is_closed_now : (config : Options) (w : World) (d : Pipeline) (s : FrontStage) → is_bare s ≡ true → Over config w d s w.back.stage → HasGone None IsSame config (lines.Closed ∷ []) (staged w front.Closed) d
+is_closed_now config w d s bare o = record {
+  step = Some Closes;
+  does = record { asides = []; aside = refl; shows = refl; asks = refl; allowed = (o.closing, o.closed ∙ unclosed is_bare refl s bare, o.finished); disk = λ a b e. e };
+  kept = inr (over_at o (refl, refl, refl) refl o.memory o.back_at tt o.ring);
+}
+
+-- a state that the front enters; where it may not nothing changes
+pub enters_ends : (config : Options) (w : World) (d : Pipeline) (state : FrontState) → MayEnter w state → Over config w d w.front.stage w.back.stage → HasGone None IsSame config (lines_at w (FrontEnters state)) (happens w (FrontEnters state)) d
+enters_ends config w d state may o = enters_cases (λ v shown. HasGone None IsSame config shown (record { front = v; back = w.back; under = w.under }) d) state w.front (entered state may)
+    (record { step = None; does = no_move IsSame d (λ a b same. same); kept = inr o })
+  where
+    entered : (s : FrontState) → MayEnter w s → may_enter s w.front ≡ true → HasGone None IsSame config (state_lines s) (record { front = in_state s w.front; back = w.back; under = w.under }) d
+    entered states.Connected may can = connects_late config w d (subst (λ (s : FrontStage). Over config w d s w.back.stage) (initialised_is w.front.stage can) o)
+    entered states.Closing may can = absurd (true≢false (sym o.closes ∙ yet_open w.front.closing (is_open w.front.stage) can))
+    entered states.Leaving may can = leaves_ring config w d w.front.stage (both_true (is_through w.front) (is_made w.front.stage) can).1 may o
+    entered states.Closed may can = is_closed_now config w d w.front.stage (both_true (is_through w.front) (is_bare w.front.stage) can).1 o
+    entered (states.Broken word) may can = absurd may
+
+-- a back that has halted halts no more
+pub halts_no_more : (config : Options) (w : World) (d : Pipeline) (why : Halt) → Over config w d w.front.stage w.back.stage → HasGone None IsSame config (lines_at w (BackHalts why)) (happens w (BackHalts why)) d
+halts_no_more config w d why o = halts_cases (λ v. HasGone None IsSame config (halt_lines w.back.halted v.halted) (record { front = w.front; back = v; under = w.under }) d) why w.back
+    (λ e. absurd (subst (IsGivingUp w.back.page) e o.back_at))
+    (λ e. absurd (subst (IsGivingUp w.back.page) e o.back_at))
+    (record { step = None; does = rw (no_halt w.back.halted) (no_move IsSame d (λ a b same. same)); kept = inr o })

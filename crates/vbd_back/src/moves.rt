@@ -1,0 +1,127 @@
+// What an answer makes of the negotiation and of the end of the ring.
+ghost use Rattle.std.specs.Prelude.{◌≡◌, None, true, false};
+ghost use Rattle.blk_back.specs.Ask.{ask_of as ring_ask_of, IsAnswer as IsRingAnswer};
+ghost use Rattle.xenbus_state.specs.BackAsk.{ask_of as bus_ask, IsAnswer as IsBusAnswer};
+ghost use Rattle.vbd_back.specs.View.{both};
+ghost use Rattle.vbd_back.specs.Ask.{ask_of, IsAnswer, ring_moves};
+ghost use Rattle.vbd_back.specs.Turn.{turn_of};
+ghost use Rattle.vbd_back.specs.Step.{ring_halt, spoken, ring_step, step_of, IsHeard, followed, waited, settled, caught_up};
+
+use crate::turn::Turn;
+use blk_back::{Back, Halt, Stage};
+use blk_base::{BackAnswer, Endpoint, ShortText};
+use xenbus_state::{BackBus, BackBusAsk, BackHalt};
+
+/// Tells the answer to what is asked, whosever turn it is.
+pub fn tell(turn: Turn, ring: &mut Back, bus: &mut BackBus, answer: &BackAnswer)
+    requires turn { turn ≡ turn_of (both ring.old bus.old) }
+    requires kind { IsAnswer (ask_of (both ring.old bus.old)) answer.now }
+    requires heard { ring.old.told ≡ None }
+    ensures { both ring.new bus.new ≡ step_of (both ring.old bus.old) answer.now }
+{
+    match turn {
+        Turn::Keys => take_key(ring, bus, answer),
+        _ if ring_moves(ring, bus) => move_ring(ring, bus, answer),
+        _ => wake(bus, answer),
+    }
+}
+
+/// Whether the ring's end has the move, where the negotiation leaves it.
+pub fn ring_moves(ring: &Back, bus: &BackBus) -> bool
+    ensures { result ≡ ring_moves (bus_ask bus.now) ring.now.stage }
+{
+    match (bus.ask(), ring.stage()) {
+        (BackBusAsk::Map(_), stage) => matches!(stage, Stage::MapRing),
+        (BackBusAsk::Bind(_), stage) => matches!(stage, Stage::Bind),
+        (BackBusAsk::UnmapOthers, stage) => matches!(stage, Stage::GiveUp(_)),
+        (BackBusAsk::Unmap(_), stage) => matches!(stage, Stage::UnmapRing | Stage::UnmapUnbound),
+        (BackBusAsk::ClosePort, stage) => matches!(stage, Stage::ClosePort),
+        (_, stage) => !matches!(stage, Stage::MapRing | Stage::Bind),
+    }
+}
+
+// The negotiation was answered: where it halts, so does the ring's end.
+fn take_key(ring: &mut Back, bus: &mut BackBus, answer: &BackAnswer)
+    requires { IsBusAnswer (bus_ask bus.old) answer.now }
+    ensures { both ring.new bus.new ≡ spoken (both ring.old bus.old) answer.now }
+{
+    if let Some(why) = bus.tell(answer) {
+        ring.halt(ring_halt(why));
+    }
+    settle(bus, ring.stage());
+}
+
+/// Why the ring's end halts where the negotiation does.
+pub fn ring_halt(why: BackHalt) -> Halt
+    ensures { result ≡ ring_halt why }
+{
+    match why {
+        BackHalt::Gone(state) => Halt::Gone(state.number()),
+        BackHalt::Unplugged(state) => Halt::Unplugged(state.number()),
+        BackHalt::BadState => Halt::BadKey(ShortText::of("state")),
+        BackHalt::BadKey(key) => Halt::BadKey(key.name()),
+        BackHalt::BadOrder(state) => Halt::BadOrder(state.number()),
+        BackHalt::BadPort(port) => Halt::BadPort(port),
+        BackHalt::MapRefused { gref, status } => Halt::MapRefused { gref, status },
+    }
+}
+
+// The ring's end has moved. The negotiation learns it where it asked for what is done now, or where a
+// watch was taken.
+#[tactic(auto, using(crate::proofs::Turns::heard))]
+fn move_ring(ring: &mut Back, bus: &mut BackBus, answer: &BackAnswer)
+    requires moves { ring_moves (bus_ask bus.old) ring.old.stage ≡ true }
+    requires kind { IsRingAnswer (ring_ask_of ring.old) answer.now }
+    requires heard { ring.old.told ≡ None }
+    ensures { both ring.new bus.new ≡ ring_step true (bus_ask bus.old) (both ring.old bus.old) answer.now }
+{
+    let _ = ring.tell(answer);
+    follow(bus, answer);
+    catch_up(ring, bus);
+}
+
+// What the negotiation learns of a move of the ring's end.
+fn follow(bus: &mut BackBus, answer: &BackAnswer)
+    requires { IsHeard (bus_ask bus.old) answer.now }
+    ensures { bus.new ≡ followed (bus_ask bus.old) bus.old answer.now }
+{
+    match bus.ask() {
+        BackBusAsk::Map(_) | BackBusAsk::Bind(_) | BackBusAsk::Unmap(_) | BackBusAsk::ClosePort => {
+            let _ = bus.tell(answer);
+        }
+        _ => wake(bus, answer),
+    }
+}
+
+// A waiting negotiation takes its watch.
+fn wake(bus: &mut BackBus, answer: &BackAnswer)
+    ensures { bus.new ≡ waited (bus_ask bus.old) bus.old answer.now }
+{
+    if let (BackBusAsk::Wait, BackAnswer::Watched(_)) = (bus.ask(), answer) {
+        let _ = bus.tell(answer);
+    }
+}
+
+/// Where the ring's end has halted, so does the negotiation.
+pub fn catch_up(ring: &Back, bus: &mut BackBus)
+    ensures { bus.new ≡ caught_up ring.now bus.old }
+{
+    if ring.halted().is_some() {
+        bus.stop();
+    }
+    settle(bus, ring.stage());
+}
+
+// A negotiation that has all other mappings given up goes on where there is none.
+#[tactic(auto, using(crate::proofs::Settling::settled_asked))]
+fn settle(bus: &mut BackBus, stage: Stage)
+    ensures { bus.new ≡ settled stage bus.old }
+{
+    match (bus.ask(), stage) {
+        (BackBusAsk::UnmapOthers, Stage::GiveUp(_)) => {}
+        (BackBusAsk::UnmapOthers, _) => {
+            let _ = bus.tell(&BackAnswer::Done);
+        }
+        _ => {}
+    }
+}

@@ -1,0 +1,107 @@
+-- A ring that is made stays made, whatever its end is told.
+use Rattle.std.proofs.Common.{◌≡◌, ℕ, ◌+◌, ◌*◌, ◌%◌, ◌^◌, ◌==◌, Bool, true, false, if◌then◌else◌, [], ◌∷◌, length, refl}
+use Rattle.std.specs.Prelude.{Option, Some, None, Result, Ok, Err, nat_lt, slice_set}
+use Rattle.blk_base.specs.Distance.{distance_of}
+use Rattle.blk_base.specs.declared.ask.FrontAnswer.{FrontAnswer}
+use Rattle.blk_base.specs.declared.ask.FrontAnswer.TheVariants as answer
+use Rattle.ring_words.specs.Ring.{responses_of, notifies}
+use Rattle.blk_layout.specs.declared.response.Response.{Response}
+use Rattle.blk_layout.specs.Response.{response_of}
+use Rattle.blk_front.specs.declared.request.Request.{Request}
+use Rattle.blk_front.specs.declared.request.Transfer.{Transfer}
+use Rattle.blk_front.specs.declared.request.Transfer.TheVariants as transfer
+use Rattle.blk_front.specs.Request.{has_data, words_in}
+use Rattle.blk_front.specs.declared.stage.Ending.{Ending}
+use Rattle.blk_front.specs.declared.stage.Stage.{Stage}
+use Rattle.blk_front.specs.declared.stage.Stage.TheVariants as stage
+use Rattle.blk_front.specs.declared.told.Told.TheVariants as told
+use Rattle.blk_front.specs.View.{View, next_request}
+use Rattle.blk_front.specs.Submit.{is_connected}
+use Rattle.blk_front.specs.Step.{broken, looked, issue_stage, data_stage, granted, loop_step, issued, response_at, is_mapped, at, entry_of, finished, ended, revoked, sector_told, data_step, step_at}
+
+abbrev IsMade : View → Type 0
+IsMade v = is_connected v.stage ≡ true
+
+either : (b : Bool) (x y : View) → IsMade x → IsMade y → IsMade (if b then x else y)
+either true x y p q = p
+either false x y p q = q
+
+staged : (b : Bool) (s s' : Stage) → is_connected s ≡ true → is_connected s' ≡ true → is_connected (if b then s else s') ≡ true
+staged true s s' p q = p
+staged false s s' p q = q
+
+looked_stays : (v : View) (word : ℕ) (otherwise : View) → IsMade otherwise → IsMade (looked v word otherwise)
+looked_stays v word otherwise p =
+    either (nat_lt (distance_of v.ring.cons v.ring.prod) (distance_of v.ring.cons word)) (broken word v) (if word == v.ring.cons then otherwise else record v { seen = word; stage = stage.Loop }) refl
+    (either (word == v.ring.cons) otherwise (record v { seen = word; stage = stage.Loop }) p refl)
+
+issue_stays : (way : Transfer) → is_connected (issue_stage way) ≡ true
+issue_stays transfer.Read = refl
+issue_stays (transfer.Write tag) = refl
+
+loop_stays : (v : View) (next : Option Request) (a : FrontAnswer) → IsMade v → IsMade (loop_step v next a)
+loop_stays v (Some r) a h = issue_stays r.transfer
+loop_stays v None (answer.Word word) h =
+    either (responses_of v.ring v.seen == 0) (looked v word (record v { seen = word; stage = stage.StoreEvent })) (at (stage.ResponseHigh word) v)
+    (looked_stays v word (record v { seen = word; stage = stage.StoreEvent }) refl) refl
+loop_stays v None a h = h
+
+response_stays : (v : View) (response : Result Response ℕ) (low : ℕ) (found : Option (ℕ × Request)) → IsMade (response_at v response low found)
+response_stays v response low None = refl
+response_stays v (Err word) low (Some found) = refl
+response_stays v (Ok response) low (Some found) = refl
+
+-- a word of data was written, a frame granted, a grant ended, and a word of data read
+data_stage_stays : (next : Option Request) (n : ℕ) → is_connected (data_stage next n) ≡ true
+data_stage_stays None n = refl
+data_stage_stays (Some r) n = staged (nat_lt (n + 1) (words_in r)) (stage.Data (n + 1)) (stage.GrantFrame 0) refl refl
+
+granted_stays : (v : View) (next : Option Request) (place : ℕ) → IsMade v → IsMade (granted next place v)
+granted_stays v None place h = h
+granted_stays v (Some r) place h = either (nat_lt (place + 1) (length r.frames.items)) (at (stage.GrantFrame (place + 1)) v) (record v { stage = stage.Slot 0; entry = entry_of r }) refl refl
+
+revoked_stays : (v : View) (ending : Option Ending) (place : ℕ) → IsMade v → IsMade (revoked ending place v)
+revoked_stays v None place h = h
+revoked_stays v (Some e) place h =
+    either (nat_lt (place + 1) (length e.request.frames.items)) (at (stage.GrantRead (place + 1)) v) (ended e v) refl
+    (either (has_data e.request.transfer e.status) (record v { stage = stage.ReadData 0; told = Some (told.Answer e.request.number e.status) })
+    (record (finished e v) { told = Some (told.Answer e.request.number e.status) }) refl refl)
+
+data_stays : (v : View) (ending : Option Ending) (n word : ℕ) → IsMade v → IsMade (data_step ending n word v)
+data_stays v None n word h = h
+data_stays v (Some e) n word h =
+    let after : View = sector_told e n (slice_set v.words (n % 128) word) v in
+    either (nat_lt (n + 1) (words_in e.request)) (at (stage.ReadData (n + 1)) after) (finished e after) refl refl
+
+pub stays : (s : Stage) (v : View) (a : FrontAnswer) → IsMade v → is_connected s ≡ true → IsMade (step_at s v a)
+stays (stage.RingWord k) v a h c = absurd (cc)
+stays stage.RingFrame v a h c = absurd (cc)
+stays stage.RingFence v a h c = absurd (cc)
+stays stage.RingFlags v a h c = absurd (cc)
+stays stage.Loop v a h c = loop_stays v (next_request v) a h
+stays (stage.Data n) v a h c = data_stage_stays (next_request v) n
+stays (stage.GrantFlags place) v a h c = granted_stays v (next_request v) place h
+stays (stage.Slot k) v a h c = staged (k == 27) stage.Producer (stage.Slot (k + 1)) refl refl
+stays (stage.RequestEvent old) v (answer.Word event) h c = staged (notifies old v.ring.prod event) stage.Send stage.Loop refl refl
+stays (stage.RequestEvent old) v a h c = h
+stays (stage.ResponseHigh low) v (answer.Word high) h c = refl
+stays (stage.ResponseHigh low) v a h c = h
+stays (stage.ResponseLast low high) v (answer.Word last) h c = response_stays v (response_of (low ∷ high ∷ last ∷ [])) low (issued v (low + high * 2 ^ 32))
+stays (stage.ResponseLast low high) v a h c = h
+stays (stage.GrantRead place) v (answer.Word word) h c = either (is_mapped word) (broken word v) (at (stage.GrantEnd place word) v) refl refl
+stays (stage.GrantRead place) v a h c = h
+stays (stage.GrantEnd place before) v (answer.Word word) h c = either (word == before) (revoked v.ending place v) (broken word v) (revoked_stays v v.ending place h) refl
+stays (stage.GrantEnd place before) v a h c = h
+stays (stage.ReadData n) v (answer.Word word) h c = data_stays v v.ending n word h
+stays (stage.ReadData n) v a h c = h
+stays stage.LookAgain v (answer.Word word) h c = looked_stays v word (record v { seen = word; stage = stage.Loop; asleep = true }) refl
+stays stage.LookAgain v a h c = h
+stays stage.RingRead v (answer.Word word) h c = either (is_mapped word) (broken word v) (at (stage.RingEnd word) v) refl refl
+stays stage.RingRead v a h c = h
+stays (stage.RingEnd before) v (answer.Word word) h c = either (word == before) (at stage.ClosePort v) (broken word v) refl refl
+stays (stage.RingEnd before) v a h c = h
+stays stage.Initialised v a h c = h
+stays stage.Left v a h c = h
+stays stage.Closed v a h c = h
+stays (stage.Broken word) v a h c = h
+stays s v a h c = refl

@@ -1,0 +1,225 @@
+// Both of the front's ends.
+ghost use Rattle.std.specs.Prelude.{◌≡◌, ◌||◌, ◌≤◌, None, is_some, IfOk, true, false};
+ghost use Rattle.blk_front.specs.Ask.{ask_of as ring_ask_of, IsAnswer as IsRingAnswer};
+ghost use Rattle.blk_front.specs.Step.{step_of as ring_step_of};
+ghost use Rattle.blk_front.specs.Submit.{submit_of, unfinished, sectors_owed, is_idle as ring_is_idle};
+ghost use Rattle.xenbus_state.specs.FrontAsk.{IsAnswer as IsBusAnswer};
+ghost use Rattle.vbd_front.specs.View.{start_of, heard, is_still, is_unoccupied};
+ghost use Rattle.vbd_front.specs.Ask.{bus_ask_of, ring_moves, ask_of, IsAnswer, StaysInMemory};
+ghost use Rattle.vbd_front.specs.Step.{spoken, ring_step, step_of, closes};
+ghost use Rattle.vbd_front.specs.Turn.{turn_of};
+
+use crate::news;
+use crate::turn::{self, Turn};
+use blk_base::{Config, Endpoint, FrontAnswer, FrontAsk, Job, OutOfMemory};
+use blk_front::{Front, Refusal, Stage, Told};
+use std::alloc::Global;
+use std::marker::Model;
+use xenbus_state::{FrontBus, FrontBusAsk, FrontNews};
+
+/// The front's end of the ring, which it makes, serves and gives up as its end of the negotiation
+/// asks for it, and what the negotiation made happen, which is to be told.
+#[derive(Drop)]
+pub struct Ends {
+    ring: Front,
+    bus: FrontBus,
+    news: Option<FrontNews>,
+}
+
+impl Model for Ends {
+    ghost use Rattle.vbd_front.specs.View.{View};
+    ghost use Rattle.vbd_front.specs.Inside.{view_of};
+
+    ghost Value = { View };
+
+    ghost view = { view_of };
+}
+
+impl Ends {
+    /// Ends that set their watch first. It fails only where there is not enough memory.
+    pub fn new(alloc: Global, config: &Config) -> Result<Ends, OutOfMemory>
+        ensures { IfOk result (λ ends. ends ≡ start_of config.now) }
+    {
+        Ok(Ends {
+            ring: Front::new(alloc, config)?,
+            bus: FrontBus::new(config),
+            news: None,
+        })
+    }
+
+    /// What the negotiation asks.
+    pub fn bus_ask(&self) -> FrontBusAsk
+        ensures { result ≡ bus_ask_of self.now }
+    {
+        self.bus.ask(self.is_unoccupied())
+    }
+
+    /// Whose turn it is.
+    pub fn turn(&self) -> Turn
+        ensures { result ≡ turn_of self.now }
+    {
+        turn::turn_of(&self.bus_ask(), &self.bus, &self.ring)
+    }
+
+    // Whether nothing of a request is left, and no step is begun.
+    fn is_unoccupied(&self) -> bool
+        ensures { result ≡ is_unoccupied self.now.ring }
+    {
+        self.ring.owed().0 == 0 && is_still(self.ring.stage())
+    }
+
+    /// Whether the ring's end has the move, where the negotiation leaves it.
+    pub fn ring_moves(&self) -> bool
+        ensures { result ≡ ring_moves (bus_ask_of self.now) self.now.ring.stage }
+    {
+        match (self.bus_ask(), self.ring.stage()) {
+            (FrontBusAsk::WriteRingWord(_), stage) => matches!(stage, Stage::RingWord(_)),
+            (FrontBusAsk::Grant(_), stage) => {
+                matches!(
+                    stage,
+                    Stage::RingFrame | Stage::RingFence | Stage::RingFlags
+                )
+            }
+            (FrontBusAsk::NewPort, stage) => matches!(stage, Stage::NewPort),
+            (FrontBusAsk::EndGrant(_), stage) => {
+                matches!(stage, Stage::RingRead | Stage::RingEnd(_))
+            }
+            (FrontBusAsk::ClosePort, stage) => matches!(stage, Stage::ClosePort),
+            _ => self.ring.is_connected(),
+        }
+    }
+
+    /// What the ring's end asks.
+    #[inline(always)]
+    pub fn ring_ask(&self) -> FrontAsk<'_>
+        ensures value { result ≡ ring_ask_of self.now.ring }
+        ensures within { StaysInMemory result }
+    {
+        self.ring.ask()
+    }
+
+    /// The ring's end was answered, of which the negotiation learns nothing.
+    #[inline(always)]
+    pub fn tell_ring<'a>(&mut self, answer: &FrontAnswer<'a>)
+        requires kind { IsRingAnswer (ring_ask_of self.old.ring) answer.now }
+        requires told { self.old.ring.told ≡ None }
+        ensures { self.new ≡ record self.old { ring = ring_step_of self.old.ring answer.now } }
+    {
+        let _ = self.ring.tell(answer);
+    }
+
+    /// Tells the answer to what is asked, whosever turn it is.
+    #[tactic(auto, using(crate::proofs::Turns::ring_answers))]
+    pub fn tell<'a>(&mut self, turn: Turn, answer: &FrontAnswer<'a>)
+        requires turn { turn ≡ turn_of self.old }
+        requires kind { IsAnswer (ask_of self.old) answer.now }
+        requires told { self.old.ring.told ≡ None }
+        ensures { self.new ≡ step_of self.old answer.now }
+    {
+        match turn {
+            Turn::Keys => self.take_key(answer),
+            _ if self.ring_moves() => self.move_ring(answer),
+            _ => self.take_watch(answer),
+        }
+    }
+
+    // The negotiation was answered.
+    fn take_key(&mut self, answer: &FrontAnswer)
+        requires { IsBusAnswer (bus_ask_of self.old) answer.now }
+        ensures { self.new ≡ spoken self.old answer.now }
+    {
+        let idle = self.is_unoccupied();
+        let news = news::tell(&mut self.bus, idle, answer);
+        self.news = news::enter(&mut self.ring, news, &self.bus.ask(idle));
+    }
+
+    // The ring's end has moved.
+    #[tactic(auto, using(crate::proofs::Turns::heard))]
+    fn move_ring<'a>(&mut self, answer: &FrontAnswer<'a>)
+        requires moves { ring_moves (bus_ask_of self.old) self.old.ring.stage ≡ true }
+        requires kind { IsRingAnswer (ring_ask_of self.old.ring) answer.now }
+        requires told { self.old.ring.told ≡ None }
+        ensures { self.new ≡ ring_step true (bus_ask_of self.old) self.old answer.now }
+    {
+        let idle = self.is_unoccupied();
+        let _ = self.ring.tell(answer);
+        news::follow(&mut self.bus, idle, self.ring.stage(), answer);
+    }
+
+    // The negotiation alone waited.
+    fn take_watch(&mut self, answer: &FrontAnswer)
+        ensures { self.new ≡ ring_step false (bus_ask_of self.old) self.old answer.now }
+    {
+        let idle = self.is_unoccupied();
+        news::wake(&mut self.bus, idle, answer);
+    }
+
+    /// The front is asked to close.
+    pub fn close(&mut self)
+        ensures { self.new ≡ closes self.old }
+    {
+        let _ = self.bus.close();
+        let news = Some(FrontNews::Closing);
+        self.news = news::enter(&mut self.ring, news, &FrontBusAsk::Wait);
+    }
+
+    /// Hands the ring's end a request.
+    pub fn submit(&mut self, job: Job) -> Result<u32, Refusal>
+        ensures answer { result ≡ (submit_of self.old.ring job).0 }
+        ensures front { self.new ≡ record self.old { ring = (submit_of self.old.ring job).1 } }
+    {
+        self.ring.submit(job)
+    }
+
+    /// Whether the ring's end asks for nothing but an event, and isn't led by the negotiation.
+    #[inline(always)]
+    pub fn ring_idle(&self) -> bool
+        ensures { result ≡ ring_is_idle self.now.ring }
+    {
+        self.ring.idle()
+    }
+
+    /// How many requests are unfinished, and how many sectors they move.
+    pub fn owed(&self) -> (u32, u64)
+        ensures requests { result.0 ≡ unfinished self.now.ring }
+        ensures sectors { result.1 ≡ sectors_owed self.now.ring }
+        ensures few { result.0 ≤ 32 }
+        ensures short { result.1 ≤ 2904 }
+    {
+        self.ring.owed()
+    }
+
+    /// Whether something is left to tell.
+    #[inline(always)]
+    pub fn has_told(&self) -> bool
+        ensures { result ≡ (is_some self.now.ring.told || is_some self.now.news) }
+    {
+        self.ring.has_told() || self.news.is_some()
+    }
+
+    /// What happened at the ring, and what the negotiation made happen, once.
+    pub fn take_told(&mut self) -> (Option<Told>, Option<FrontNews>)
+        ensures told { result.0 ≡ self.old.ring.told }
+        ensures news { result.1 ≡ self.old.news }
+        ensures taken { self.new ≡ heard self.old }
+    {
+        (self.ring.take_told(), self.news.take())
+    }
+}
+
+// Whether no step of a request or of the ring's loop is begun.
+fn is_still(stage: Stage) -> bool
+    ensures { result ≡ is_still stage }
+{
+    matches!(
+        stage,
+        Stage::RingWord(_)
+            | Stage::Initialised
+            | Stage::Loop
+            | Stage::RingRead
+            | Stage::RingEnd(_)
+            | Stage::ClosePort
+            | Stage::Left
+            | Stage::Closed
+    )
+}

@@ -1,0 +1,80 @@
+// What passes between the negotiation and the end of the ring.
+ghost use Rattle.std.specs.Prelude.{◌≡◌};
+ghost use Rattle.xenbus_state.specs.FrontAsk.{ask_of, IsAnswer};
+ghost use Rattle.xenbus_state.specs.FrontStep.{news_of};
+ghost use Rattle.vbd_front.specs.Step.{bus_told, state_of_news, states_entered, all_entered, news_told, followed, waited, IsHeard};
+
+use blk_base::FrontAnswer;
+use blk_front::{Front, FrontState, Stage};
+use xenbus_state::{FrontBus, FrontBusAsk, FrontNews};
+
+/// Tells the negotiation the answer to what it asks, and that there are no grants to end beside those
+/// of the ring; what that makes happen.
+pub fn tell(bus: &mut FrontBus, idle: bool, answer: &FrontAnswer) -> Option<FrontNews>
+    requires { IsAnswer (ask_of bus.old idle) answer.now }
+    ensures told { bus.new ≡ bus_told idle bus.old answer.now }
+    ensures news { result ≡ news_of bus.old idle answer.now }
+{
+    let news = bus.tell(idle, answer);
+    if let FrontBusAsk::EndOtherGrants = bus.ask(idle) {
+        let _ = bus.tell(idle, &FrontAnswer::Done);
+    }
+    news
+}
+
+/// The ring's end enters the state that the negotiation comes to, and leaves where the negotiation
+/// ends the ring's grants next; what of it is to be told.
+pub fn enter(ring: &mut Front, news: Option<FrontNews>, next: &FrontBusAsk) -> Option<FrontNews>
+    ensures ring { ring.new ≡ all_entered (states_entered news next.now) ring.old }
+    ensures told { result ≡ news_told news ring.old }
+{
+    let told = match news {
+        Some(news) if ring.enter(state_of(news)) => Some(news),
+        _ => None,
+    };
+    if let FrontBusAsk::EndGrant(_) = next {
+        ring.enter(FrontState::Leaving);
+    }
+    told
+}
+
+/// The state that the ring's end enters where this happens.
+pub fn state_of(news: FrontNews) -> FrontState
+    ensures { result ≡ state_of_news news }
+{
+    match news {
+        FrontNews::Ready => FrontState::Connected,
+        FrontNews::Closing => FrontState::Closing,
+        FrontNews::Closed => FrontState::Closed,
+        FrontNews::Broken(word) => FrontState::Broken(word),
+    }
+}
+
+/// The ring's end has moved to this stage. The negotiation learns it where it asked for what is done
+/// now, or where a watch was taken and the ring isn't broken.
+pub fn follow(bus: &mut FrontBus, idle: bool, later: Stage, answer: &FrontAnswer)
+    requires { IsHeard (ask_of bus.old idle) answer.now }
+    ensures { bus.new ≡ followed (ask_of bus.old idle) later idle bus.old answer.now }
+{
+    match (bus.ask(idle), later) {
+        (FrontBusAsk::WriteRingWord(_) | FrontBusAsk::NewPort | FrontBusAsk::ClosePort, _)
+        | (FrontBusAsk::Grant(_), Stage::NewPort) => {
+            tell(bus, idle, answer);
+        }
+        (FrontBusAsk::EndGrant(_), Stage::ClosePort) => {
+            tell(bus, idle, &FrontAnswer::Done);
+        }
+        (FrontBusAsk::Wait, Stage::Broken(_)) => {}
+        (FrontBusAsk::Wait, _) => wake(bus, idle, answer),
+        _ => {}
+    }
+}
+
+/// A waiting negotiation takes its watch.
+pub fn wake(bus: &mut FrontBus, idle: bool, answer: &FrontAnswer)
+    ensures { bus.new ≡ waited (ask_of bus.old idle) idle bus.old answer.now }
+{
+    if let (FrontBusAsk::Wait, FrontAnswer::Watched(_)) = (bus.ask(idle), answer) {
+        tell(bus, idle, answer);
+    }
+}

@@ -1,0 +1,158 @@
+-- Whatever happens to the machine is possible for the machine of its ring.
+use Rattle.std.proofs.Common.{inl, ◌≡◌, ◌&&◌, Bool, true, List, [], ◌∷◌, ◌++◌, map, refl, arith}
+use Rattle.std.specs.Prelude.{Option, Some, None}
+use Rattle.std.specs.List.{AllByRecursion}
+use Rattle.blk_base.specs.Options.{Options}
+use Rattle.blk_base.specs.declared.parts.End.{End}
+use Rattle.blk_base.specs.declared.parts.End.TheVariants as end
+use Rattle.blk_base.specs.declared.moves.BackMover.TheVariants as back_mover
+use Rattle.hypervisor.specs.Act.{FrontAct, BackAct, Took, back_act}
+use Rattle.schedule_text.specs.Range.{AreOptions}
+use Rattle.line_text.proofs.Both.{both_true}
+use Rattle.blk_front.specs.declared.state.FrontState.{FrontState}
+use Rattle.xenbus_state.specs.declared.stage.FrontStage.{FrontStage}
+use Rattle.xenbus_state.specs.declared.front.FrontBusAsk.{FrontBusAsk}
+use Rattle.xenbus_state.specs.declared.front.FrontBusAsk.TheVariants as front_ask
+use Rattle.xenbus_state.specs.declared.front.FrontNews.{FrontNews}
+use Rattle.xenbus_state.specs.declared.front.FrontNews.TheVariants as news
+use Rattle.xenbus_state.specs.declared.table.BackHalt.{BackHalt}
+use Rattle.xenbus_state.specs.FrontAsk.{due, ask_of}
+use Rattle.split_model.specs.World as rings
+use Rattle.split_model.specs.Happening as ring_happening
+use Rattle.machine_pipeline.specs.Allowed as ring_allowed
+use Rattle.machine_pipeline.specs.Allowed.{IsStateWord, IsSaid}
+use Rattle.vbd_front.specs.View as front_view
+use Rattle.vbd_front.specs.Step as front_step
+use Rattle.vbd_back.specs.View as back_view
+use Rattle.vbd_back.specs.Ask as back
+use Rattle.vbd_back.specs.Step as back_step
+use Rattle.vbd_model.specs.World.{World, start_of, frontend_of, backend_of, is_quiet}
+use Rattle.vbd_model.specs.Happening.{Happening, FrontMoves, BackMoves, JobMoves, Closes, Submits, Notifies, Pokes, Dumps, Looks, Settles, front_turn, back_turn, entered_at, halted_at, reasons_of, closes_does, front_does, back_does, does, happens, all_does}
+use Rattle.vbd_model.specs.Possible.{IsPossible, ArePossible}
+use Rattle.vbd_model.specs.Kind.{are_carried}
+use Rattle.vbd_model.specs.Fit.{IsFit}
+use Rattle.vbd_laws.proofs.Fit.{fit_start, fit_happens}
+use Rattle.vbd_laws.proofs.MovesTurns.{front_asks, back_asks, front_cases, back_cases}
+use Rattle.vbd_laws.proofs.ServedFront as fronts
+use Rattle.vbd_laws.proofs.ServedFront.{IsNewsAt, news_is, front_speaks, front_spelled, closed_speaks}
+use Rattle.vbd_laws.proofs.ServedBack as backs
+use Rattle.vbd_laws.proofs.ServedBack.{IsRead, halt_read, halt_said, back_speaks, back_spelled, unplugged_speaks}
+use Rattle.vbd_laws.proofs.NegotiatedRun.{Joined}
+use Rattle.vbd_laws.proofs.NegotiatedWay.{IsOnItsWay, on_its_way, ring_made_now, key_given}
+
+-- what is true at every moment
+pub record Stands (w : World) : Type 0 where
+  pub fit : IsFit w
+  pub way : IsOnItsWay w
+  pub front : fronts.Speaks w.front
+  pub back : backs.Speaks w.back
+
+-- each of them one after the other
+both_possible : (hs rest : List ring_happening.Happening) (w : rings.World) → ring_allowed.ArePossible hs w → ring_allowed.ArePossible rest (ring_happening.after hs w) → ring_allowed.ArePossible (hs ++ rest) w
+both_possible [] rest w are later = later
+both_possible (h ∷ hs) rest w are later = (are.0, both_possible hs rest (ring_happening.happens w h) are.1 later)
+
+-- the states that the front enters are words
+states_possible : (states : List FrontState) (w : rings.World) → AllByRecursion IsStateWord states → ring_allowed.ArePossible (map ring_happening.FrontEnters states) w
+states_possible [] w are = tt
+states_possible (s ∷ states) w are = (are.0, states_possible states (ring_happening.happens w (ring_happening.FrontEnters s)) are.1)
+
+due_words : (b : FrontBusAsk) → AllByRecursion IsStateWord (front_step.states_due b)
+due_words (front_ask.EndGrant page) = (tt, tt)
+due_words b = tt
+
+news_words : (s : FrontStage) (n : Option FrontNews) (b : FrontBusAsk) → IsNewsAt s n → AllByRecursion IsStateWord (front_step.states_entered n b)
+news_words s None b is = due_words b
+news_words s (Some news.Ready) b is = (tt, due_words b)
+news_words s (Some news.Closing) b is = (tt, due_words b)
+news_words s (Some news.Closed) b is = (tt, due_words b)
+news_words s (Some (news.Broken word)) b is = (is, due_words b)
+
+entered_words : (w : World) (act : Option FrontAct) → AllByRecursion IsStateWord (entered_at w act)
+entered_words w None = tt
+entered_words w (Some a) =
+    let idle : Bool = front_view.is_unoccupied w.rings.front in
+    news_words (due w.front idle) (front_step.news_of (frontend_of w) a.answer) (ask_of (front_step.bus_after (frontend_of w) a.answer) idle) (news_is w.front idle a.answer)
+
+front_possible : (w : World) → fronts.Speaks w.front → ring_allowed.ArePossible (front_does w) w.rings
+front_possible w speaks =
+    front_cases (λ does asked step. ring_allowed.ArePossible does w.rings) w
+    (λ says. (front_spelled w speaks, states_possible (entered_at w (front_turn w)) _ (entered_words w (front_turn w)))) (λ quiet moves. (tt, tt)) (λ quiet still. (front_spelled w speaks, tt))
+
+-- the reasons for which the back halts are said
+reasons_possible : (why : Option BackHalt) (w : rings.World) → IsRead why → ring_allowed.ArePossible (map ring_happening.BackHalts (reasons_of why)) w
+reasons_possible None w read = tt
+reasons_possible (Some why) w read = (halt_said why read, tt)
+
+halted_possible : (w : World) (v : rings.World) (act : Option BackAct) → backs.Speaks w.back → back_act w.rings.under back_mover.Back (back.key_ask (back_asks w)) Took ≡ act
+    → ring_allowed.ArePossible (map ring_happening.BackHalts (halted_at w act)) v
+halted_possible w v None speaks e = tt
+halted_possible w v (Some a) speaks e = reasons_possible (back_step.halt_of (backend_of w) a.answer) v (halt_read w.back a.answer (key_given w.rings.under (back_asks w) a e) speaks)
+
+back_possible : (w : World) → Stands w → ring_allowed.ArePossible (back_does w) w.rings
+back_possible w stands =
+    back_cases (λ does asked step. back_act w.rings.under back_mover.Back asked Took ≡ back_turn w → ring_allowed.ArePossible does w.rings) w
+    (λ says e. (back_spelled w stands.fit.offers stands.back, halted_possible w _ (back_turn w) stands.back e))
+    (λ quiet moves e. (ring_made_now w stands.fit stands.front stands.way moves, tt))
+    (λ quiet still e. (back_spelled w stands.fit.offers stands.back, tt)) refl
+
+-- where all is quiet the ring's machine is
+pub quiet_of : (w : World) → is_quiet w ≡ true → rings.is_quiet w.rings ≡ true
+quiet_of w e = (both_true (front_view.rests (front_asks w) && back_view.rests (back_asks w)) (rings.is_quiet w.rings) e).1
+
+closes_possible : (w : rings.World) (at : End) → ring_allowed.ArePossible (closes_does at) w
+closes_possible w end.Front = (tt, tt)
+closes_possible w end.Back = tt
+
+possible_at : (w : World) (h : Happening) → Stands w → IsPossible w h → ring_allowed.ArePossible (does w h) w.rings
+possible_at w FrontMoves stands is = front_possible w stands.front
+possible_at w BackMoves stands is = back_possible w stands
+possible_at w (JobMoves number outcome) stands is = (is, tt)
+possible_at w (Closes at) stands is = closes_possible w.rings at
+possible_at w (Submits job) stands is = (is, tt)
+possible_at w (Notifies at) stands is = (tt, tt)
+possible_at w (Pokes frame word value) stands is = (is, tt)
+possible_at w Dumps stands is = (tt, tt)
+possible_at w (Looks quiet) stands is = (λ e. quiet_of w (is e), tt)
+possible_at w (Settles quiet) stands is = (λ e. quiet_of w (is e), tt)
+
+front_stands : (w : World) (h : Happening) → Stands w → (let v : World = happens w h in fronts.Speaks v.front)
+front_stands w FrontMoves stands = front_speaks w stands.fit stands.front
+front_stands w (Closes end.Front) stands = closed_speaks w.front stands.front
+front_stands w (Closes end.Back) stands = stands.front
+front_stands w h stands = stands.front
+
+back_stands : (w : World) (h : Happening) → Stands w → (let v : World = happens w h in backs.Speaks v.back)
+back_stands w BackMoves stands = back_speaks w stands.back
+back_stands w (Closes end.Front) stands = stands.back
+back_stands w (Closes end.Back) stands = unplugged_speaks w.back stands.back
+back_stands w h stands = stands.back
+
+pub stands_on : (w : World) (h : Happening) → Stands w → Stands (happens w h)
+stands_on w h stands = record { fit = fit_happens w h stands.fit; way = on_its_way w h stands.fit stands.front stands.way; front = front_stands w h stands; back = back_stands w h stands }
+
+pub all_possible : (hs : List Happening) (w : World) → Stands w → ArePossible hs w → ring_allowed.ArePossible (all_does hs w) w.rings
+all_possible [] w stands are = tt
+all_possible (h ∷ hs) w stands are = both_possible (does w h) (all_does hs (happens w h)) w.rings (possible_at w h stands are.0) (all_possible hs (happens w h) (stands_on w h stands) are.1)
+
+pub joined_start : (config : Options) → AreOptions config → Joined (start_of config)
+joined_start config are = record {
+  run = record {
+    front = let w : World = start_of config in w.front;
+    offer = back_view.offer;
+    facts = let w : World = start_of config in w.back.disk;
+    happenings = [];
+    within = record { order = are.0; indirect = omega arith; offered = omega arith; sectors = are.4 };
+    ports = tt;
+  };
+  served = tt;
+  stands = refl;
+}
+
+pub stands_start : (config : Options) → are_carried config ≡ true → AreOptions config → Stands (start_of config)
+stands_start config carried are = record {
+  fit = fit_start config carried;
+  way = inl (record { joined = joined_start config are; ring = refl; early = refl });
+  front = record { port = tt; stage = tt };
+  back = record { sectors = are.4; order = omega arith; stage = tt };
+}
