@@ -446,7 +446,8 @@ fn a_front_that_is_asked_to_close_finishes_its_request_and_takes_no_more(
     rt: HostRuntime,
 ) -> Result<(), Fail> {
     let alloc = rt.alloc();
-    let schedule = "settle\nsubmit write 0 1 00000007\nfront 1000\nclose front\nsubmit read 0 1\nsettle\n";
+    let schedule =
+        "settle\nsubmit write 0 1 00000007\nfront 1000\nclose front\nsubmit read 0 1\nsettle\n";
     let sink = report(alloc, schedule, zeros(alloc)?, Detail::Lines)?;
     assert_eq!(rt;
         sink.bytes(),
@@ -460,7 +461,8 @@ fn a_back_that_is_asked_to_close_serves_on_until_the_front_closes(
     rt: HostRuntime,
 ) -> Result<(), Fail> {
     let alloc = rt.alloc();
-    let schedule = "settle\nsubmit write 0 1 00000007\nfront 1000\nclose back\nsettle\nsubmit read 0 1\n";
+    let schedule =
+        "settle\nsubmit write 0 1 00000007\nfront 1000\nclose back\nsettle\nsubmit read 0 1\n";
     let sink = report(alloc, schedule, zeros(alloc)?, Detail::Lines)?;
     assert_eq!(rt;
         sink.bytes(),
