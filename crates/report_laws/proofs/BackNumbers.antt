@@ -230,9 +230,9 @@ removed_works : (works : List Work) (place : Option ℕ) → All IsWork works �
 removed_works works None all = all
 removed_works works (Some place) all = All-append IsWork _ _ (All-take IsWork place works all) (All-drop IsWork (suc place) works all)
 
-behind_works : (works : List Work) → All IsWork works → All IsWork (behind_mapping works)
-behind_works [] all = all
-behind_works (t ∷ works) all = let rest = All-tail IsWork t works all in by_hand (is_some (mapping_at t.stage)) rest (behind_works works rest)
+later_works : (works : List Work) → All IsWork works → All IsWork (behind_mapping works)
+later_works [] all = all
+later_works (t ∷ works) all = let rest = All-tail IsWork t works all in by_hand (is_some (mapping_at t.stage)) rest (later_works works rest)
   where
     by_hand : (b : Bool) → All IsWork works → All IsWork (behind_mapping works) → All IsWork (cond b works (behind_mapping works))
     by_hand true rest less = rest
@@ -297,7 +297,7 @@ giving_words None = tt
 giving_words (Some m) = tt
 
 give_up_fits : (most : ℕ) (v : View) (why : Option Halt) → HaltsWith why → IsFit most v → IsFit most (give_up (record v { halted = why }))
-give_up_fits most v why halts f = (jobs_now (behind_mapping v.jobs.works) why (behind_works v.jobs.works f.0.jobs) halts f.0, giving_words (first_mapping v.jobs.works), f.2)
+give_up_fits most v why halts f = (jobs_now (behind_mapping v.jobs.works) why (later_works v.jobs.works f.0.jobs) halts f.0, giving_words (first_mapping v.jobs.works), f.2)
 
 looked_fits : (most : ℕ) (v : View) (word : ℕ) (otherwise : View) → word < 2 ^ 32 → IsFit most v → IsFit most otherwise → IsFit most (looked v word otherwise)
 looked_fits most v word otherwise small f h =

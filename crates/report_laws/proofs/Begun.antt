@@ -14,20 +14,20 @@ use Rattle.split_model.specs.Happening.{Happening, lines_of}
 use Rattle.schedule_text.specs.Recorder.{kept_of}
 use Rattle.split_model.specs.Report.{report_of, ended_report_of}
 use Rattle.report_laws.specs.Begun.{is_begin, is_move, IsBegun, IsBegunSoFar}
-use Rattle.report_laws.proofs.Lines.{AreBehind, both_all, both_behind, all_behind}
+use Rattle.report_laws.proofs.Lines.{AreLater, both_all, both_later, all_later}
 
 abbrev AreUnmoved : List Line → Type 0
 AreUnmoved ls = AllByRecursion (λ (line : Line). is_move line ≡ false) ls
 
-one_behind : (detail : Detail) (line : Line) → is_begin line ≡ false → AreBehind (recorded detail line)
-one_behind detail (lines.Begin config other) e = absurd (true≢false e)
-one_behind Lines (lines.Move move) e = tt
-one_behind Moves (lines.Move move) e = (refl, tt)
-one_behind detail line e = (e, tt)
+one_later : (detail : Detail) (line : Line) → is_begin line ≡ false → AreLater (recorded detail line)
+one_later detail (lines.Begin config other) e = absurd (true≢false e)
+one_later Lines (lines.Move move) e = tt
+one_later Moves (lines.Move move) e = (refl, tt)
+one_later detail line e = (e, tt)
 
-kept_behind : (detail : Detail) (ls : List Line) → AreBehind ls → AreBehind (kept_of detail ls)
-kept_behind detail [] all = tt
-kept_behind detail (line ∷ ls) all = both_behind (recorded detail line) (kept_of detail ls) (one_behind detail line all.0) (kept_behind detail ls all.1)
+kept_later : (detail : Detail) (ls : List Line) → AreLater ls → AreLater (kept_of detail ls)
+kept_later detail [] all = tt
+kept_later detail (line ∷ ls) all = both_later (recorded detail line) (kept_of detail ls) (one_later detail line all.0) (kept_later detail ls all.1)
 
 one_unmoved : (line : Line) → AreUnmoved (recorded Lines line)
 one_unmoved (lines.Move move) = tt
@@ -37,20 +37,20 @@ kept_unmoved : (ls : List Line) → AreUnmoved (kept_of Lines ls)
 kept_unmoved [] = tt
 kept_unmoved (line ∷ ls) = both_all (λ (x : Line). is_move x ≡ false) (recorded Lines line) (kept_of Lines ls) (one_unmoved line) (kept_unmoved ls)
 
-begun_with : (config : Options) (detail : Detail) (ls : List Line) → AreBehind ls → IsBegun config detail (kept_of detail (lines.Begin config detail ∷ ls))
+begun_with : (config : Options) (detail : Detail) (ls : List Line) → AreLater ls → IsBegun config detail (kept_of detail (lines.Begin config detail ∷ ls))
 begun_with config detail ls all = record {
   rest = kept_of detail ls;
   first = refl;
-  once = All-from_recursion (λ (line : Line). is_begin line ≡ false) (kept_of detail ls) (kept_behind detail ls all);
+  once = All-from_recursion (λ (line : Line). is_begin line ≡ false) (kept_of detail ls) (kept_later detail ls all);
   unmoved = λ same. All-from_recursion (λ (line : Line). is_move line ≡ false) (kept_of detail ls) (subst (λ (d : Detail). AreUnmoved (kept_of d ls)) (sym same) (kept_unmoved ls));
 }
 
 pub report_begun : (config : Options) (detail : Detail) (history : List Happening) → IsBegun config detail (kept_of detail (report_of config detail history))
-report_begun config detail history = begun_with config detail (lines_of history (start_of config)) (all_behind history (start_of config))
+report_begun config detail history = begun_with config detail (lines_of history (start_of config)) (all_later history (start_of config))
 
 pub ended_begun : (config : Options) (detail : Detail) (history : List Happening) → IsBegun config detail (kept_of detail (ended_report_of config detail history))
 ended_begun config detail history =
-    begun_with config detail (lines_of history (start_of config) ++ lines.End ∷ []) (both_behind (lines_of history (start_of config)) (lines.End ∷ []) (all_behind history (start_of config)) (refl, tt))
+    begun_with config detail (lines_of history (start_of config) ++ lines.End ∷ []) (both_later (lines_of history (start_of config)) (lines.End ∷ []) (all_later history (start_of config)) (refl, tt))
 
 -- the first of all lines
 all_first : (P : Line → Type 0) (a b : List Line) → AllByRecursion P (a ++ b) → AllByRecursion P a

@@ -7,6 +7,7 @@ pub mod Counts
 pub mod Answers
 pub mod Ports
 pub mod QuietRing
+pub mod States
 pub mod Inline
 pub mod InlineLines
 pub mod Texts

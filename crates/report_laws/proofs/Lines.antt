@@ -148,34 +148,34 @@ pub dump_usual : (pages : List ℕ) → AreUsual (ring_lines pages 0 1024)
 dump_usual pages = dump_lines_are (λ (line : Line). is_usual line ≡ true) pages 0 1024 (λ frame word value. refl)
 
 -- no line begins a report
-abbrev pub AreBehind : List Line → Type 0
-AreBehind ls = AllByRecursion (λ (line : Line). is_begin line ≡ false) ls
+abbrev pub AreLater : List Line → Type 0
+AreLater ls = AllByRecursion (λ (line : Line). is_begin line ≡ false) ls
 
-usual_behind : (ls : List Line) → AreUsual ls → AreBehind ls
-usual_behind [] all = tt
-usual_behind (line ∷ ls) all = (usual_begin line all.0, usual_behind ls all.1)
+usual_later : (ls : List Line) → AreUsual ls → AreLater ls
+usual_later [] all = tt
+usual_later (line ∷ ls) all = (usual_begin line all.0, usual_later ls all.1)
 
-pub both_behind : (a b : List Line) → AreBehind a → AreBehind b → AreBehind (a ++ b)
-both_behind a b p q = both_all (λ (line : Line). is_begin line ≡ false) a b p q
+pub both_later : (a b : List Line) → AreLater a → AreLater b → AreLater (a ++ b)
+both_later a b p q = both_all (λ (line : Line). is_begin line ≡ false) a b p q
 
-look_behind : (quiet : Bool) (other : Line) → is_begin other ≡ false → AreBehind ((if quiet then lines.Quiet else other) ∷ [])
-look_behind true other e = (refl, tt)
-look_behind false other e = (e, tt)
+look_later : (quiet : Bool) (other : Line) → is_begin other ≡ false → AreLater ((if quiet then lines.Quiet else other) ∷ [])
+look_later true other e = (refl, tt)
+look_later false other e = (e, tt)
 
-one_behind : (w : World) (h : Happening) → AreBehind (lines_at w h)
-one_behind w FrontMoves = usual_behind (front_shows w (front_turn w)) (front_usual w (front_turn w))
-one_behind w BackMoves = usual_behind (back_shows w (back_turn w Took)) (back_usual w (back_turn w Took))
-one_behind w (JobMoves number outcome) = usual_behind (job_shows w number (job_turn w number outcome)) (job_usual w number (job_turn w number outcome))
-one_behind w (Negotiates at move) = usual_behind (lines_at w (Negotiates at move)) (keys_usual w at move)
-one_behind w (FrontEnters state) = enter_lines_are (λ (line : Line). is_begin line ≡ false) state w.front (λ may. state_lines_are (λ (line : Line). is_begin line ≡ false) state refl refl refl (λ word. refl))
-one_behind w (BackHalts why) = usual_behind _ (halt_usual w.back.halted _)
-one_behind w (Submits job) = usual_behind (submit_line job (front_submit.submit_of w.front job).0 ∷ []) (submit_usual job (front_submit.submit_of w.front job).0)
-one_behind w (Notifies at) = tt
-one_behind w (Pokes frame word value) = usual_behind _ (poke_usual frame word value)
-one_behind w Dumps = usual_behind _ (dump_usual w.under.pages)
-one_behind w (Looks quiet) = look_behind quiet lines.Busy refl
-one_behind w (Settles quiet) = look_behind quiet lines.Unsettled refl
+one_later : (w : World) (h : Happening) → AreLater (lines_at w h)
+one_later w FrontMoves = usual_later (front_shows w (front_turn w)) (front_usual w (front_turn w))
+one_later w BackMoves = usual_later (back_shows w (back_turn w Took)) (back_usual w (back_turn w Took))
+one_later w (JobMoves number outcome) = usual_later (job_shows w number (job_turn w number outcome)) (job_usual w number (job_turn w number outcome))
+one_later w (Negotiates at move) = usual_later (lines_at w (Negotiates at move)) (keys_usual w at move)
+one_later w (FrontEnters state) = enter_lines_are (λ (line : Line). is_begin line ≡ false) state w.front (λ may. state_lines_are (λ (line : Line). is_begin line ≡ false) state refl refl refl (λ word. refl))
+one_later w (BackHalts why) = usual_later _ (halt_usual w.back.halted _)
+one_later w (Submits job) = usual_later (submit_line job (front_submit.submit_of w.front job).0 ∷ []) (submit_usual job (front_submit.submit_of w.front job).0)
+one_later w (Notifies at) = tt
+one_later w (Pokes frame word value) = usual_later _ (poke_usual frame word value)
+one_later w Dumps = usual_later _ (dump_usual w.under.pages)
+one_later w (Looks quiet) = look_later quiet lines.Busy refl
+one_later w (Settles quiet) = look_later quiet lines.Unsettled refl
 
-pub all_behind : (history : List Happening) (w : World) → AreBehind (lines_of history w)
-all_behind [] w = tt
-all_behind (h ∷ history) w = both_behind (lines_at w h) (lines_of history (happens w h)) (one_behind w h) (all_behind history (happens w h))
+pub all_later : (history : List Happening) (w : World) → AreLater (lines_of history w)
+all_later [] w = tt
+all_later (h ∷ history) w = both_later (lines_at w h) (lines_of history (happens w h)) (one_later w h) (all_later history (happens w h))

@@ -1,5 +1,5 @@
--- What holds wherever the machine is quiet holds at each `quiet` line of its report.
-use Rattle.std.proofs.Common.{◌≡◌, Bool, true, false, if◌then◌else◌, List, [], ◌∷◌, ◌++◌, refl, ap, sym, ◌∙◌, subst, append_assoc}
+-- What holds wherever all is found quiet holds at each `quiet` line of the report, and so does what holds wherever the machine is quiet.
+use Rattle.std.proofs.Common.{◌≡◌, Bool, true, false, if◌then◌else◌, List, [], ◌∷◌, ◌++◌, true≢false, refl, ap, sym, ◌∙◌, subst, append_assoc}
 use Rattle.std.proofs.lemmas.List.{append-nil}
 use Rattle.blk_base.specs.Options.{Options}
 use Rattle.schedule_text.specs.declared.line.Detail.{Detail}
@@ -12,10 +12,10 @@ use Rattle.report_rules.proofs.Obeys.{obeys_none, obeys_more}
 use Rattle.hypervisor.specs.Act.{Took}
 use Rattle.blk_front.specs.Submit as front_submit
 use Rattle.split_model.specs.World.{World, start_of, is_quiet}
-use Rattle.split_model.specs.Happening.{Happening, FrontMoves, BackMoves, JobMoves, Negotiates, FrontEnters, BackHalts, Submits, Notifies, Pokes, Dumps, Looks, Settles, lines_at, after, lines_of, front_turn, back_turn, job_turn}
+use Rattle.split_model.specs.Happening.{Happening, FrontMoves, BackMoves, JobMoves, Negotiates, FrontEnters, BackHalts, Submits, Notifies, Pokes, Dumps, Looks, Settles, happens, lines_at, after, lines_of, front_turn, back_turn, job_turn}
 use Rattle.schedule_text.specs.Recorder.{kept_of}
 use Rattle.split_model.specs.Report.{report_of, ended_report_of}
-use Rattle.split_model.proofs.Running.{after-append, lines_of-append, kept_of-append}
+use Rattle.split_model.proofs.Running.{lines_of-append, kept_of-append}
 use Rattle.machine_pipeline.specs.Allowed.{IsPossible, ArePossible}
 use Rattle.report_laws.proofs.Lines.{says_quiet, AreUsual, AreUnquiet, usual_unquiet, front_usual, back_usual, job_usual, keys_usual, states_unquiet, halt_usual, submit_usual, poke_usual, dump_usual}
 
@@ -36,19 +36,25 @@ look_obeys : (Rule : List Line → Line → Type 0) → SpeaksOfQuiet Rule → (
 look_obeys Rule free before true other e holds obeys = obeys_more Rule before lines.Quiet obeys (holds refl)
 look_obeys Rule free before false other e holds obeys = obeys_more Rule before other obeys (free before other e)
 
-one_obeys : (Rule : List Line → Line → Type 0) → SpeaksOfQuiet Rule → (before : List Line) (w : World) (h : Happening) → IsPossible w h → (is_quiet w ≡ true → Rule before lines.Quiet) → Obeys Rule before → Obeys Rule (before ++ lines_at w h)
-one_obeys Rule free before w FrontMoves may holds obeys = usual_obey Rule free _ before (front_usual w (front_turn w)) obeys
-one_obeys Rule free before w BackMoves may holds obeys = usual_obey Rule free _ before (back_usual w (back_turn w Took)) obeys
-one_obeys Rule free before w (JobMoves number outcome) may holds obeys = usual_obey Rule free _ before (job_usual w number (job_turn w number outcome)) obeys
-one_obeys Rule free before w (Negotiates at move) may holds obeys = usual_obey Rule free _ before (keys_usual w at move) obeys
-one_obeys Rule free before w (FrontEnters state) may holds obeys = unquiet_obey Rule free _ before (states_unquiet state w.front) obeys
-one_obeys Rule free before w (BackHalts why) may holds obeys = usual_obey Rule free _ before (halt_usual w.back.halted _) obeys
-one_obeys Rule free before w (Submits job) may holds obeys = usual_obey Rule free _ before (submit_usual job (front_submit.submit_of w.front job).0) obeys
-one_obeys Rule free before w (Notifies at) may holds obeys = usual_obey Rule free [] before tt obeys
-one_obeys Rule free before w (Pokes frame word value) may holds obeys = usual_obey Rule free _ before (poke_usual frame word value) obeys
-one_obeys Rule free before w Dumps may holds obeys = usual_obey Rule free _ before (dump_usual w.under.pages) obeys
-one_obeys Rule free before w (Looks quiet) may holds obeys = look_obeys Rule free before quiet lines.Busy refl (λ found. holds (may found)) obeys
-one_obeys Rule free before w (Settles quiet) may holds obeys = look_obeys Rule free before quiet lines.Unsettled refl (λ found. holds (may found)) obeys
+-- a look, or the end of the rounds, that finds all quiet
+abbrev pub finds_quiet : Happening → Bool
+finds_quiet (Looks quiet) = quiet
+finds_quiet (Settles quiet) = quiet
+finds_quiet h = false
+
+one_obeys : (Rule : List Line → Line → Type 0) → SpeaksOfQuiet Rule → (before : List Line) (w : World) (h : Happening) → (finds_quiet h ≡ true → Rule before lines.Quiet) → Obeys Rule before → Obeys Rule (before ++ lines_at w h)
+one_obeys Rule free before w FrontMoves holds obeys = usual_obey Rule free _ before (front_usual w (front_turn w)) obeys
+one_obeys Rule free before w BackMoves holds obeys = usual_obey Rule free _ before (back_usual w (back_turn w Took)) obeys
+one_obeys Rule free before w (JobMoves number outcome) holds obeys = usual_obey Rule free _ before (job_usual w number (job_turn w number outcome)) obeys
+one_obeys Rule free before w (Negotiates at move) holds obeys = usual_obey Rule free _ before (keys_usual w at move) obeys
+one_obeys Rule free before w (FrontEnters state) holds obeys = unquiet_obey Rule free _ before (states_unquiet state w.front) obeys
+one_obeys Rule free before w (BackHalts why) holds obeys = usual_obey Rule free _ before (halt_usual w.back.halted _) obeys
+one_obeys Rule free before w (Submits job) holds obeys = usual_obey Rule free _ before (submit_usual job (front_submit.submit_of w.front job).0) obeys
+one_obeys Rule free before w (Notifies at) holds obeys = usual_obey Rule free [] before tt obeys
+one_obeys Rule free before w (Pokes frame word value) holds obeys = usual_obey Rule free _ before (poke_usual frame word value) obeys
+one_obeys Rule free before w Dumps holds obeys = usual_obey Rule free _ before (dump_usual w.under.pages) obeys
+one_obeys Rule free before w (Looks quiet) holds obeys = look_obeys Rule free before quiet lines.Busy refl holds obeys
+one_obeys Rule free before w (Settles quiet) holds obeys = look_obeys Rule free before quiet lines.Unsettled refl holds obeys
 
 -- the report of one happening more
 pub report_more : (config : Options) (detail : Detail) (earlier : List Happening) (h : Happening) → report_of config detail (earlier ++ h ∷ []) ≡ report_of config detail earlier ++ lines_at (after earlier (start_of config)) h
@@ -56,24 +62,50 @@ report_more config detail earlier h =
     ap (λ (ls : List Line). lines.Begin config detail ∷ ls)
     (lines_of-append earlier (h ∷ []) (start_of config) ∙ ap (λ (ls : List Line). lines_of earlier (start_of config) ++ ls) (append-nil (lines_at (after earlier (start_of config)) h)))
 
--- the rule holds at `quiet` behind each beginning of this history after which the machine is quiet
+-- the rule holds at `quiet` wherever all is found quiet in this history
+abbrev pub HoldsWhereFound : (List Line → Line → Type 0) → Options → Detail → List Happening → Type 0
+HoldsWhereFound Rule config detail history =
+    (first rest : List Happening) (h : Happening) → history ≡ first ++ h ∷ rest → finds_quiet h ≡ true → Rule (report_of config detail first) lines.Quiet
+
+all_obey : (Rule : List Line → Line → Type 0) → SpeaksOfQuiet Rule → (config : Options) (detail : Detail) (later earlier : List Happening) → HoldsWhereFound Rule config detail (earlier ++ later) → Obeys Rule (report_of config detail earlier) → Obeys Rule (report_of config detail (earlier ++ later))
+all_obey Rule free config detail [] earlier holds obeys = subst (λ (hs : List Happening). Obeys Rule (report_of config detail hs)) (sym (append-nil earlier)) obeys
+all_obey Rule free config detail (h ∷ later) earlier holds obeys =
+    let next : Obeys Rule (report_of config detail earlier ++ lines_at (after earlier (start_of config)) h) = one_obeys Rule free (report_of config detail earlier) (after earlier (start_of config)) h (holds earlier later h refl) obeys in
+    subst (λ (hs : List Happening). Obeys Rule (report_of config detail hs)) (append_assoc earlier (h ∷ []) later)
+    (all_obey Rule free config detail later (earlier ++ h ∷ []) (subst (HoldsWhereFound Rule config detail) (sym (append_assoc earlier (h ∷ []) later)) holds) (subst (Obeys Rule) (sym (report_more config detail earlier h)) next))
+
+pub reports_found : (Rule : List Line → Line → Type 0) → SpeaksOfQuiet Rule → (config : Options) (detail : Detail) (history : List Happening) → HoldsWhereFound Rule config detail history → Obeys Rule (report_of config detail history)
+reports_found Rule free config detail history holds =
+    all_obey Rule free config detail history [] holds (obeys_more Rule [] (lines.Begin config detail) (obeys_none Rule) (free [] (lines.Begin config detail) refl))
+
+pub ended_found : (Rule : List Line → Line → Type 0) → SpeaksOfQuiet Rule → (config : Options) (detail : Detail) (history : List Happening) → HoldsWhereFound Rule config detail history → Obeys Rule (ended_report_of config detail history)
+ended_found Rule free config detail history holds = obeys_more Rule (report_of config detail history) lines.End (reports_found Rule free config detail history holds) (free (report_of config detail history) lines.End refl)
+
+-- the rule holds at `quiet` after each beginning of this history after which the machine is quiet
 abbrev pub HoldsWhereQuiet : (List Line → Line → Type 0) → Options → Detail → List Happening → Type 0
 HoldsWhereQuiet Rule config detail history =
     (first rest : List Happening) → history ≡ first ++ rest → is_quiet (after first (start_of config)) ≡ true → Rule (report_of config detail first) lines.Quiet
 
-all_obey : (Rule : List Line → Line → Type 0) → SpeaksOfQuiet Rule → (config : Options) (detail : Detail) (later earlier : List Happening) → ArePossible later (after earlier (start_of config)) → HoldsWhereQuiet Rule config detail (earlier ++ later) → Obeys Rule (report_of config detail earlier) → Obeys Rule (report_of config detail (earlier ++ later))
-all_obey Rule free config detail [] earlier may holds obeys = subst (λ (hs : List Happening). Obeys Rule (report_of config detail hs)) (sym (append-nil earlier)) obeys
-all_obey Rule free config detail (h ∷ later) earlier may holds obeys =
-    let next : Obeys Rule (report_of config detail earlier ++ lines_at (after earlier (start_of config)) h) = one_obeys Rule free (report_of config detail earlier) (after earlier (start_of config)) h may.0 (holds earlier (h ∷ later) refl) obeys in
-    subst (λ (hs : List Happening). Obeys Rule (report_of config detail hs)) (append_assoc earlier (h ∷ []) later)
-    (all_obey Rule free config detail later (earlier ++ h ∷ []) (subst (ArePossible later) (sym (after-append earlier (h ∷ []) (start_of config))) may.1) (subst (HoldsWhereQuiet Rule config detail) (sym (append_assoc earlier (h ∷ []) later)) holds) (subst (Obeys Rule) (sym (report_more config detail earlier h)) next))
+-- in a possible history the machine is quiet wherever it is found so
+possible_found : (w : World) (h : Happening) → IsPossible w h → finds_quiet h ≡ true → is_quiet w ≡ true
+possible_found w (Looks quiet) may found = may found
+possible_found w (Settles quiet) may found = may found
+possible_found w h may found = absurd (true≢false (sym found))
+
+possible_at : (first rest : List Happening) (h : Happening) (w : World) → ArePossible (first ++ h ∷ rest) w → IsPossible (after first w) h
+possible_at [] rest h w may = may.0
+possible_at (g ∷ first) rest h w may = possible_at first rest h (happens w g) may.1
+
+quiet_found : (Rule : List Line → Line → Type 0) (config : Options) (detail : Detail) (history : List Happening) → ArePossible history (start_of config) → HoldsWhereQuiet Rule config detail history → HoldsWhereFound Rule config detail history
+quiet_found Rule config detail history may holds first rest h e found =
+    let here : ArePossible (first ++ h ∷ rest) (start_of config) = subst (λ (hs : List Happening). ArePossible hs (start_of config)) e may in
+    holds first (h ∷ rest) e (possible_found (after first (start_of config)) h (possible_at first rest h (start_of config) here) found)
 
 pub reports_obey : (Rule : List Line → Line → Type 0) → SpeaksOfQuiet Rule → (config : Options) (detail : Detail) (history : List Happening) → ArePossible history (start_of config) → HoldsWhereQuiet Rule config detail history → Obeys Rule (report_of config detail history)
-reports_obey Rule free config detail history may holds =
-    all_obey Rule free config detail history [] may holds (obeys_more Rule [] (lines.Begin config detail) (obeys_none Rule) (free [] (lines.Begin config detail) refl))
+reports_obey Rule free config detail history may holds = reports_found Rule free config detail history (quiet_found Rule config detail history may holds)
 
 pub ended_obey : (Rule : List Line → Line → Type 0) → SpeaksOfQuiet Rule → (config : Options) (detail : Detail) (history : List Happening) → ArePossible history (start_of config) → HoldsWhereQuiet Rule config detail history → Obeys Rule (ended_report_of config detail history)
-ended_obey Rule free config detail history may holds = obeys_more Rule (report_of config detail history) lines.End (reports_obey Rule free config detail history may holds) (free (report_of config detail history) lines.End refl)
+ended_obey Rule free config detail history may holds = ended_found Rule free config detail history (quiet_found Rule config detail history may holds)
 
 -- and of what a recorder keeps of it, where the rule asks for nothing that isn't kept
 kept_more : (Rule : List Line → Line → Type 0) → SpeaksOfQuiet Rule → (detail : Detail) (before : List Line) (line : Line) → (Rule before lines.Quiet → Rule (kept_of detail before) lines.Quiet) → Rule before line → Obeys Rule (kept_of detail before) → Obeys Rule (kept_of detail before ++ recorded detail line)

@@ -28,7 +28,7 @@ use Rattle.machine_pipeline.proofs.Together.{always_stands}
 use Rattle.machine_pipeline.proofs.AtRest.{IsIdleRing, quiet_rests}
 use Rattle.report_laws.specs.Begun.{is_begin}
 use Rattle.report_laws.specs.QuietRing.{answers_told, IsQuietRingAt, IsQuietRing}
-use Rattle.report_laws.proofs.Lines.{AreBehind, all_behind}
+use Rattle.report_laws.proofs.Lines.{AreLater, all_later}
 use Rattle.report_laws.proofs.Looks.{SpeaksOfQuiet, HoldsWhereQuiet, reports_obey, ended_obey}
 use Rattle.report_laws.proofs.Ports.{report_port}
 use Rattle.report_laws.proofs.Counts.{CountsAt}
@@ -39,12 +39,12 @@ one_start : (start : ℕ) (line : Line) → is_begin line ≡ false → start_to
 one_start start (lines.Begin config detail) e = absurd (true≢false e)
 one_start start line e = refl
 
-same_start : (start : ℕ) (ls : List Line) → AreBehind ls → fold start_told start ls ≡ start
+same_start : (start : ℕ) (ls : List Line) → AreLater ls → fold start_told start ls ≡ start
 same_start start [] all = refl
 same_start start (line ∷ ls) all = ap (λ (n : ℕ). fold start_told n ls) (one_start start line all.0) ∙ same_start start ls all.1
 
 report_start : (config : Options) (detail : Detail) (history : List Happening) → start_of (report_of config detail history) ≡ config.start
-report_start config detail history = same_start config.start (lines_of history (world.start_of config)) (all_behind history (world.start_of config))
+report_start config detail history = same_start config.start (lines_of history (world.start_of config)) (all_later history (world.start_of config))
 
 -- a front in its loop, or closed, took as many responses as it told answers
 taken_at : (start n cons : ℕ) (s : Stage) → (s ≡ stage.Loop) ⊎ (s ≡ stage.Closed) → CountsAt start n cons s → cons ≡ wrapped start n

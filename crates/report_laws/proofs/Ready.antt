@@ -33,7 +33,7 @@ use Rattle.report_laws.proofs.Looks.{SpeaksOfQuiet, HoldsWhereQuiet, reports_obe
 abbrev HasOutcome : List Line → Type 0
 HasOutcome ls = list_any says_outcome ls ≡ true
 
--- a line that stands there stands there with more before or behind
+-- a line that stands there stands there with more before or after
 outcome_first : (a b : List Line) → HasOutcome a → HasOutcome (a ++ b)
 outcome_first [] b h = absurd (true≢false (sym h))
 outcome_first (line ∷ a) b h = by_line (says_outcome line) (outcome_first a b) h

@@ -1,11 +1,12 @@
 -- Wrong reports that the rules refuse.
-use Rattle.std.proofs.Common.{◌≡◌, ℕ, ◌+◌, ◌%◌, ◌^◌, ◌≤◌, false, List, [], ◌∷◌, refl, sym, subst, arith, true≢false}
-use Rattle.std.specs.Prelude.{All}
+use Rattle.std.proofs.Common.{◌≡◌, ◌⊎◌, ℕ, ◌+◌, ◌%◌, ◌^◌, ◌≤◌, inl, inr, false, List, [], ◌∷◌, refl, ap, sym, subst, arith, true≢false}
+use Rattle.std.specs.Prelude.{All, codes}
 use Rattle.std.proofs.lemmas.List.Elements.{recursion_from_All}
 use Rattle.blk_base.specs.Options.{Options}
 use Rattle.blk_base.specs.declared.operation.Status.{Status}
 use Rattle.blk_base.specs.declared.moves.Move.{Move}
-use Rattle.blk_base.specs.declared.moves.Move.TheVariants.{FrontWrite}
+use Rattle.blk_base.specs.declared.moves.Move.TheVariants.{FrontWrite, SetKey}
+use Rattle.blk_base.specs.declared.moves.Mover.TheVariants.{Front}
 use Rattle.schedule_text.specs.declared.line.Detail.{Detail}
 use Rattle.schedule_text.specs.declared.line.Detail.TheVariants.{Lines, Moves}
 use Rattle.schedule_text.specs.declared.line.Line.{Line}
@@ -14,19 +15,20 @@ use Rattle.schedule_text.specs.Range.{IsInRange}
 use Rattle.report_laws.specs.Begun.{is_begin, is_move, IsBegun}
 use Rattle.report_laws.specs.Ready.{IsReadyFirst}
 use Rattle.report_laws.specs.QuietRing.{IsQuietRing, IsServedRing}
+use Rattle.report_laws.specs.States.{front_state, SayBoth, AreStatesAgreed}
 use Rattle.report_laws.specs.Grammar.{AreInGrammar}
 
--- what stands behind the first line
-behind : (P : Line → Type 0) (a b : Line) (rest : List Line) (first : Line) → first ∷ a ∷ [] ≡ b ∷ rest → All P rest → P a
-behind P a b rest first e all =
+-- what stands after the first line
+second : (P : Line → Type 0) (a b : Line) (rest : List Line) (first : Line) → first ∷ a ∷ [] ≡ b ∷ rest → All P rest → P a
+second P a b rest first e all =
     let tails : a ∷ [] ≡ rest = cc in
     (recursion_from_All P (a ∷ []) (subst (All P) (sym tails) all)).0
 
 pub begun_twice : (config : Options) (detail : Detail) → IsBegun config detail (lines.Begin config detail ∷ lines.Begin config detail ∷ []) → ⊥
-begun_twice config detail h = true≢false (behind (λ (line : Line). is_begin line ≡ false) (lines.Begin config detail) (lines.Begin config detail) h.rest (lines.Begin config detail) h.first h.once)
+begun_twice config detail h = true≢false (second (λ (line : Line). is_begin line ≡ false) (lines.Begin config detail) (lines.Begin config detail) h.rest (lines.Begin config detail) h.first h.once)
 
 pub moved : (config : Options) (move : Move) → IsBegun config Lines (lines.Begin config Lines ∷ lines.Move move ∷ []) → ⊥
-moved config move h = true≢false (behind (λ (line : Line). is_move line ≡ false) (lines.Move move) (lines.Begin config Lines) h.rest (lines.Begin config Lines) h.first (h.unmoved refl))
+moved config move h = true≢false (second (λ (line : Line). is_move line ≡ false) (lines.Move move) (lines.Begin config Lines) h.rest (lines.Begin config Lines) h.first (h.unmoved refl))
 
 pub ready_late : (config : Options) (detail : Detail) → IsReadyFirst (lines.Begin config detail ∷ lines.Quiet ∷ lines.Ready ∷ []) → ⊥
 ready_late config detail h = true≢false (sym (h (lines.Begin config detail ∷ []) (lines.Ready ∷ []) lines.Quiet refl))
@@ -43,6 +45,20 @@ unread config start h =
     let is : IsServedRing before = h before [] lines.Quiet refl refl in
     let read : 1 ≡ (config.start + 0) % 2 ^ 32 = is.read in
     omega arith
+
+pub connected_alone : (config : Options) → AreStatesAgreed (lines.Begin config Moves ∷ lines.Move (SetKey Front front_state (codes "4")) ∷ lines.Ready ∷ lines.Quiet ∷ []) → ⊥
+connected_alone config h = by_states (h before [] lines.Quiet refl)
+  where
+    before : List Line
+    before = lines.Begin config Moves ∷ lines.Move (SetKey Front front_state (codes "4")) ∷ lines.Ready ∷ []
+
+    first : List ℕ → ℕ
+    first [] = 0
+    first (n ∷ ns) = n
+
+    by_states : SayBoth (codes "4") before ⊎ SayBoth (codes "6") before → ⊥
+    by_states (inl both) = let back : ◌≡◌ {A = ℕ} 49 52 = ap first both.back in omega arith
+    by_states (inr both) = let back : ◌≡◌ {A = ℕ} 49 54 = ap first both.back in omega arith
 
 pub out_of_range : (id : ℕ) (status : Status) → 2 ^ 64 ≤ id → AreInGrammar (lines.Answer id status ∷ []) → ⊥
 out_of_range id status far h =

@@ -13,7 +13,7 @@ use Rattle.report_laws.specs.Grammar.{AreInGrammar, IsInGrammar}
 use Rattle.report_laws.proofs.Inline.{is_inline}
 use Rattle.report_laws.proofs.InlineLines.{inline_of}
 
--- two texts, each ended by a line feed, with more behind them
+-- two texts, each ended by a line feed, with more after them
 record AreSplit (a b x y : List ℕ) : Type 0 where
   first : a ≡ b
   rest : x ≡ y

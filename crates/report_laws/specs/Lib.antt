@@ -2,6 +2,8 @@ pub mod Begun
 pub mod Ready
 pub mod AtRest
 pub mod QuietRing
+pub mod States
+pub mod Agreed
 pub mod Grammar
 pub mod Reports
 pub mod Wrong

@@ -1,12 +1,14 @@
 -- Worked reports that no machine gives.
-use Rattle.std.specs.Prelude.{List, [], ◌∷◌}
+use Rattle.std.specs.Prelude.{List, [], ◌∷◌, codes}
 use Rattle.blk_base.specs.Options.{Options}
 use Rattle.blk_base.specs.declared.moves.Move.{Move}
-use Rattle.blk_base.specs.declared.moves.Move.TheVariants.{FrontWrite}
+use Rattle.blk_base.specs.declared.moves.Move.TheVariants.{FrontWrite, SetKey}
+use Rattle.blk_base.specs.declared.moves.Mover.TheVariants.{Front}
 use Rattle.schedule_text.specs.declared.line.Detail.{Detail}
 use Rattle.schedule_text.specs.declared.line.Detail.TheVariants.{Lines, Moves}
 use Rattle.schedule_text.specs.declared.line.Line.{Line}
 use Rattle.schedule_text.specs.declared.line.Line.TheVariants as lines
+use Rattle.report_laws.specs.States.{front_state}
 
 -- it begins a second time
 abbrev pub begun_twice : Options → Detail → List Line
@@ -27,3 +29,7 @@ unserved config = lines.Begin config Moves ∷ lines.Ready ∷ lines.Move (Front
 -- it is quiet while a response was pushed (rsp_prod is 1) and no answer told
 abbrev pub unread : Options → List Line
 unread config = lines.Begin config Moves ∷ lines.Ready ∷ lines.Move (FrontWrite 2 0 1) ∷ lines.Move (FrontWrite 2 2 1) ∷ lines.Quiet ∷ []
+
+-- it is quiet where the front has said that it is connected, and the back hasn't
+abbrev pub connected_alone : Options → List Line
+connected_alone config = lines.Begin config Moves ∷ lines.Move (SetKey Front front_state (codes "4")) ∷ lines.Ready ∷ lines.Quiet ∷ []

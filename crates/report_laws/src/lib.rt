@@ -1,12 +1,14 @@
 //! What every report of the machine is, as a list of lines: it begins with `begin` and nowhere
-//! else, says `quiet` only of a front that was connected, is closed or is broken, and of a ring that
-//! is served and read (`io/ring.h`), and its text gives back exactly its lines. The machine is the pure function of
-//! `split_model`; each law is over every list of happenings, of what a recorder keeps of the
-//! report, so with and without the lines of moves (`OfEachReport`), and where it says `OfPlain`
-//! the premises are those of `machine_pipeline`: reads and writes, of which the disk
-//! gives 128 words of 32 bits, and a machine that is quiet where it is found so. `OfPossible` lets
-//! a hostile hand overwrite words too, and so does `OfShort`, of reports of fewer than 2^64 lines.
-//! What obeys a rule obeys it up to each of its lines.
+//! else, says `quiet` only of a front that was connected, is closed or is broken, of a ring that is
+//! served and read (`io/ring.h`), and of two ends that have both said last that they are connected
+//! or that they are closed, where the directory of keys says so (`AreAgreed`), and its text gives
+//! back exactly its lines. The machine is the pure function of `split_model`; each law is over
+//! every list of happenings, of what a recorder keeps of the report, so with and without the lines
+//! of moves (`OfEachReport`), and where it says `OfPlain` the premises are those of
+//! `machine_pipeline`: reads and writes, of which the disk gives 128 words of 32 bits, and a
+//! machine that is quiet where it is found so. `OfPossible` lets a hostile hand overwrite words
+//! too, and so does `OfShort`, of reports of fewer than 2^64 lines. What obeys a rule obeys it up
+//! to each of its lines.
 #![tactic(auto)]
 
 ghost use Rattle.std.specs.Prelude.{◌≡◌, ℕ, ◌≤◌, ◌^◌, List, [], ◌∷◌, ◌++◌, Contains};
@@ -17,16 +19,20 @@ ghost use Rattle.schedule_text.specs.declared.line.Detail.{Detail};
 ghost use Rattle.schedule_text.specs.declared.line.Detail.TheVariants.{Lines, Moves};
 ghost use Rattle.schedule_text.specs.declared.line.Line.{Line};
 ghost use Rattle.schedule_text.specs.declared.line.Line.TheVariants.{Quiet, Answer};
-ghost use Rattle.schedule_text.specs.Recorder.{report_text};
+ghost use Rattle.schedule_text.specs.Recorder.{report_text, kept_of};
+ghost use Rattle.split_model.specs.World.{start_of};
 ghost use Rattle.split_model.specs.Happening.{Happening, lines_at};
+ghost use Rattle.split_model.specs.Report.{report_of, ended_report_of};
 ghost use Rattle.machine_pipeline.specs.Allowed.{IsServed};
 ghost use Rattle.report_laws.specs.Begun.{IsBegun, IsBegunSoFar};
 ghost use Rattle.report_laws.specs.Ready.{IsReadyFirst};
 ghost use Rattle.report_laws.specs.AtRest.{IsAtRest};
 ghost use Rattle.report_laws.specs.QuietRing.{IsQuietRing};
+ghost use Rattle.report_laws.specs.States.{AreStatesAgreed};
+ghost use Rattle.report_laws.specs.Agreed.{AreAgreed};
 ghost use Rattle.report_laws.specs.Grammar.{AreInGrammar, IsInGrammar};
 ghost use Rattle.report_laws.specs.Reports.{OfEachReport, OfEachEnded, OfPossibleReports, OfPossibleEnded, OfShortReports, OfShortEnded, OfPlainReports, OfPlainEnded, OfPlainMachines};
-ghost use Rattle.report_laws.specs.Wrong.{begun_twice, moved, ready_late, unserved, unread};
+ghost use Rattle.report_laws.specs.Wrong.{begun_twice, moved, ready_late, unserved, unread, connected_alone};
 
 /// `begin` is its first line and stands nowhere else, and lines of moves stand only where it says
 /// `moves`.
@@ -60,6 +66,15 @@ pub fn a_quiet_ring_is_served_and_read()
     ensures before { (first more : List Line) → IsQuietRing (first ++ more) → IsQuietRing first }
 {}
 
+/// Where a report with moves says `quiet`, both ends have said last that they are connected (4), or
+/// that they are closed (6), by the keys that its lines set (`io/xenbus.h`). The premise (`AreAgreed`)
+/// is that the directory says so wherever all is found quiet.
+pub fn the_states_agree_where_a_report_is_quiet()
+    ensures report { (config : Options) (history : List Happening) → AreAgreed history (start_of config) → AreStatesAgreed (kept_of Moves (report_of config Moves history)) }
+    ensures ended { (config : Options) (history : List Happening) → AreAgreed history (start_of config) → AreStatesAgreed (kept_of Moves (ended_report_of config Moves history)) }
+    ensures before { (first more : List Line) → AreStatesAgreed (first ++ more) → AreStatesAgreed first }
+{}
+
 /// Each line is one of the grammar, and the report's text gives back exactly its lines, whatever
 /// words of memory are overwritten.
 pub fn every_report_is_in_the_grammar()
@@ -74,13 +89,14 @@ pub fn one_text_has_one_reading()
 {}
 
 /// The rules refuse a second `begin`, a move where none is shown, `quiet` before `ready`, `quiet`
-/// over a request without a response or over a response that wasn't read, and a number that has
-/// more than 64 bits.
+/// over a request without a response, over a response that wasn't read or over one end that alone is
+/// connected, and a number that has more than 64 bits.
 pub fn wrong_reports_are_refused()
     ensures begun_twice { (config : Options) (detail : Detail) → ¬ IsBegun config detail (begun_twice config detail) }
     ensures moved { (config : Options) (move : Move) → ¬ IsBegun config Lines (moved config move) }
     ensures ready_late { (config : Options) (detail : Detail) → ¬ IsReadyFirst (ready_late config detail) }
     ensures unserved { (config : Options) → ¬ IsQuietRing (unserved config) }
     ensures unread { (config : Options) → config.start ≡ 0 → ¬ IsQuietRing (unread config) }
+    ensures connected_alone { (config : Options) → ¬ AreStatesAgreed (connected_alone config) }
     ensures out_of_range { (id : ℕ) (status : Status) → 2 ^ 64 ≤ id → ¬ AreInGrammar (Answer id status ∷ []) }
 {}

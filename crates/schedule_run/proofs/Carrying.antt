@@ -75,9 +75,9 @@ events_lead_on es fs a b c p q =
 pub events_lead_nowhere : (a b : Moment) → b ≡ a → EventsLead [] a b
 events_lead_nowhere a b same = subst (EventsLead [] a) (sym same) (leads_nowhere (AreOfAll [] a.world) a refl)
 
--- bytes behind bytes
-pub behind : (part p q text mid text' rest : List ℕ) → part ++ p ≡ text ++ mid → mid ++ q ≡ text' ++ rest → part ++ (p ++ q) ≡ (text ++ text') ++ rest
-behind part p q text mid text' rest e f =
+-- bytes after bytes
+pub bytes_joined : (part p q text mid text' rest : List ℕ) → part ++ p ≡ text ++ mid → mid ++ q ≡ text' ++ rest → part ++ (p ++ q) ≡ (text ++ text') ++ rest
+bytes_joined part p q text mid text' rest e f =
     sym (append_assoc part p q)
     ∙ (ap (λ (b : List ℕ). b ++ q) e
     ∙ (append_assoc text mid q
@@ -86,7 +86,7 @@ behind part p q text mid text' rest e f =
 
 pub joined_lines : (part p q mid rest : List ℕ) (a b : List (List ℕ)) → part ++ p ≡ text_of a ++ mid → mid ++ q ≡ text_of b ++ rest → part ++ (p ++ q) ≡ text_of (a ++ b) ++ rest
 joined_lines part p q mid rest a b e f =
-    behind part p q (text_of a) mid (text_of b) rest e f ∙ ap (λ (t : List ℕ). t ++ rest) (sym (text_on a b))
+    bytes_joined part p q (text_of a) mid (text_of b) rest e f ∙ ap (λ (t : List ℕ). t ++ rest) (sym (text_on a b))
 
 -- nothing was taken
 pub carries_nothing : (s : ReadSoFar) → HasNoLineFeed s.part → length s.part ≤ 128 → Carries [] s s
@@ -131,7 +131,7 @@ carries_few_lines p s t a =
     let e = a.lines in
     omega arith
 
--- a stop behind what was carried out
+-- a stop after what was carried out
 bad_on : (p q : List ℕ) (s t : ReadSoFar) (n : ℕ) (new : Moment) → Carries p s t → MeetsBad q t n new → MeetsBad (p ++ q) s n new
 bad_on p q s t n new a b = record {
   whole = a.whole ++ b.whole;

@@ -25,8 +25,8 @@ use Rattle.pipeline_laws.specs.Run.{IsRun}
 use Rattle.disk_laws.specs.Run.{IsRunSoFar}
 use Rattle.pipeline_laws.specs.Answered.{AreAnsweredOnce, IsQuietAnswered}
 use Rattle.pipeline_laws.proofs.AnsweredRuns.{run_answers_once, run_answers_at_quiet}
-use Rattle.split_model.specs.World.{start_of}
-use Rattle.split_model.specs.Happening.{Happening, DiskRuns, after, lines_at, lines_of}
+use Rattle.split_model.specs.World.{World, start_of}
+use Rattle.split_model.specs.Happening.{Happening, Pokes, DiskRuns, happens, after, lines_at, lines_of}
 use Rattle.split_model.specs.Honest.{honest_history}
 use Rattle.schedule_text.specs.Recorder.{kept_of, line_bytes, report_text}
 use Rattle.split_model.specs.Report.{report_of, ended_report_of}
@@ -51,11 +51,14 @@ use Rattle.report_laws.specs.Begun.{IsBegun}
 use Rattle.report_laws.specs.Grammar.{IsInGrammar}
 use Rattle.report_laws.specs.Ready.{IsReadyAt}
 use Rattle.report_laws.specs.QuietRing.{IsQuietRing, IsQuietRingAt}
+use Rattle.report_laws.specs.States.{IsAgreedAt, AreStatesAgreed}
+use Rattle.report_laws.specs.Agreed.{AreAgreed}
 use Rattle.report_laws.proofs.Begun.{report_begun, ended_begun, begun_before}
 use Rattle.report_laws.proofs.Grammar.{report_grammar, ended_grammar}
 use Rattle.report_laws.proofs.Texts.{all_before, grammar_before}
 use Rattle.report_laws.proofs.Ready.{report_ready, ended_ready}
 use Rattle.report_laws.proofs.QuietRing.{report_quiet, ended_quiet}
+use Rattle.report_laws.proofs.States.{report_agreed, ended_agreed}
 use Rattle.schedule_run.specs.Lawful.{ObeysMoves, ShowsWork, ServesRequests, ServesRequestsSoFar, IsLawful, IsLawfulSoFar}
 
 -- the moves, where they are shown
@@ -156,11 +159,25 @@ pub record IsTold (config : Options) (detail : Detail) (history : List Happening
   pub options : AreOptions config
   pub possible : ArePossible history (start_of config)
   pub served : AreServed (honest_history history) (start_of config)
+  pub agreed : AreAgreed (honest_history history) (start_of config)
   pub short : length (report_of config detail history) < 2 ^ 64
 
 -- what happened before a hostile hand first overwrote a word
 allowed : {config : Options} {detail : Detail} {history : List Happening} → IsTold config detail history → AreServed (honest_history history) (start_of config)
 allowed h = h.served
+
+-- the first part of a history in which both ends agree is one
+pub agreed_before : (first rest : List Happening) (w : World) → AreAgreed (honest_history (first ++ rest)) w → AreAgreed (honest_history first) w
+agreed_before [] rest w are = tt
+agreed_before (Pokes frame word value ∷ first) rest w are = tt
+agreed_before (h ∷ first) rest w are = (are.0, agreed_before first rest (happens w h) are.1)
+
+-- both ends' states at `quiet`, where the moves are shown
+alike : (detail : Detail) (config : Options) (history : List Happening) → AreAgreed history (start_of config) → detail ≡ Moves → AreStatesAgreed (kept_of detail (report_of config detail history))
+alike detail config history are same = subst (λ (d : Detail). AreStatesAgreed (kept_of d (report_of config d history))) (sym same) (report_agreed config history are)
+
+ended_alike : (detail : Detail) (config : Options) (history : List Happening) → AreAgreed history (start_of config) → detail ≡ Moves → AreStatesAgreed (kept_of detail (ended_report_of config detail history))
+ended_alike detail config history are same = subst (λ (d : Detail). AreStatesAgreed (kept_of d (ended_report_of config d history))) (sym same) (ended_agreed config history are)
 
 -- what the beginning of a report tells of its requests, where a run has that report
 so_far_served : (jobs : List Job) (before : Option (List (List ℕ))) (report : List Line) → HasRunSoFar jobs before report → ServesRequestsSoFar jobs before report
@@ -361,6 +378,7 @@ report_lawful config detail history before now h long runs =
           (so_far_served (submitted_of history) before.content first (honest_run config detail history before now h long runs (subst (IsOfADisk config.sectors before.content) same of)));
       ready = report_ready config detail history h.possible;
       ring = λ moves. subst IsQuietRing (sym same) (report_quiet config detail (honest_history history) h.plain (allowed h) moves);
+      agreed = λ moves. subst AreStatesAgreed (sym same) (alike detail config (honest_history history) h.agreed moves);
       moves = shown detail config history h.plain;
       work = λ moves. worked detail config history moves h.short;
     }
@@ -378,6 +396,9 @@ ended_lawful config detail history before now h long runs =
       ring = λ moves.
           of_part config detail history h IsQuietRing (λ all. ended_quiet config detail history h.plain (served_whole h all) moves)
           (report_quiet config detail (honest_history history) h.plain (allowed h) moves);
+      agreed = λ moves.
+          of_part config detail history h AreStatesAgreed (λ all. ended_alike detail config history (subst (λ (hs : List Happening). AreAgreed hs (start_of config)) all h.agreed) moves)
+          (alike detail config (honest_history history) h.agreed moves);
       moves = ended_shown detail config history h.plain;
       work = λ moves. ended_worked detail config history moves h.short;
     }
@@ -398,6 +419,7 @@ begun_lawful config detail history before said rest h all run =
       honest = λ of. so_far_served (submitted_of history) before (honest_part one) (run of);
       ready = obeys_before IsReadyAt one other (subst (Obeys IsReadyAt) (sym split) (ended_ready config detail history h.possible));
       ring = λ moves. obeys_before IsQuietRingAt (honest_part one) part.0 (subst (Obeys IsQuietRingAt) (sym part.1) (ended_quiet config detail (honest_history history) h.plain (allowed h) moves));
+      agreed = λ moves. obeys_before IsAgreedAt (honest_part one) part.0 (subst (Obeys IsAgreedAt) (sym part.1) (ended_alike detail config (honest_history history) h.agreed moves));
       moves = λ moves. moves_before config.order one other (subst (ObeysMoves config.order) (sym split) (ended_shown detail config history h.plain moves));
       work = λ moves. work_before one other (subst ShowsWork (sym split) (ended_worked detail config history moves h.short));
     }
@@ -427,6 +449,7 @@ nothing_lawful config detail jobs before =
       };
       ready = obeys_none IsReadyAt;
       ring = λ same. obeys_none IsQuietRingAt;
+      agreed = λ same. obeys_none IsAgreedAt;
       moves = λ same. record { coherent = obeys_none _; answered = obeys_none _; touched = obeys_none _; grantable = obeys_none _; overruns = obeys_none _; stretches = obeys_none _; dumps = obeys_none _; layout = All-nil KeepsX64 };
       work = λ same. record { steps = obeys_none _; data_given = obeys_none _; effects = obeys_none _; unmaps = obeys_none _; own = obeys_none _; replies = obeys_none _ };
     }

@@ -37,7 +37,7 @@ so_far_more (Some all) now after done buffer n s r =
     s.1 ∙ (ap (λ b. done ++ b) (sym (take-append-drop n rest)) ∙ (sym (append_assoc done (take n rest) (drop n rest)) ∙ ap (λ b. (done ++ b) ++ drop n rest) (sym t.1))) in
     (drop n rest, parts, t.2)
 
--- what is so of these bytes with any others behind them
+-- what is so of these bytes with any others after them
 pub tells : (claim : List ℕ → Type 0) (left now : Option (List ℕ)) (done : List ℕ) → SoFar left now done → ((rest : List ℕ) → claim (done ++ rest)) → Tells claim left
 tells claim None now done s f = tt
 tells claim (Some all) now done s f = subst claim (sym s.1) (f s.0)

@@ -23,6 +23,7 @@ use Rattle.vbd_model.proofs.Possible.{events_possible, events_so_far_possible}
 use Rattle.machine_pipeline.specs.Submissions.{jobs_of}
 use Rattle.vbd_model.proofs.Submitting.{events_submit, events_so_far_submit}
 use Rattle.vbd_laws.proofs.Served.{rings_possible, rings_served}
+use Rattle.vbd_laws.proofs.Quiet.{rings_agreed}
 use Rattle.disk_laws.proofs.Before.{HasRunSoFar}
 use Rattle.plain_disk.specs.Honest.{honest_part}
 use Rattle.pipeline_laws.specs.Effects.{IsOfADisk}
@@ -53,6 +54,7 @@ is_told config events old now h =
       options = served.options;
       possible = rings_possible config leads.history served.carried served.options (events_possible events (start_of config) leads.history leads.is_kind);
       served = rings_served config leads.history served.carried served.options (events_possible events (start_of config) leads.history leads.is_kind);
+      agreed = rings_agreed config leads.history served.carried served.options (events_possible events (start_of config) leads.history leads.is_kind);
       short = short_lift config old.recorder.detail leads.history (report_short config old.recorder.detail events leads.history (plain_of config served) leads.is_kind h.few);
     }
 
@@ -128,6 +130,7 @@ both_told config detail events event hs served few k =
       options = served.options;
       possible = rings_possible config (k.0 ++ k.1) served.carried served.options (events_so_far_possible events event start k.0 k.1 k.3 k.4);
       served = rings_served config (k.0 ++ k.1) served.carried served.options (events_so_far_possible events event start k.0 k.1 k.3 k.4);
+      agreed = rings_agreed config (k.0 ++ k.1) served.carried served.options (events_so_far_possible events event start k.0 k.1 k.3 k.4);
       short = short_lift config detail (k.0 ++ k.1) (report_so_far_short config detail events event k.0 k.1 plain k.3 k.4 few);
     })
 

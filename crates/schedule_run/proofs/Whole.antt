@@ -46,7 +46,7 @@ told_first config detail first rest h =
     let whole = ring_running.lines_of-append first rest (rings.start_of config) in
     let lines : length (ring.lines_of (first ++ rest) (rings.start_of config)) ≡ length (ring.lines_of first (rings.start_of config)) + length (ring.lines_of rest (ring.after first (rings.start_of config))) = ap length whole ∙ length-append (ring.lines_of first (rings.start_of config)) (ring.lines_of rest (ring.after first (rings.start_of config))) in
     let short = h.short in
-    record { plain = h.plain; options = h.options; possible = possible_first first rest (rings.start_of config) h.possible; served = served_before first rest (rings.start_of config) h.served; short = omega arith }
+    record { plain = h.plain; options = h.options; possible = possible_first first rest (rings.start_of config) h.possible; served = served_before first rest (rings.start_of config) h.served; agreed = of_rings.agreed_before first rest (rings.start_of config) h.agreed; short = omega arith }
 
 pub history_first : (config : Options) (detail : Detail) (history : List Happening) (last : Happening) → IsTold config detail (history ++ last ∷ []) → IsTold config detail history
 history_first config detail history last h =

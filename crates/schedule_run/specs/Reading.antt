@@ -35,7 +35,7 @@ AreLinesOf [] events = events ≡ []
 AreLinesOf (line ∷ lines) events =
     (read : Option Event) × (rest : List Event) × HasNoLineFeed line × IsLineOf line read × (events ≡ option_to_list read ++ rest) × AreLinesOf lines rest
 
--- the last line may lack its line feed; where nothing stands behind the last one, there is no further line
+-- the last line may lack its line feed; where nothing stands after the last one, there is no further line
 abbrev pub last_line : List ℕ → List (List ℕ)
 last_line [] = []
 last_line (b ∷ bytes) = (b ∷ bytes) ∷ []
@@ -59,7 +59,7 @@ pub record HasBadLine (limit : ℕ) (bytes : List ℕ) (events : List Event) (nu
   pub is_number : number ≡ length lines + 1
   pub before : (length bytes < limit) ⊎ (length (text_of lines) + min (length (first_line rest) + 1) 129 ≤ limit)
 
--- the source had the limit's bytes or more; of the first of them the whole lines ask for these events, and the line that is begun behind those shows no byte past the 128 that a line has at most, at which it would be refused before its end is seen
+-- the source had the limit's bytes or more; of the first of them the whole lines ask for these events, and the line that is begun after those shows no byte past the 128 that a line has at most, at which it would be refused before its end is seen
 pub record IsTooLong (limit : ℕ) (bytes : List ℕ) (events : List Event) : Type 0 where
   pub lines : List (List ℕ)
   pub part : List ℕ

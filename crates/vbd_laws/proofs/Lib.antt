@@ -29,3 +29,4 @@ pub mod ServedBack
 pub mod ServedPossible
 pub mod ServedHonest
 pub mod Served
+pub mod Quiet

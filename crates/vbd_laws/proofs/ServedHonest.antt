@@ -72,11 +72,12 @@ use Rattle.vbd_front.specs.Step as front_step
 use Rattle.vbd_back.specs.Ask as back
 use Rattle.vbd_back.specs.Step as back_step
 use Rattle.vbd_model.specs.World.{World, start_of, frontend_of, backend_of}
-use Rattle.vbd_model.specs.Happening.{Happening, FrontMoves, BackMoves, JobMoves, Closes, Submits, Notifies, Pokes, Dumps, Looks, Settles, front_turn, back_turn, entered_at, halted_at, reasons_of, front_key, closes_does, front_does, back_does, is_backs_ring, does, happens, all_does}
+use Rattle.vbd_model.specs.Happening.{Happening, FrontMoves, BackMoves, JobMoves, Closes, Submits, Notifies, Pokes, Dumps, Looks, Settles, front_turn, back_turn, entered_at, halted_at, reasons_of, front_key, closes_does, front_does, back_does, is_backs_ring, does, happens, after, all_does}
 use Rattle.vbd_model.specs.Possible.{IsPossible, ArePossible}
 use Rattle.vbd_model.specs.Kind.{is_x64, are_carried}
 use Rattle.vbd_model.specs.Fit.{FrontRests, FrontGoesWith, BackReads, BackGoesWith, IsFit}
 use Rattle.vbd_laws.specs.Moves.{IsNoMove, IsFrontMove, IsBackMove}
+use Rattle.vbd_laws.specs.Quiet.{IsUnpoked, AreUnpoked}
 use Rattle.vbd_laws.proofs.MovesTurns.{front_asks, back_asks, front_cases, back_cases}
 use Rattle.vbd_laws.proofs.MovesFront.{front_move_is, front_move_none}
 use Rattle.vbd_laws.proofs.MovesBack.{back_move_is, back_move_none}
@@ -367,16 +368,11 @@ module _ (config : Options) (w : World) (a : BackAct) (honest : Honest config w)
   back_joined : Reached (record { front = w.front; back = (back_step.step_of (backend_of w) a.answer).bus; keys = a.under.keys })
   back_joined = let given = back_given turn in back_goes w a honest.stands.fit honest.joined turn given.0 given.1
 
--- a word isn't overwritten
-abbrev IsHonest : Happening → Type 0
-IsHonest (Pokes frame word value) = ⊥
-IsHonest h = Unit {0}
-
 closes_served : (w : rings.World) (at : End) → ring_allowed.AreServed (closes_does at) w
 closes_served w end.Front = (tt, tt)
 closes_served w end.Back = tt
 
-served_at : (config : Options) (w : World) (h : Happening) → IsHonest h → Honest config w → IsPossible w h → ring_allowed.AreServed (does w h) w.rings
+served_at : (config : Options) (w : World) (h : Happening) → IsUnpoked h → Honest config w → IsPossible w h → ring_allowed.AreServed (does w h) w.rings
 served_at config w FrontMoves unpoked honest is = front_served config w honest
 served_at config w BackMoves unpoked honest is = back_served config w honest
 served_at config w (JobMoves number outcome) unpoked honest is = (is, tt)
@@ -411,29 +407,39 @@ joins config w BackMoves honest = back_joins config w honest
 joins config w (Closes at) honest = closes_joined w at honest.joined
 joins config w h honest = let rests = apart_rests w h tt in reached_as (negotiation_of w) (negotiation_of (happens w h)) rests.bus honest.joined
 
+-- the machine after one happening more, and after all of them
+honest_on : (config : Options) (w : World) (h : Happening) → IsUnpoked h → Honest config w → IsPossible w h → Honest config (happens w h)
+honest_on config w h unpoked honest is =
+    let standing = honest.standing in
+    record {
+      stands = stands_on w h honest.stands;
+      joined = joins config w h honest;
+      plain = honest.plain;
+      standing = run_kept config (does w h) w.rings standing.pipeline honest.plain standing.safe standing.kept (served_at config w h unpoked honest is);
+    }
+
+pub honest_after : (config : Options) (hs : List Happening) (w : World) → AreUnpoked hs → Honest config w → ArePossible hs w → Honest config (after hs w)
+honest_after config [] w unpoked honest are = honest
+honest_after config (h ∷ hs) w unpoked honest are = honest_after config hs (happens w h) unpoked.1 (honest_on config w h unpoked.0 honest are.0) are.1
+
 -- all of it, up to the first word that is overwritten
 served_then : (hs rest : List ring_happening.Happening) (w : rings.World) → ring_allowed.AreServed hs w → ring_allowed.AreServed (honest_history rest) (ring_happening.after hs w) → ring_allowed.AreServed (honest_history (hs ++ rest)) w
 served_then [] rest w are later = later
 served_then (ring_happening.Pokes frame word value ∷ hs) rest w are later = absurd are.0
 served_then (h ∷ hs) rest w are later = (are.0, served_then hs rest (ring_happening.happens w h) are.1 later)
 
-one_served : (config : Options) (w : World) (h : Happening) (rest : List ring_happening.Happening) → IsHonest h → Honest config w → IsPossible w h
-    → (Honest config (happens w h) → ring_allowed.AreServed (honest_history rest) (let v : World = happens w h in v.rings)) → ring_allowed.AreServed (honest_history (does w h ++ rest)) w.rings
-one_served config w h rest unpoked honest is later =
-    let served = served_at config w h unpoked honest is in
-    let standing = honest.standing in
-    served_then (does w h) rest w.rings served
-    (later (record {
-      stands = stands_on w h honest.stands;
-      joined = joins config w h honest;
-      plain = honest.plain;
-      standing = run_kept config (does w h) w.rings standing.pipeline honest.plain standing.safe standing.kept served;
-    }))
+-- what holds of the rings' happenings of each happening holds of all of them, up to the first word that is overwritten
+module _ (config : Options) (Are : List ring_happening.Happening → rings.World → Type 0) (none : (w : rings.World) → Are [] w)
+    (more : (hs rest : List ring_happening.Happening) (w : rings.World) → Are hs w → Are (honest_history rest) (ring_happening.after hs w) → Are (honest_history (hs ++ rest)) w)
+    (each : (w : World) (h : Happening) → IsUnpoked h → Honest config w → IsPossible w h → Are (does w h) w.rings) where
+  pub all_of : (hs : List Happening) (w : World) → Honest config w → ArePossible hs w → Are (honest_history (all_does hs w)) w.rings
+  all_of [] w honest are = none w.rings
+  all_of (Pokes frame word value ∷ hs) w honest are = none w.rings
+  all_of (h ∷ hs) w honest are =
+      more (does w h) (all_does hs (happens w h)) w.rings (each w h tt honest are.0) (all_of hs (happens w h) (honest_on config w h tt honest are.0) are.1)
 
 pub all_served : (config : Options) (hs : List Happening) (w : World) → Honest config w → ArePossible hs w → ring_allowed.AreServed (honest_history (all_does hs w)) w.rings
-all_served config [] w honest are = tt
-all_served config (Pokes frame word value ∷ hs) w honest are = tt
-all_served config (h ∷ hs) w honest are = one_served config w h (all_does hs (happens w h)) tt honest are.0 (λ later. all_served config hs (happens w h) later are.1)
+all_served config = all_of config ring_allowed.AreServed (λ w. tt) served_then (served_at config)
 
 -- the options that are carried out are those of a ring of one page
 plain_of : (config : Options) → are_carried config ≡ true → AreOptions config → IsPlain config

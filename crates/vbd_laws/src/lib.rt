@@ -1,7 +1,8 @@
 //! Laws of the machine whose ends negotiate (`io/xenbus.h`) and then serve a ring (`io/blkif.h`): it
 //! is fit whatever happens, each move of an end is what that end asks and is answered, and whatever
 //! happens is possible for the machine of the ring, of whose reports the other laws speak, and served
-//! until a word is overwritten. The runner stands on it.
+//! until a word is overwritten; until then both ends agree where all is quiet. The runner stands on
+//! it.
 #![tactic(auto)]
 
 ghost use Rattle.std.specs.Prelude.{◌≡◌, ◌+◌, ◌^◌, ◌<◌, ◌≤◌, List, length, true, Some, None};
@@ -19,6 +20,7 @@ ghost use Rattle.vbd_model.specs.Kind.{are_carried};
 ghost use Rattle.vbd_model.specs.Fit.{IsFit};
 ghost use Rattle.vbd_laws.specs.Moves.{IsFrontMove, IsBackMove, IsClose, IsNoMove};
 ghost use Rattle.vbd_laws.specs.Served.{RingsPossible, RingsServed, RingGoesByTheTerms};
+ghost use Rattle.vbd_laws.specs.Quiet.{StatesAgreeAtQuiet, RingsAgreed};
 
 /// The machine is fit at the start, under options that are carried out, and stays so, whatever
 /// happens: its rings are safe, each negotiation goes with its end of the ring, closes and halts with
@@ -68,4 +70,12 @@ pub fn the_honest_part_is_served()
 /// front's keys (`ring-ref` and `event-channel` of `io/blkif.h`), once the front has made both.
 pub fn the_back_maps_what_the_front_granted()
     ensures { RingGoesByTheTerms }
+{}
+
+/// Where all is quiet, before a hostile hand first overwrites a word, both ends wrote Connected (4)
+/// last, or both wrote Closed (6) (`io/xenbus.h`), and the directory of keys says so. Until then the
+/// directory of the ring's machine says so wherever a look finds all quiet.
+pub fn at_quiet_both_states_agree()
+    ensures agree { StatesAgreeAtQuiet }
+    ensures said { RingsAgreed }
 {}

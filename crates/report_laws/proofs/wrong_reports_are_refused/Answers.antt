@@ -1,4 +1,4 @@
-use Rattle.report_laws.proofs.Refused.{begun_twice, moved, ready_late, unserved, unread, out_of_range}
+use Rattle.report_laws.proofs.Refused.{begun_twice, moved, ready_late, unserved, unread, connected_alone, out_of_range}
 use Rattle.report_laws.proofs.wrong_reports_are_refused.Goals as goal
 
 pub returns-clause-begun_twice : goal.returns-clause-begun_twice
@@ -15,6 +15,9 @@ returns-clause-unserved c config h = unserved config h
 
 pub returns-clause-unread : goal.returns-clause-unread
 returns-clause-unread c config start h = unread config start h
+
+pub returns-clause-connected_alone : goal.returns-clause-connected_alone
+returns-clause-connected_alone c config h = connected_alone config h
 
 pub returns-clause-out_of_range : goal.returns-clause-out_of_range
 returns-clause-out_of_range c id status far h = out_of_range id status far h

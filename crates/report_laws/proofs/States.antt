@@ -1,0 +1,295 @@
+-- Each key has the text that the lines of a report set last, so where all is found quiet the lines say what the directory says.
+use Rattle.std.proofs.Common.{◌≡◌, ◌≢◌, ℕ, Bool, true, false, true≢false, if◌then◌else◌, List, [], ◌∷◌, ◌++◌, inl, inr, refl, sym, ap, ◌∙◌, subst}
+use Rattle.std.specs.Prelude.{Option, Some, None, Result, Ok, Err, codes}
+use Rattle.std.specs.List.{AllByRecursion}
+use Rattle.std.specs.Str.{bytes_eq}
+use Rattle.std.proofs.lemmas.Option.{none-some, same_Some}
+use Rattle.std.proofs.lemmas.Slice.Eq.{bytes_eq-Decides}
+use Rattle.blk_base.specs.Options.{Options}
+use Rattle.blk_base.specs.declared.config.Job.{Job}
+use Rattle.blk_base.specs.declared.parts.End.{End}
+use Rattle.blk_base.specs.declared.parts.End.TheVariants as end
+use Rattle.blk_base.specs.declared.parts.Mode.{Mode}
+use Rattle.blk_base.specs.declared.ask.FrontAsk.{FrontAsk}
+use Rattle.blk_base.specs.declared.ask.FrontAsk.TheVariants as front_ask
+use Rattle.blk_base.specs.declared.ask.BackAsk.{BackAsk}
+use Rattle.blk_base.specs.declared.ask.BackAsk.TheVariants as back_ask
+use Rattle.blk_base.specs.declared.ask.BackAnswer.{BackAnswer}
+use Rattle.blk_base.specs.declared.ask.BackAnswer.TheVariants as answers
+use Rattle.blk_base.specs.declared.moves.BackMover.{BackMover}
+use Rattle.blk_base.specs.declared.moves.BackMover.TheVariants as back_mover
+use Rattle.blk_base.specs.declared.moves.Move.{Move}
+use Rattle.blk_base.specs.declared.moves.Move.TheVariants as moves
+use Rattle.schedule_text.specs.declared.line.Detail.TheVariants.{Moves}
+use Rattle.schedule_text.specs.declared.line.Line.{Line}
+use Rattle.schedule_text.specs.declared.line.Line.TheVariants as lines
+use Rattle.schedule_text.specs.Recorder.{kept_of}
+use Rattle.grant_table.specs.declared.entry.MapRefusal.{MapRefusal}
+use Rattle.grant_table.specs.Table.{verdict_at}
+use Rattle.event_channel.specs.declared.channels.PortState.{PortState}
+use Rattle.event_channel.specs.declared.channels.PortState.TheVariants as port
+use Rattle.event_channel.specs.Channels.{state_of}
+use Rattle.key_directory.specs.Watches.{Watches}
+use Rattle.key_directory.specs.Directory.{Directory, key_of, with_key, with_watches}
+use Rattle.key_directory.proofs.Entries.{key_of-with_key_same, key_of-with_key_other}
+use Rattle.hypervisor.specs.Hypervisor.{Hypervisor}
+use Rattle.hypervisor.specs.Act.{FrontAct, BackAct, Outcome, Gave, Took, Failed, front_act, back_act, map_act, bind_act, read_act, disk_act}
+use Rattle.blk_front.specs.declared.told.Told.{Told}
+use Rattle.blk_front.specs.declared.told.Told.TheVariants as front_told
+use Rattle.blk_front.specs.declared.told.Refusal.{Refusal}
+use Rattle.blk_front.specs.declared.state.FrontState.{FrontState}
+use Rattle.blk_front.specs.View as front
+use Rattle.blk_front.specs.Ask as front_ends
+use Rattle.blk_front.specs.Step as front_step
+use Rattle.blk_front.specs.Submit as front_submit
+use Rattle.blk_back.specs.declared.told.BackTold.{BackTold}
+use Rattle.blk_back.specs.declared.told.BackTold.TheVariants as back_told
+use Rattle.blk_back.specs.declared.told.Halt.{Halt}
+use Rattle.blk_back.specs.View as back
+use Rattle.blk_back.specs.Ask as back_ends
+use Rattle.blk_back.specs.Step as back_step
+use Rattle.split_model.specs.World.{World, start_of}
+use Rattle.split_model.specs.Shown.{front_lines, back_lines, halt_lines, effect_line}
+use Rattle.split_model.specs.Keys.{KeyMove}
+use Rattle.split_model.specs.Happening.{Happening, FrontMoves, BackMoves, JobMoves, Negotiates, FrontEnters, BackHalts, Submits, Notifies, Pokes, Dumps, Looks, Settles, enter_lines, submit_line, happens, after, lines_at, lines_of, front_shows, back_shows, job_shows, front_turn, back_turn, job_turn}
+use Rattle.split_model.specs.Report.{report_of, ended_report_of}
+use Rattle.split_model.proofs.Keys.{key_cases, negotiated_cases, keys_happen, backs_no_key, jobs_no_key}
+use Rattle.split_model.proofs.States.{enter_lines_are, state_lines_are}
+use Rattle.split_model.proofs.Overwriting.{poke_lines_are, dump_lines_are}
+use Rattle.split_model.proofs.SafeActs.{of_front, of_back, AsksBackKey, front_wait, back_wait}
+use Rattle.split_model.proofs.SafeAnswers.{AsksNoKey, fronts_no_key, backs_of, jobs_of}
+use Rattle.move_laws.proofs.Recorded.{report_kept, ended_kept}
+use Rattle.report_laws.specs.States.{front_state, back_state, text_at, text_after, SayBoth, IsAgreedAt, AreStatesAgreed}
+use Rattle.report_laws.specs.Agreed.{HasBoth, AreAlike, IsAgreed, AreAgreed}
+use Rattle.report_laws.proofs.Lines.{both_all}
+use Rattle.report_laws.proofs.Looks.{SpeaksOfQuiet, finds_quiet, HoldsWhereFound, reports_found, ended_found}
+
+-- a line that sets no key
+abbrev sets_none : Line → Bool
+sets_none (lines.Move (moves.SetKey who path text)) = false
+sets_none line = true
+
+abbrev IsSilent : Line → Type 0
+IsSilent line = sets_none line ≡ true
+
+abbrev AreSilent : List Line → Type 0
+AreSilent ls = AllByRecursion IsSilent ls
+
+-- leaves the text of each key
+one_silent : (path text : List ℕ) (line : Line) → IsSilent line → text_at path text line ≡ text
+one_silent path text (lines.Move (moves.SetKey who set now)) e = absurd (true≢false (sym e))
+one_silent path text (lines.Move move) e = refl
+one_silent path text line e = refl
+
+silent_text : (path text : List ℕ) (ls : List Line) → AreSilent ls → text_after path text ls ≡ text
+silent_text path text [] all = refl
+silent_text path text (line ∷ ls) all = ap (λ (t : List ℕ). text_after path t ls) (one_silent path text line all.0) ∙ silent_text path text ls all.1
+
+-- the move of an end that asks for no key
+abbrev FrontSilent : FrontAct → Type 0
+FrontSilent a = IsSilent (lines.Move a.shown)
+
+front_silent : (h : Hypervisor) (ask : FrontAsk) (a : FrontAct) → AsksNoKey ask → front_act h ask ≡ Some a → IsSilent (lines.Move a.shown)
+front_silent h front_ask.Wait a own e = front_wait FrontSilent h a refl (λ path. refl) e
+front_silent h front_ask.Fence a own e = of_front FrontSilent _ a refl e
+front_silent h (front_ask.Read frame word) a own e = of_front FrontSilent _ a refl e
+front_silent h (front_ask.Write frame word value) a own e = of_front FrontSilent _ a refl e
+front_silent h (front_ask.Cas frame word old new) a own e = of_front FrontSilent _ a refl e
+front_silent h front_ask.NewPort a own e = of_front FrontSilent _ a refl e
+front_silent h front_ask.Send a own e = of_front FrontSilent _ a refl e
+front_silent h front_ask.ClosePort a own e = of_front FrontSilent _ a refl e
+front_silent h (front_ask.GetKey path) a own e = absurd own
+front_silent h (front_ask.SetKey path text) a own e = absurd own
+front_silent h (front_ask.Watch path) a own e = absurd own
+
+abbrev BackSilent : BackAct → Type 0
+BackSilent a = IsSilent (lines.Move a.shown)
+
+map_silent : (h : Hypervisor) (who : BackMover) (gref : ℕ) (mode : Mode) (verdict : Result ℕ MapRefusal) → BackSilent (map_act h who gref mode verdict)
+map_silent h who gref mode (Ok frame) = refl
+map_silent h who gref mode (Err refusal) = refl
+
+bind_silent : (h : Hypervisor) (p : ℕ) (state : PortState) → BackSilent (bind_act h p state)
+bind_silent h p port.Unbound = refl
+bind_silent h p port.Closed = refl
+bind_silent h p port.Bound = refl
+
+read_silent : (h : Hypervisor) (shown : Move) (o : Outcome) (a : BackAct) → IsSilent (lines.Move shown) → read_act h shown o ≡ Some a → BackSilent a
+read_silent h shown (Gave words) a is e = of_back BackSilent _ a is e
+read_silent h shown Failed a is e = of_back BackSilent _ a is e
+read_silent h shown Took a is e = absurd (none-some a e)
+
+disk_silent : (h : Hypervisor) (shown : Move) (o : Outcome) (a : BackAct) → IsSilent (lines.Move shown) → disk_act h shown o ≡ Some a → BackSilent a
+disk_silent h shown Took a is e = of_back BackSilent _ a is e
+disk_silent h shown Failed a is e = of_back BackSilent _ a is e
+disk_silent h shown (Gave words) a is e = absurd (none-some a e)
+
+back_silent : (h : Hypervisor) (who : BackMover) (ask : BackAsk) (o : Outcome) (a : BackAct) → (AsksBackKey ask → ⊥) → back_act h who ask o ≡ Some a → IsSilent (lines.Move a.shown)
+back_silent h who back_ask.Wait o a own e = back_wait BackSilent h who a refl (λ path. refl) e
+back_silent h who back_ask.Fence o a own e = of_back BackSilent _ a refl e
+back_silent h who (back_ask.Read m word) o a own e = of_back BackSilent _ a refl e
+back_silent h who (back_ask.Write m word value) o a own e = of_back BackSilent _ a refl e
+back_silent h who (back_ask.Map gref mode) o a own e = of_back BackSilent _ a (map_silent h who gref mode (verdict_at h.pages gref mode)) e
+back_silent h who (back_ask.Unmap m) o a own e = of_back BackSilent _ a refl e
+back_silent h who (back_ask.Bind p) o a own e = of_back BackSilent _ a (bind_silent h p (state_of h.channels p)) e
+back_silent h who back_ask.Send o a own e = of_back BackSilent _ a refl e
+back_silent h who back_ask.ClosePort o a own e = of_back BackSilent _ a refl e
+back_silent h who (back_ask.GetKey path) o a own e = absurd (own tt)
+back_silent h who (back_ask.SetKey path text) o a own e = absurd (own tt)
+back_silent h who (back_ask.Watch path) o a own e = absurd (own tt)
+back_silent h who (back_ask.DiskRead sector) o a own e = read_silent h _ o a refl e
+back_silent h who (back_ask.DiskWrite sector words) o a own e = disk_silent h _ o a refl e
+back_silent h who back_ask.Flush o a own e = disk_silent h _ o a refl e
+back_silent h who (back_ask.Trim sector count) o a own e = disk_silent h _ o a refl e
+
+-- the lines that follow a move
+front_lines_silent : (t : Option Told) → AreSilent (front_lines t)
+front_lines_silent None = tt
+front_lines_silent (Some (front_told.Answer id status)) = (refl, tt)
+front_lines_silent (Some (front_told.Sector id index words)) = (refl, tt)
+front_lines_silent (Some (front_told.Broken word)) = (refl, tt)
+
+effect_silent : (id index : ℕ) (a : BackAnswer) → IsSilent (effect_line id index a)
+effect_silent id index (answers.Sector words) = refl
+effect_silent id index a = refl
+
+back_lines_silent : (t : Option BackTold) (a : BackAnswer) → AreSilent (back_lines t a)
+back_lines_silent None a = tt
+back_lines_silent (Some (back_told.Effect id index)) a = (effect_silent id index a, tt)
+back_lines_silent (Some (back_told.Fault id index)) a = (refl, tt)
+back_lines_silent (Some (back_told.Reply id status)) a = (refl, tt)
+
+halt_silent : (before now : Option Halt) → AreSilent (halt_lines before now)
+halt_silent None None = tt
+halt_silent None (Some h) = (refl, tt)
+halt_silent (Some g) now = tt
+
+-- the lines of the moves of the ring's ends, and of whatever else happens
+front_turn_silent : (w : World) (act : Option FrontAct) → front_turn w ≡ act → AreSilent (front_shows w act)
+front_turn_silent w None e = tt
+front_turn_silent w (Some a) e =
+    let f : front.View = front_step.step_of w.front a.answer in
+    (front_silent w.under (front_ends.ask_of w.front) a (fronts_no_key w.front) e, front_lines_silent f.told)
+
+back_turn_silent : (w : World) (act : Option BackAct) → back_turn w Took ≡ act → AreSilent (back_shows w act)
+back_turn_silent w None e = tt
+back_turn_silent w (Some a) e =
+    let b : back.View = back_step.step_of w.back a.answer in (
+      back_silent w.under back_mover.Back (back_ends.ask_of w.back) Took a (backs_no_key (back_ends.ask_of w.back) (backs_of w.back)) e,
+      both_all IsSilent (back_lines b.told a.answer) (halt_lines w.back.halted b.halted) (back_lines_silent b.told a.answer) (halt_silent w.back.halted b.halted),
+    )
+
+job_turn_silent : (w : World) (k : ℕ) (o : Outcome) (act : Option BackAct) → job_turn w k o ≡ act → AreSilent (job_shows w k act)
+job_turn_silent w k o None e = tt
+job_turn_silent w k o (Some a) e =
+    let b : back.View = back_step.job_step w.back k a.answer in
+    (back_silent w.under (back_mover.Job k) (back_step.job_ask_of w.back k) o a (jobs_no_key (back_step.job_ask_of w.back k) (jobs_of w.back k)) e, back_lines_silent b.told a.answer)
+
+state_silent : (s : FrontState) (v : front.View) → AreSilent (enter_lines s v)
+state_silent s v = enter_lines_are IsSilent s v (λ may. state_lines_are IsSilent s refl refl refl (λ word. refl))
+
+submit_silent : (job : Job) (r : Result ℕ Refusal) → AreSilent (submit_line job r ∷ [])
+submit_silent job (Ok number) = (refl, tt)
+submit_silent job (Err r) = (refl, tt)
+
+look_silent : (quiet : Bool) (other : Line) → IsSilent other → AreSilent ((if quiet then lines.Quiet else other) ∷ [])
+look_silent true other e = (refl, tt)
+look_silent false other e = (e, tt)
+
+-- a watch changes no key
+watch_told : (path text : List ℕ) (d : Directory) (at : End) (watches : Watches) → key_of d.keys path ≡ Some text → (let x : Directory = with_watches d at watches in key_of x.keys path ≡ Some text)
+watch_told path text d end.Front watches has = has
+watch_told path text d end.Back watches has = has
+
+-- a key that is set has the text of its line
+set_told : (path text : List ℕ) (d : Directory) (set now : List ℕ) → key_of d.keys path ≡ Some text → key_of (with_key d.keys set now) path ≡ Some (if bytes_eq set path then now else text)
+set_told path text d set now has = by_test (bytes_eq set path) refl
+  where
+    by_test : (b : Bool) → bytes_eq set path ≡ b → key_of (with_key d.keys set now) path ≡ Some (if b then now else text)
+    by_test true e = subst (λ (p : List ℕ). key_of (with_key d.keys set now) p ≡ Some now) ((bytes_eq-Decides set path).0 e) (key_of-with_key_same d.keys set now)
+    by_test false e =
+        let differs : path ≢ set = λ same. true≢false (sym ((bytes_eq-Decides set path).1 (sym same)) ∙ e) in
+        key_of-with_key_other d.keys set now path differs ∙ has
+
+abbrev IsTold : (path text : List ℕ) → Directory → List Line → Type 0
+IsTold path text d shown = key_of d.keys path ≡ Some (text_after path text shown)
+
+-- what an end does with the keys is told
+keys_told : (path text : List ℕ) (w : World) (at : End) (move : KeyMove) → key_of w.under.keys.keys path ≡ Some text → (let v : World = happens w (Negotiates at move) in IsTold path text v.under.keys (lines_at w (Negotiates at move)))
+keys_told path text w at move has =
+    negotiated_cases (IsTold path text) w.back.stage at move w.under.keys
+    (λ may. key_cases (IsTold path text) at move w.under.keys
+    (λ got same. has) (λ set now same may_set. set_told path text w.under.keys set now has)
+    (λ watched same. watch_told path text w.under.keys at _ has) (λ watched first. watch_told path text w.under.keys at _ has) has) has
+
+abbrev is_of_keys : Happening → Bool
+is_of_keys (Negotiates at move) = true
+is_of_keys h = false
+
+-- whatever else happens changes no key
+other_told : (path text : List ℕ) (w : World) (h : Happening) → is_of_keys h ≡ false → AreSilent (lines_at w h) → key_of w.under.keys.keys path ≡ Some text → (let v : World = happens w h in IsTold path text v.under.keys (lines_at w h))
+other_told path text w h other silent has =
+    keys_happen (λ (d : Directory). key_of d.keys path ≡ Some text) (λ at d here. watch_told path text d at _ here) w h (λ at move is here. absurd (true≢false (sym (ap is_of_keys is) ∙ other))) has
+    ∙ ap (λ (t : List ℕ). Some t) (sym (silent_text path text (lines_at w h) silent))
+
+one_told : (path text : List ℕ) (w : World) (h : Happening) → key_of w.under.keys.keys path ≡ Some text → (let v : World = happens w h in IsTold path text v.under.keys (lines_at w h))
+one_told path text w FrontMoves has = other_told path text w FrontMoves refl (front_turn_silent w (front_turn w) refl) has
+one_told path text w BackMoves has = other_told path text w BackMoves refl (back_turn_silent w (back_turn w Took) refl) has
+one_told path text w (JobMoves number outcome) has = other_told path text w (JobMoves number outcome) refl (job_turn_silent w number outcome (job_turn w number outcome) refl) has
+one_told path text w (Negotiates at move) has = keys_told path text w at move has
+one_told path text w (FrontEnters state) has = other_told path text w (FrontEnters state) refl (state_silent state w.front) has
+one_told path text w (BackHalts why) has = other_told path text w (BackHalts why) refl (halt_silent w.back.halted _) has
+one_told path text w (Submits job) has = other_told path text w (Submits job) refl (submit_silent job (front_submit.submit_of w.front job).0) has
+one_told path text w (Notifies at) has = other_told path text w (Notifies at) refl tt has
+one_told path text w (Pokes frame word value) has = other_told path text w (Pokes frame word value) refl (poke_lines_are IsSilent frame word value refl) has
+one_told path text w Dumps has = other_told path text w Dumps refl (dump_lines_are IsSilent w.under.pages 0 1024 (λ frame word value. refl)) has
+one_told path text w (Looks quiet) has = other_told path text w (Looks quiet) refl (look_silent quiet lines.Busy refl) has
+one_told path text w (Settles quiet) has = other_told path text w (Settles quiet) refl (look_silent quiet lines.Unsettled refl) has
+
+append_text : (path text : List ℕ) (a b : List Line) → text_after path text (a ++ b) ≡ text_after path (text_after path text a) b
+append_text path text [] b = refl
+append_text path text (line ∷ a) b = append_text path (text_at path text line) a b
+
+all_told : (path text : List ℕ) (history : List Happening) (w : World) → key_of w.under.keys.keys path ≡ Some text → (let v : World = after history w in IsTold path text v.under.keys (lines_of history w))
+all_told path text [] w has = has
+all_told path text (h ∷ history) w has =
+    all_told path (text_after path text (lines_at w h)) history (happens w h) (one_told path text w h has)
+    ∙ ap (λ (t : List ℕ). Some t) (sym (append_text path text (lines_at w h) (lines_of history (happens w h))))
+
+-- so the lines of a report say of both states what the directory says
+both_said : (text : List ℕ) (config : Options) (history : List Happening) → (let v : World = after history (start_of config) in HasBoth text v.under.keys) → SayBoth text (report_of config Moves history)
+both_said text config history has = record {
+  front = same_Some _ _ (sym (all_told front_state (codes "1") history (start_of config) refl) ∙ has.front);
+  back = same_Some _ _ (sym (all_told back_state (codes "1") history (start_of config) refl) ∙ has.back);
+}
+
+alike_said : (config : Options) (history : List Happening) → (let v : World = after history (start_of config) in AreAlike v.under.keys) → IsAgreedAt (report_of config Moves history) lines.Quiet
+alike_said config history (inl connected) = inl (both_said (codes "4") config history connected)
+alike_said config history (inr closed) = inr (both_said (codes "6") config history closed)
+
+-- the premise, where all is found quiet
+agreed_found : (w : World) (h : Happening) → IsAgreed w h → finds_quiet h ≡ true → AreAlike w.under.keys
+agreed_found w (Looks quiet) agreed found = agreed found
+agreed_found w (Settles quiet) agreed found = agreed found
+agreed_found w h agreed found = absurd (true≢false (sym found))
+
+agreed_at : (first rest : List Happening) (h : Happening) (w : World) → AreAgreed (first ++ h ∷ rest) w → IsAgreed (after first w) h
+agreed_at [] rest h w agreed = agreed.0
+agreed_at (g ∷ first) rest h w agreed = agreed_at first rest h (happens w g) agreed.1
+
+states_free : SpeaksOfQuiet IsAgreedAt
+states_free before lines.Quiet e = absurd (true≢false e)
+states_free before line e = tt
+
+states_where_found : (config : Options) (history : List Happening) → AreAgreed history (start_of config) → HoldsWhereFound IsAgreedAt config Moves history
+states_where_found config history agreed first rest h e found =
+    let here : AreAgreed (first ++ h ∷ rest) (start_of config) = subst (λ (hs : List Happening). AreAgreed hs (start_of config)) e agreed in
+    alike_said config first (agreed_found (after first (start_of config)) h (agreed_at first rest h (start_of config) here) found)
+
+pub report_agreed : (config : Options) (history : List Happening) → AreAgreed history (start_of config) → AreStatesAgreed (kept_of Moves (report_of config Moves history))
+report_agreed config history agreed =
+    subst AreStatesAgreed (sym (report_kept config history)) (reports_found IsAgreedAt states_free config Moves history (states_where_found config history agreed))
+
+pub ended_agreed : (config : Options) (history : List Happening) → AreAgreed history (start_of config) → AreStatesAgreed (kept_of Moves (ended_report_of config Moves history))
+ended_agreed config history agreed =
+    subst AreStatesAgreed (sym (ended_kept config history)) (ended_found IsAgreedAt states_free config Moves history (states_where_found config history agreed))

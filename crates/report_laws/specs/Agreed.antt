@@ -1,0 +1,24 @@
+-- Histories in which both ends' keys say one state wherever all is found quiet.
+use Rattle.std.specs.Prelude.{◌≡◌, ◌⊎◌, ℕ, true, List, [], ◌∷◌, Some, codes}
+use Rattle.key_directory.specs.Directory.{Directory, key_of}
+use Rattle.split_model.specs.World.{World}
+use Rattle.split_model.specs.Happening.{Happening, Looks, Settles, happens}
+use Rattle.report_laws.specs.States.{front_state, back_state}
+
+-- the directory has this text at both states
+pub record HasBoth (text : List ℕ) (d : Directory) : Type 0 where
+  pub front : key_of d.keys front_state ≡ Some text
+  pub back : key_of d.keys back_state ≡ Some text
+
+-- both are connected, or both are closed
+abbrev pub AreAlike : Directory → Type 0
+AreAlike d = HasBoth (codes "4") d ⊎ HasBoth (codes "6") d
+
+abbrev pub IsAgreed : World → Happening → Type 0
+IsAgreed w (Looks quiet) = quiet ≡ true → AreAlike w.under.keys
+IsAgreed w (Settles quiet) = quiet ≡ true → AreAlike w.under.keys
+IsAgreed w h = Unit {0}
+
+abbrev pub AreAgreed : List Happening → World → Type 0
+AreAgreed [] w = Unit {0}
+AreAgreed (h ∷ hs) w = IsAgreed w h × AreAgreed hs (happens w h)

@@ -1,0 +1,42 @@
+-- What both ends have said of themselves where a report says `quiet` (`io/xenbus.h`: XenbusStateInitialising is 1, XenbusStateConnected 4 and XenbusStateClosed 6).
+use Rattle.std.specs.Prelude.{◌≡◌, ◌⊎◌, ℕ, List, [], ◌∷◌, if◌then◌else◌, codes}
+use Rattle.std.specs.Str.{bytes_eq}
+use Rattle.blk_base.specs.declared.moves.Move.{Move}
+use Rattle.blk_base.specs.declared.moves.Move.TheVariants as moves
+use Rattle.schedule_text.specs.declared.line.Line.{Line}
+use Rattle.schedule_text.specs.declared.line.Line.TheVariants as lines
+use Rattle.report_rules.specs.Obeys.{Obeys}
+
+-- the keys of both states
+abbrev pub front_state : List ℕ
+front_state = codes "/local/domain/1/device/vbd/51712/state"
+
+abbrev pub back_state : List ℕ
+back_state = codes "/local/domain/0/backend/vbd/1/51712/state"
+
+-- the text of a key after a move, which was this before it
+abbrev pub text_moved : (path text : List ℕ) → Move → List ℕ
+text_moved path text (moves.SetKey who set now) = if bytes_eq set path then now else text
+text_moved path text move = text
+
+-- the text of a key after these lines, which was this before them: the one that was set last
+abbrev pub text_at : (path text : List ℕ) → Line → List ℕ
+text_at path text (lines.Move move) = text_moved path text move
+text_at path text line = text
+
+abbrev pub text_after : (path text : List ℕ) → List Line → List ℕ
+text_after path text [] = text
+text_after path text (line ∷ more) = text_after path (text_at path text line) more
+
+-- both ends said this of themselves last, and Initialising before they said anything
+pub record SayBoth (text : List ℕ) (before : List Line) : Type 0 where
+  pub front : text_after front_state (codes "1") before ≡ text
+  pub back : text_after back_state (codes "1") before ≡ text
+
+-- at a `quiet` line both are connected, or both are closed
+abbrev pub IsAgreedAt : List Line → Line → Type 0
+IsAgreedAt before lines.Quiet = SayBoth (codes "4") before ⊎ SayBoth (codes "6") before
+IsAgreedAt before line = Unit {0}
+
+abbrev pub AreStatesAgreed : List Line → Type 0
+AreStatesAgreed report = Obeys IsAgreedAt report

@@ -1,0 +1,155 @@
+-- Where all is quiet, before a hostile hand first overwrites a word, both ends have written the same state last, and the directory of keys says so.
+use Rattle.std.proofs.Common.{◌⊎◌, inl, inr, ◌≡◌, ◌∙◌, ap, sym, subst, ◌+◌, ◌==◌, ◌&&◌, Bool, true, false, true≢false, List, [], ◌∷◌, ◌++◌, map, length, refl, if◌then◌else◌}
+use Rattle.std.specs.Prelude.{Some}
+use Rattle.std.specs.Fmt.{digits}
+use Rattle.std.proofs.lemmas.Bool.{or_parts}
+use Rattle.blk_base.specs.Options.{Options}
+use Rattle.blk_base.specs.declared.parts.End.{End}
+use Rattle.blk_base.specs.declared.parts.End.TheVariants as end
+use Rattle.line_text.proofs.Both.{both_true}
+use Rattle.event_channel.specs.Channels.{is_pending}
+use Rattle.key_directory.specs.Watches.{has_pending}
+use Rattle.hypervisor.specs.Act.{has_to_take}
+use Rattle.blk_front.specs.declared.request.Request.{Request}
+use Rattle.blk_front.specs.declared.stage.Stage.{Stage}
+use Rattle.blk_front.specs.declared.stage.Stage.TheVariants as front_ring
+use Rattle.blk_front.specs.Submit as front_submit
+use Rattle.blk_back.specs.Ask as back_ring
+use Rattle.xenbus_state.specs.declared.state.BusState.{BusState}
+use Rattle.xenbus_state.specs.declared.state.BusState.TheVariants as state
+use Rattle.xenbus_state.specs.declared.front.FrontBusAsk.{FrontBusAsk}
+use Rattle.xenbus_state.specs.declared.front.FrontBusAsk.TheVariants as front_ask
+use Rattle.xenbus_state.specs.declared.back.BackBusAsk.{BackBusAsk}
+use Rattle.xenbus_state.specs.declared.back.BackBusAsk.TheVariants as back_ask
+use Rattle.split_model.specs.World as rings
+use Rattle.split_model.specs.Keys.{KeyMove}
+use Rattle.split_model.specs.Honest.{honest_history}
+use Rattle.split_model.specs.Happening as ring
+use Rattle.machine_pipeline.proofs.Quiet.{AreQuiet, all_quiet}
+use Rattle.machine_pipeline.proofs.AtRest.{IsIdleRing, quiet_rests}
+use Rattle.negotiation_laws.specs.Negotiation.{Negotiation, state_text}
+use Rattle.negotiation_laws.specs.Laws.{AreStatesSaid, IsAtRest, AreBoth, WaitsForRequests}
+use Rattle.negotiation_laws.proofs.Found.{states_said}
+use Rattle.negotiation_laws.proofs.Resting.{agree_at_rest}
+use Rattle.report_laws.specs.Agreed.{HasBoth, AreAlike, IsAgreed, AreAgreed}
+use Rattle.vbd_front.specs.View as front_view
+use Rattle.vbd_front.specs.Ask as front
+use Rattle.vbd_back.specs.View as back_view
+use Rattle.vbd_back.specs.Ask as back
+use Rattle.vbd_model.specs.World.{World, start_of, is_quiet}
+use Rattle.vbd_model.specs.Happening.{Happening, FrontMoves, BackMoves, Closes, Looks, Settles, front_turn, back_turn, entered_at, halted_at, front_key, back_key, closes_does, is_fronts_ring, is_backs_ring, does, after}
+use Rattle.vbd_model.specs.Possible.{IsPossible}
+use Rattle.vbd_laws.specs.Quiet.{IsUnpoked, HaveBoth, StatesAgree, StatesAgreeAtQuiet, RingsAgreed}
+use Rattle.vbd_laws.proofs.MovesTurns.{front_asks, back_asks}
+use Rattle.vbd_laws.proofs.NegotiatedRun.{Reached, negotiation_of}
+use Rattle.vbd_laws.proofs.ServedHonest.{Honest, honest_start, honest_after, all_of}
+
+-- at rest both ends of the negotiation agree, or the front waits for its requests; and the directory says their states
+abbrev AgreesAt : (idle : Bool) → Negotiation → Type 0
+AgreesAt idle n = (n.front.state ≡ state.Closing → idle ≡ true) → IsAtRest idle n → AreBoth n state.Connected ⊎ AreBoth n state.Closed ⊎ WaitsForRequests idle n
+
+agrees_at : (n : Negotiation) (idle : Bool) → Reached n → AgreesAt idle n
+agrees_at n idle j = subst (AgreesAt idle) j.stands (agree_at_rest j.run idle j.served)
+
+said_at : (n : Negotiation) → Reached n → AreStatesSaid n
+said_at n j = subst AreStatesSaid j.stands (states_said j.run)
+
+-- a negotiation that rests waits
+front_waits : (b : FrontBusAsk) → front_view.rests b ≡ true → b ≡ front_ask.Wait
+front_waits front_ask.Wait e = refl
+front_waits b e = absurd (true≢false (sym e))
+
+back_waits : (b : BackBusAsk) → back_view.rests b ≡ true → b ≡ back_ask.Wait
+back_waits back_ask.Wait e = refl
+back_waits b e = absurd (true≢false (sym e))
+
+-- a front without requests, in its loop or closed, is unoccupied
+still_at : (requests : List Request) (s : Stage) → requests ≡ [] → (s ≡ front_ring.Loop) ⊎ (s ≡ front_ring.Closed) → (length requests + front_submit.ending_of s == 0 && front_view.is_still s) ≡ true
+still_at requests s none (inl e) = rw (none, e) refl
+still_at requests s none (inr e) = rw (none, e) refl
+
+module _ (config : Options) (w : World) (honest : Honest config w) (quiet : is_quiet w ≡ true) where
+  abbrev idle : Bool
+  idle = front_view.is_unoccupied w.rings.front
+
+  all : ((front_view.rests (front_asks w) && back_view.rests (back_asks w)) ≡ true) × (rings.is_quiet w.rings ≡ true)
+  all = both_true (front_view.rests (front_asks w) && back_view.rests (back_asks w)) (rings.is_quiet w.rings) quiet
+
+  is_idle : idle ≡ true
+  is_idle = let rest : IsIdleRing w.rings = quiet_rests config w.rings all.1 honest.standing in still_at w.rings.front.requests w.rings.front.stage rest.no_request rest.front_at
+
+  at_rest : IsAtRest idle (negotiation_of w)
+  at_rest =
+      let both = both_true (front_view.rests (front_asks w)) (back_view.rests (back_asks w)) all.0 in
+      let parts : AreQuiet (front_submit.is_idle w.rings.front) (back_ring.is_idle w.rings.back) (has_to_take w.rings.under end.Front) (has_to_take w.rings.under end.Back) = all_quiet _ _ _ _ all.1 in
+      record {
+        front_waits = front_waits (front_asks w) both.0;
+        back_waits = back_waits (back_asks w) both.1;
+        front_taken = (or_parts (is_pending w.rings.under.channels end.Front) (has_pending w.rings.under.keys.front) parts.no_front).1;
+        back_taken = (or_parts (is_pending w.rings.under.channels end.Back) (has_pending w.rings.under.keys.back) parts.no_back).1;
+      }
+
+  have_both : (s : BusState) → AreBoth (negotiation_of w) s → HaveBoth w s
+  have_both s both =
+      let said = said_at (negotiation_of w) honest.joined in
+      record {
+        front = both.0;
+        back = both.1;
+        front_said = said.front ∙ ap (λ (own : BusState). Some (state_text own)) both.0;
+        back_said = said.back ∙ ap (λ (own : BusState). Some (state_text own)) both.1;
+      }
+
+  quiet_agrees : StatesAgree w
+  quiet_agrees = by_state (agrees_at (negotiation_of w) idle honest.joined (λ closing. is_idle) at_rest)
+    where
+      by_state : AreBoth (negotiation_of w) state.Connected ⊎ AreBoth (negotiation_of w) state.Closed ⊎ WaitsForRequests idle (negotiation_of w) → StatesAgree w
+      by_state (inl both) = inl (have_both state.Connected both)
+      by_state (inr (inl both)) = inr (have_both state.Closed both)
+      by_state (inr (inr waits)) = absurd (true≢false (sym is_idle ∙ waits.busy))
+
+pub states_agree_at_quiet : StatesAgreeAtQuiet
+states_agree_at_quiet config hs carried options are unpoked quiet =
+    quiet_agrees config (after hs (start_of config)) (honest_after config hs (start_of config) unpoked (honest_start config carried options) are) quiet
+
+-- what the directory says of both states, in the words of a report's rules
+have_said : (w : World) (s : BusState) → HaveBoth w s → HasBoth (state_text s) w.rings.under.keys
+have_said w s both = record { front = both.front_said; back = both.back_said }
+
+alike : (w : World) → StatesAgree w → AreAlike w.rings.under.keys
+unfolding digits
+alike w (inl both) = inl (have_said w state.Connected both)
+alike w (inr both) = inr (have_said w state.Closed both)
+
+-- a move of an end is no look, nor is what comes of it
+told_agreed : {S : Type 0} (tell : S → ring.Happening) (told : List S) (v : rings.World) → ((s : S) (u : rings.World) → IsAgreed u (tell s)) → AreAgreed (map tell told) v
+told_agreed tell [] v agreed = tt
+told_agreed tell (s ∷ told) v agreed = (agreed s v, told_agreed tell told (ring.happens v (tell s)) agreed)
+
+move_agreed : {S : Type 0} (moves speaks : Bool) (move : ring.Happening) (at : End) (key : KeyMove) (tell : S → ring.Happening) (told : List S) (v : rings.World)
+    → IsAgreed v move → ((s : S) (u : rings.World) → IsAgreed u (tell s)) → AreAgreed (if moves then move ∷ [] else ring.Negotiates at key ∷ (if speaks then map tell told else [])) v
+move_agreed true speaks move at key tell told v is agreed = (is, tt)
+move_agreed false true move at key tell told v is agreed = (tt, told_agreed tell told (ring.happens v (ring.Negotiates at key)) agreed)
+move_agreed false false move at key tell told v is agreed = (tt, tt)
+
+closes_agreed : (at : End) (v : rings.World) → AreAgreed (closes_does at) v
+closes_agreed end.Front v = (tt, tt)
+closes_agreed end.Back v = tt
+
+agreed_at : (config : Options) (w : World) (h : Happening) → IsUnpoked h → Honest config w → IsPossible w h → AreAgreed (does w h) w.rings
+agreed_at config w FrontMoves unpoked honest is =
+    move_agreed (is_fronts_ring w) (front.speaks (front_asks w)) ring.FrontMoves end.Front (front_key (front_asks w)) ring.FrontEnters (entered_at w (front_turn w)) w.rings tt (λ s u. tt)
+agreed_at config w BackMoves unpoked honest is =
+    move_agreed (is_backs_ring w) (back.bus_moves (back_asks w) w.rings.back.stage) ring.BackMoves end.Back (back_key (back_asks w)) ring.BackHalts (halted_at w (back_turn w)) w.rings tt (λ s u. tt)
+agreed_at config w (Closes at) unpoked honest is = closes_agreed at w.rings
+agreed_at config w (Looks quiet) unpoked honest is = (λ e. alike w (quiet_agrees config w honest (is e)), tt)
+agreed_at config w (Settles quiet) unpoked honest is = (λ e. alike w (quiet_agrees config w honest (is e)), tt)
+agreed_at config w h unpoked honest is = (tt, tt)
+
+-- all of it, up to the first word that is overwritten
+agreed_then : (hs rest : List ring.Happening) (w : rings.World) → AreAgreed hs w → AreAgreed (honest_history rest) (ring.after hs w) → AreAgreed (honest_history (hs ++ rest)) w
+agreed_then [] rest w are later = later
+agreed_then (ring.Pokes frame word value ∷ hs) rest w are later = tt
+agreed_then (h ∷ hs) rest w are later = (are.0, agreed_then hs rest (ring.happens w h) are.1 later)
+
+pub rings_agreed : RingsAgreed
+rings_agreed config hs carried options are = all_of config AreAgreed (λ w. tt) agreed_then (agreed_at config) hs (start_of config) (honest_start config carried options) are
