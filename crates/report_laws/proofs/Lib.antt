@@ -1,7 +1,9 @@
 pub mod Lines
 pub mod Begun
 pub mod Looks
+pub mod Announced
 pub mod Ready
+pub mod Closing
 pub mod AtRest
 pub mod Counts
 pub mod Answers

@@ -1,6 +1,5 @@
 -- A front that is idle is connected, closed or broken, and its report has the line of it.
-use Rattle.std.proofs.Common.{◌≡◌, ◌⊎◌, inl, inr, ℕ, ◌+◌, ◌==◌, ◌||◌, Bool, true, false, not, ◌&&◌, if◌then◌else◌, List, [], ◌∷◌, ◌++◌, refl, ap, sym, ◌∙◌, subst, append_assoc, true≢false}
-use Rattle.std.specs.Prelude.{Option, Some, None}
+use Rattle.std.proofs.Common.{◌≡◌, ◌⊎◌, inl, inr, ◌+◌, ◌==◌, ◌||◌, Bool, true, false, not, ◌&&◌, if◌then◌else◌, List, [], ◌∷◌, ◌++◌, refl, ap, sym, ◌∙◌, true≢false}
 use Rattle.std.specs.List.{list_any}
 use Rattle.blk_base.specs.Options.{Options}
 use Rattle.blk_base.specs.declared.ask.FrontAnswer.{FrontAnswer}
@@ -9,56 +8,34 @@ use Rattle.schedule_text.specs.declared.line.Detail.{Detail}
 use Rattle.schedule_text.specs.declared.line.Line.{Line}
 use Rattle.schedule_text.specs.declared.line.Line.TheVariants as lines
 use Rattle.schedule_text.specs.Recorder.{recorded}
-use Rattle.hypervisor.specs.Act.{FrontAct, BackAct, Took}
 use Rattle.blk_front.specs.declared.stage.Stage.{Stage}
 use Rattle.blk_front.specs.declared.stage.Stage.TheVariants as stage
 use Rattle.blk_front.specs.declared.state.FrontState.{FrontState}
 use Rattle.blk_front.specs.declared.state.FrontState.TheVariants as state
 use Rattle.blk_front.specs.View.{View}
 use Rattle.blk_front.specs.Ask as ask
-use Rattle.blk_front.specs.Step.{at, broken, is_mapped, step_at, step_of}
+use Rattle.blk_front.specs.Step.{at, broken, is_mapped, step_at}
 use Rattle.blk_front.specs.State.{in_state}
 use Rattle.blk_front.specs.Submit.{is_ready, is_led, is_wait}
 use Rattle.split_model.specs.World.{World, start_of, is_quiet}
 use Rattle.split_model.specs.Shown.{front_lines, state_lines}
-use Rattle.split_model.specs.Happening.{Happening, FrontMoves, BackMoves, JobMoves, Negotiates, FrontEnters, BackHalts, Submits, Notifies, Pokes, Dumps, Looks, Settles, happens, lines_at, after, lines_of, front_after, front_shows, back_after, job_after, front_turn, back_turn, job_turn}
+use Rattle.split_model.specs.Happening.{Happening, after}
 use Rattle.schedule_text.specs.Recorder.{kept_of}
 use Rattle.split_model.specs.Report.{report_of, ended_report_of}
-use Rattle.split_model.proofs.States.{enters_cases}
 use Rattle.split_model.proofs.SafeFront.{submit_kept}
 use Rattle.machine_pipeline.specs.Allowed.{ArePossible}
 use Rattle.report_laws.specs.Ready.{says_outcome, IsReadyAt, IsReadyFirst}
+use Rattle.report_laws.proofs.Announced.{Has, has_first, has_later, IsAnnounced, all_said}
 use Rattle.report_laws.proofs.Looks.{SpeaksOfQuiet, HoldsWhereQuiet, reports_obey, ended_obey, kept_obeys}
 
 abbrev HasOutcome : List Line → Type 0
-HasOutcome ls = list_any says_outcome ls ≡ true
-
--- a line that stands there stands there with more before or after
-outcome_first : (a b : List Line) → HasOutcome a → HasOutcome (a ++ b)
-outcome_first [] b h = absurd (true≢false (sym h))
-outcome_first (line ∷ a) b h = by_line (says_outcome line) (outcome_first a b) h
-  where
-    by_line : (here : Bool) → (HasOutcome a → HasOutcome (a ++ b)) → (here || list_any says_outcome a) ≡ true → (here || list_any says_outcome (a ++ b)) ≡ true
-    by_line true rest h = refl
-    by_line false rest h = rest h
-
-outcome_later : (a b : List Line) → HasOutcome b → HasOutcome (a ++ b)
-outcome_later [] b h = h
-outcome_later (line ∷ a) b h = by_line (says_outcome line) (outcome_later a b h)
-  where
-    by_line : (here : Bool) → HasOutcome (a ++ b) → (here || list_any says_outcome (a ++ b)) ≡ true
-    by_line true rest = refl
-    by_line false rest = rest
+HasOutcome ls = Has says_outcome ls
 
 -- what its negotiation came to: the front is connected and hasn't left since, or it is closed or broken
 abbrev is_settled : Stage → Bool
 is_settled stage.Closed = true
 is_settled (stage.Broken word) = true
 is_settled s = is_ready s
-
--- of such a front it was told
-abbrev IsToldOutcome : List Line → World → Type 0
-IsToldOutcome before w = is_settled w.front.stage ≡ true → HasOutcome before
 
 -- a move settles no front, but for one that it breaks, and then it is told
 abbrev IsSettling : Stage → View → Type 0
@@ -91,57 +68,21 @@ step_settles stage.ClosePort v a here = unsettled stage.ClosePort (at stage.Left
 step_settles stage.Left v a here = unsettled stage.Left v (ap is_settled here)
 step_settles s v a here = λ t. inl refl
 
-front_told_outcome : (w : World) (before : List Line) (act : Option FrontAct) → IsToldOutcome before w → IsToldOutcome (before ++ front_shows w act) (front_after w act)
-front_told_outcome w before None was = λ t. outcome_first before [] (was t)
-front_told_outcome w before (Some a) was = λ t. by_step (step_settles w.front.stage w.front a.answer refl t)
-  where
-    by_step : is_settled w.front.stage ≡ true ⊎ HasOutcome (front_lines (let x : View = step_of w.front a.answer in x.told)) → HasOutcome (before ++ front_shows w (Some a))
-    by_step (inl settled) = outcome_first before (front_shows w (Some a)) (was settled)
-    by_step (inr told) = outcome_later before (front_shows w (Some a)) told
-
 -- a state that settles the front has its line
-entered_outcome : (s : FrontState) (v : View) (before : List Line) → (is_settled v.stage ≡ true → HasOutcome before) → (let x : View = in_state s v in is_settled x.stage) ≡ true → HasOutcome (before ++ state_lines s)
-entered_outcome state.Connected v before was t = outcome_later before (lines.Ready ∷ []) refl
-entered_outcome state.Closing v before was t = outcome_first before (lines.Closing ∷ []) (was t)
-entered_outcome state.Leaving v before was t = absurd (true≢false (sym t))
-entered_outcome state.Closed v before was t = outcome_later before (lines.Closed ∷ []) refl
-entered_outcome (state.Broken word) v before was t = outcome_later before (lines.Broken word ∷ []) refl
+entered_outcome : (s : FrontState) (v : View) → (let x : View = in_state s v in is_settled x.stage) ≡ true → is_settled v.stage ≡ true ⊎ HasOutcome (state_lines s)
+entered_outcome state.Connected v t = inr refl
+entered_outcome state.Closing v t = inl t
+entered_outcome state.Leaving v t = absurd (true≢false (sym t))
+entered_outcome state.Closed v t = inr refl
+entered_outcome (state.Broken word) v t = inr refl
 
-enters_told_outcome : (w : World) (before : List Line) (s : FrontState) → IsToldOutcome before w → IsToldOutcome (before ++ lines_at w (FrontEnters s)) (happens w (FrontEnters s))
-enters_told_outcome w before s was =
-    enters_cases (λ v shown. is_settled v.stage ≡ true → HasOutcome (before ++ shown)) s w.front (λ may t. entered_outcome s w.front before was t) (λ t. outcome_first before [] (was t))
-
--- what leaves the front where it was
-same_outcome : (w w' : World) (before ls : List Line) → w'.front.stage ≡ w.front.stage → IsToldOutcome before w → IsToldOutcome (before ++ ls) w'
-same_outcome w w' before ls same told = λ t. outcome_first before ls (told (ap is_settled (sym same) ∙ t))
-
-back_same : (w : World) (act : Option BackAct) → (let x : World = back_after w act in x.front.stage) ≡ w.front.stage
-back_same w None = refl
-back_same w (Some a) = refl
-
-job_same : (w : World) (number : ℕ) (act : Option BackAct) → (let x : World = job_after w number act in x.front.stage) ≡ w.front.stage
-job_same w number None = refl
-job_same w number (Some a) = refl
-
-one_told_outcome : (w : World) (before : List Line) (h : Happening) → IsToldOutcome before w → IsToldOutcome (before ++ lines_at w h) (happens w h)
-one_told_outcome w before FrontMoves told = front_told_outcome w before (front_turn w) told
-one_told_outcome w before BackMoves told = same_outcome w (back_after w (back_turn w Took)) before _ (back_same w (back_turn w Took)) told
-one_told_outcome w before (JobMoves number outcome) told = same_outcome w (job_after w number (job_turn w number outcome)) before _ (job_same w number (job_turn w number outcome)) told
-one_told_outcome w before (Negotiates at move) told = same_outcome w (happens w (Negotiates at move)) before _ refl told
-one_told_outcome w before (FrontEnters state) told = enters_told_outcome w before state told
-one_told_outcome w before (BackHalts why) told = same_outcome w (happens w (BackHalts why)) before _ refl told
-one_told_outcome w before (Submits job) told = same_outcome w (happens w (Submits job)) before _ (submit_kept w.front job).stage told
-one_told_outcome w before (Notifies at) told = same_outcome w (happens w (Notifies at)) before _ refl told
-one_told_outcome w before (Pokes frame word value) told = same_outcome w (happens w (Pokes frame word value)) before _ refl told
-one_told_outcome w before Dumps told = same_outcome w w before _ refl told
-one_told_outcome w before (Looks quiet) told = same_outcome w w before _ refl told
-one_told_outcome w before (Settles quiet) told = same_outcome w w before _ refl told
-
-all_told_outcome : (history : List Happening) (w : World) (before : List Line) → IsToldOutcome before w → IsToldOutcome (before ++ lines_of history w) (after history w)
-all_told_outcome [] w before told = λ t. outcome_first before [] (told t)
-all_told_outcome (h ∷ history) w before told =
-    subst (λ (ls : List Line). IsToldOutcome ls (after history (happens w h))) (append_assoc before (lines_at w h) (lines_of history (happens w h)))
-    (all_told_outcome history (happens w h) (before ++ lines_at w h) (one_told_outcome w before h told))
+-- so of each front that is settled a line says it
+outcome_announced : IsAnnounced (λ (v : View). is_settled v.stage) says_outcome
+outcome_announced = record {
+  step = λ v a t. step_settles v.stage v a refl t;
+  enters = entered_outcome;
+  submit = λ v job t. ap is_settled (sym (submit_kept v job).stage) ∙ t;
+}
 
 -- a front that is idle is settled
 idle_settled : (s : Stage) (v : View) → (not (is_led s) && is_wait (ask.ask_at s v)) ≡ true → is_settled s ≡ true
@@ -170,7 +111,7 @@ ready_free before line e = tt
 
 ready_where_quiet : (config : Options) (detail : Detail) (history : List Happening) → HoldsWhereQuiet IsReadyAt config detail history
 ready_where_quiet config detail history first rest e quiet =
-    all_told_outcome first (start_of config) (lines.Begin config detail ∷ []) (λ t. absurd (true≢false (sym t))) (quiet_settled (after first (start_of config)) quiet)
+    all_said (λ (v : View). is_settled v.stage) says_outcome outcome_announced first (start_of config) (lines.Begin config detail ∷ []) (λ t. absurd (true≢false (sym t))) (quiet_settled (after first (start_of config)) quiet)
 
 one_kept : (detail : Detail) (line : Line) → says_outcome line ≡ true → HasOutcome (recorded detail line)
 one_kept detail lines.Ready e = refl
@@ -184,8 +125,8 @@ outcome_kept detail [] h = absurd (true≢false (sym h))
 outcome_kept detail (line ∷ ls) h = by_line (says_outcome line) refl (outcome_kept detail ls) h
   where
     by_line : (here : Bool) → says_outcome line ≡ here → (HasOutcome ls → HasOutcome (kept_of detail ls)) → (here || list_any says_outcome ls) ≡ true → HasOutcome (recorded detail line ++ kept_of detail ls)
-    by_line true e rest h = outcome_first (recorded detail line) (kept_of detail ls) (one_kept detail line e)
-    by_line false e rest h = outcome_later (recorded detail line) (kept_of detail ls) (rest h)
+    by_line true e rest h = has_first says_outcome (recorded detail line) (kept_of detail ls) (one_kept detail line e)
+    by_line false e rest h = has_later says_outcome (recorded detail line) (kept_of detail ls) (rest h)
 
 pub report_ready : (config : Options) (detail : Detail) (history : List Happening) → ArePossible history (start_of config) → IsReadyFirst (kept_of detail (report_of config detail history))
 report_ready config detail history may =

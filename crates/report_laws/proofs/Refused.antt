@@ -1,12 +1,13 @@
 -- Wrong reports that the rules refuse.
-use Rattle.std.proofs.Common.{◌≡◌, ◌⊎◌, ℕ, ◌+◌, ◌%◌, ◌^◌, ◌≤◌, inl, inr, false, List, [], ◌∷◌, refl, ap, sym, subst, arith, true≢false}
+use Rattle.std.proofs.Common.{◌≡◌, ◌⊎◌, ℕ, ◌+◌, ◌%◌, ◌^◌, ◌≤◌, inl, inr, true, false, List, [], ◌∷◌, refl, ap, sym, subst, arith, true≢false}
 use Rattle.std.specs.Prelude.{All, codes}
+use Rattle.std.specs.List.{list_any}
 use Rattle.std.proofs.lemmas.List.Elements.{recursion_from_All}
 use Rattle.blk_base.specs.Options.{Options}
 use Rattle.blk_base.specs.declared.operation.Status.{Status}
 use Rattle.blk_base.specs.declared.moves.Move.{Move}
 use Rattle.blk_base.specs.declared.moves.Move.TheVariants.{FrontWrite, SetKey}
-use Rattle.blk_base.specs.declared.moves.Mover.TheVariants.{Front}
+use Rattle.blk_base.specs.declared.moves.Mover.TheVariants.{Front, Back}
 use Rattle.schedule_text.specs.declared.line.Detail.{Detail}
 use Rattle.schedule_text.specs.declared.line.Detail.TheVariants.{Lines, Moves}
 use Rattle.schedule_text.specs.declared.line.Line.{Line}
@@ -15,7 +16,7 @@ use Rattle.schedule_text.specs.Range.{IsInRange}
 use Rattle.report_laws.specs.Begun.{is_begin, is_move, IsBegun}
 use Rattle.report_laws.specs.Ready.{IsReadyFirst}
 use Rattle.report_laws.specs.QuietRing.{IsQuietRing, IsServedRing}
-use Rattle.report_laws.specs.States.{front_state, SayBoth, AreStatesAgreed}
+use Rattle.report_laws.specs.States.{front_state, back_state, SayBoth, says_closing, AreStatesAgreed}
 use Rattle.report_laws.specs.Grammar.{AreInGrammar}
 
 -- what stands after the first line
@@ -56,9 +57,23 @@ connected_alone config h = by_states (h before [] lines.Quiet refl)
     first [] = 0
     first (n ∷ ns) = n
 
-    by_states : SayBoth (codes "4") before ⊎ SayBoth (codes "6") before → ⊥
+    by_states : SayBoth (codes "4") before ⊎ (SayBoth (codes "6") before × (list_any says_closing before ≡ true)) → ⊥
     by_states (inl both) = let back : ◌≡◌ {A = ℕ} 49 52 = ap first both.back in omega arith
-    by_states (inr both) = let back : ◌≡◌ {A = ℕ} 49 54 = ap first both.back in omega arith
+    by_states (inr closed) = let back : ◌≡◌ {A = ℕ} 49 54 = ap first (let both : SayBoth (codes "6") before = closed.0 in both.back) in omega arith
+
+pub closed_unsaid : (config : Options) → AreStatesAgreed (lines.Begin config Moves ∷ lines.Move (SetKey Back back_state (codes "6")) ∷ lines.Move (SetKey Front front_state (codes "6")) ∷ lines.Closed ∷ lines.Quiet ∷ []) → ⊥
+closed_unsaid config h = by_states (h before [] lines.Quiet refl)
+  where
+    before : List Line
+    before = lines.Begin config Moves ∷ lines.Move (SetKey Back back_state (codes "6")) ∷ lines.Move (SetKey Front front_state (codes "6")) ∷ lines.Closed ∷ []
+
+    first : List ℕ → ℕ
+    first [] = 0
+    first (n ∷ ns) = n
+
+    by_states : SayBoth (codes "4") before ⊎ (SayBoth (codes "6") before × (list_any says_closing before ≡ true)) → ⊥
+    by_states (inl both) = let back : ◌≡◌ {A = ℕ} 54 52 = ap first both.back in omega arith
+    by_states (inr closed) = true≢false (sym closed.1)
 
 pub out_of_range : (id : ℕ) (status : Status) → 2 ^ 64 ≤ id → AreInGrammar (lines.Answer id status ∷ []) → ⊥
 out_of_range id status far h =

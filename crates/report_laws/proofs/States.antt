@@ -59,9 +59,11 @@ use Rattle.split_model.proofs.Overwriting.{poke_lines_are, dump_lines_are}
 use Rattle.split_model.proofs.SafeActs.{of_front, of_back, AsksBackKey, front_wait, back_wait}
 use Rattle.split_model.proofs.SafeAnswers.{AsksNoKey, fronts_no_key, backs_of, jobs_of}
 use Rattle.move_laws.proofs.Recorded.{report_kept, ended_kept}
-use Rattle.report_laws.specs.States.{front_state, back_state, text_at, text_after, SayBoth, IsAgreedAt, AreStatesAgreed}
+use Rattle.report_laws.specs.States.{front_state, back_state, text_at, text_after, SayBoth, says_closing, IsAgreedAt, AreStatesAgreed}
 use Rattle.report_laws.specs.Agreed.{HasBoth, AreAlike, IsAgreed, AreAgreed}
 use Rattle.report_laws.proofs.Lines.{both_all}
+use Rattle.report_laws.proofs.Announced.{all_said}
+use Rattle.report_laws.proofs.Closing.{closing_announced}
 use Rattle.report_laws.proofs.Looks.{SpeaksOfQuiet, finds_quiet, HoldsWhereFound, reports_found, ended_found}
 
 -- a line that sets no key
@@ -263,12 +265,13 @@ both_said text config history has = record {
   back = same_Some _ _ (sym (all_told back_state (codes "1") history (start_of config) refl) ∙ has.back);
 }
 
-alike_said : (config : Options) (history : List Happening) → (let v : World = after history (start_of config) in AreAlike v.under.keys) → IsAgreedAt (report_of config Moves history) lines.Quiet
+alike_said : (config : Options) (history : List Happening) → (let v : World = after history (start_of config) in AreAlike v) → IsAgreedAt (report_of config Moves history) lines.Quiet
 alike_said config history (inl connected) = inl (both_said (codes "4") config history connected)
-alike_said config history (inr closed) = inr (both_said (codes "6") config history closed)
+alike_said config history (inr closed) =
+    inr (both_said (codes "6") config history closed.0, all_said (λ (v : front.View). v.closing) says_closing closing_announced history (start_of config) (lines.Begin config Moves ∷ []) (λ t. absurd (true≢false (sym t))) closed.1)
 
 -- the premise, where all is found quiet
-agreed_found : (w : World) (h : Happening) → IsAgreed w h → finds_quiet h ≡ true → AreAlike w.under.keys
+agreed_found : (w : World) (h : Happening) → IsAgreed w h → finds_quiet h ≡ true → AreAlike w
 agreed_found w (Looks quiet) agreed found = agreed found
 agreed_found w (Settles quiet) agreed found = agreed found
 agreed_found w h agreed found = absurd (true≢false (sym found))

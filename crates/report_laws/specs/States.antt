@@ -1,5 +1,6 @@
 -- What both ends have said of themselves where a report says `quiet` (`io/xenbus.h`: XenbusStateInitialising is 1, XenbusStateConnected 4 and XenbusStateClosed 6).
-use Rattle.std.specs.Prelude.{◌≡◌, ◌⊎◌, ℕ, List, [], ◌∷◌, if◌then◌else◌, codes}
+use Rattle.std.specs.Prelude.{◌≡◌, ◌⊎◌, ℕ, Bool, true, false, List, [], ◌∷◌, if◌then◌else◌, codes}
+use Rattle.std.specs.List.{list_any}
 use Rattle.std.specs.Str.{bytes_eq}
 use Rattle.blk_base.specs.declared.moves.Move.{Move}
 use Rattle.blk_base.specs.declared.moves.Move.TheVariants as moves
@@ -33,9 +34,13 @@ pub record SayBoth (text : List ℕ) (before : List Line) : Type 0 where
   pub front : text_after front_state (codes "1") before ≡ text
   pub back : text_after back_state (codes "1") before ≡ text
 
--- at a `quiet` line both are connected, or both are closed
+abbrev pub says_closing : Line → Bool
+says_closing lines.Closing = true
+says_closing line = false
+
+-- at a `quiet` line both are connected; or both are closed, and the front has said that it closes
 abbrev pub IsAgreedAt : List Line → Line → Type 0
-IsAgreedAt before lines.Quiet = SayBoth (codes "4") before ⊎ SayBoth (codes "6") before
+IsAgreedAt before lines.Quiet = SayBoth (codes "4") before ⊎ (SayBoth (codes "6") before × (list_any says_closing before ≡ true))
 IsAgreedAt before line = Unit {0}
 
 abbrev pub AreStatesAgreed : List Line → Type 0

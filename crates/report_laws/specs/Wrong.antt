@@ -3,12 +3,12 @@ use Rattle.std.specs.Prelude.{List, [], ◌∷◌, codes}
 use Rattle.blk_base.specs.Options.{Options}
 use Rattle.blk_base.specs.declared.moves.Move.{Move}
 use Rattle.blk_base.specs.declared.moves.Move.TheVariants.{FrontWrite, SetKey}
-use Rattle.blk_base.specs.declared.moves.Mover.TheVariants.{Front}
+use Rattle.blk_base.specs.declared.moves.Mover.TheVariants.{Front, Back}
 use Rattle.schedule_text.specs.declared.line.Detail.{Detail}
 use Rattle.schedule_text.specs.declared.line.Detail.TheVariants.{Lines, Moves}
 use Rattle.schedule_text.specs.declared.line.Line.{Line}
 use Rattle.schedule_text.specs.declared.line.Line.TheVariants as lines
-use Rattle.report_laws.specs.States.{front_state}
+use Rattle.report_laws.specs.States.{front_state, back_state}
 
 -- it begins a second time
 abbrev pub begun_twice : Options → Detail → List Line
@@ -33,3 +33,7 @@ unread config = lines.Begin config Moves ∷ lines.Ready ∷ lines.Move (FrontWr
 -- it is quiet where the front has said that it is connected, and the back hasn't
 abbrev pub connected_alone : Options → List Line
 connected_alone config = lines.Begin config Moves ∷ lines.Move (SetKey Front front_state (codes "4")) ∷ lines.Ready ∷ lines.Quiet ∷ []
+
+-- it is quiet where both have said that they are closed, and the front hasn't said that it closes
+abbrev pub closed_unsaid : Options → List Line
+closed_unsaid config = lines.Begin config Moves ∷ lines.Move (SetKey Back back_state (codes "6")) ∷ lines.Move (SetKey Front front_state (codes "6")) ∷ lines.Closed ∷ lines.Quiet ∷ []

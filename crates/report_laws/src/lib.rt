@@ -1,8 +1,8 @@
 //! What every report of the machine is, as a list of lines: it begins with `begin` and nowhere
 //! else, says `quiet` only of a front that was connected, is closed or is broken, of a ring that is
-//! served and read (`io/ring.h`), and of two ends that have both said last that they are connected
-//! or that they are closed, where the directory of keys says so (`AreAgreed`), and its text gives
-//! back exactly its lines. The machine is the pure function of `split_model`; each law is over
+//! served and read (`io/ring.h`), and of two ends that have both said last that they are connected,
+//! or that they are closed after a `closing` line, where the directory of keys says so (`AreAgreed`),
+//! and its text gives back exactly its lines. The machine is the pure function of `split_model`; each law is over
 //! every list of happenings, of what a recorder keeps of the report, so with and without the lines
 //! of moves (`OfEachReport`), and where it says `OfPlain` the premises are those of
 //! `machine_pipeline`: reads and writes, of which the disk gives 128 words of 32 bits, and a
@@ -32,7 +32,7 @@ ghost use Rattle.report_laws.specs.States.{AreStatesAgreed};
 ghost use Rattle.report_laws.specs.Agreed.{AreAgreed};
 ghost use Rattle.report_laws.specs.Grammar.{AreInGrammar, IsInGrammar};
 ghost use Rattle.report_laws.specs.Reports.{OfEachReport, OfEachEnded, OfPossibleReports, OfPossibleEnded, OfShortReports, OfShortEnded, OfPlainReports, OfPlainEnded, OfPlainMachines};
-ghost use Rattle.report_laws.specs.Wrong.{begun_twice, moved, ready_late, unserved, unread, connected_alone};
+ghost use Rattle.report_laws.specs.Wrong.{begun_twice, moved, ready_late, unserved, unread, connected_alone, closed_unsaid};
 
 /// `begin` is its first line and stands nowhere else, and lines of moves stand only where it says
 /// `moves`.
@@ -67,8 +67,9 @@ pub fn a_quiet_ring_is_served_and_read()
 {}
 
 /// Where a report with moves says `quiet`, both ends have said last that they are connected (4), or
-/// that they are closed (6), by the keys that its lines set (`io/xenbus.h`). The premise (`AreAgreed`)
-/// is that the directory says so wherever all is found quiet.
+/// that they are closed (6), by the keys that its lines set (`io/xenbus.h`), and closed only after a
+/// `closing` line. The premise (`AreAgreed`) is that the directory says so wherever all is found
+/// quiet, and that the front closes where it says closed.
 pub fn the_states_agree_where_a_report_is_quiet()
     ensures report { (config : Options) (history : List Happening) → AreAgreed history (start_of config) → AreStatesAgreed (kept_of Moves (report_of config Moves history)) }
     ensures ended { (config : Options) (history : List Happening) → AreAgreed history (start_of config) → AreStatesAgreed (kept_of Moves (ended_report_of config Moves history)) }
@@ -89,8 +90,9 @@ pub fn one_text_has_one_reading()
 {}
 
 /// The rules refuse a second `begin`, a move where none is shown, `quiet` before `ready`, `quiet`
-/// over a request without a response, over a response that wasn't read or over one end that alone is
-/// connected, and a number that has more than 64 bits.
+/// over a request without a response, over a response that wasn't read, over one end that alone is
+/// connected or over two that are closed without a `closing` line, and a number that has more than
+/// 64 bits.
 pub fn wrong_reports_are_refused()
     ensures begun_twice { (config : Options) (detail : Detail) → ¬ IsBegun config detail (begun_twice config detail) }
     ensures moved { (config : Options) (move : Move) → ¬ IsBegun config Lines (moved config move) }
@@ -98,5 +100,6 @@ pub fn wrong_reports_are_refused()
     ensures unserved { (config : Options) → ¬ IsQuietRing (unserved config) }
     ensures unread { (config : Options) → config.start ≡ 0 → ¬ IsQuietRing (unread config) }
     ensures connected_alone { (config : Options) → ¬ AreStatesAgreed (connected_alone config) }
+    ensures closed_unsaid { (config : Options) → ¬ AreStatesAgreed (closed_unsaid config) }
     ensures out_of_range { (id : ℕ) (status : Status) → 2 ^ 64 ≤ id → ¬ AreInGrammar (Answer id status ∷ []) }
 {}

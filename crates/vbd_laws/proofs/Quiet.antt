@@ -1,6 +1,6 @@
--- Where all is quiet, before a hostile hand first overwrites a word, both ends have written the same state last, and the directory of keys says so.
-use Rattle.std.proofs.Common.{◌⊎◌, inl, inr, ◌≡◌, ◌∙◌, ap, sym, subst, ◌+◌, ◌==◌, ◌&&◌, Bool, true, false, true≢false, List, [], ◌∷◌, ◌++◌, map, length, refl, if◌then◌else◌}
-use Rattle.std.specs.Prelude.{Some}
+-- Where all is quiet, before a hostile hand first overwrites a word, both ends have written the same state last, and Closed only as the front closes, and the directory of keys says so.
+use Rattle.std.proofs.Common.{◌⊎◌, inl, inr, ◌≡◌, ◌∙◌, ap, sym, subst, ◌+◌, ◌==◌, ◌&&◌, ℕ, Bool, true, false, true≢false, List, [], ◌∷◌, ◌++◌, map, length, refl, if◌then◌else◌}
+use Rattle.std.specs.Prelude.{Option, Some}
 use Rattle.std.specs.Fmt.{digits}
 use Rattle.std.proofs.lemmas.Bool.{or_parts}
 use Rattle.blk_base.specs.Options.{Options}
@@ -17,6 +17,9 @@ use Rattle.blk_front.specs.Submit as front_submit
 use Rattle.blk_back.specs.Ask as back_ring
 use Rattle.xenbus_state.specs.declared.state.BusState.{BusState}
 use Rattle.xenbus_state.specs.declared.state.BusState.TheVariants as state
+use Rattle.xenbus_state.specs.declared.stage.FrontStage.{FrontStage}
+use Rattle.xenbus_state.specs.declared.stage.FrontStage.TheVariants as stage
+use Rattle.xenbus_state.specs.FrontView.{FrontView}
 use Rattle.xenbus_state.specs.declared.front.FrontBusAsk.{FrontBusAsk}
 use Rattle.xenbus_state.specs.declared.front.FrontBusAsk.TheVariants as front_ask
 use Rattle.xenbus_state.specs.declared.back.BackBusAsk.{BackBusAsk}
@@ -38,6 +41,7 @@ use Rattle.vbd_back.specs.View as back_view
 use Rattle.vbd_back.specs.Ask as back
 use Rattle.vbd_model.specs.World.{World, start_of, is_quiet}
 use Rattle.vbd_model.specs.Happening.{Happening, FrontMoves, BackMoves, Closes, Looks, Settles, front_turn, back_turn, entered_at, halted_at, front_key, back_key, closes_does, is_fronts_ring, is_backs_ring, does, after}
+use Rattle.vbd_model.specs.Fit.{FrontRests, FrontGoesWith, IsFit}
 use Rattle.vbd_model.specs.Possible.{IsPossible}
 use Rattle.vbd_laws.specs.Quiet.{IsUnpoked, HaveBoth, StatesAgree, StatesAgreeAtQuiet, RingsAgreed}
 use Rattle.vbd_laws.proofs.MovesTurns.{front_asks, back_asks}
@@ -67,6 +71,42 @@ back_waits b e = absurd (true≢false (sym e))
 still_at : (requests : List Request) (s : Stage) → requests ≡ [] → (s ≡ front_ring.Loop) ⊎ (s ≡ front_ring.Closed) → (length requests + front_submit.ending_of s == 0 && front_view.is_still s) ≡ true
 still_at requests s none (inl e) = rw (none, e) refl
 still_at requests s none (inr e) = rw (none, e) refl
+
+whole_at : (s : Stage) → (s ≡ front_ring.Loop) ⊎ (s ≡ front_ring.Closed) → front_view.is_broken s ≡ false
+whole_at s (inl e) = ap front_view.is_broken e
+whole_at s (inr e) = ap front_view.is_broken e
+
+abbrev is_closed : BusState → Bool
+is_closed state.Closed = true
+is_closed s = false
+
+-- it isn't another state
+differs : {A : Type 0} (b c : BusState) → b ≡ state.Closed → b ≡ c → is_closed c ≡ false → A
+differs b c own is other = absurd (true≢false (sym (ap is_closed own) ∙ ap is_closed is ∙ other))
+
+rests_unclosed : {A : Type 0} (s : BusState) (gone : Bool) (port : Option ℕ) (r : Stage) → FrontRests s gone port r → s ≡ state.Closed → A
+rests_unclosed state.Closed gone port r rests own = absurd rests
+rests_unclosed s gone port r rests own = absurd (true≢false (sym (ap is_closed own)))
+
+-- a front that wrote Closed closes, where its end of the ring isn't broken
+closed_closes : (b : FrontStage) (v : FrontView) (r : Stage) → FrontGoesWith b v r → v.state ≡ state.Closed → front_view.is_broken r ≡ false → v.closing ≡ true
+closed_closes stage.Start v r goes own whole = differs v.state state.Initialising own goes.0 refl
+closed_closes stage.Rest v r goes own whole = elim goes [ inl rests ↦ rests_unclosed v.state v.gone v.port r rests own | inr is ↦ absurd (true≢false (sym is ∙ whole)) ]
+closed_closes stage.ReadState v r goes own whole = rests_unclosed v.state v.gone v.port r goes own
+closed_closes (stage.ReadFeature key) v r goes own whole = differs v.state state.Initialising own goes.0 refl
+closed_closes (stage.RingWord word) v r goes own whole = differs v.state state.Initialising own goes.0 refl
+closed_closes (stage.Grant page) v r goes own whole = differs v.state state.Initialising own goes.0 refl
+closed_closes stage.NewPort v r goes own whole = differs v.state state.Initialising own goes.0 refl
+closed_closes (stage.Publish key) v r goes own whole = differs v.state state.Initialising own goes.0 refl
+closed_closes (stage.ReadFact key) v r goes own whole = differs v.state state.Initialised own goes.0 refl
+closed_closes (stage.WriteState state.Initialised) v r goes own whole = differs v.state state.Initialising own goes.0 refl
+closed_closes (stage.WriteState state.Connected) v r goes own whole = differs v.state state.Initialised own goes.0 refl
+closed_closes (stage.WriteState state.Closed) v r goes own whole = differs v.state state.Closing own goes.0 refl
+closed_closes (stage.WriteState s) v r goes own whole = absurd goes
+closed_closes stage.ClosePort v r goes own whole = differs v.state state.Closing own goes.0 refl
+closed_closes stage.Closed v r goes own whole = goes.2
+closed_closes (stage.Broken word) v r goes own whole = absurd (true≢false (sym goes ∙ whole))
+closed_closes b v r goes own whole = absurd goes
 
 module _ (config : Options) (w : World) (honest : Honest config w) (quiet : is_quiet w ≡ true) where
   abbrev idle : Bool
@@ -99,12 +139,20 @@ module _ (config : Options) (w : World) (honest : Honest config w) (quiet : is_q
         back_said = said.back ∙ ap (λ (own : BusState). Some (state_text own)) both.1;
       }
 
+  -- its end of the ring isn't broken, and closes with it
+  closes : w.front.state ≡ state.Closed → w.rings.front.closing ≡ true
+  closes own =
+      let fit : IsFit w = honest.stands.fit in
+      let rest : IsIdleRing w.rings = quiet_rests config w.rings all.1 honest.standing in
+      let whole : front_view.is_broken w.rings.front.stage ≡ false = whole_at w.rings.front.stage rest.front_at in
+      fit.closing whole ∙ closed_closes w.front.stage w.front w.rings.front.stage fit.front own whole
+
   quiet_agrees : StatesAgree w
   quiet_agrees = by_state (agrees_at (negotiation_of w) idle honest.joined (λ closing. is_idle) at_rest)
     where
       by_state : AreBoth (negotiation_of w) state.Connected ⊎ AreBoth (negotiation_of w) state.Closed ⊎ WaitsForRequests idle (negotiation_of w) → StatesAgree w
       by_state (inl both) = inl (have_both state.Connected both)
-      by_state (inr (inl both)) = inr (have_both state.Closed both)
+      by_state (inr (inl both)) = inr (have_both state.Closed both, closes both.0)
       by_state (inr (inr waits)) = absurd (true≢false (sym is_idle ∙ waits.busy))
 
 pub states_agree_at_quiet : StatesAgreeAtQuiet
@@ -115,10 +163,10 @@ states_agree_at_quiet config hs carried options are unpoked quiet =
 have_said : (w : World) (s : BusState) → HaveBoth w s → HasBoth (state_text s) w.rings.under.keys
 have_said w s both = record { front = both.front_said; back = both.back_said }
 
-alike : (w : World) → StatesAgree w → AreAlike w.rings.under.keys
+alike : (w : World) → StatesAgree w → AreAlike w.rings
 unfolding digits
 alike w (inl both) = inl (have_said w state.Connected both)
-alike w (inr both) = inr (have_said w state.Closed both)
+alike w (inr closed) = inr (have_said w state.Closed closed.0, closed.1)
 
 -- a move of an end is no look, nor is what comes of it
 told_agreed : {S : Type 0} (tell : S → ring.Happening) (told : List S) (v : rings.World) → ((s : S) (u : rings.World) → IsAgreed u (tell s)) → AreAgreed (map tell told) v

@@ -30,9 +30,9 @@ pub record HaveBoth (w : World) (s : BusState) : Type 0 where
   pub front_said : key_of w.rings.under.keys.keys front_state ≡ Some (state_text s)
   pub back_said : key_of w.rings.under.keys.keys back_state ≡ Some (state_text s)
 
--- both are connected, or both are closed
+-- both are connected; or both are closed, and the front closes
 abbrev pub StatesAgree : World → Type 0
-StatesAgree w = HaveBoth w state.Connected ⊎ HaveBoth w state.Closed
+StatesAgree w = HaveBoth w state.Connected ⊎ (HaveBoth w state.Closed × (w.rings.front.closing ≡ true))
 
 -- so it is wherever all is quiet, with options that are carried out, before a hostile hand first overwrites a word
 abbrev pub StatesAgreeAtQuiet : Type 0

@@ -73,8 +73,8 @@ pub fn the_back_maps_what_the_front_granted()
 {}
 
 /// Where all is quiet, before a hostile hand first overwrites a word, both ends wrote Connected (4)
-/// last, or both wrote Closed (6) (`io/xenbus.h`), and the directory of keys says so. Until then the
-/// directory of the ring's machine says so wherever a look finds all quiet.
+/// last, or both wrote Closed (6) (`io/xenbus.h`) and the front closes, and the directory of keys says
+/// so. Until then the directory of the ring's machine says so wherever a look finds all quiet.
 pub fn at_quiet_both_states_agree()
     ensures agree { StatesAgreeAtQuiet }
     ensures said { RingsAgreed }
