@@ -26,7 +26,7 @@ use Rattle.schedule_run.specs.declared.schedule.RunStop.{RunStop}
 use Rattle.schedule_run.specs.declared.schedule.RunStop.TheVariants as stop
 use Rattle.schedule_run.proofs.Lawful.{nothing_lawful}
 use Rattle.schedule_run.proofs.Whole.{ended_lawful, begun_lawful, ended_honest_run, content_kept}
-use Rattle.schedule_run.proofs.Told.{told_of, is_told, carried_lawful, carried_so_far, stopped_at_first, stopped_in_event, stopped_at_end}
+use Rattle.schedule_run.proofs.Told.{told_of, is_told, carried_lawful, carried_so_far, stopped_at_first, stopped_in_event, stopped_at_end, have_widths}
 
 -- what was read, as it is told where the recorder stopped the run
 read_none : (limit : ℕ) (left : Option (List ℕ)) → Tells (λ (bytes : List ℕ). IsReadSoFar limit bytes []) left
@@ -47,7 +47,7 @@ read_whole limit events (Some bytes) h = inr (inr h)
 
 -- a recorder that tells the same tells a report that is as lawful, or a beginning
 report_same : (config : Options) (events : List Event) (old new : Outside) (before : RecorderSeen) → HasLawfulReport config events old (outside new.disk before) → new.recorder.told ≡ before.told → HasLawfulReport config events old new
-report_same config events old new before h same = record { report = h.report; told = same ∙ h.told; echo = h.echo; lawful = h.lawful }
+report_same config events old new before h same = record { report = h.report; told = same ∙ h.told; echo = h.echo; widths = h.widths; lawful = h.lawful }
 
 beginning_same : (config : Options) (events : List Event) (old new : Outside) (before : RecorderSeen) → HasLawfulBeginning config events old (outside new.disk before) → new.recorder.told ≡ before.told → HasLawfulBeginning config events old new
 beginning_same config events old new before h same = record {
@@ -100,6 +100,7 @@ done_lawful config limit a b old new long done =
       report = kept_of detail (ended_report_of config detail leads.history);
       told = done_told config done.events old new done.before done.carried ended.told;
       echo = echoes config done.events old new done.before done.carried;
+      widths = have_widths config done.events old (moment (let h = done.carried in h.0) new.disk done.before) carried;
       lawful = subst (λ (jobs : List Job). IsLawful config detail jobs old.disk.content new.disk.content (kept_of detail (ended_report_of config detail leads.history))) (events_submit done.events (start_of config) leads.history leads.is_kind)
           (ended_lawful config detail leads.history old.disk new.disk (is_told config done.events old (moment (let h = done.carried in h.0) new.disk done.before) carried) long leads.disk);
     }

@@ -3,7 +3,12 @@ use Rattle.std.proofs.Common.{◌≡◌, ℕ, ◌^◌, ◌<◌, ◌≤◌, ◌�
 use Rattle.blk_base.specs.Options.{Options}
 use Rattle.blk_base.specs.declared.config.Job.{Job}
 use Rattle.blk_io.specs.Disk.{DiskSeen, HasLength}
+use Rattle.std.specs.Prelude.{All}
+use Rattle.std.specs.List.{AllByRecursion}
+use Rattle.std.proofs.lemmas.List.Elements.{All-from_recursion}
+use Rattle.schedule_text.specs.Range.{JobHasWidths}
 use Rattle.schedule_text.specs.declared.event.Event.{Event}
+use Rattle.schedule_text.specs.declared.event.Event.TheVariants as events
 use Rattle.schedule_text.specs.declared.line.Detail.{Detail}
 use Rattle.schedule_text.specs.declared.line.Line.{Line}
 use Rattle.schedule_text.specs.declared.line.Line.TheVariants.{Begin, End}
@@ -58,6 +63,15 @@ is_told config events old now h =
       short = short_lift config old.recorder.detail leads.history (report_short config old.recorder.detail events leads.history (plain_of config served) leads.is_kind h.few);
     }
 
+-- each request that is submitted has numbers of the grammar
+jobs_fit : (es : List Event) (w : World) (hs : List Happening) → AreOfAll es w hs → AllByRecursion JobHasWidths (jobs_of es)
+jobs_fit [] w hs are = tt
+jobs_fit (events.Submit job ∷ es) w hs are = (are.3.1.1, jobs_fit es (after are.0 w) are.1 are.4)
+jobs_fit (e ∷ es) w hs are = jobs_fit es (after are.0 w) are.1 are.4
+
+pub have_widths : (config : Options) (events : List Event) (old : Outside) (now : Moment) → HasCarried config events old now → All JobHasWidths (jobs_of events)
+have_widths config events old now h = let leads = h.leads in All-from_recursion JobHasWidths (jobs_of events) (jobs_fit events (start_of config) leads.history leads.is_kind)
+
 -- a whole report
 pub carried_lawful : (config : Options) (events : List Event) (old : Outside) (now : Moment) → HasLength old.disk.content config.sectors → HasCarried config events old now → HasLawfulReport config events old (outside now.disk now.recorder)
 carried_lawful config events old now long h =
@@ -69,6 +83,7 @@ carried_lawful config events old now long h =
       report = kept_of detail report;
       told = told.told;
       echo = subst (AnswersAll config.order events) (sym (kept_echo detail report)) (schedule_echo config.order events (start_of config) leads.history leads.is_kind);
+      widths = have_widths config events old now h;
       lawful = subst (λ (jobs : List Job). IsLawful config detail jobs old.disk.content now.disk.content (kept_of detail report)) (events_submit events (start_of config) leads.history leads.is_kind)
           (report_lawful config detail leads.history old.disk now.disk (is_told config events old now h) long leads.disk);
     }

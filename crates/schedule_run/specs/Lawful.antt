@@ -1,5 +1,5 @@
 -- What every report of a run tells, whatever its schedule: `report_rules`, `plain_disk`, `pipeline_laws` and `report_laws` have the rules.
-use Rattle.std.specs.Prelude.{◌≡◌, ℕ, ◌⊎◌, true, List, filter, Option, Result, Ok, Err}
+use Rattle.std.specs.Prelude.{◌≡◌, ℕ, ◌⊎◌, true, List, filter, Option, Result, Ok, Err, All}
 use Rattle.blk_base.specs.Options.{Options}
 use Rattle.blk_base.specs.declared.config.Job.{Job}
 use Rattle.blk_io.specs.Outside.{SourceSeen}
@@ -8,6 +8,7 @@ use Rattle.schedule_text.specs.declared.line.Detail.{Detail}
 use Rattle.schedule_text.specs.declared.line.Detail.TheVariants.{Moves}
 use Rattle.schedule_text.specs.declared.line.Line.{Line}
 use Rattle.schedule_text.specs.declared.recorder.RecordStop.{RecordStop}
+use Rattle.schedule_text.specs.Range.{JobHasWidths}
 use Rattle.schedule_text.specs.Recorder.{Told, gained, recorded, StopsWithin}
 use Rattle.report_rules.specs.Obeys.{Obeys}
 use Rattle.report_rules.specs.Coherent.{IsCoherent}
@@ -107,11 +108,12 @@ pub record IsLawfulSoFar (config : Options) (detail : Detail) (jobs : List Job) 
   pub moves : detail ≡ Moves → ObeysMoves config.order report
   pub work : detail ≡ Moves → ShowsWork report
 
--- a lawful report was told, which echoes these events
+-- a lawful report was told, which echoes these events; each that submits has numbers of the grammar
 pub record HasLawfulReport (config : Options) (events : List Event) (old new : Outside) : Type 0 where
   pub report : List Line
   pub told : new.recorder.told ≡ gained old.recorder.told report
   pub echo : AnswersAll config.order events (filter is_echo report)
+  pub widths : All JobHasWidths (jobs_of events)
   pub lawful : IsLawful config old.recorder.detail (jobs_of events) old.disk.content new.disk.content report
 
 -- these lines were told, and at most a beginning of one more
@@ -134,13 +136,14 @@ abbrev pub EventLeaves : Options → List Event → Outside → Result (Unit {0}
 EventLeaves config events old (Ok done) new = LeavesLawful config events old new
 EventLeaves config events old (Err why) new = HasLawfulBeginning config events old (record { disk = new.disk; recorder = new.recorder })
 
--- a whole schedule was read, and its report is lawful and echoes it, from `begin` to `end`
+-- a whole schedule was read, and its report is lawful and echoes it, from `begin` to `end`; each event that submits has numbers of the grammar
 pub record IsLawfulRun (config : Options) (limit : ℕ) (left : Option (List ℕ)) (old new : Outside) : Type 0 where
   pub events : List Event
   pub schedule : Tells (λ bytes. IsWholeSchedule limit bytes events) left
   pub report : List Line
   pub told : new.recorder.told ≡ gained old.recorder.told report
   pub echo : Echoes config old.recorder.detail events report
+  pub widths : All JobHasWidths (jobs_of events)
   pub lawful : IsLawful config old.recorder.detail (jobs_of events) old.disk.content new.disk.content report
 
 -- events of which this is so were carried out, and a lawful report of them was told
