@@ -4,6 +4,6 @@ pub mod AtRest
 pub mod QuietRing
 pub mod States
 pub mod Agreed
-pub mod Grammar
 pub mod Reports
+pub mod Grammar
 pub mod Wrong

@@ -2,6 +2,7 @@
 use Rattle.std.specs.Prelude.{◌<◌, ◌^◌, List, length}
 use Rattle.blk_base.specs.Options.{Options}
 use Rattle.schedule_text.specs.declared.line.Detail.{Detail}
+use Rattle.schedule_text.specs.declared.line.Detail.TheVariants.{Moves}
 use Rattle.schedule_text.specs.declared.line.Line.{Line}
 use Rattle.split_model.specs.World.{World, start_of}
 use Rattle.split_model.specs.Happening.{Happening, after}
@@ -10,6 +11,7 @@ use Rattle.schedule_text.specs.Recorder.{kept_of}
 use Rattle.split_model.specs.Report.{report_of, ended_report_of}
 use Rattle.machine_pipeline.specs.Plain.{IsPlain}
 use Rattle.machine_pipeline.specs.Allowed.{AreServed, ArePossible}
+use Rattle.report_laws.specs.Agreed.{AreAgreed}
 
 -- of the report of each history
 abbrev pub OfEachReport : (Options → Detail → List Line → Type 0) → Type 0
@@ -55,7 +57,15 @@ OfPlainEnded Rule =
     (config : Options) (detail : Detail) (history : List Happening) → IsPlain config → AreServed history (start_of config)
     → Rule config detail (kept_of detail (ended_report_of config detail history))
 
--- of the machine after each such history
+-- of the report with moves of each history in which both ends' keys say one state wherever all is found quiet
+abbrev pub OfAgreedReports : (List Line → Type 0) → Type 0
+OfAgreedReports Rule = (config : Options) (history : List Happening) → AreAgreed history (start_of config) → Rule (kept_of Moves (report_of config Moves history))
+
+-- of each of these with its last line
+abbrev pub OfAgreedEnded : (List Line → Type 0) → Type 0
+OfAgreedEnded Rule = (config : Options) (history : List Happening) → AreAgreed history (start_of config) → Rule (kept_of Moves (ended_report_of config Moves history))
+
+-- of the machine after each history of reads and writes, on a ring of one page
 abbrev pub OfPlainMachines : (World → Type 0) → Type 0
 OfPlainMachines Holds =
     (config : Options) (history : List Happening) → IsPlain config → AreServed history (start_of config)

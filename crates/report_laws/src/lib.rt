@@ -2,13 +2,13 @@
 //! else, says `quiet` only of a front that was connected, is closed or is broken, of a ring that is
 //! served and read (`io/ring.h`), and of two ends that have both said last that they are connected,
 //! or that they are closed after a `closing` line, where the directory of keys says so (`AreAgreed`),
-//! and its text gives back exactly its lines. The machine is the pure function of `split_model`; each law is over
-//! every list of happenings, of what a recorder keeps of the report, so with and without the lines
-//! of moves (`OfEachReport`), and where it says `OfPlain` the premises are those of
-//! `machine_pipeline`: reads and writes, of which the disk gives 128 words of 32 bits, and a
-//! machine that is quiet where it is found so. `OfPossible` lets a hostile hand overwrite words
-//! too, and so does `OfShort`, of reports of fewer than 2^64 lines. What obeys a rule obeys it up
-//! to each of its lines.
+//! and its text gives back exactly its lines. The machine is the pure function of `split_model`; each
+//! law is over every list of happenings, of what a recorder keeps of the report, so with and without
+//! the lines of moves (`OfEachReport`), and where it says `OfPlain` the premises are those of
+//! `machine_pipeline`: reads and writes, of which the disk gives 128 words of 32 bits, and a machine
+//! that is quiet where it is found so. `OfPossible` lets a hostile hand overwrite words too, and so
+//! does `OfShort`, of reports of fewer than 2^64 lines. What obeys a rule obeys it up to each of its
+//! lines.
 #![tactic(auto)]
 
 ghost use Rattle.std.specs.Prelude.{◌≡◌, ℕ, ◌≤◌, ◌^◌, List, [], ◌∷◌, ◌++◌, Contains};
@@ -19,19 +19,16 @@ ghost use Rattle.schedule_text.specs.declared.line.Detail.{Detail};
 ghost use Rattle.schedule_text.specs.declared.line.Detail.TheVariants.{Lines, Moves};
 ghost use Rattle.schedule_text.specs.declared.line.Line.{Line};
 ghost use Rattle.schedule_text.specs.declared.line.Line.TheVariants.{Quiet, Answer};
-ghost use Rattle.schedule_text.specs.Recorder.{report_text, kept_of};
-ghost use Rattle.split_model.specs.World.{start_of};
+ghost use Rattle.schedule_text.specs.Recorder.{report_text};
 ghost use Rattle.split_model.specs.Happening.{Happening, lines_at};
-ghost use Rattle.split_model.specs.Report.{report_of, ended_report_of};
 ghost use Rattle.machine_pipeline.specs.Allowed.{IsServed};
 ghost use Rattle.report_laws.specs.Begun.{IsBegun, IsBegunSoFar};
 ghost use Rattle.report_laws.specs.Ready.{IsReadyFirst};
 ghost use Rattle.report_laws.specs.AtRest.{IsAtRest};
 ghost use Rattle.report_laws.specs.QuietRing.{IsQuietRing};
 ghost use Rattle.report_laws.specs.States.{AreStatesAgreed};
-ghost use Rattle.report_laws.specs.Agreed.{AreAgreed};
 ghost use Rattle.report_laws.specs.Grammar.{AreInGrammar, IsInGrammar};
-ghost use Rattle.report_laws.specs.Reports.{OfEachReport, OfEachEnded, OfPossibleReports, OfPossibleEnded, OfShortReports, OfShortEnded, OfPlainReports, OfPlainEnded, OfPlainMachines};
+ghost use Rattle.report_laws.specs.Reports.{OfEachReport, OfEachEnded, OfPossibleReports, OfPossibleEnded, OfShortReports, OfShortEnded, OfPlainReports, OfPlainEnded, OfPlainMachines, OfAgreedReports, OfAgreedEnded};
 ghost use Rattle.report_laws.specs.Wrong.{begun_twice, moved, ready_late, unserved, unread, connected_alone, closed_unsaid};
 
 /// `begin` is its first line and stands nowhere else, and lines of moves stand only where it says
@@ -71,8 +68,8 @@ pub fn a_quiet_ring_is_served_and_read()
 /// `closing` line. The premise (`AreAgreed`) is that the directory says so wherever all is found
 /// quiet, and that the front closes where it says closed.
 pub fn the_states_agree_where_a_report_is_quiet()
-    ensures report { (config : Options) (history : List Happening) → AreAgreed history (start_of config) → AreStatesAgreed (kept_of Moves (report_of config Moves history)) }
-    ensures ended { (config : Options) (history : List Happening) → AreAgreed history (start_of config) → AreStatesAgreed (kept_of Moves (ended_report_of config Moves history)) }
+    ensures report { OfAgreedReports AreStatesAgreed }
+    ensures ended { OfAgreedEnded AreStatesAgreed }
     ensures before { (first more : List Line) → AreStatesAgreed (first ++ more) → AreStatesAgreed first }
 {}
 

@@ -13,6 +13,6 @@ abbrev pub Follows : List Line → (shown result : Result (Unit {0}) RecordStop)
 Follows more shown result between after =
     (lines : List Line) (before : RecorderSeen) → Adds lines shown before between → Adds (lines ++ more) result before after
 
--- what a frontend has to tell: what came of a move in its ring, and what its negotiation made happen
+-- what a frontend has to tell: the outcome of a move in its ring, and what its negotiation made happen
 abbrev pub frontend_lines : View → List Line
 frontend_lines v = let r : ring.View = v.ring in front_lines r.told ++ news_lines v.news

@@ -57,7 +57,7 @@ pub record ObeysMoves (order : ℕ) (report : List Line) : Type 0 where
   pub dumps : AreWholeDumps order report
   pub layout : HasOneLayout report
 
--- the work that a report shows: each job's moves are in order the steps of the work of its entry as its words were read; each word that it writes to the guest is the one that the disk gave; what came of a move of the disk stands after it, and nowhere else; a job reads, writes and unmaps only through what it mapped itself; and each reply is the response of a job whose work is over and that had none yet, pushed and told once it is whole
+-- the work that a report shows: each job's moves are in order the steps of the work of its entry as its words were read; each word that it writes to the guest is the one that the disk gave; the outcome of a move of the disk stands after it, and nowhere else; a job reads, writes and unmaps only through what it mapped itself; and each reply is the response of a job whose work is over and that had none yet, pushed and told once it is whole
 pub record ShowsWork (report : List Line) : Type 0 where
   pub steps : AreSteps report
   pub data_given : AreData report

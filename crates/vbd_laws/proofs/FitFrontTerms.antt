@@ -59,7 +59,7 @@ terms_at s v idle x = same_terms v
 terms_step : (v : FrontView) (idle : Bool) (x : FrontAnswer) → Terms v (step_of v idle x)
 terms_step v idle x = let is = terms_at (due v idle) (at (due v idle) v) idle x in record { abi = is.abi; order = is.order }
 
--- told what its own negotiation asked, or what came of a move of the end of the ring
+-- told what its own negotiation asked, or the outcome of a move of the end of the ring
 pub terms_told : (v : FrontView) (idle : Bool) (x : FrontAnswer) → Terms v (bus_told idle v x)
 terms_told v idle x = let told = terms_step v idle x in let last = settled_terms (ask_of (step_of v idle x) idle) (step_of v idle x) in record { abi = last.abi ∙ told.abi; order = last.order ∙ told.order }
   where

@@ -168,7 +168,7 @@ unfolding digits
 alike w (inl both) = inl (have_said w state.Connected both)
 alike w (inr closed) = inr (have_said w state.Closed closed.0, closed.1)
 
--- a move of an end is no look, nor is what comes of it
+-- a move of an end is no look, nor is what it brings about
 told_agreed : {S : Type 0} (tell : S → ring.Happening) (told : List S) (v : rings.World) → ((s : S) (u : rings.World) → IsAgreed u (tell s)) → AreAgreed (map tell told) v
 told_agreed tell [] v agreed = tt
 told_agreed tell (s ∷ told) v agreed = (agreed s v, told_agreed tell told (ring.happens v (tell s)) agreed)
