@@ -184,7 +184,7 @@ behind_at : (m : Option Mapping) (works : List Work) → option_to_list (first_m
 behind_at None works h = h
 behind_at (Some m) works h = refl
 
--- the first mapping and those behind it are all
+-- the first mapping and those after it are all
 pub behind_hands : (works : List Work) → option_to_list (first_mapping works) ++ hands_in (behind_mapping works) ≡ hands_in works
 behind_hands [] = refl
 behind_hands (t ∷ works) = behind_at (mapping_at t.stage) works (behind_hands works)
@@ -204,7 +204,7 @@ few_behind_at : (b : Bool) (works : List Work) → length (behind_mapping works)
 few_behind_at true works h = omega arith
 few_behind_at false works h = omega arith
 
--- no more jobs stand behind a mapping than in all
+-- no more jobs stand after a mapping than in all
 pub few_behind : (works : List Work) → length (behind_mapping works) ≤ length works
 few_behind [] = omega arith
 few_behind (t ∷ works) = few_behind_at (is_some (mapping_at t.stage)) works (few_behind works)

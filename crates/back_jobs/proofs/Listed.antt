@@ -30,7 +30,7 @@ put_behind_at : (b : Bool) (n m : ℕ) (ms : List ℕ) → nat_lt m n ≡ b → 
 put_behind_at true n m ms test less = refl
 put_behind_at false n m ms test less = absurd (false≢true (sym test ∙ below_test m n less))
 
--- a number goes behind a lower one
+-- a number goes after a lower one
 put_behind : (n m : ℕ) (ms : List ℕ) → m < n → put n (m ∷ ms) ≡ m ∷ put n ms
 put_behind n m ms less = put_behind_at (nat_lt m n) n m ms refl less
 

@@ -98,7 +98,7 @@ behind_sized_at : (size : ℕ) (b : Bool) (works : List Work) → AreSized size 
 behind_sized_at size true works all less = all
 behind_sized_at size false works all less = less
 
--- and those behind a mapping
+-- and those after a mapping
 pub behind_sized : (size : ℕ) (works : List Work) → AreSized size works → AreSized size (behind_mapping works)
 behind_sized size [] all = all
 behind_sized size (t ∷ works) all =

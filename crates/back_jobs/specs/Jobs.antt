@@ -102,7 +102,7 @@ mapping_at (stage.Unmap m) = Some m
 mapping_at (stage.GiveUp m) = Some m
 mapping_at s = None
 
--- the jobs behind the lowest with a mapping in its hand; those before it are over
+-- the jobs after the lowest with a mapping in its hand; those before it are over
 abbrev pub behind_mapping : List Work → List Work
 behind_mapping [] = []
 behind_mapping (t ∷ works) = cond (is_some (mapping_at t.stage)) works (behind_mapping works)

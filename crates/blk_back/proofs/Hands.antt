@@ -1,15 +1,18 @@
 -- The mappings that the back and its jobs hold.
-use Rattle.std.proofs.Common.{◌≡◌, ℕ, ◌+◌, ◌<◌, ◌≤◌, Bool, true, false, if◌then◌else◌, List, [], ◌∷◌, ◌++◌, length, refl, sym, ap, ◌∙◌, arith, length-append}
-use Rattle.std.specs.Prelude.{Option, Some, None, Contains, option_to_list, is_some, ◌==◌}
+use Rattle.std.proofs.Common.{◌≡◌, ℕ, ◌+◌, ◌^◌, ◌<◌, ◌≤◌, Bool, true, false, if◌then◌else◌, List, [], ◌∷◌, ◌++◌, length, refl, sym, ap, ◌∙◌, arith, length-append}
+use Rattle.std.specs.Prelude.{Option, Some, None, Contains, option_to_list, is_some, ◌==◌, nat_lt, slice_index_or}
+use Rattle.std.proofs.lemmas.Nat.{pow_pos}
 use Rattle.std.proofs.lemmas.Option.{none-some}
-use Rattle.std.proofs.lemmas.List.Elements.{Contains-push}
+use Rattle.std.proofs.lemmas.List.{append-nil, append_assoc}
+use Rattle.std.proofs.lemmas.List.Elements.{Contains-append_right, Contains-get_or, All-get_or}
 use Rattle.blk_base.specs.declared.parts.Mapping.{Mapping}
+use Rattle.blk_base.specs.declared.parts.Mode.TheVariants.{ReadWrite}
 use Rattle.blk_base.specs.declared.ask.BackAsk.{BackAsk}
 use Rattle.blk_base.specs.declared.ask.BackAsk.TheVariants as ask
 use Rattle.blk_base.specs.declared.ask.BackAnswer.{BackAnswer}
 use Rattle.blk_base.specs.declared.ask.BackAnswer.TheVariants as answer
 use Rattle.blk_layout.specs.Entry.{request_of}
-use Rattle.blk_base.specs.declared.operation.Abi.TheVariants.{X64}
+use Rattle.ring_words.specs.Shape.{Shape, entry_words_of, slot_word_of}
 use Rattle.ring_words.specs.Ring.{requests_of, overruns, notifies}
 use Rattle.back_jobs.specs.Task.{IsAnswer as IsJobAnswer}
 use Rattle.back_jobs.specs.Jobs.{place_of, work_of, ask_job, first_mapping, behind_mapping, next_after}
@@ -22,15 +25,16 @@ use Rattle.blk_back.specs.declared.told.Halt.TheVariants as halt
 use Rattle.blk_back.specs.declared.stage.Reply.{Reply}
 use Rattle.blk_back.specs.declared.stage.Stage.{Stage}
 use Rattle.blk_back.specs.declared.stage.Stage.TheVariants as stage
-use Rattle.blk_back.specs.View.{View, slot_word}
-use Rattle.blk_back.specs.Ask.{ask_at, ask_of, loop_ask, next_reply, IsAnswer, StaysInPage}
-use Rattle.blk_back.specs.Step.{giving_up, give_up, halts_at, may_halt, halts, overrun, looked, loop_word, loop_step, fetched, fetch_step, next_number, step_at, step_of, job_ask_of, job_step, next_job_of}
-use Rattle.blk_back.specs.Sound.{IsMapped}
-use Rattle.blk_back.specs.Hands.{given_up, page_at, hands_at, hands_of}
+use Rattle.blk_back.specs.View.{View, no_page, page_of, slot_page, slot_word}
+use Rattle.blk_back.specs.Ask.{ask_at, ask_of, loop_ask, reply_ask, entry_ask, index_ask, unmap_ask, next_reply, IsAnswer, StaysInPage}
+use Rattle.blk_back.specs.Step.{giving_up, give_up, unbound, bound, other_pages, mapped, attaches, may_attach, attached, halts_at, may_halt, halts, overrun, looked, loop_word, loop_step, fetched, fetch_step, next_number, step_at, step_of, job_ask_of, job_step, next_job_of}
+use Rattle.blk_back.specs.Sound.{IsMapped, IsPlaced, AreWritable, IsSound}
+use Rattle.blk_back.specs.Hands.{given_up, hands_at, hands_of}
+use Rattle.blk_back.proofs.Slots.{slot_within, response_fits}
 
--- what is held while the ring's page is, and nothing is being given up
+-- what is held while nothing is being given up
 abbrev connected : View → List Mapping
-connected v = hands_in v.jobs.works ++ v.page ∷ []
+connected v = hands_in v.jobs.works ++ v.pages
 
 either : (b : Bool) (x y : View) (l : List Mapping) → hands_of x ≡ l → hands_of y ≡ l → hands_of (if b then x else y) ≡ l
 either true x y l p q = p
@@ -40,15 +44,24 @@ either_stage : (b : Bool) (x y : Stage) (v : View) (l : List Mapping) → hands_
 either_stage true x y v l p q = p
 either_stage false x y v l p q = q
 
-given_apart : (m : Option Mapping) (rest : List Mapping) (page : Mapping) → given_up (giving_up m) ++ (rest ++ page_at (giving_up m) page) ≡ (option_to_list m ++ rest) ++ page ∷ []
-given_apart None rest page = refl
-given_apart (Some m) rest page = refl
+given_apart : (m : Option Mapping) (rest pages : List Mapping) → given_up (giving_up m) ++ (rest ++ pages) ≡ (option_to_list m ++ rest) ++ pages
+given_apart None rest pages = refl
+given_apart (Some m) rest pages = refl
+
+-- a back that gives up its pages gives up no other mapping
+none_given : (pages : List Mapping) → given_up (unbound pages) ≡ []
+none_given [] = refl
+none_given (page ∷ pages) = refl
+
+none_given_bound : (pages : List Mapping) → given_up (bound pages) ≡ []
+none_given_bound [] = refl
+none_given_bound (page ∷ pages) = refl
 
 -- to begin to give up the jobs gives up none of what they hold
 give_up_hands : (v : View) → hands_of (give_up v) ≡ connected v
 give_up_hands v =
-    given_apart (first_mapping v.jobs.works) (hands_in (behind_mapping v.jobs.works)) v.page
-    ∙ ap (λ (l : List Mapping). l ++ v.page ∷ []) (behind_hands v.jobs.works)
+    given_apart (first_mapping v.jobs.works) (hands_in (behind_mapping v.jobs.works)) v.pages
+    ∙ ap (λ (l : List Mapping). l ++ v.pages) (behind_hands v.jobs.works)
 
 looked_hands : (v : View) (word : ℕ) (otherwise : View) → hands_of otherwise ≡ connected v → hands_of (looked v word otherwise) ≡ connected v
 looked_hands v word otherwise h =
@@ -63,7 +76,7 @@ loop_word_hands v word =
     refl
 
 loop_hands : (v : View) (r : Option Reply) (given : BackAnswer) → v.stage ≡ stage.Loop → hands_of (loop_step v r given) ≡ connected v
-loop_hands v (Some r) given here = ap (λ (l : List Mapping). l ++ v.page ∷ []) (done_hands v.jobs)
+loop_hands v (Some r) given here = ap (λ (l : List Mapping). l ++ v.pages) (done_hands v.jobs)
 loop_hands v None (answer.Word word) here = loop_word_hands v word
 loop_hands v None given here = ap (λ (s : Stage). hands_at s v) here
 
@@ -75,24 +88,38 @@ either_after false x y given before after p q = q
 loop_after : (v : View) (r : Option Reply) (given : BackAnswer) (before after : List Mapping) → after ≡ before → HandsAfter (loop_ask v r) given before after
 loop_after v (Some r) given before after h = h
 loop_after v None given before after h =
-    either_after v.asleep ask.Wait (if requests_of v.ring v.seen == 0 then ask.Read v.page 0 else ask.Read v.page (slot_word v.ring.cons 0)) given before after h
-    (either_after (requests_of v.ring v.seen == 0) (ask.Read v.page 0) (ask.Read v.page (slot_word v.ring.cons 0)) given before after h h)
+    either_after v.asleep ask.Wait (if requests_of v.ring v.seen == 0 then index_ask v 0 else entry_ask v 0) given before after h
+    (either_after (requests_of v.ring v.seen == 0) (index_ask v 0) (entry_ask v 0) given before after h h)
 
 fetched_hands : (v : View) (k word : ℕ) → hands_of (fetch_step v k word) ≡ connected v
 fetched_hands v k word =
-    either (k == 27) (fetched v (v.entry ++ word ∷ [])) (record v { entry = v.entry ++ word ∷ []; stage = stage.Fetch (k + 1) }) (connected v)
-    (ap (λ (l : List Mapping). l ++ v.page ∷ []) (started_hands v.jobs (next_number v) (request_of X64 (v.entry ++ word ∷ []))))
+    either (k + 1 == entry_words_of v.shape.abi) (fetched v (v.entry ++ word ∷ [])) (record v { entry = v.entry ++ word ∷ []; stage = stage.Fetch (k + 1) }) (connected v)
+    (ap (λ (l : List Mapping). l ++ v.pages) (started_hands v.jobs (next_number v) (request_of v.shape.abi (v.entry ++ word ∷ []))))
     refl
 
--- the page is held last
-page_more : (m : Mapping) (works : List Mapping) → HasOneMore m (works ++ []) (works ++ m ∷ [])
-page_more m works = record { front = works; rest = []; without = refl; with_it = refl }
+-- the pages are held last, in order
+page_more : (m : Mapping) (works pages : List Mapping) → HasOneMore m (works ++ pages) (works ++ (pages ++ m ∷ []))
+page_more m works pages = record { front = works ++ pages; rest = []; without = sym (append-nil (works ++ pages)); with_it = sym (append_assoc works pages (m ∷ [])) }
+
+-- the first of them is given up first
+unmapped_after : (given : BackAnswer) (works pages over : List Mapping) → over ≡ [] → IsAnswer (unmap_ask pages) given → HandsAfter (unmap_ask pages) given (works ++ pages) (over ++ (works ++ other_pages pages))
+unmapped_after given works [] over none h = ap (λ (l : List Mapping). l ++ (works ++ [])) none
+unmapped_after answer.Done works (page ∷ pages) over none h = record { front = works; rest = pages; without = ap (λ (l : List Mapping). l ++ (works ++ pages)) none; with_it = refl }
+unmapped_after given works (page ∷ pages) over none h = absurd h
+
+mapped_hands : (m : Mapping) (v : View) → hands_of (mapped m v) ≡ hands_in v.jobs.works ++ (v.pages ++ m ∷ [])
+mapped_hands m v = either_stage (nat_lt (length v.pages + 1) (length v.grefs)) stage.MapRing stage.Bind (record v { pages = v.pages ++ m ∷ [] }) _ refl refl
+
+-- a mapping that came, whatever the stage after it
+came : (m : Mapping) (before after more : List Mapping) → after ≡ more → HasOneMore m before more → HasOneMore m before after
+came m before after more same h = rw same h
 
 hands_after_at : (s : Stage) (v : View) (given : BackAnswer) → v.stage ≡ s → IsAnswer (ask_at s v) given → HandsAfter (ask_at s v) given (hands_at s v) (hands_of (step_at s v given))
-hands_after_at stage.MapRing v (answer.Mapped m) here h = page_more m (hands_in v.jobs.works)
-hands_after_at stage.MapRing v (answer.MapRefused status) here h = refl
+hands_after_at stage.InitWait v given here h = ap (λ (s : Stage). hands_at s v) here
+hands_after_at stage.MapRing v (answer.Mapped m) here h = came m (connected v) (hands_of (mapped m v)) _ (mapped_hands m v) (page_more m (hands_in v.jobs.works) v.pages)
+hands_after_at stage.MapRing v (answer.MapRefused status) here h = ap (λ (l : List Mapping). l ++ connected v) (none_given v.pages)
 hands_after_at stage.Bind v answer.Done here h = refl
-hands_after_at stage.Bind v answer.BindRefused here h = refl
+hands_after_at stage.Bind v answer.BindRefused here h = ap (λ (l : List Mapping). l ++ connected v) (none_given v.pages)
 hands_after_at stage.Loop v given here h = loop_after v (next_reply v) given (hands_at stage.Loop v) (hands_of (loop_step v (next_reply v) given)) (loop_hands v (next_reply v) given here)
 hands_after_at (stage.Fetch k) v (answer.Word word) here h = fetched_hands v k word
 hands_after_at (stage.ReplyHigh r) v given here h = refl
@@ -105,9 +132,9 @@ hands_after_at stage.StoreEvent v given here h = refl
 hands_after_at stage.EventFence v given here h = refl
 hands_after_at stage.LookAgain v (answer.Word word) here h = looked_hands v word (record v { seen = word; stage = stage.Loop; asleep = true }) refl
 hands_after_at (stage.GiveUp m) v answer.Done here h = record { front = []; rest = connected v; without = give_up_hands v; with_it = refl }
-hands_after_at stage.UnmapRing v answer.Done here h = page_more v.page (hands_in v.jobs.works)
+hands_after_at stage.UnmapRing v given here h = unmapped_after given (hands_in v.jobs.works) v.pages (given_up (bound (other_pages v.pages))) (none_given_bound (other_pages v.pages)) h
 hands_after_at stage.ClosePort v given here h = refl
-hands_after_at stage.UnmapUnbound v answer.Done here h = page_more v.page (hands_in v.jobs.works)
+hands_after_at stage.UnmapUnbound v given here h = unmapped_after given (hands_in v.jobs.works) v.pages (given_up (unbound (other_pages v.pages))) (none_given (other_pages v.pages)) h
 hands_after_at stage.Halted v given here h = ap (λ (s : Stage). hands_at s v) here
 hands_after_at s v given here h = absurd h
 
@@ -120,14 +147,27 @@ pub halted_hands : (why : Halt) (v : View) → hands_of (halts why v) ≡ hands_
 halted_hands why v = either (may_halt why) (halts_at v.stage why v) v (hands_of v) (by_stage v.stage refl) refl
   where
     by_stage : (s : Stage) → v.stage ≡ s → hands_of (halts_at s why v) ≡ hands_of v
-    by_stage stage.MapRing here = ap (λ (s : Stage). hands_at s v) (sym here)
+    by_stage stage.InitWait here = ap (λ (l : List Mapping). l ++ connected v) (none_given v.pages) ∙ ap (λ (s : Stage). hands_at s v) (sym here)
+    by_stage stage.MapRing here = ap (λ (l : List Mapping). l ++ connected v) (none_given v.pages) ∙ ap (λ (s : Stage). hands_at s v) (sym here)
     by_stage stage.Loop here = give_up_hands (record v { halted = Some why }) ∙ ap (λ (s : Stage). hands_at s v) (sym here)
     by_stage s here = refl
+
+-- to take the terms of the front maps nothing
+pub attached_hands : (shape : Shape) (grefs : List ℕ) (port : ℕ) (v : View) → hands_of (attaches shape grefs port v) ≡ hands_of v
+attached_hands shape grefs port v = by_stage v.stage refl
+  where
+    at_once : (b : Bool) → v.stage ≡ stage.InitWait → hands_of (if b then attached shape grefs port v else v) ≡ hands_of v
+    at_once true here = ap (λ (s : Stage). hands_at s v) (sym here)
+    at_once false here = refl
+
+    by_stage : (s : Stage) → v.stage ≡ s → hands_of (attaches shape grefs port v) ≡ hands_of v
+    by_stage stage.InitWait here = at_once (may_attach shape grefs v) here
+    by_stage s here = rw here refl
 
 -- the jobs' hands among all
 framed_job : (a : BackAsk) (v : View) (given : BackAnswer) (number : ℕ) → a ≡ ask_job v.jobs number → IsJobAnswer a given → HandsAfter a given (hands_of v) (hands_of (job_step v number given))
 framed_job a v given number same h =
-    rw same (framed (ask_job v.jobs number) given (given_up v.stage) (page_at v.stage v.page) (hands_in v.jobs.works) (hands_in (job_step v number given).jobs.works)
+    rw same (framed (ask_job v.jobs number) given (given_up v.stage) v.pages (hands_in v.jobs.works) (hands_in (job_step v number given).jobs.works)
     (told_hands v.jobs.works (place_of v.jobs.works number) (work_of v.jobs.works number) given refl (rw same at h)))
 
 job_hands_after_at : (halted : Bool) (v : View) (number : ℕ) (given : BackAnswer) → IsJobAnswer (if halted then ask.Wait else ask_job v.jobs number) given → HandsAfter (if halted then ask.Wait else ask_job v.jobs number) given (hands_of v) (hands_of (job_step v number given))
@@ -138,55 +178,88 @@ job_hands_after_at false v number given h = framed_job (ask_job v.jobs number) v
 pub job_hands_after : (v : View) (number : ℕ) (given : BackAnswer) → IsJobAnswer (job_ask_of v number) given → HandsAfter (job_ask_of v number) given (hands_of v) (hands_of (job_step v number given))
 job_hands_after v number given h = job_hands_after_at (is_some v.halted) v number given h
 
-page_in : (works : List Mapping) (page : Mapping) → Contains (works ++ page ∷ []) page
-page_in works page = Contains-push works page
+page_in : (v : View) (works : List Mapping) (page : ℕ) → page < length v.pages → Contains (works ++ v.pages) (page_of v page)
+page_in v works page within = Contains-append_right works v.pages (page_of v page) (Contains-get_or v.pages page no_page within)
 
-loop_names_at : (asleep new : Bool) (page : Mapping) (works : List Mapping) (word : ℕ) → StaysInPage (if asleep then ask.Wait else (if new then ask.Read page 0 else ask.Read page word)) → Names (works ++ page ∷ []) (if asleep then ask.Wait else (if new then ask.Read page 0 else ask.Read page word))
-loop_names_at true new page works word within = tt
-loop_names_at false true page works word within = (page_in works page, within)
-loop_names_at false false page works word within = (page_in works page, within)
+-- an entry has the word that is read next
+abbrev IsFetched : Stage → Shape → Type 0
+IsFetched (stage.Fetch k) s = k < entry_words_of s.abi
+IsFetched other s = Unit {0}
 
-loop_names : (v : View) (r : Option Reply) → IsMapped stage.Loop v.page → StaysInPage (loop_ask v r) → Names (connected v) (loop_ask v r)
-loop_names v (Some r) mapped within = (page_in (hands_in v.jobs.works) v.page, mapped, within)
-loop_names v None mapped within = loop_names_at v.asleep (requests_of v.ring v.seen == 0) v.page (hands_in v.jobs.works) (slot_word v.ring.cons 0) within
+-- all pages of the ring are mapped, for writing too
+record AreAll (v : View) : Type 0 where
+  pages : length v.pages ≡ 2 ^ v.shape.order
+  writable : AreWritable v.pages
 
-names_at : (s : Stage) (v : View) → IsMapped s v.page → StaysInPage (ask_at s v) → Names (hands_at s v) (ask_at s v)
-names_at stage.Loop v mapped within = loop_names v (next_reply v) mapped within
-names_at (stage.Fetch k) v mapped within = (page_in (hands_in v.jobs.works) v.page, within)
-names_at (stage.ReplyHigh r) v mapped within = (page_in (hands_in v.jobs.works) v.page, mapped, within)
-names_at (stage.ReplyLast r) v mapped within = (page_in (hands_in v.jobs.works) v.page, mapped, within)
-names_at (stage.Producer r) v mapped within = (page_in (hands_in v.jobs.works) v.page, mapped, within)
-names_at (stage.ResponseEvent old) v mapped within = (page_in (hands_in v.jobs.works) v.page, within)
-names_at stage.StoreEvent v mapped within = (page_in (hands_in v.jobs.works) v.page, mapped, within)
-names_at stage.LookAgain v mapped within = (page_in (hands_in v.jobs.works) v.page, within)
-names_at (stage.GiveUp m) v mapped within = (0, omega arith, refl)
-names_at stage.UnmapRing v mapped within = page_in (hands_in v.jobs.works) v.page
-names_at stage.UnmapUnbound v mapped within = page_in (hands_in v.jobs.works) v.page
-names_at s v mapped within = tt
+index_names : (v : View) (works : List Mapping) → AreAll v → Contains (works ++ v.pages) (page_of v 0)
+index_names v works all = let some = pow_pos v.shape.order in page_in v works 0 (omega arith)
+
+index_mode : (v : View) → AreAll v → (page_of v 0).mode ≡ ReadWrite
+index_mode v all = let some = pow_pos v.shape.order in All-get_or (λ (m : Mapping). m.mode ≡ ReadWrite) v.pages 0 no_page (omega arith) all.writable
+
+slot_names : (v : View) (works : List Mapping) (k i : ℕ) → AreAll v → i < entry_words_of v.shape.abi → Contains (works ++ v.pages) (slot_page v k i)
+slot_names v works k i all inside = let below = slot_within v.shape k i inside in page_in v works (slot_word_of v.shape k i).0 (omega arith)
+
+slot_mode : (v : View) (k i : ℕ) → AreAll v → i < entry_words_of v.shape.abi → (slot_page v k i).mode ≡ ReadWrite
+slot_mode v k i all inside = let below = slot_within v.shape k i inside in All-get_or (λ (m : Mapping). m.mode ≡ ReadWrite) v.pages (slot_word_of v.shape k i).0 no_page (omega arith) all.writable
+
+entry_names : (v : View) (i : ℕ) → AreAll v → i < entry_words_of v.shape.abi → StaysInPage (entry_ask v i) → Names (connected v) (entry_ask v i)
+entry_names v i all inside within = (slot_names v (hands_in v.jobs.works) v.ring.cons i all inside, within)
+
+reply_names : (v : View) (r : Reply) (i : ℕ) → AreAll v → i < 3 → StaysInPage (reply_ask v r i) → Names (connected v) (reply_ask v r i)
+reply_names v r i all few within =
+    let inside = response_fits v.shape.abi i few in
+    (slot_names v (hands_in v.jobs.works) v.ring.prod i all inside, slot_mode v v.ring.prod i all inside, within)
+
+loop_names_at : (v : View) (asleep new : Bool) → AreAll v → StaysInPage (if asleep then ask.Wait else (if new then index_ask v 0 else entry_ask v 0)) → Names (connected v) (if asleep then ask.Wait else (if new then index_ask v 0 else entry_ask v 0))
+loop_names_at v true new all within = tt
+loop_names_at v false true all within = (index_names v (hands_in v.jobs.works) all, within)
+loop_names_at v false false all within = entry_names v 0 all (response_fits v.shape.abi 0 (omega arith)) within
+
+loop_names : (v : View) (r : Option Reply) → AreAll v → StaysInPage (loop_ask v r) → Names (connected v) (loop_ask v r)
+loop_names v (Some r) all within = reply_names v r 0 all (omega arith) within
+loop_names v None all within = loop_names_at v v.asleep (requests_of v.ring v.seen == 0) all within
+
+-- the first page that is still mapped is held
+first_in : (works pages : List Mapping) → Names (works ++ pages) (unmap_ask pages)
+first_in works [] = tt
+first_in works (page ∷ pages) = Contains-append_right works (page ∷ pages) page (0, omega arith, refl)
+
+names_at : (s : Stage) (v : View) → IsMapped s v.shape.order v.grefs v.pages → AreWritable v.pages → IsFetched s v.shape → StaysInPage (ask_at s v) → Names (hands_at s v) (ask_at s v)
+names_at stage.Loop v kept writable fetched within = loop_names v (next_reply v) (record { pages = kept; writable = writable }) within
+names_at (stage.Fetch k) v kept writable fetched within = entry_names v k (record { pages = kept; writable = writable }) fetched within
+names_at (stage.ReplyHigh r) v kept writable fetched within = reply_names v r 1 (record { pages = kept; writable = writable }) (omega arith) within
+names_at (stage.ReplyLast r) v kept writable fetched within = reply_names v r 2 (record { pages = kept; writable = writable }) (omega arith) within
+names_at (stage.Producer r) v kept writable fetched within = (index_names v (hands_in v.jobs.works) (record { pages = kept; writable = writable }), index_mode v (record { pages = kept; writable = writable }), within)
+names_at (stage.ResponseEvent old) v kept writable fetched within = (index_names v (hands_in v.jobs.works) (record { pages = kept; writable = writable }), within)
+names_at stage.StoreEvent v kept writable fetched within = (index_names v (hands_in v.jobs.works) (record { pages = kept; writable = writable }), index_mode v (record { pages = kept; writable = writable }), within)
+names_at stage.LookAgain v kept writable fetched within = (index_names v (hands_in v.jobs.works) (record { pages = kept; writable = writable }), within)
+names_at (stage.GiveUp m) v kept writable fetched within = (0, omega arith, refl)
+names_at stage.UnmapRing v kept writable fetched within = first_in (hands_in v.jobs.works) v.pages
+names_at stage.UnmapUnbound v kept writable fetched within = first_in (hands_in v.jobs.works) v.pages
+names_at s v kept writable fetched within = tt
+
+fetched_of : (s : Stage) (shape : Shape) (words waiting : ℕ) → IsPlaced s shape words waiting → IsFetched s shape
+fetched_of (stage.Fetch k) shape words waiting placed = placed.0
+fetched_of s shape words waiting placed = tt
 
 -- the back names only what is held
-pub names_of : (v : View) → IsMapped v.stage v.page → StaysInPage (ask_of v) → Names (hands_of v) (ask_of v)
-names_of v mapped within = names_at v.stage v mapped within
+pub names_of : (v : View) → IsSound v → StaysInPage (ask_of v) → Names (hands_of v) (ask_of v)
+names_of v sound within = names_at v.stage v sound.mapped sound.writable (fetched_of v.stage v.shape _ _ sound.placed) within
 
 -- so does a job
 pub job_names : (v : View) (a : BackAsk) → Names (hands_in v.jobs.works) a → Names (hands_of v) a
-job_names v a names = named_among a (given_up v.stage) (page_at v.stage v.page) (hands_in v.jobs.works) names
+job_names v a names = named_among a (given_up v.stage) v.pages (hands_in v.jobs.works) names
 
 few_given_up : (s : Stage) → length (given_up s) ≤ 1
 few_given_up (stage.GiveUp m) = omega arith
 few_given_up s = omega arith
 
-few_pages : (s : Stage) (page : Mapping) → length (page_at s page) ≤ 1
-few_pages stage.MapRing page = omega arith
-few_pages stage.ClosePort page = omega arith
-few_pages stage.Halted page = omega arith
-few_pages s page = omega arith
-
--- one in each job's hand, the page, and one that is being given up
-pub few_hands : (v : View) → length v.jobs.works ≤ 32 → length (hands_of v) ≤ 34
-few_hands v few =
-    let given = few_given_up v.stage in let page = few_pages v.stage v.page in let hands = few_in_hands v.jobs.works in
-    rw (length-append (given_up v.stage) (hands_in v.jobs.works ++ page_at v.stage v.page), length-append (hands_in v.jobs.works) (page_at v.stage v.page)) (omega arith)
+-- one in each job's hand, the pages, and one that is being given up
+pub few_hands : (v : View) → IsSound v → length (hands_of v) ≤ 529
+few_hands v sound =
+    let given = few_given_up v.stage in let pages = sound.few_pages in let few = sound.few in let hands = few_in_hands v.jobs.works in
+    rw (length-append (given_up v.stage) (hands_in v.jobs.works ++ v.pages), length-append (hands_in v.jobs.works) v.pages) (omega arith)
 
 either_info : (b : Bool) (x y : View) (info : DiskInfo) → x.jobs.info ≡ info → y.jobs.info ≡ info → (if b then x else y).jobs.info ≡ info
 either_info true x y info p q = p
@@ -206,12 +279,13 @@ loop_info v None (answer.Word word) =
 loop_info v None given = refl
 
 step_info_at : (s : Stage) (v : View) (given : BackAnswer) → (step_at s v given).jobs.info ≡ v.jobs.info
+step_info_at stage.InitWait v given = refl
 step_info_at stage.MapRing v (answer.Mapped m) = refl
 step_info_at stage.MapRing v (answer.MapRefused status) = refl
 step_info_at stage.Bind v answer.Done = refl
 step_info_at stage.Bind v answer.BindRefused = refl
 step_info_at stage.Loop v given = loop_info v (next_reply v) given
-step_info_at (stage.Fetch k) v (answer.Word word) = either_info (k == 27) (fetched v (v.entry ++ word ∷ [])) (record v { entry = v.entry ++ word ∷ []; stage = stage.Fetch (k + 1) }) v.jobs.info refl refl
+step_info_at (stage.Fetch k) v (answer.Word word) = either_info (k + 1 == entry_words_of v.shape.abi) (fetched v (v.entry ++ word ∷ [])) (record v { entry = v.entry ++ word ∷ []; stage = stage.Fetch (k + 1) }) v.jobs.info refl refl
 step_info_at (stage.ReplyHigh r) v given = refl
 step_info_at (stage.ReplyLast r) v given = refl
 step_info_at (stage.Producer r) v given = refl

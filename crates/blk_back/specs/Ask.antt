@@ -1,6 +1,7 @@
 -- What the back asks.
-use Rattle.std.specs.Prelude.{◌≡◌, ℕ, ◌<◌, Bool, true, false, ◌&&◌, length, Option, Some, None, option_and_then, if◌then◌else◌, ◌==◌, slice_index}
+use Rattle.std.specs.Prelude.{◌≡◌, ℕ, ◌<◌, Bool, true, false, not, ◌&&◌, List, [], ◌∷◌, length, Option, Some, None, option_and_then, if◌then◌else◌, ◌==◌, slice_index, slice_index_or}
 use Rattle.blk_base.specs.declared.operation.Status.{Status}
+use Rattle.blk_base.specs.declared.parts.Mapping.{Mapping}
 use Rattle.blk_base.specs.declared.parts.Mode.TheVariants.{ReadWrite}
 use Rattle.blk_base.specs.declared.ask.BackAsk.{BackAsk}
 use Rattle.blk_base.specs.declared.ask.BackAsk.TheVariants.{Wait, Fence, Read, Write, Map, Unmap, Bind, Send, ClosePort}
@@ -12,7 +13,7 @@ use Rattle.back_jobs.specs.Jobs.{done_of, response_of}
 use Rattle.blk_back.specs.declared.stage.Reply.{Reply}
 use Rattle.blk_back.specs.declared.stage.Stage.{Stage}
 use Rattle.blk_back.specs.declared.stage.Stage.TheVariants as stage
-use Rattle.blk_back.specs.View.{View, slot_word}
+use Rattle.blk_back.specs.View.{View, page_of, slot_page, slot_word}
 
 -- the response to the lowest job that is done
 abbrev pub reply_of : Option (ℕ × ℕ × ℕ × Status) → Option Reply
@@ -27,35 +28,51 @@ response_word r i = slice_index (response_words_of (record { id = r.id; op = r.o
 
 -- a word of the next response is written
 abbrev pub reply_ask : View → Reply → ℕ → BackAsk
-reply_ask v r i = Write v.page (slot_word v.ring.prod i) (response_word r i)
+reply_ask v r i = Write (slot_page v v.ring.prod i) (slot_word v.shape v.ring.prod i) (response_word r i)
+
+-- a word of the next entry is read, and one of the words that both ends share
+abbrev pub entry_ask : View → ℕ → BackAsk
+entry_ask v i = Read (slot_page v v.ring.cons i) (slot_word v.shape v.ring.cons i)
+
+abbrev pub index_ask : View → ℕ → BackAsk
+index_ask v word = Read (page_of v 0) word
+
+-- the reference of the page that is mapped next
+abbrev pub next_gref : View → ℕ
+next_gref v = slice_index_or v.grefs (length v.pages) 0
 
 -- in the loop: a reply to what is done; else sleep; else the next entry; else the requests' producer
 abbrev pub loop_ask : View → Option Reply → BackAsk
 loop_ask v (Some r) = reply_ask v r 0
 loop_ask v None =
     if v.asleep then Wait
-    else (if requests_of v.ring v.seen == 0 then Read v.page 0
-    else Read v.page (slot_word v.ring.cons 0))
+    else (if requests_of v.ring v.seen == 0 then index_ask v 0
+    else entry_ask v 0)
 
--- reference 8 is that of the ring's frame; the front's port is its first
+-- the first page of the ring that is still mapped is unmapped
+abbrev pub unmap_ask : List Mapping → BackAsk
+unmap_ask [] = Wait
+unmap_ask (page ∷ pages) = Unmap page
+
 abbrev pub ask_at : Stage → View → BackAsk
-ask_at stage.MapRing v = Map 8 ReadWrite
-ask_at stage.Bind v = Bind 1
+ask_at stage.InitWait v = Wait
+ask_at stage.MapRing v = Map (next_gref v) ReadWrite
+ask_at stage.Bind v = Bind v.port
 ask_at stage.Loop v = loop_ask v (next_reply v)
-ask_at (stage.Fetch k) v = Read v.page (slot_word v.ring.cons k)
+ask_at (stage.Fetch k) v = entry_ask v k
 ask_at (stage.ReplyHigh r) v = reply_ask v r 1
 ask_at (stage.ReplyLast r) v = reply_ask v r 2
-ask_at (stage.Producer r) v = Write v.page 2 (next_of v.ring.prod)
+ask_at (stage.Producer r) v = Write (page_of v 0) 2 (next_of v.ring.prod)
 ask_at (stage.ProducerFence old) v = Fence
-ask_at (stage.ResponseEvent old) v = Read v.page 3
+ask_at (stage.ResponseEvent old) v = index_ask v 3
 ask_at stage.Send v = Send
-ask_at stage.StoreEvent v = Write v.page 1 (next_of v.ring.cons)
+ask_at stage.StoreEvent v = Write (page_of v 0) 1 (next_of v.ring.cons)
 ask_at stage.EventFence v = Fence
-ask_at stage.LookAgain v = Read v.page 0
+ask_at stage.LookAgain v = index_ask v 0
 ask_at (stage.GiveUp m) v = Unmap m
-ask_at stage.UnmapRing v = Unmap v.page
+ask_at stage.UnmapRing v = unmap_ask v.pages
 ask_at stage.ClosePort v = ClosePort
-ask_at stage.UnmapUnbound v = Unmap v.page
+ask_at stage.UnmapUnbound v = unmap_ask v.pages
 ask_at stage.Halted v = Wait
 
 abbrev pub ask_of : View → BackAsk
@@ -77,7 +94,7 @@ IsAnswer Send answer.Done = Unit {0}
 IsAnswer ClosePort answer.Done = Unit {0}
 IsAnswer ask a = ⊥
 
--- an ask on memory names a word of the page
+-- an ask on memory names a word of a page
 abbrev pub StaysInPage : BackAsk → Type 0
 StaysInPage (Read m word) = word < 1024
 StaysInPage (Write m word value) = word < 1024
@@ -92,6 +109,11 @@ is_wait ask = false
 abbrev pub is_waiting : View → Bool
 is_waiting v = is_wait (ask_of v)
 
--- and no job is held
+-- it waits for its negotiation
+abbrev pub is_led : Stage → Bool
+is_led stage.InitWait = true
+is_led s = false
+
+-- a back that doesn't wait for its negotiation waits for an event, and no job is held
 abbrev pub is_idle : View → Bool
-is_idle v = is_waiting v && length v.jobs.works == 0
+is_idle v = not (is_led v.stage) && is_waiting v && length v.jobs.works == 0

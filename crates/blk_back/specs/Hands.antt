@@ -11,16 +11,9 @@ abbrev pub given_up : Stage → List Mapping
 given_up (stage.GiveUp m) = m ∷ []
 given_up s = []
 
--- the ring's page, from its mapping until it is given up
-abbrev pub page_at : Stage → Mapping → List Mapping
-page_at stage.MapRing page = []
-page_at stage.ClosePort page = []
-page_at stage.Halted page = []
-page_at s page = page ∷ []
-
 abbrev pub hands_at : Stage → View → List Mapping
-hands_at s v = given_up s ++ (hands_in v.jobs.works ++ page_at s v.page)
+hands_at s v = given_up s ++ (hands_in v.jobs.works ++ v.pages)
 
--- the one being given up, then those in the jobs' hands, then the ring's page
+-- the one being given up, then those in the jobs' hands, then the ring's pages
 abbrev pub hands_of : View → List Mapping
 hands_of v = hands_at v.stage v

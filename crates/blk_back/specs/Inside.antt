@@ -8,7 +8,10 @@ view_of b = record {
   stage = b.stage;
   asleep = b.asleep;
   seen = b.seen;
-  page = b.page;
+  shape = record { abi = b.abi; order = b.order };
+  grefs = b.grefs.items;
+  port = b.port;
+  pages = b.pages.items;
   entry = b.entry.items;
   fetched = b.fetched;
   jobs = b.jobs;

@@ -1,19 +1,21 @@
 -- What is true of the back at every moment.
-use Rattle.std.specs.Prelude.{◌≡◌, ℕ, ◌+◌, ◌<◌, ◌≤◌, length}
+use Rattle.std.specs.Prelude.{◌≡◌, ℕ, ◌+◌, ◌^◌, ◌<◌, ◌≤◌, length, List, All}
 use Rattle.blk_base.specs.Distance.{distance_of}
 use Rattle.blk_base.specs.declared.parts.Mapping.{Mapping}
 use Rattle.blk_base.specs.declared.parts.Mode.TheVariants.{ReadWrite}
+use Rattle.ring_words.specs.Shape.{Shape, entries_of, entry_words_of}
 use Rattle.blk_back.specs.declared.stage.Stage.{Stage}
 use Rattle.blk_back.specs.declared.stage.Stage.TheVariants as stage
 use Rattle.blk_back.specs.View.{View}
 
 -- a fetch has read as many words as it says, fewer than an entry has, and there is room for its job
-abbrev pub IsPlaced : Stage → ℕ → ℕ → Type 0
-IsPlaced (stage.Fetch k) words waiting = (k < 28) × (words ≡ k) × (waiting < 32)
-IsPlaced s words waiting = Unit {0}
+abbrev pub IsPlaced : Stage → Shape → ℕ → ℕ → Type 0
+IsPlaced (stage.Fetch k) s words waiting = (k < entry_words_of s.abi) × (words ≡ k) × (waiting < entries_of s.order)
+IsPlaced stage s words waiting = Unit {0}
 
 -- each request that was fetched and not replied to is a job's, or is being replied to
 abbrev pub IsCounted : Stage → ℕ → ℕ → Type 0
+IsCounted stage.InitWait works waiting = works ≡ 0
 IsCounted (stage.ReplyHigh r) works waiting = works + 1 ≡ waiting
 IsCounted (stage.ReplyLast r) works waiting = works + 1 ≡ waiting
 IsCounted (stage.Producer r) works waiting = works + 1 ≡ waiting
@@ -24,18 +26,28 @@ IsCounted stage.UnmapUnbound works waiting = Unit {0}
 IsCounted stage.Halted works waiting = Unit {0}
 IsCounted s works waiting = works ≡ waiting
 
--- while the ring's page is held, it is mapped for writing too
-abbrev pub IsMapped : Stage → Mapping → Type 0
-IsMapped stage.MapRing page = Unit {0}
-IsMapped stage.ClosePort page = Unit {0}
-IsMapped stage.Halted page = Unit {0}
-IsMapped s page = page.mode ≡ ReadWrite
+-- the pages that are mapped: none before the terms are known and after all were given up, all while the port is bound
+abbrev pub IsMapped : Stage → ℕ → List ℕ → List Mapping → Type 0
+IsMapped stage.InitWait order grefs pages = length pages ≡ 0
+IsMapped stage.MapRing order grefs pages = (length grefs ≡ 2 ^ order) × (length pages < 2 ^ order)
+IsMapped stage.UnmapRing order grefs pages = 0 < length pages
+IsMapped stage.UnmapUnbound order grefs pages = 0 < length pages
+IsMapped stage.ClosePort order grefs pages = length pages ≡ 0
+IsMapped stage.Halted order grefs pages = length pages ≡ 0
+IsMapped s order grefs pages = length pages ≡ 2 ^ order
+
+-- for writing too
+abbrev pub AreWritable : List Mapping → Type 0
+AreWritable pages = All (λ (m : Mapping). m.mode ≡ ReadWrite) pages
 
 pub record IsSound (v : View) : Type 0 where
-  pub entries : v.ring.entries ≡ 32
-  pub room : v.jobs.room ≡ 32
-  pub within : distance_of v.ring.prod v.ring.cons ≤ 32
-  pub placed : IsPlaced v.stage (length v.entry) (distance_of v.ring.prod v.ring.cons)
+  pub order : v.shape.order ≤ 4
+  pub entries : v.ring.entries ≡ entries_of v.shape.order
+  pub room : v.jobs.room ≡ entries_of 4
+  pub within : distance_of v.ring.prod v.ring.cons ≤ entries_of v.shape.order
+  pub placed : IsPlaced v.stage v.shape (length v.entry) (distance_of v.ring.prod v.ring.cons)
   pub counted : IsCounted v.stage (length v.jobs.works) (distance_of v.ring.prod v.ring.cons)
-  pub mapped : IsMapped v.stage v.page
-  pub few : length v.jobs.works ≤ 32
+  pub mapped : IsMapped v.stage v.shape.order v.grefs v.pages
+  pub writable : AreWritable v.pages
+  pub few_pages : length v.pages ≤ 16
+  pub few : length v.jobs.works ≤ entries_of 4

@@ -1,11 +1,11 @@
 -- What an answer makes of the back, and of one of its jobs.
-use Rattle.std.specs.Prelude.{ℕ, ◌+◌, ◌%◌, ◌^◌, Bool, true, false, List, [], ◌∷◌, ◌++◌, Option, Some, None, is_some, if◌then◌else◌, ◌==◌}
-use Rattle.blk_base.specs.declared.operation.Abi.TheVariants.{X64}
+use Rattle.std.specs.Prelude.{ℕ, ◌+◌, ◌%◌, ◌^◌, Bool, true, false, ◌&&◌, List, [], ◌∷◌, ◌++◌, length, Option, Some, None, is_some, if◌then◌else◌, ◌==◌, nat_lt, nat_le}
 use Rattle.blk_base.specs.declared.parts.Mapping.{Mapping}
 use Rattle.blk_base.specs.declared.ask.BackAsk.{BackAsk}
 use Rattle.blk_base.specs.declared.ask.BackAsk.TheVariants as ask
 use Rattle.blk_base.specs.declared.ask.BackAnswer.{BackAnswer}
 use Rattle.blk_base.specs.declared.ask.BackAnswer.TheVariants.{Event, Done, Word, Mapped, MapRefused, BindRefused}
+use Rattle.ring_words.specs.Shape.{Shape, entries_of, entry_words_of}
 use Rattle.ring_words.specs.Ring.{next_of, requests_of, overruns, notifies}
 use Rattle.blk_layout.specs.Entry.{request_of}
 use Rattle.back_jobs.specs.declared.effect.Effect.{Effect}
@@ -18,7 +18,7 @@ use Rattle.blk_back.specs.declared.told.BackTold.TheVariants as told
 use Rattle.blk_back.specs.declared.told.Halt.{Halt}
 use Rattle.blk_back.specs.declared.told.Halt.TheVariants as halt
 use Rattle.blk_back.specs.View.{View}
-use Rattle.blk_back.specs.Ask.{next_reply}
+use Rattle.blk_back.specs.Ask.{is_led, next_reply, next_gref}
 
 abbrev pub at : Stage → View → View
 at s v = record v { stage = s }
@@ -32,9 +32,15 @@ giving_up (Some m) = stage.GiveUp m
 abbrev pub give_up : View → View
 give_up v = record v { stage = giving_up (first_mapping v.jobs.works); jobs = record v.jobs { works = behind_mapping v.jobs.works } }
 
--- where no step is begun the negotiation may have the back halt: before the ring is mapped nothing has to be given up
+-- a back whose port isn't bound gives up the pages that it has mapped
+abbrev pub unbound : List Mapping → Stage
+unbound [] = stage.Halted
+unbound (page ∷ pages) = stage.UnmapUnbound
+
+-- where no step is begun the negotiation may have the back halt
 abbrev pub halts_at : Stage → Halt → View → View
-halts_at stage.MapRing why v = record v { halted = Some why; stage = stage.Halted }
+halts_at stage.InitWait why v = record v { halted = Some why; stage = unbound v.pages }
+halts_at stage.MapRing why v = record v { halted = Some why; stage = unbound v.pages }
 halts_at stage.Loop why v = give_up (record v { halted = Some why })
 halts_at s why v = v
 
@@ -45,6 +51,22 @@ may_halt why = true
 
 abbrev pub halts : Halt → View → View
 halts why v = if may_halt why then halts_at v.stage why v else v
+
+-- where it waits for the terms of its front they are a shape, a reference for each page, and a port
+abbrev pub may_attach : Shape → List ℕ → View → Bool
+may_attach shape grefs v = is_led v.stage && nat_le shape.order 4 && length grefs == 2 ^ shape.order
+
+abbrev pub attached : Shape → List ℕ → ℕ → View → View
+attached shape grefs port v = record v {
+  shape = shape;
+  grefs = grefs;
+  port = port;
+  ring = record { entries = entries_of shape.order; prod = v.ring.prod; cons = v.ring.prod };
+  stage = stage.MapRing;
+}
+
+abbrev pub attaches : Shape → List ℕ → ℕ → View → View
+attaches shape grefs port v = if may_attach shape grefs v then attached shape grefs port v else v
 
 -- the back halts: it serves nothing more
 abbrev pub overrun : View → ℕ → View
@@ -79,13 +101,13 @@ fetched v words = record v {
   entry = words;
   fetched = next_number v;
   ring = record v.ring { cons = next_of v.ring.cons };
-  jobs = start_job v.jobs (next_number v) (request_of X64 words);
+  jobs = start_job v.jobs (next_number v) (request_of v.shape.abi words);
   stage = stage.Loop;
 }
 
 abbrev pub fetch_step : View → ℕ → ℕ → View
 fetch_step v k word =
-    if k == 27 then fetched v (v.entry ++ word ∷ [])
+    if k + 1 == entry_words_of v.shape.abi then fetched v (v.entry ++ word ∷ [])
     else record v { entry = v.entry ++ word ∷ []; stage = stage.Fetch (k + 1) }
 
 -- the reply is pushed
@@ -96,11 +118,30 @@ replied v r = record v {
   told = Some (told.Reply r.id r.status);
 }
 
+-- a page of the ring was mapped: the next one is, or the port is bound
+abbrev pub mapped : Mapping → View → View
+mapped page v = record v { pages = v.pages ++ page ∷ []; stage = if nat_lt (length v.pages + 1) (length v.grefs) then stage.MapRing else stage.Bind }
+
+-- the first page that is still mapped was unmapped: the next one is, or none is left
+abbrev pub other_pages : List Mapping → List Mapping
+other_pages [] = []
+other_pages (page ∷ pages) = pages
+
+abbrev pub bound : List Mapping → Stage
+bound [] = stage.ClosePort
+bound (page ∷ pages) = stage.UnmapRing
+
+abbrev pub unmapped_bound : View → View
+unmapped_bound v = record v { pages = other_pages v.pages; stage = bound (other_pages v.pages) }
+
+abbrev pub unmapped_unbound : View → View
+unmapped_unbound v = record v { pages = other_pages v.pages; stage = unbound (other_pages v.pages) }
+
 abbrev pub step_at : Stage → View → BackAnswer → View
-step_at stage.MapRing v (Mapped m) = record v { page = m; stage = stage.Bind }
-step_at stage.MapRing v (MapRefused status) = record v { halted = Some (halt.MapRefused 8 status); stage = stage.Halted }
+step_at stage.MapRing v (Mapped m) = mapped m v
+step_at stage.MapRing v (MapRefused status) = record v { halted = Some (halt.MapRefused (next_gref v) status); stage = unbound v.pages }
 step_at stage.Bind v Done = at stage.Loop v
-step_at stage.Bind v BindRefused = record v { halted = Some (halt.BadPort 1); stage = stage.UnmapUnbound }
+step_at stage.Bind v BindRefused = record v { halted = Some (halt.BadPort v.port); stage = unbound v.pages }
 step_at stage.Loop v answer = loop_step v (next_reply v) answer
 step_at (stage.Fetch k) v (Word word) = fetch_step v k word
 step_at (stage.ReplyHigh r) v answer = at (stage.ReplyLast r) v
@@ -113,9 +154,9 @@ step_at stage.StoreEvent v answer = at stage.EventFence v
 step_at stage.EventFence v answer = at stage.LookAgain v
 step_at stage.LookAgain v (Word word) = looked v word (record v { seen = word; stage = stage.Loop; asleep = true })
 step_at (stage.GiveUp m) v answer = give_up v
-step_at stage.UnmapRing v answer = at stage.ClosePort v
+step_at stage.UnmapRing v answer = unmapped_bound v
 step_at stage.ClosePort v answer = at stage.Halted v
-step_at stage.UnmapUnbound v answer = at stage.Halted v
+step_at stage.UnmapUnbound v answer = unmapped_unbound v
 step_at s v answer = v
 
 abbrev pub step_of : View → BackAnswer → View

@@ -1,11 +1,11 @@
 -- What contracts see of the back.
-use Rattle.std.specs.Prelude.{ℕ, Bool, false, List, [], Option, None}
+use Rattle.std.specs.Prelude.{ℕ, Bool, false, List, [], slice_index_or, Option, None}
 use Rattle.blk_base.specs.Options.{Options}
 use Rattle.blk_base.specs.declared.operation.Abi.TheVariants.{X64}
 use Rattle.blk_base.specs.declared.parts.Mapping.{Mapping}
 use Rattle.blk_base.specs.declared.parts.Mode.TheVariants.{ReadOnly}
 use Rattle.ring_words.specs.Ring.{Ring}
-use Rattle.ring_words.specs.Shape.{Shape, slot_word_of}
+use Rattle.ring_words.specs.Shape.{Shape, entries_of, slot_word_of}
 use Rattle.segment_list.specs.declared.verdict.DiskInfo.{DiskInfo}
 use Rattle.back_jobs.specs.Jobs.{Held, none_held}
 use Rattle.blk_back.specs.declared.stage.Stage.{Stage}
@@ -13,46 +13,57 @@ use Rattle.blk_back.specs.declared.stage.Stage.TheVariants as stage
 use Rattle.blk_back.specs.declared.told.BackTold.{BackTold}
 use Rattle.blk_back.specs.declared.told.Halt.{Halt}
 
--- The back: its own indices and what it does; whether it sleeps; the requests' producer as last read; the ring's page; the words of the entry being copied; how many requests it fetched in this epoch; its jobs; what is to be told; and why it halted.
+-- The back: its own indices and what it does; whether it sleeps; the requests' producer as last read; the shape of its ring, the references of the ring's pages and the front's port, as its negotiation read them; the pages that it has mapped; the words of the entry being copied; how many requests it fetched in this epoch; its jobs; what is to be told; and why it halted.
 pub record View : Type 0 where
   pub ring : Ring
   pub stage : Stage
   pub asleep : Bool
   pub seen : ℕ
-  pub page : Mapping
+  pub shape : Shape
+  pub grefs : List ℕ
+  pub port : ℕ
+  pub pages : List Mapping
   pub entry : List ℕ
   pub fetched : ℕ
   pub jobs : Held
   pub told : Option BackTold
   pub halted : Option Halt
 
--- a ring of one page under the layout of 64-bit guests
-abbrev pub shape : Shape
-shape = record { abi = X64; order = 0 }
-
--- the word of the ring's page that word i of the entry of index k is
-abbrev pub slot_word : ℕ → ℕ → ℕ
-slot_word k i = (slot_word_of shape k i).1
-
--- no page is mapped yet
+-- the ring's page of this number, and the word in its page that word i of the entry of index k is
 abbrev pub no_page : Mapping
 no_page = record { number = 0; gref = 0; mode = ReadOnly }
+
+abbrev pub page_of : View → ℕ → Mapping
+page_of v page = slice_index_or v.pages page no_page
+
+abbrev pub slot_page : View → ℕ → ℕ → Mapping
+slot_page v k i = page_of v (slot_word_of v.shape k i).0
+
+abbrev pub slot_word : Shape → ℕ → ℕ → ℕ
+slot_word s k i = (slot_word_of s k i).1
 
 -- the disk as this back publishes it: no barriers, flushes, discards or indirect requests
 abbrev pub info_of : Options → DiskInfo
 info_of config = record { sectors = config.sectors; read_only = config.read_only; barrier = false; flush = false; discard = false; max_indirect = 0 }
 
--- a back that maps the ring next
+-- the shape of a ring that isn't known yet
+abbrev pub no_shape : Shape
+no_shape = record { abi = X64; order = 0 }
+
+-- a back that waits for the terms of its front
 abbrev pub start_of : Options → View
 start_of config = record {
-  ring = record { entries = 32; prod = config.start; cons = config.start };
-  stage = stage.MapRing;
+  ring = record { entries = entries_of 0; prod = config.start; cons = config.start };
+  stage = stage.InitWait;
   asleep = false;
   seen = config.start;
-  page = no_page;
+  shape = no_shape;
+  grefs = [];
+  port = 0;
+  pages = [];
   entry = [];
   fetched = 0;
-  jobs = none_held 32 (info_of config);
+  jobs = none_held (entries_of 4) (info_of config);
   told = None;
   halted = None;
 }

@@ -1,8 +1,9 @@
 // The back end.
 ghost use Rattle.std.specs.Prelude.{◌≡◌, ◌<◌, ◌≤◌, IfOk, IsOk, IsErr, OnErr, None, length};
-ghost use Rattle.blk_back.specs.View.{start_of, slot_word};
-ghost use Rattle.blk_back.specs.Ask.{ask_of, loop_ask, reply_ask, next_reply, response_word, IsAnswer, StaysInPage};
-ghost use Rattle.blk_back.specs.Step.{step_of, step_at, job_step};
+ghost use Rattle.ring_words.specs.Shape.{entry_words_of};
+ghost use Rattle.blk_back.specs.View.{start_of, page_of, slot_page, slot_word};
+ghost use Rattle.blk_back.specs.Ask.{ask_of, loop_ask, reply_ask, entry_ask, index_ask, unmap_ask, next_gref, next_reply, response_word, IsAnswer, StaysInPage};
+ghost use Rattle.blk_back.specs.Step.{step_of, step_at, job_step, attaches};
 ghost use Rattle.blk_back.specs.Hands.{hands_of};
 ghost use Rattle.blk_base.specs.declared.parts.Mode.TheVariants.{ReadWrite};
 ghost use Rattle.back_jobs.specs.Hands.{Names, HandsAfter};
@@ -23,15 +24,19 @@ use segment_list::DiskInfo;
 use std::alloc::Global;
 use std::marker::Model;
 
-/// The back end of a ring of one page under the layout of 64-bit guests. Its jobs move apart from
-/// it. After `new` it takes no memory.
+/// The back end of a ring, of the shape that its front's terms say (`attach`). Its jobs move apart from it.
+/// After `new` it takes no memory.
 #[derive(Drop)]
 pub struct Back {
     ring: BackRing,
     stage: Stage,
     asleep: bool,
     seen: u32,
-    page: Mapping,
+    abi: Abi,
+    order: u32,
+    grefs: ArrayVec<u32, 16>,
+    port: u32,
+    pages: ArrayVec<Mapping, 16>,
     entry: ArrayVec<u32, 28>,
     fetched: u64,
     jobs: Jobs,
@@ -52,11 +57,13 @@ impl Model for Back {
 }
 
 impl Back {
-    /// A back that maps the ring first. It fails only where there is not enough memory.
+    /// A back that waits for the terms of its front, with room for the jobs of the largest ring. It
+    /// fails only where there is not enough memory.
     pub fn new(alloc: Global, config: &Config) -> Result<Back, OutOfMemory>
         ensures { IfOk result (λ back. back ≡ start_of config.now) }
     {
         let shape = RingShape::of(Abi::X64, 0);
+        let largest = RingShape::of(Abi::X64, 4);
         let info = DiskInfo {
             sectors: config.sectors,
             read_only: config.read_only,
@@ -65,13 +72,17 @@ impl Back {
             discard: false,
             max_indirect: 0,
         };
-        let jobs = Jobs::reserve(alloc, shape, info)?;
+        let jobs = Jobs::reserve(alloc, largest, info)?;
         Ok(Back {
             ring: BackRing::attach(shape, config.start),
-            stage: Stage::MapRing,
+            stage: Stage::InitWait,
             asleep: false,
             seen: config.start,
-            page: Mapping::default(),
+            abi: Abi::X64,
+            order: 0,
+            grefs: ArrayVec::new(),
+            port: 0,
+            pages: ArrayVec::new(),
             entry: ArrayVec::new(),
             fetched: 0,
             jobs,
@@ -103,32 +114,51 @@ impl Back {
         if self.asleep {
             BackAsk::Wait
         } else if self.ring.unconsumed(self.seen) == 0 {
-            self.read(REQ_PROD)
+            self.read_index(REQ_PROD)
         } else {
             self.read_entry(0)
         }
     }
 
-    // Reads a word of the ring's page.
-    fn read(&self, word: u32) -> BackAsk<'_>
+    // The shape of its ring.
+    #[inline(always)]
+    pub(super) fn shape(&self) -> RingShape
+        ensures { result ≡ self.now.shape }
+    {
+        RingShape::of(self.abi, self.order)
+    }
+
+    // The ring's page of this number.
+    #[inline(always)]
+    fn page(&self, page: u32) -> Mapping
+        ensures { result ≡ page_of self.now page }
+    {
+        match self.pages.as_slice().get(page as usize) {
+            Some(mapping) => *mapping,
+            None => Mapping::default(),
+        }
+    }
+
+    // Reads a word of the ring's first page, of those that both ends share.
+    fn read_index(&self, word: u32) -> BackAsk<'_>
         requires { word < 1024 }
-        ensures value { result ≡ BackAsk.Read self.now.page word }
+        ensures value { result ≡ index_ask self.now word }
         ensures within { StaysInPage result }
     {
         BackAsk::Read {
-            mapping: self.page,
+            mapping: self.page(0),
             word,
         }
     }
 
-    // Writes a word of the ring's page.
-    fn write(&self, word: u32, value: u32) -> BackAsk<'_>
+    // Writes a word of the ring's first page.
+    fn write_index(&self, word: u32, value: u32) -> BackAsk<'_>
         requires { word < 1024 }
-        ensures value { result ≡ BackAsk.Write self.now.page word value }
+        ensures value { result ≡ BackAsk.Write (page_of self.now 0) word value }
         ensures within { StaysInPage result }
     {
         BackAsk::Write {
-            mapping: self.page,
+            mapping: self.page(0),
             word,
             value,
         }
@@ -136,11 +166,15 @@ impl Back {
 
     // Reads a word of the next entry.
     fn read_entry(&self, word: u32) -> BackAsk<'_>
-        requires { word < 28 }
-        ensures value { result ≡ BackAsk.Read self.now.page (slot_word self.now.ring.cons word) }
+        requires { word < entry_words_of self.now.shape.abi }
+        ensures value { result ≡ entry_ask self.now word }
         ensures within { StaysInPage result }
     {
-        self.read(place(self.ring.cons(), word))
+        let (page, word) = self.shape().slot_word(self.ring.cons(), word);
+        BackAsk::Read {
+            mapping: self.page(page),
+            word,
+        }
     }
 
     // Writes a word of the next response.
@@ -154,29 +188,44 @@ impl Back {
             op: r.op,
             status: r.status,
         });
-        self.write(place(self.ring.prod(), word), words[word as usize])
+        let value = words[word as usize];
+        let (page, word) = self.shape().slot_word(self.ring.prod(), word);
+        BackAsk::Write {
+            mapping: self.page(page),
+            word,
+            value,
+        }
     }
-}
 
-// Maps the ring's page.
-#[inline(never)]
-fn map_ring<'a>() -> BackAsk<'a>
-    ensures { result ≡ BackAsk.Map 8 ReadWrite }
-{
-    BackAsk::Map {
-        gref: 8,
-        mode: Mode::ReadWrite,
+    // The reference of the page that is mapped next.
+    fn next_gref(&self) -> u32
+        ensures { result ≡ next_gref self.now }
+    {
+        let next = self.grefs.as_slice().get(self.pages.len());
+        next.copied().unwrap_or(0)
     }
-}
 
-// The word of the ring's page that a word of the entry of an index is.
-fn place(index: u32, word: u32) -> u32
-    requires { word < 28 }
-    ensures value { result ≡ slot_word index word }
-    ensures within { result < 1024 }
-{
-    let (_, place) = RingShape::of(Abi::X64, 0).slot_word(index, word);
-    place
+    // Unmaps the first page of the ring that is still mapped.
+    #[inline(never)]
+    fn unmap_ring(&self) -> BackAsk<'_>
+        ensures { result ≡ unmap_ask self.now.pages }
+    {
+        match self.pages.as_slice().first() {
+            Some(page) => BackAsk::Unmap(*page),
+            None => BackAsk::Wait,
+        }
+    }
+
+    // Maps the ring's next page.
+    #[inline(never)]
+    fn map_ring(&self) -> BackAsk<'_>
+        ensures { result ≡ BackAsk.Map (next_gref self.now) ReadWrite }
+    {
+        BackAsk::Map {
+            gref: self.next_gref(),
+            mode: Mode::ReadWrite,
+        }
+    }
 }
 
 impl<'a> Endpoint<'a> for Back {
@@ -196,10 +245,10 @@ impl<'a> Endpoint<'a> for Back {
         ensures value { result ≡ ask_of self.now }
         ensures within { StaysInPage result }
         ensures names { Names (hands_of self.now) result }
-        ensures few { length (hands_of self.now) ≤ 34 }
+        ensures few { length (hands_of self.now) ≤ 529 }
     {
         // Opens the back, for what is true of it at every moment.
-        let _ = &self.page;
+        let _ = &self.port;
         self.next_ask()
     }
 
@@ -223,23 +272,24 @@ impl Back {
         ensures within { StaysInPage result }
     {
         match self.stage {
-            Stage::MapRing => map_ring(),
-            Stage::Bind => BackAsk::Bind(1),
+            Stage::InitWait => BackAsk::Wait,
+            Stage::MapRing => self.map_ring(),
+            Stage::Bind => BackAsk::Bind(self.port),
             Stage::Loop => self.ask_in_loop(),
             Stage::Fetch(word) => self.read_entry(word),
             Stage::ReplyHigh(r) => self.write_reply(&r, 1),
             Stage::ReplyLast(r) => self.write_reply(&r, 2),
-            Stage::Producer(_) => self.write(RSP_PROD, self.ring.prod().wrapping_add(1)),
+            Stage::Producer(_) => self.write_index(RSP_PROD, self.ring.prod().wrapping_add(1)),
             Stage::ProducerFence(_) => BackAsk::Fence,
-            Stage::ResponseEvent(_) => self.read(RSP_EVENT),
+            Stage::ResponseEvent(_) => self.read_index(RSP_EVENT),
             Stage::Send => BackAsk::Send,
-            Stage::StoreEvent => self.write(REQ_EVENT, self.ring.cons().wrapping_add(1)),
+            Stage::StoreEvent => self.write_index(REQ_EVENT, self.ring.cons().wrapping_add(1)),
             Stage::EventFence => BackAsk::Fence,
-            Stage::LookAgain => self.read(REQ_PROD),
+            Stage::LookAgain => self.read_index(REQ_PROD),
             Stage::GiveUp(mapping) => BackAsk::Unmap(mapping),
-            Stage::UnmapRing => BackAsk::Unmap(self.page),
+            Stage::UnmapRing => self.unmap_ring(),
             Stage::ClosePort => BackAsk::ClosePort,
-            Stage::UnmapUnbound => BackAsk::Unmap(self.page),
+            Stage::UnmapUnbound => self.unmap_ring(),
             Stage::Halted => BackAsk::Wait,
         }
     }
@@ -266,9 +316,9 @@ impl Back {
             (Stage::EventFence, _) => self.stage = Stage::LookAgain,
             (Stage::LookAgain, BackAnswer::Word(word)) => self.look_again(*word),
             (Stage::GiveUp(_), _) => self.give_up(),
-            (Stage::UnmapRing, _) => self.stage = Stage::ClosePort,
+            (Stage::UnmapRing, _) => self.unmapped(),
             (Stage::ClosePort, _) => self.stage = Stage::Halted,
-            (Stage::UnmapUnbound, _) => self.stage = Stage::Halted,
+            (Stage::UnmapUnbound, _) => self.unmapped_unbound(),
             _ => {}
         }
     }

@@ -13,13 +13,16 @@ pub struct Reply {
 /// What the back is doing. Each has exactly one thing to ask next.
 #[derive(Clone, Copy, Debug, PartialEq, Eq)]
 pub enum Stage {
-    /// Maps the ring's page.
+    /// Waits for the terms of its front (XenbusStateInitWait of `io/xenbus.h`).
+    InitWait,
+    /// Maps the ring's next page.
     MapRing,
     /// Binds the front's port.
     Bind,
     /// Is connected, and at nothing in particular.
     Loop,
-    /// Copies the next entry: its word of this number is read next, 1 to 27.
+    /// Copies the next entry: its word of this number is read next, 1 to 27 (to 26 under
+    /// x86_32).
     Fetch(u32),
     /// Replies: the response's second word, its third, and then the producer.
     ReplyHigh(Reply),
@@ -36,12 +39,12 @@ pub enum Stage {
     StoreEvent,
     EventFence,
     LookAgain,
-    /// Has halted: gives up this mapping, which a job had in its hand; then the ring's page; then
-    /// closes its port; then does nothing more.
+    /// Has halted: gives up this mapping, which a job had in its hand; then the ring's
+    /// pages, the first that is still mapped; then closes its port; then does nothing more.
     GiveUp(Mapping),
     UnmapRing,
     ClosePort,
-    /// Has halted before the port was bound: gives up the ring's page.
+    /// Has halted before the port was bound: gives up the ring's pages.
     UnmapUnbound,
     Halted,
 }

@@ -1,5 +1,7 @@
 // A back by hand. Its calls go through functions that promise nothing, so that the tests are proved
 // without what their contracts say; long tests are cut, since a small body is proved sooner.
+mod shapes;
+
 use crate::{Back, BackTold, Halt};
 use blk_base::{Abi, BackAnswer, BackAsk, Config, Endpoint, Mapping, Mode, OutOfMemory, Status};
 use std::alloc::Global;
@@ -12,14 +14,19 @@ const RING: Mapping = Mapping {
     mode: Mode::ReadWrite,
 };
 
-// A back on a disk of eight sectors.
+// A back on a disk of eight sectors, whose ring starts at 0.
 fn back(alloc: Global) -> Result<Back, OutOfMemory> {
+    back_from(alloc, 0)
+}
+
+// A back on a disk of eight sectors, whose ring starts at this index.
+fn back_from(alloc: Global, start: u32) -> Result<Back, OutOfMemory> {
     let config = Config {
         abi: Abi::X64,
         order: 0,
         persistent: 0,
         indirect: 0,
-        start: 0,
+        start,
         read_only: false,
         sectors: 8,
     };
@@ -73,32 +80,53 @@ fn halted(back: &Back) -> Option<Halt> {
     back.halted()
 }
 
-// The back maps the ring and binds the port.
-fn connect(rt: &impl Abort, back: &mut Back) -> Result<(), OutOfMemory> {
+// The back takes its front's terms: port 1, and these references of the ring's pages.
+fn attach(back: &mut Back, abi: Abi, order: u32, grefs: &[u32]) {
+    back.attach(abi, order, grefs, 1);
+}
+
+// The back maps a page of the ring.
+fn map(rt: &impl Abort, back: &mut Back, page: Mapping) -> Result<(), OutOfMemory> {
     assert_eq!(rt;
         ask(back),
         BackAsk::Map {
-            gref: 8,
+            gref: page.gref,
             mode: Mode::ReadWrite
         }
     );
-    let _ = tell(back, BackAnswer::Mapped(RING))?;
+    let _ = tell(back, BackAnswer::Mapped(page))?;
+    Ok(())
+}
+
+// The back binds the port.
+fn bind(rt: &impl Abort, back: &mut Back) -> Result<(), OutOfMemory> {
     assert_eq!(rt; ask(back), BackAsk::Bind(1));
     let _ = tell(back, BackAnswer::Done)?;
     Ok(())
 }
 
-// The back reads this word of the ring's page, and is told a value.
-fn read(rt: &impl Abort, back: &mut Back, word: u32, value: u32) -> Result<(), OutOfMemory> {
-    assert_eq!(rt;
-        ask(back),
-        BackAsk::Read {
-            mapping: RING,
-            word
-        }
-    );
+// The back takes the terms of a ring of one page, maps the ring and binds the port.
+fn connect(rt: &impl Abort, back: &mut Back) -> Result<(), OutOfMemory> {
+    attach(back, Abi::X64, 0, &[8]);
+    map(rt, back, RING)?;
+    bind(rt, back)
+}
+
+// The back reads this word of a page of the ring, and is told a value.
+fn read_of(
+    rt: &impl Abort,
+    back: &mut Back,
+    (mapping, word): (Mapping, u32),
+    value: u32,
+) -> Result<(), OutOfMemory> {
+    assert_eq!(rt; ask(back), BackAsk::Read { mapping, word });
     let _ = tell(back, BackAnswer::Word(value))?;
     Ok(())
+}
+
+// The back reads this word of the ring's first page, and is told a value.
+fn read(rt: &impl Abort, back: &mut Back, word: u32, value: u32) -> Result<(), OutOfMemory> {
+    read_of(rt, back, (RING, word), value)
 }
 
 // The back writes this word of the ring's page.
@@ -115,10 +143,18 @@ fn write(rt: &impl Abort, back: &mut Back, word: u32, value: u32) -> Result<(), 
     Ok(())
 }
 
+// It waits for the terms of its front, and isn't idle.
+fn waits_for_terms(rt: &impl Abort, back: &Back) {
+    assert_eq!(rt; ask(back), BackAsk::Wait);
+    assert!(rt; waits(back) && !idle(back));
+}
+
 #[test]
-fn a_new_back_maps_its_ring_and_does_not_wait(rt: HostRuntime) -> Result<(), Fail> {
+fn a_new_back_waits_for_its_terms_and_maps_its_ring(rt: HostRuntime) -> Result<(), Fail> {
     let mut back = back(rt.alloc())?;
-    assert!(rt; !waits(&back));
+    waits_for_terms(&rt, &back);
+    let _ = tell(&mut back, BackAnswer::Event)?;
+    waits_for_terms(&rt, &back);
     connect(&rt, &mut back)?;
     assert!(rt; !waits(&back));
     Ok(())
@@ -209,10 +245,21 @@ fn it_sleeps_after_a_second_look_and_an_event_wakes_it(rt: HostRuntime) -> Resul
     Ok(())
 }
 
+// It unmaps a page of the ring.
+fn unmap(rt: &impl Abort, back: &mut Back, page: Mapping) -> Result<(), OutOfMemory> {
+    assert_eq!(rt; ask(back), BackAsk::Unmap(page));
+    let _ = tell(back, BackAnswer::Done)?;
+    Ok(())
+}
+
 // It gives up the ring, and then its port.
 fn give_up(rt: &impl Abort, back: &mut Back) -> Result<(), OutOfMemory> {
-    assert_eq!(rt; ask(back), BackAsk::Unmap(RING));
-    let _ = tell(back, BackAnswer::Done)?;
+    unmap(rt, back, RING)?;
+    close(rt, back)
+}
+
+// It closes its port, and does nothing more.
+fn close(rt: &impl Abort, back: &mut Back) -> Result<(), OutOfMemory> {
     assert_eq!(rt; ask(back), BackAsk::ClosePort);
     let _ = tell(back, BackAnswer::Done)?;
     assert!(rt; idle(back));
@@ -240,6 +287,7 @@ fn a_producer_further_than_the_ring_halts_it(rt: HostRuntime) -> Result<(), Fail
 }
 
 fn ring_is_refused(rt: &impl Abort, unmapped: &mut Back) -> Result<(), OutOfMemory> {
+    attach(unmapped, Abi::X64, 0, &[8]);
     let _ = tell(unmapped, BackAnswer::MapRefused(-1))?;
     assert_eq!(rt;
         halted(unmapped),
@@ -253,11 +301,11 @@ fn ring_is_refused(rt: &impl Abort, unmapped: &mut Back) -> Result<(), OutOfMemo
 }
 
 fn port_is_refused(rt: &impl Abort, unbound: &mut Back) -> Result<(), OutOfMemory> {
-    let _ = tell(unbound, BackAnswer::Mapped(RING))?;
+    attach(unbound, Abi::X64, 0, &[8]);
+    map(rt, unbound, RING)?;
     let _ = tell(unbound, BackAnswer::BindRefused)?;
     assert_eq!(rt; halted(unbound), Some(Halt::BadPort(1)));
-    assert_eq!(rt; ask(unbound), BackAsk::Unmap(RING));
-    let _ = tell(unbound, BackAnswer::Done)?;
+    unmap(rt, unbound, RING)?;
     assert!(rt; idle(unbound));
     Ok(())
 }
@@ -275,12 +323,13 @@ fn halt(back: &mut Back, why: Halt) {
     back.halt(why);
 }
 
-// Its negotiation has it halt before it mapped the ring, where it has nothing to give up.
-fn halts_unmapped(rt: &impl Abort, unmapped: &mut Back) -> Result<(), OutOfMemory> {
+// Its negotiation has it halt where it waits for its terms: it has nothing to give up.
+fn halts_unmapped(rt: &impl Abort, unmapped: &mut Back) {
     halt(unmapped, Halt::Gone(5));
     assert_eq!(rt; halted(unmapped), Some(Halt::Gone(5)));
     assert!(rt; idle(unmapped));
-    Ok(())
+    attach(unmapped, Abi::X64, 0, &[8]);
+    assert_eq!(rt; ask(unmapped), BackAsk::Wait);
 }
 
 // Where it is connected it gives up its page and its port. An overrun it finds itself.
@@ -304,7 +353,7 @@ fn halts_connected(rt: &impl Abort, back: &mut Back) -> Result<(), Fail> {
 #[test]
 fn its_negotiation_halts_it_where_no_step_is_begun(rt: HostRuntime) -> Result<(), Fail> {
     let mut unmapped = back(rt.alloc())?;
-    halts_unmapped(&rt, &mut unmapped)?;
+    halts_unmapped(&rt, &mut unmapped);
     let mut connected = back(rt.alloc())?;
     halts_connected(&rt, &mut connected)?;
     Ok(())

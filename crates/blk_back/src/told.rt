@@ -28,6 +28,6 @@ pub enum Halt {
     BadOrder(u32),
     /// The front's port can't be bound.
     BadPort(u32),
-    /// The ring's page can't be mapped: the reference and the status.
+    /// A page of the ring can't be mapped: the reference and the status.
     MapRefused { gref: u32, status: i32 },
 }

@@ -12,7 +12,7 @@ use Rattle.blk_front.specs.declared.request.Request.{Request}
 use Rattle.blk_front.specs.declared.request.Transfer.{Transfer}
 use Rattle.blk_front.specs.declared.request.Transfer.TheVariants as transfer
 use Rattle.blk_front.specs.Request.{grant_flags, frame_at, filling_at}
-use Rattle.blk_front.specs.View.{View, ring_frame, entry_frame, entry_word, slot_frame, slot_word, fresh_word, next_request}
+use Rattle.blk_front.specs.View.{View, ring_frame, ring_page_frame, entry_frame, entry_word, slot_frame, slot_word, fresh_word, next_request}
 
 -- word n of a write's data is written; the frame of this place is named in its grant entry, and granted
 abbrev pub data_ask : Option Request → ℕ → FrontAsk
@@ -55,13 +55,13 @@ loop_ask v (Some r) = issue_ask r r.transfer
 loop_ask v None =
     if v.asleep || is_through v then Wait
     else (if responses_of v.ring v.seen == 0 then Read ring_frame 2
-    else Read (slot_frame v.ring.cons 0) (slot_word v.ring.cons 0))
+    else Read (slot_frame v.shape v.ring.cons 0) (slot_word v.shape v.ring.cons 0))
 
 abbrev pub ask_at : Stage → View → FrontAsk
 ask_at (stage.RingWord k) v = Write ring_frame k (fresh_word v.start k)
-ask_at stage.RingFrame v = Write (entry_frame ring_frame) (entry_word ring_frame + 1) ring_frame
-ask_at stage.RingFence v = Fence
-ask_at stage.RingFlags v = Write (entry_frame ring_frame) (entry_word ring_frame) 1
+ask_at (stage.RingFrame page) v = Write (entry_frame (ring_page_frame page)) (entry_word (ring_page_frame page) + 1) (ring_page_frame page)
+ask_at (stage.RingFence page) v = Fence
+ask_at (stage.RingFlags page) v = Write (entry_frame (ring_page_frame page)) (entry_word (ring_page_frame page)) 1
 ask_at stage.NewPort v = NewPort
 ask_at stage.Initialised v = Wait
 ask_at stage.Loop v = loop_ask v (next_request v)
@@ -69,21 +69,21 @@ ask_at (stage.Data n) v = data_ask (next_request v) n
 ask_at (stage.GrantFrame place) v = name_ask (next_request v) place
 ask_at (stage.GrantFence place) v = Fence
 ask_at (stage.GrantFlags place) v = grant_ask (next_request v) place
-ask_at (stage.Slot k) v = Write (slot_frame v.ring.prod k) (slot_word v.ring.prod k) (slice_index v.entry k)
+ask_at (stage.Slot k) v = Write (slot_frame v.shape v.ring.prod k) (slot_word v.shape v.ring.prod k) (slice_index v.entry k)
 ask_at stage.Producer v = Write ring_frame 0 (next_of v.ring.prod)
 ask_at (stage.ProducerFence old) v = Fence
 ask_at (stage.RequestEvent old) v = Read ring_frame 1
 ask_at stage.Send v = Send
-ask_at (stage.ResponseHigh low) v = Read (slot_frame v.ring.cons 1) (slot_word v.ring.cons 1)
-ask_at (stage.ResponseLast low high) v = Read (slot_frame v.ring.cons 2) (slot_word v.ring.cons 2)
+ask_at (stage.ResponseHigh low) v = Read (slot_frame v.shape v.ring.cons 1) (slot_word v.shape v.ring.cons 1)
+ask_at (stage.ResponseLast low high) v = Read (slot_frame v.shape v.ring.cons 2) (slot_word v.shape v.ring.cons 2)
 ask_at (stage.GrantRead place) v = revoke_ask v.ending place
 ask_at (stage.GrantEnd place seen) v = end_ask v.ending place seen
 ask_at (stage.ReadData n) v = read_ask v.ending n
 ask_at stage.StoreEvent v = Write ring_frame 3 (next_of v.ring.cons)
 ask_at stage.EventFence v = Fence
 ask_at stage.LookAgain v = Read ring_frame 2
-ask_at stage.RingRead v = Read (entry_frame ring_frame) (entry_word ring_frame)
-ask_at (stage.RingEnd seen) v = Cas (entry_frame ring_frame) (entry_word ring_frame) seen 0
+ask_at (stage.RingRead page) v = Read (entry_frame (ring_page_frame page)) (entry_word (ring_page_frame page))
+ask_at (stage.RingEnd page seen) v = Cas (entry_frame (ring_page_frame page)) (entry_word (ring_page_frame page)) seen 0
 ask_at stage.ClosePort v = ClosePort
 ask_at stage.Left v = Wait
 ask_at stage.Closed v = Wait

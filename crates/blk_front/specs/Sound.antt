@@ -1,6 +1,7 @@
 -- What is true of the front at every moment.
-use Rattle.std.specs.Prelude.{◌≡◌, ℕ, ◌+◌, ◌<◌, ◌≤◌, List, length, All, AllPairs, IfSome}
+use Rattle.std.specs.Prelude.{◌≡◌, ℕ, ◌+◌, ◌^◌, ◌<◌, ◌≤◌, List, length, All, AllPairs, IfSome}
 use Rattle.blk_base.specs.Distance.{distance_of}
+use Rattle.ring_words.specs.Shape.{Shape, entries_of, entry_words_of}
 use Rattle.blk_front.specs.declared.request.Request.{Request}
 use Rattle.blk_front.specs.declared.stage.Ending.{Ending}
 use Rattle.blk_front.specs.declared.stage.Stage.{Stage}
@@ -9,18 +10,28 @@ use Rattle.blk_front.specs.Request.{IsShaped}
 use Rattle.blk_front.specs.Submit.{ending_of}
 use Rattle.blk_front.specs.View.{View}
 
--- the word or the frame that a stage is at is one of those that it goes through
-abbrev pub IsPlaced : Stage → Type 0
-IsPlaced (stage.RingWord k) = k < 16
-IsPlaced (stage.Data n) = n < 11264
-IsPlaced (stage.GrantFrame place) = place < 11
-IsPlaced (stage.GrantFence place) = place < 11
-IsPlaced (stage.GrantFlags place) = place < 11
-IsPlaced (stage.Slot k) = k < 28
-IsPlaced (stage.GrantRead place) = place < 11
-IsPlaced (stage.GrantEnd place before) = place < 11
-IsPlaced (stage.ReadData n) = n < 11264
-IsPlaced s = Unit {0}
+-- the word, the page or the frame that a stage is at is one of those that it goes through
+abbrev pub IsPlaced : Stage → Shape → Type 0
+IsPlaced (stage.RingWord k) shape = k < 16
+IsPlaced (stage.RingFrame page) shape = page < 2 ^ shape.order
+IsPlaced (stage.RingFence page) shape = page < 2 ^ shape.order
+IsPlaced (stage.RingFlags page) shape = page < 2 ^ shape.order
+IsPlaced (stage.Data n) shape = n < 11264
+IsPlaced (stage.GrantFrame place) shape = place < 11
+IsPlaced (stage.GrantFence place) shape = place < 11
+IsPlaced (stage.GrantFlags place) shape = place < 11
+IsPlaced (stage.Slot k) shape = k < entry_words_of shape.abi
+IsPlaced (stage.GrantRead place) shape = place < 11
+IsPlaced (stage.GrantEnd place before) shape = place < 11
+IsPlaced (stage.ReadData n) shape = n < 11264
+IsPlaced (stage.RingRead page) shape = page < 2 ^ shape.order
+IsPlaced (stage.RingEnd page seen) shape = page < 2 ^ shape.order
+IsPlaced s shape = Unit {0}
+
+-- before the ring is made there is no request
+abbrev pub IsUnused : Stage → ℕ → Type 0
+IsUnused (stage.RingWord k) count = count ≡ 0
+IsUnused s count = Unit {0}
 
 -- while a request is issued, one waits
 abbrev pub IsIssuing : Stage → ℕ → Type 0
@@ -43,13 +54,15 @@ abbrev pub AreAscending : List Request → Type 0
 AreAscending requests = AllPairs (λ (r s : Request). r.number < s.number) requests
 
 pub record IsSound (v : View) : Type 0 where
-  pub entries : v.ring.entries ≡ 32
+  pub order : v.shape.order ≤ 4
+  pub entries : v.ring.entries ≡ entries_of v.shape.order
   -- each request between the two indices is an issued one, and all fit the ring
   pub counted : length v.requests ≡ distance_of v.ring.cons v.ring.prod + v.waiting
-  pub room : length v.requests + ending_of v.stage ≤ 32
+  pub room : length v.requests + ending_of v.stage ≤ entries_of v.shape.order
   -- no more responses were seen than requests were pushed
   pub seen : distance_of v.ring.cons v.seen ≤ distance_of v.ring.cons v.ring.prod
-  pub placed : IsPlaced v.stage
+  pub placed : IsPlaced v.stage v.shape
+  pub unmade : IsUnused v.stage (length v.requests)
   pub issuing : IsIssuing v.stage v.waiting
   pub reading : IsReading v.stage (distance_of v.ring.cons v.seen)
   -- numbers were given in order, so an id is found without a walk

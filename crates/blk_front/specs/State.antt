@@ -1,5 +1,6 @@
 -- When the front may enter a state that its negotiation has it enter, and what that makes of it (`io/xenbus.h`).
-use Rattle.std.specs.Prelude.{Bool, true, false, not, ◌&&◌, if◌then◌else◌}
+use Rattle.std.specs.Prelude.{Bool, true, false, not, ◌&&◌, if◌then◌else◌, ◌==◌, nat_le}
+use Rattle.ring_words.specs.Shape.{entries_of}
 use Rattle.blk_front.specs.declared.stage.Stage.{Stage}
 use Rattle.blk_front.specs.declared.stage.Stage.TheVariants as stage
 use Rattle.blk_front.specs.declared.state.FrontState.{FrontState}
@@ -26,8 +27,14 @@ is_bare (stage.RingWord k) = true
 is_bare stage.Left = true
 is_bare s = false
 
--- It is connected where it waits for it, and begins to close once. It leaves, and is closed, only with no request left, and is closed only without a ring.
+-- it hasn't begun its ring
+abbrev pub is_unmade : Stage → Bool
+is_unmade (stage.RingWord k) = k == 0
+is_unmade s = false
+
+-- An order no greater than it wished is agreed before its ring is begun. It is connected where it waits for it, and begins to close once. It leaves, and is closed, only with no request left, and is closed only without a ring.
 abbrev pub may_enter : FrontState → View → Bool
+may_enter (state.Agreed order) v = is_unmade v.stage && nat_le order v.shape.order
 may_enter state.Connected v = is_initialised v.stage
 may_enter state.Closing v = not v.closing && is_open v.stage
 may_enter state.Leaving v = is_through v && is_made v.stage
@@ -35,9 +42,14 @@ may_enter state.Closed v = is_through v && is_bare v.stage
 may_enter (state.Broken word) v = is_open v.stage
 
 abbrev pub in_state : FrontState → View → View
+in_state (state.Agreed order) v = record v {
+  shape = record v.shape { order = order };
+  ring = record { entries = entries_of order; prod = v.start; cons = v.start };
+  seen = v.start;
+}
 in_state state.Connected v = record v { stage = stage.Loop }
 in_state state.Closing v = record v { closing = true }
-in_state state.Leaving v = record v { stage = stage.RingRead }
+in_state state.Leaving v = record v { stage = stage.RingRead 0 }
 in_state state.Closed v = record v { stage = stage.Closed }
 in_state (state.Broken word) v = record v { stage = stage.Broken word }
 

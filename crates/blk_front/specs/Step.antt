@@ -2,11 +2,12 @@
 use Rattle.std.specs.Prelude.{ℕ, ◌+◌, ◌-◌, ◌*◌, ◌/◌, ◌%◌, ◌^◌, Bool, true, false, List, [], ◌∷◌, length, take, remove, position, Option, Some, None, slice_get, slice_set, Result, Ok, Err, if◌then◌else◌, ◌==◌, nat_lt}
 use Rattle.std.specs.Option.{option_map}
 use Rattle.blk_base.specs.Distance.{distance_of}
-use Rattle.blk_base.specs.declared.operation.Abi.TheVariants.{X64}
+use Rattle.blk_base.specs.declared.operation.Abi.{Abi}
 use Rattle.blk_base.specs.declared.operation.Status.{Status}
 use Rattle.blk_base.specs.declared.ask.FrontAnswer.{FrontAnswer}
 use Rattle.blk_base.specs.declared.ask.FrontAnswer.TheVariants.{Event, Word}
 use Rattle.ring_words.specs.Ring.{next_of, responses_of, notifies}
+use Rattle.ring_words.specs.Shape.{entry_words_of}
 use Rattle.blk_layout.specs.declared.response.Response.{Response}
 use Rattle.blk_layout.specs.declared.request.RawRequest.{RawRequest}
 use Rattle.blk_layout.specs.declared.request.RawRequest.TheVariants.{Direct}
@@ -34,9 +35,9 @@ broken word v = record v { stage = stage.Broken word; told = Some (told.Broken w
 abbrev pub entry_request : Request → RawRequest
 entry_request r = Direct (operation_of r.transfer) (frames_for r.count) 51712 r.number r.sector (segments_of r)
 
--- the words of the request's entry
-abbrev pub entry_of : Request → List ℕ
-entry_of r = words_of X64 (entry_request r)
+-- the words of the request's entry under a layout
+abbrev pub entry_of : Abi → Request → List ℕ
+entry_of abi r = words_of abi (entry_request r)
 
 -- the responses' producer was read: further ahead than the requests' own is broken; where nothing is new, `otherwise`
 abbrev pub looked : View → ℕ → View → View
@@ -63,7 +64,7 @@ data_stage (Some r) n = if nat_lt (n + 1) (words_in r) then stage.Data (n + 1) e
 -- a frame of it was granted: the next one is, or its entry is written
 abbrev pub granted : Option Request → ℕ → View → View
 granted None place v = v
-granted (Some r) place v = if nat_lt (place + 1) (length r.frames.items) then at (stage.GrantFrame (place + 1)) v else record v { stage = stage.Slot 0; entry = entry_of r }
+granted (Some r) place v = if nat_lt (place + 1) (length r.frames.items) then at (stage.GrantFrame (place + 1)) v else record v { stage = stage.Slot 0; entry = entry_of v.shape.abi r }
 
 -- an event ends sleep; a watch has nothing to tell where there are no keys
 abbrev pub loop_step : View → Option Request → FrontAnswer → View
@@ -137,12 +138,20 @@ end_step v place word = if is_mapped word then broken word v else at (stage.Gran
 abbrev pub exchanged : View → (place before word : ℕ) → View
 exchanged v place before word = if word == before then revoked v.ending place v else broken word v
 
--- the entry of the ring's grant was read: the grant may be ended where the back has no mapping of it; and it was ended
-abbrev pub ring_read : View → ℕ → View
-ring_read v word = if is_mapped word then broken word v else at (stage.RingEnd word) v
+-- a page of the ring was granted: the next one is, or the port of its events is made
+abbrev pub ring_granted : View → ℕ → Stage
+ring_granted v page = if nat_lt (page + 1) (2 ^ v.shape.order) then stage.RingFrame (page + 1) else stage.NewPort
 
-abbrev pub ring_ended : View → (before word : ℕ) → View
-ring_ended v before word = if word == before then at stage.ClosePort v else broken word v
+-- the entry of a page's grant was read: the grant may be ended where the back has no mapping of it
+abbrev pub ring_read : View → (page word : ℕ) → View
+ring_read v page word = if is_mapped word then broken word v else at (stage.RingEnd page word) v
+
+-- it was ended: the next page's is looked at, or the port is closed
+abbrev pub ring_left : View → ℕ → Stage
+ring_left v page = if nat_lt (page + 1) (2 ^ v.shape.order) then stage.RingRead (page + 1) else stage.ClosePort
+
+abbrev pub ring_ended : View → (page before word : ℕ) → View
+ring_ended v page before word = if word == before then at (ring_left v page) v else broken word v
 
 -- the request is pushed
 abbrev pub pushed : View → View
@@ -153,17 +162,17 @@ pushed v = record v {
 }
 
 abbrev pub step_at : Stage → View → FrontAnswer → View
-step_at (stage.RingWord k) v answer = at (if k == 15 then stage.RingFrame else stage.RingWord (k + 1)) v
-step_at stage.RingFrame v answer = at stage.RingFence v
-step_at stage.RingFence v answer = at stage.RingFlags v
-step_at stage.RingFlags v answer = at stage.NewPort v
+step_at (stage.RingWord k) v answer = at (if k == 15 then stage.RingFrame 0 else stage.RingWord (k + 1)) v
+step_at (stage.RingFrame page) v answer = at (stage.RingFence page) v
+step_at (stage.RingFence page) v answer = at (stage.RingFlags page) v
+step_at (stage.RingFlags page) v answer = at (ring_granted v page) v
 step_at stage.NewPort v answer = at stage.Initialised v
 step_at stage.Loop v answer = loop_step v (next_request v) answer
 step_at (stage.Data n) v answer = at (data_stage (next_request v) n) v
 step_at (stage.GrantFrame place) v answer = at (stage.GrantFence place) v
 step_at (stage.GrantFence place) v answer = at (stage.GrantFlags place) v
 step_at (stage.GrantFlags place) v answer = granted (next_request v) place v
-step_at (stage.Slot k) v answer = at (if k == 27 then stage.Producer else stage.Slot (k + 1)) v
+step_at (stage.Slot k) v answer = at (if k + 1 == entry_words_of v.shape.abi then stage.Producer else stage.Slot (k + 1)) v
 step_at stage.Producer v answer = pushed v
 step_at (stage.ProducerFence old) v answer = at (stage.RequestEvent old) v
 step_at (stage.RequestEvent old) v (Word event) = at (if notifies old v.ring.prod event then stage.Send else stage.Loop) v
@@ -176,8 +185,8 @@ step_at (stage.ReadData n) v (Word word) = data_step v.ending n word v
 step_at stage.StoreEvent v answer = at stage.EventFence v
 step_at stage.EventFence v answer = at stage.LookAgain v
 step_at stage.LookAgain v (Word word) = looked v word (record v { seen = word; stage = stage.Loop; asleep = true })
-step_at stage.RingRead v (Word word) = ring_read v word
-step_at (stage.RingEnd before) v (Word word) = ring_ended v before word
+step_at (stage.RingRead page) v (Word word) = ring_read v page word
+step_at (stage.RingEnd page before) v (Word word) = ring_ended v page before word
 step_at stage.ClosePort v answer = at stage.Left v
 step_at s v answer = v
 

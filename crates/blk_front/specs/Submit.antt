@@ -15,19 +15,19 @@ use Rattle.blk_front.specs.declared.told.Refusal.TheVariants as refusal
 use Rattle.blk_front.specs.Pool.{taking}
 use Rattle.blk_front.specs.Request.{is_write, frames_for}
 use Rattle.ring_words.specs.Shape.{entries_of}
-use Rattle.blk_front.specs.View.{View, shape}
+use Rattle.blk_front.specs.View.{View}
 use Rattle.blk_front.specs.Ask.{ask_of}
 
 -- connected (XenbusStateConnected of `io/xenbus.h`), not leaving or closed, and not broken
 abbrev pub is_ready : Stage → Bool
 is_ready (stage.RingWord k) = false
-is_ready stage.RingFrame = false
-is_ready stage.RingFence = false
-is_ready stage.RingFlags = false
+is_ready (stage.RingFrame page) = false
+is_ready (stage.RingFence page) = false
+is_ready (stage.RingFlags page) = false
 is_ready stage.NewPort = false
 is_ready stage.Initialised = false
-is_ready stage.RingRead = false
-is_ready (stage.RingEnd seen) = false
+is_ready (stage.RingRead page) = false
+is_ready (stage.RingEnd page seen) = false
 is_ready stage.ClosePort = false
 is_ready stage.Left = false
 is_ready stage.Closed = false
@@ -37,9 +37,9 @@ is_ready s = true
 -- the ring and the port of its events are made, or the front is past that
 abbrev pub is_connected : Stage → Bool
 is_connected (stage.RingWord k) = false
-is_connected stage.RingFrame = false
-is_connected stage.RingFence = false
-is_connected stage.RingFlags = false
+is_connected (stage.RingFrame page) = false
+is_connected (stage.RingFence page) = false
+is_connected (stage.RingFlags page) = false
 is_connected stage.NewPort = false
 is_connected s = true
 
@@ -110,7 +110,7 @@ submit_one v (Some wish) =
     if is_write wish.transfer && v.read_only then (Err refusal.ReadOnly, v)
     else (if nat_lt v.sectors (wish.sector + wish.count) then (Err refusal.Range, v)
     else (if nat_lt 11 (frames_for wish.count) then (Err refusal.Long, v)
-    else (if nat_le (entries_of shape.order) (unfinished v) then (Err refusal.Full, v)
+    else (if nat_le (entries_of v.shape.order) (unfinished v) then (Err refusal.Full, v)
     else submit_with v wish (taking (frames_for wish.count) v.pool []))))
 
 -- the answer to a submission, and the front after it

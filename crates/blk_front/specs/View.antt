@@ -1,8 +1,7 @@
 -- What contracts see of the front, and the places of the machine that it works in.
 use Rattle.std.specs.Prelude.{ℕ, replicate, ◌+◌, ◌-◌, ◌*◌, ◌/◌, ◌%◌, Bool, false, List, [], length, slice_get, Option, None, if◌then◌else◌, ◌==◌}
-use Rattle.blk_base.specs.declared.operation.Abi.TheVariants.{X64}
 use Rattle.ring_words.specs.Ring.{Ring, next_of}
-use Rattle.ring_words.specs.Shape.{Shape, slot_word_of}
+use Rattle.ring_words.specs.Shape.{Shape, entries_of, slot_word_of}
 use Rattle.blk_base.specs.Options.{Options}
 use Rattle.blk_front.specs.declared.stage.Stage.{Stage}
 use Rattle.blk_front.specs.declared.stage.Stage.TheVariants as stage
@@ -11,11 +10,12 @@ use Rattle.blk_front.specs.declared.request.Request.{Request}
 use Rattle.blk_front.specs.declared.stage.Ending.{Ending}
 use Rattle.blk_front.specs.declared.told.Told.{Told}
 
--- The front: the disk's sectors and whether it is read-only, and the ring's first index; its own indices and what it does; whether it sleeps, and whether it closes; the responses' producer as last read; the last number given; the unfinished requests in order of number, of which the last `waiting` aren't issued yet; the request whose response was taken, until it is finished; the frames in use; the words of the entry being written, and those of the sector being read; what is to be told.
+-- The front: the disk's sectors and whether it is read-only, and the ring's first index; the shape of its ring; its own indices and what it does; whether it sleeps, and whether it closes; the responses' producer as last read; the last number given; the unfinished requests in order of number, of which the last `waiting` aren't issued yet; the request whose response was taken, until it is finished; the frames in use; the words of the entry being written, and those of the sector being read; what is to be told.
 pub record View : Type 0 where
   pub sectors : ℕ
   pub read_only : Bool
   pub start : ℕ
+  pub shape : Shape
   pub ring : Ring
   pub stage : Stage
   pub asleep : Bool
@@ -30,13 +30,12 @@ pub record View : Type 0 where
   pub words : List ℕ
   pub told : Option Told
 
--- a ring of one page under the layout of 64-bit guests
-abbrev pub shape : Shape
-shape = record { abi = X64; order = 0 }
-
--- the ring's first frame
+-- the ring's first frame, and the frame of a page of the ring
 abbrev pub ring_frame : ℕ
 ring_frame = 2
+
+abbrev pub ring_page_frame : ℕ → ℕ
+ring_page_frame page = ring_frame + page
 
 -- frame f has the reference f + 6; the entry of reference r is at frame r / 512, words 2 (r mod 512) and the next
 abbrev pub reference_of : ℕ → ℕ
@@ -49,11 +48,11 @@ abbrev pub entry_word : ℕ → ℕ
 entry_word frame = 2 * (reference_of frame % 512)
 
 -- the frame and the word of word i of the entry of index k
-abbrev pub slot_frame : ℕ → ℕ → ℕ
-slot_frame k i = ring_frame + (slot_word_of shape k i).0
+abbrev pub slot_frame : Shape → ℕ → ℕ → ℕ
+slot_frame s k i = ring_frame + (slot_word_of s k i).0
 
-abbrev pub slot_word : ℕ → ℕ → ℕ
-slot_word k i = (slot_word_of shape k i).1
+abbrev pub slot_word : Shape → ℕ → ℕ → ℕ
+slot_word s k i = (slot_word_of s k i).1
 
 -- a fresh ring: both producers at its first index, both event words one further (FRONT_RING_INIT of `io/ring.h`), zeros up to the first entry
 abbrev pub fresh_word : ℕ → ℕ → ℕ
@@ -74,7 +73,8 @@ start_of config = record {
   sectors = config.sectors;
   read_only = config.read_only;
   start = config.start;
-  ring = record { entries = 32; prod = config.start; cons = config.start };
+  shape = record { abi = config.abi; order = config.order };
+  ring = record { entries = entries_of config.order; prod = config.start; cons = config.start };
   stage = stage.RingWord 0;
   asleep = false;
   closing = false;

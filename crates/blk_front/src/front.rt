@@ -1,8 +1,9 @@
 // The front end.
-ghost use Rattle.std.specs.Prelude.{◌≡◌, ◌<◌, ◌+◌, Some, None, IfOk, IsOk, OnErr, slice_index, option_map};
+ghost use Rattle.std.specs.Prelude.{◌≡◌, ◌<◌, ◌≤◌, ◌+◌, ◌^◌, Some, None, IfOk, IsOk, OnErr, slice_index, option_map};
 ghost use Rattle.blk_base.specs.declared.ask.FrontAsk.TheVariants.{Wait};
 ghost use Rattle.std.specs.Option.{option_copied};
-ghost use Rattle.blk_front.specs.View.{start_of, next_request, slot_frame, slot_word, entry_frame, entry_word};
+ghost use Rattle.ring_words.specs.Shape.{entry_words_of};
+ghost use Rattle.blk_front.specs.View.{start_of, next_request, ring_page_frame, slot_frame, slot_word, entry_frame, entry_word};
 ghost use Rattle.blk_front.specs.Ask.{ask_of, is_through, loop_ask, issue_ask, data_ask, name_ask, grant_ask, revoke_ask, end_ask, read_ask, IsAnswer, IsPlace, StaysInMemory};
 ghost use Rattle.blk_front.specs.Step.{step_of, step_at, ring_read, ring_ended};
 ghost use Rattle.blk_front.specs.Submit.{submit_of, unfinished};
@@ -23,13 +24,15 @@ use ring_words::{FrontRing, REQ_EVENT, REQ_PROD, RSP_EVENT, RSP_PROD, RingShape}
 use std::alloc::Global;
 use std::marker::Model;
 
-/// The front end of a ring of one page under the layout of 64-bit guests, which issues reads and
+/// The front end of a ring of 1 to 16 pages under the layout of its guest, which issues reads and
 /// writes of up to 88 sectors. After `new` it takes no memory.
 #[derive(Drop)]
 pub struct Front {
     sectors: u64,
     read_only: bool,
     start: u32,
+    abi: Abi,
+    order: u32,
     ring: FrontRing,
     stage: Stage,
     asleep: bool,
@@ -55,7 +58,7 @@ impl Model for Front {
 
     ghost view = { view_of };
 
-    ghost invariant = { λ f. IsSound (view_of f) × (32 ≤ vec_capacity f.requests) };
+    ghost invariant = { λ f. IsSound (view_of f) × (512 ≤ vec_capacity f.requests) };
 }
 
 impl Front {
@@ -63,12 +66,15 @@ impl Front {
     pub fn new(alloc: Global, config: &Config) -> Result<Front, OutOfMemory>
         ensures { IfOk result (λ front. front ≡ start_of config.now) }
     {
-        let requests = Vec::with_capacity(alloc, 32)?;
+        let requests = Vec::with_capacity(alloc, 512)?;
+        let shape = RingShape::of(config.abi, config.order);
         Ok(Front {
             sectors: config.sectors,
             read_only: config.read_only,
             start: config.start,
-            ring: FrontRing::attach(RingShape::of(Abi::X64, 0), config.start),
+            abi: config.abi,
+            order: config.order,
+            ring: FrontRing::attach(shape, config.start),
             stage: Stage::RingWord(0),
             asleep: false,
             closing: false,
@@ -86,6 +92,22 @@ impl Front {
 }
 
 impl Front {
+    // The shape of its ring.
+    fn shape(&self) -> RingShape
+        ensures { result ≡ self.now.shape }
+    {
+        RingShape::of(self.abi, self.order)
+    }
+
+    /// How many pages its ring has.
+    #[tactic(auto, using(crate::proofs::Shapes::few_pages))]
+    pub fn pages(&self) -> u32
+        ensures value { result ≡ 2 ^ self.now.shape.order }
+        ensures few { result ≤ 16 }
+    {
+        1 << self.order
+    }
+
     // The request that is issued next.
     fn next_request(&self) -> Option<&Request>
         ensures { option_copied result ≡ next_request self.now }
@@ -122,22 +144,24 @@ impl Front {
     }
 
     // Reads a word of the next response.
+    #[tactic(auto, using(crate::proofs::Shapes::wide_entries))]
     fn read_response(&self, word: u32) -> FrontAsk<'_>
-        requires { word < 28 }
-        ensures value { result ≡ FrontAsk.Read (slot_frame self.now.ring.cons word) (slot_word self.now.ring.cons word) }
+        requires { word < 27 }
+        ensures value { result ≡ FrontAsk.Read (slot_frame self.now.shape self.now.ring.cons word) (slot_word self.now.shape self.now.ring.cons word) }
         ensures within { StaysInMemory result }
     {
-        let (frame, place) = place::slot(self.ring.cons(), word);
+        let (frame, place) = place::slot(self.shape(), self.ring.cons(), word);
         read(frame, place)
     }
 
     // Writes a word of the next request's entry.
     fn write_slot(&self, word: u32) -> FrontAsk<'_>
-        requires { word < 28 }
-        ensures value { result ≡ FrontAsk.Write (slot_frame self.now.ring.prod word) (slot_word self.now.ring.prod word) (slice_index self.now.entry word) }
+        requires { word < entry_words_of self.now.shape.abi }
+        ensures value { let prod = self.now.ring.prod in
+            result ≡ FrontAsk.Write (slot_frame self.now.shape prod word) (slot_word self.now.shape prod word) (slice_index self.now.entry word) }
         ensures within { StaysInMemory result }
     {
-        let (frame, place) = place::slot(self.ring.prod(), word);
+        let (frame, place) = place::slot(self.shape(), self.ring.prod(), word);
         let value = self
             .entry
             .as_slice()
@@ -292,6 +316,51 @@ fn end_grant<'a>(frame: &PoolFrame, old: u32) -> FrontAsk<'a>
     }
 }
 
+// The second word of the grant entry of a page of the ring is written.
+fn name_page<'a>(page: u32) -> FrontAsk<'a>
+    requires { page < 16 }
+    ensures value { let frame = ring_page_frame page in result ≡ FrontAsk.Write (entry_frame frame) (entry_word frame + 1) frame }
+    ensures within { StaysInMemory result }
+{
+    let (entry, word) = place::ring_entry(page);
+    write(entry, word + 1, place::ring_page(page))
+}
+
+// Its first word is written.
+fn grant_page<'a>(page: u32) -> FrontAsk<'a>
+    requires { page < 16 }
+    ensures value { let frame = ring_page_frame page in result ≡ FrontAsk.Write (entry_frame frame) (entry_word frame) 1 }
+    ensures within { StaysInMemory result }
+{
+    let (entry, word) = place::ring_entry(page);
+    write(entry, word, GTF_PERMIT_ACCESS)
+}
+
+// Its first word is read.
+fn read_page_grant<'a>(page: u32) -> FrontAsk<'a>
+    requires { page < 16 }
+    ensures value { let frame = ring_page_frame page in result ≡ FrontAsk.Read (entry_frame frame) (entry_word frame) }
+    ensures within { StaysInMemory result }
+{
+    let (entry, word) = place::ring_entry(page);
+    read(entry, word)
+}
+
+// Its first word becomes 0 if it is still this one.
+fn end_page_grant<'a>(page: u32, old: u32) -> FrontAsk<'a>
+    requires { page < 16 }
+    ensures value { let frame = ring_page_frame page in result ≡ FrontAsk.Cas (entry_frame frame) (entry_word frame) old 0 }
+    ensures within { StaysInMemory result }
+{
+    let (frame, word) = place::ring_entry(page);
+    FrontAsk::Cas {
+        frame,
+        word,
+        old,
+        new: 0,
+    }
+}
+
 impl<'a> Endpoint<'a> for Front {
     ghost use Rattle.std.specs.Prelude.{None};
     ghost use Rattle.blk_front.specs.Ask.{ask_of, IsAnswer};
@@ -305,15 +374,16 @@ impl<'a> Endpoint<'a> for Front {
     ghost MayBeTold = { λ front answer. IsAnswer (ask_of front) answer × (front.told ≡ None) };
 
     #[inline(always)]
+    #[tactic(auto, using(crate::proofs::Shapes::few_pages))]
     fn ask(&'a self) -> FrontAsk<'a>
         ensures value { result ≡ ask_of self.now }
         ensures within { StaysInMemory result }
     {
         match self.stage {
             Stage::RingWord(word) => write(place::RING_FRAME, word, place::fresh(self.start, word)),
-            Stage::RingFrame => write(0, 17, place::RING_FRAME),
-            Stage::RingFence => FrontAsk::Fence,
-            Stage::RingFlags => write(0, 16, GTF_PERMIT_ACCESS),
+            Stage::RingFrame(page) => name_page(page),
+            Stage::RingFence(_) => FrontAsk::Fence,
+            Stage::RingFlags(page) => grant_page(page),
             Stage::NewPort => FrontAsk::NewPort,
             Stage::Initialised => FrontAsk::Wait,
             Stage::Loop => self.ask_in_loop(),
@@ -342,13 +412,8 @@ impl<'a> Endpoint<'a> for Front {
             ),
             Stage::EventFence => FrontAsk::Fence,
             Stage::LookAgain => read(place::RING_FRAME, RSP_PROD),
-            Stage::RingRead => read(0, 16),
-            Stage::RingEnd(seen) => FrontAsk::Cas {
-                frame: 0,
-                word: 16,
-                old: seen,
-                new: 0,
-            },
+            Stage::RingRead(page) => read_page_grant(page),
+            Stage::RingEnd(page, seen) => end_page_grant(page, seen),
             Stage::ClosePort => FrontAsk::ClosePort,
             Stage::Left | Stage::Closed | Stage::Broken(_) => FrontAsk::Wait,
         }
@@ -363,9 +428,9 @@ impl<'a> Endpoint<'a> for Front {
     {
         match (self.stage, answer) {
             (Stage::RingWord(word), _) => self.wrote_ring_word(word),
-            (Stage::RingFrame, _) => self.stage = Stage::RingFence,
-            (Stage::RingFence, _) => self.stage = Stage::RingFlags,
-            (Stage::RingFlags, _) => self.stage = Stage::NewPort,
+            (Stage::RingFrame(page), _) => self.stage = Stage::RingFence(page),
+            (Stage::RingFence(page), _) => self.stage = Stage::RingFlags(page),
+            (Stage::RingFlags(page), _) => self.granted_page(page),
             (Stage::NewPort, _) => self.stage = Stage::Initialised,
             (Stage::Loop, answer) => self.begin(answer),
             (Stage::Data(n), _) => self.wrote_data(n),
@@ -391,8 +456,10 @@ impl<'a> Endpoint<'a> for Front {
             (Stage::StoreEvent, _) => self.stage = Stage::EventFence,
             (Stage::EventFence, _) => self.stage = Stage::LookAgain,
             (Stage::LookAgain, FrontAnswer::Word(word)) => self.look_again(*word),
-            (Stage::RingRead, FrontAnswer::Word(word)) => self.read_ring_grant(*word),
-            (Stage::RingEnd(seen), FrontAnswer::Word(word)) => self.ended_ring_grant(seen, *word),
+            (Stage::RingRead(page), FrontAnswer::Word(word)) => self.read_ring_grant(page, *word),
+            (Stage::RingEnd(page, seen), FrontAnswer::Word(word)) => {
+                self.ended_ring_grant(page, seen, *word);
+            }
             (Stage::ClosePort, _) => self.stage = Stage::Left,
             _ => {}
         }

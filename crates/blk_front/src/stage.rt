@@ -15,11 +15,11 @@ pub struct Ending {
 pub enum Stage {
     /// Makes the ring: its word of this number is written next, 0 to 15.
     RingWord(u32),
-    /// Grants the ring's frame: its entry's second word, a fence, its first word. The fence has the
-    /// frame stand in the entry before its flags permit access.
-    RingFrame,
-    RingFence,
-    RingFlags,
+    /// Grants the frame of the ring's page of this number, 0 to 15: its entry's second word, a fence,
+    /// its first word. The fence has the frame stand in the entry before its flags permit access.
+    RingFrame(u32),
+    RingFence(u32),
+    RingFlags(u32),
     /// Makes the port of its events.
     NewPort,
     /// Has made its ring and its port, and waits until it is connected (XenbusStateInitialised and
@@ -35,7 +35,7 @@ pub enum Stage {
     GrantFrame(u32),
     GrantFence(u32),
     GrantFlags(u32),
-    /// Writes the request's entry: its word of this number is written next, 0 to 27.
+    /// Writes the request's entry: its word of this number is written next, 0 to 27, or to 26 under the x86_32 layout.
     Slot(u32),
     /// Pushes: the producer, a fence, the event word, and an event where it is due. The fence has the
     /// producer seen before the event word is read (`RING_PUSH_REQUESTS_AND_CHECK_NOTIFY`). The
@@ -58,10 +58,11 @@ pub enum Stage {
     StoreEvent,
     EventFence,
     LookAgain,
-    /// Leaves: ends the grant of the ring's frame, whose entry's first word it reads, and exchanges
-    /// for 0 if it is still this one; then closes its port.
-    RingRead,
-    RingEnd(u32),
+    /// Leaves: ends the grants of the ring's pages, one after another. It reads the first word of the
+    /// entry of this page's frame, 0 to 15, and exchanges it for 0 if it is still this one; then it
+    /// closes its port.
+    RingRead(u32),
+    RingEnd(u32, u32),
     ClosePort,
     /// Has given up its ring and its port.
     Left,

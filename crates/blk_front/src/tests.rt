@@ -4,6 +4,7 @@ mod closing;
 mod guest;
 mod long;
 mod reads;
+mod shapes;
 
 use crate::{FrontState, Refusal, Told};
 use blk_base::{FrontAsk, Job, SectorCount};

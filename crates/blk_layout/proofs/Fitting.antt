@@ -12,7 +12,7 @@ use Rattle.blk_layout.proofs.Laid.{eleven, eight}
 use Rattle.blk_layout.proofs.Standing.{read_stands}
 use Rattle.blk_layout.proofs.Back.{reads_back}
 
--- a word of a list of words, or 0 behind its end
+-- a word of a list of words, or 0 after its end
 each_fits : (words : List ℕ) → AreWords words → (i : ℕ) → slice_index words i < 2 ^ 32
 each_fits [] r i = omega arith
 each_fits (w ∷ words) r zero = r.0

@@ -45,9 +45,13 @@ order_rule = record (new_rule (codes "order")) { long = Some (codes "order"); de
 abbrev pub number_rule : Text → Rule
 number_rule id = record (new_rule id) { required = true; parser = Some (parser.Unsigned 0 18446744073709551615) }
 
+-- the first words of `run`, up to those on the shape of the ring
+abbrev pub shape_set : App
+shape_set = with_rule (with_rule (with_rule (with_rule (new_app (codes "run")) image_rule) moves_rule) abi_rule) order_rule
+
 -- `run`
 abbrev pub run_set : App
-run_set = with_rule (with_rule (with_rule (with_rule (new_app (codes "run")) image_rule) moves_rule) start_rule) read_only_rule
+run_set = with_rule (with_rule shape_set start_rule) read_only_rule
 
 -- `inspect`
 abbrev pub inspect_set : App
@@ -111,11 +115,16 @@ pub data Wish : Type 0 where
   a_check : Wish
   a_bench : ℕ → ℕ → Wish
 
-abbrev pub run_with : Text → (moves read_only : Bool) → Option ℕ → Option Wish
-run_with image moves read_only start = option_map (λ first. a_run image (record { detail = detail_of moves; start = first; read_only = read_only })) start
+abbrev pub run_with : Text → (moves read_only : Bool) → Option Abi → (order start : Option ℕ) → Option Wish
+run_with image moves read_only None order start = None
+run_with image moves read_only (Some abi) None start = None
+run_with image moves read_only (Some abi) (Some order) start = option_map (λ first. a_run image (record { detail = detail_of moves; abi = abi; order = order; start = first; read_only = read_only })) start
 
 abbrev pub run_in : List Row → Option Wish
-run_in rows = option_and_then (λ image. run_with image (flag_in (codes "moves") rows) (flag_in (codes "read-only") rows) (option_and_then start_of (number_in (codes "start") rows))) (first_of (codes "image") rows)
+run_in rows =
+    option_and_then
+    (λ image. run_with image (flag_in (codes "moves") rows) (flag_in (codes "read-only") rows) (option_and_then layout_of (number_in (codes "abi") rows)) (option_and_then order_of (number_in (codes "order") rows)) (option_and_then start_of (number_in (codes "start") rows)))
+    (first_of (codes "image") rows)
 
 abbrev pub ring_with : Option Abi → Option ℕ → Option Wish
 ring_with None order = None

@@ -202,6 +202,7 @@ fn run_schedule<S: Source, D: SectorDisk, O: Sink>(
     disk: &mut D,
     out: &mut O,
 ) -> Result<(), Stop>
+    requires { options.order ≤ 4 }
     ensures ends { RunEnds image.now options result
         (scene (S.seen src.old) (D.seen disk.old) (O.seen out.old))
         (scene (S.seen src.new) (D.seen disk.new) (O.seen out.new)) }
@@ -215,8 +216,8 @@ fn run_schedule<S: Source, D: SectorDisk, O: Sink>(
         Err(AttachStop::OutOfMemory) => return Err(Stop::OutOfMemory),
     };
     let config = Config {
-        abi: Abi::X64,
-        order: 0,
+        abi: options.abi,
+        order: options.order,
         persistent: 0,
         indirect: 0,
         start: options.start,

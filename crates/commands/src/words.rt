@@ -3,7 +3,7 @@ ghost use Rattle.std.specs.Prelude.{◌≡◌, ℕ, IfOk, codes, map, option_map
 ghost use Rattle.std.specs.String.{string_bytes};
 ghost use Rattle.clap.specs.Words.{first_of, found_of, rows_of, subcommand_rows_of, rule_of};
 ghost use Rattle.commands.specs.Words.{wish_of, wish_by, wish_in, run_in, run_with, ring_in, bench_in, flag_in, number_in, start_of, layout_of, order_of};
-ghost use Rattle.commands.specs.Words.{command_set, read_set, run_set, inspect_set, check_set, bench_set, image_rule, moves_rule, start_rule, read_only_rule, abi_rule, order_rule, number_rule};
+ghost use Rattle.commands.specs.Words.{command_set, read_set, run_set, shape_set, inspect_set, check_set, bench_set, image_rule, moves_rule, start_rule, read_only_rule, abi_rule, order_rule, number_rule};
 ghost use Rattle.commands.specs.Reading.{IsArgument, IsSet};
 
 use blk_base::{Abi, OutOfMemory};
@@ -30,6 +30,10 @@ pub enum Command<'a> {
 pub struct RunOptions {
     /// Whether the report has each move.
     pub detail: Detail,
+    /// The layout of the ring's entries.
+    pub abi: Abi,
+    /// The ring has `2^order` pages (0 to 4).
+    pub order: u32,
     /// The ring's first index: its producers begin there.
     pub start: u32,
     /// Whether the disk is read-only: the image is never written.
@@ -37,9 +41,9 @@ pub struct RunOptions {
 }
 
 /// The command that the words after the program's name ask for, as `clap` reads them: `run` with an
-/// image's name, and `--moves`, `--read-only` and `--start`, a number of 32 bits, before or after it;
-/// `inspect`, with `--abi` 64 or 32 and `--order` from 0 to 4; `check`; or `bench`, with a seed and a
-/// count, numbers of 64 bits. Each option comes at most once, and a number may have a plus and zeros
+/// image's name, and `--moves`, `--read-only`, `--abi` 64 or 32, `--order` from 0 to 4 and `--start`, a
+/// number of 32 bits, before or after it; `inspect`, with `--abi` and `--order`; `check`; or `bench`,
+/// with a seed and a count, numbers of 64 bits. Each option comes at most once, and a number may have a plus and zeros
 /// before it. Without them the layout is that of x86_64, the order 0, the ring's first index 0, and the
 /// disk may be written.
 ///
@@ -79,15 +83,24 @@ fn read_commands<'a>(alloc: Global) -> Result<clap::Command<'a>, AllocError>
         .subcommand(check_command(alloc))
 }
 
-// `run IMAGE [--moves] [--start N] [--read-only]`.
+// `run IMAGE [--moves] [--abi N] [--order N] [--start N] [--read-only]`.
 fn run_command<'a>(alloc: Global) -> Result<clap::Command<'a>, AllocError>
     ensures { IfOk result (IsSet run_set) }
+{
+    run_command_up_to_order(alloc)?
+        .arg(start_option(alloc))?
+        .arg(read_only_flag(alloc))
+}
+
+// The first words of `run`, up to those on the shape of the ring.
+fn run_command_up_to_order<'a>(alloc: Global) -> Result<clap::Command<'a>, AllocError>
+    ensures { IfOk result (IsSet shape_set) }
 {
     clap::Command::new(alloc, "run")
         .arg(image_argument(alloc))?
         .arg(moves_flag(alloc))?
-        .arg(start_option(alloc))?
-        .arg(read_only_flag(alloc))
+        .arg(abi_option(alloc))?
+        .arg(order_option(alloc))
 }
 
 // `inspect [--abi N] [--order N]`.
@@ -194,20 +207,34 @@ fn run<'a>(found: &ArgMatches<'a>) -> Option<Command<'a>>
         image,
         flag(found, "moves"),
         flag(found, "read-only"),
+        number(found, "abi"),
+        number(found, "order"),
         number(found, "start"),
     )
 }
 
-// A run on the image of that name, with these options, whose ring begins at that number.
-fn run_with(image: &str, moves: bool, read_only: bool, number: Option<u64>) -> Option<Command<'_>>
-    ensures { option_map wish_by result ≡ run_with image.now moves read_only (option_and_then start_of number) }
+// A run on the image of that name, with these options, where the numbers are ones that they may have.
+fn run_with(
+    image: &str,
+    moves: bool,
+    read_only: bool,
+    bits: Option<u64>,
+    pages: Option<u64>,
+    first: Option<u64>,
+) -> Option<Command<'_>>
+    ensures { option_map wish_by result
+        ≡ run_with image.now moves read_only (option_and_then layout_of bits) (option_and_then order_of pages) (option_and_then start_of first) }
 {
-    let start = start(number?)?;
+    let abi = layout(bits?)?;
+    let order = order(pages?)?;
+    let start = start(first?)?;
     let detail = if moves { Detail::Moves } else { Detail::Lines };
     Some(Command::Run {
         image,
         options: RunOptions {
             detail,
+            abi,
+            order,
             start,
             read_only,
         },

@@ -55,6 +55,8 @@ fn words_that_ask_for_a_run(rt: HostRuntime) -> Result<(), Fail> {
         let read_only = false;
         let options = RunOptions {
             detail,
+            abi: Abi::X64,
+            order: 0,
             start,
             read_only,
         };
@@ -73,8 +75,34 @@ fn words_that_ask_for_a_run_on_a_read_only_disk(rt: HostRuntime) -> Result<(), F
     ] {
         let options = RunOptions {
             detail,
+            abi: Abi::X64,
+            order: 0,
             start,
             read_only: true,
+        };
+        let command = Command::Run {
+            image: "disk",
+            options,
+        };
+        assert!(rt; ask_for(alloc, line, Some(command))?);
+    }
+    Ok(())
+}
+
+#[test]
+fn words_that_ask_for_a_run_on_a_ring_of_a_shape(rt: HostRuntime) -> Result<(), Fail> {
+    let alloc = rt.alloc();
+    for (line, abi, order, start) in [
+        ("run disk --abi 32", Abi::X32, 0, 0),
+        ("run --abi=64 disk --order 4", Abi::X64, 4, 0),
+        ("run disk --order +1 --start 7 --abi 0032", Abi::X32, 1, 7),
+    ] {
+        let options = RunOptions {
+            detail: Detail::Lines,
+            abi,
+            order,
+            start,
+            read_only: false,
         };
         let command = Command::Run {
             image: "disk",
@@ -173,7 +201,13 @@ fn words_that_ask_for_no_run(rt: HostRuntime) -> Result<(), Fail> {
         "run disk moves",
         "run disk --moves --moves",
         "run disk --moves=true",
-        "run disk --abi 32",
+        "run disk --abi",
+        "run disk --abi 16",
+        "run disk --abi 48",
+        "run disk --abi 32 --abi 32",
+        "run disk --order 5",
+        "run disk --order -1",
+        "run disk --order 1 --order 1",
         "run disk --start",
         "run disk --start x",
         "run disk --start -1",

@@ -1,2 +1,2 @@
-pub mod OneLayout
+pub mod NamedFirst
 pub mod Promised

@@ -16,7 +16,7 @@ use Rattle.trace_check.specs.Laws.{KeepsLayout}
 use Rattle.legal_laws.specs.Promised.{IsPromised, IsFoundLegal}
 use Rattle.legal_laws.proofs.Promised.{jobs_asked, shown_says, promised_legal, promised_sound, promised_found_legal}
 use Rattle.legal_runs.specs.Legal.{IsRunReport}
-use Rattle.legal_runs.proofs.OneLayout.{layout_stays}
+use Rattle.legal_runs.proofs.NamedFirst.{layout_stays}
 
 promised : (config : Options) (detail : Detail) (events : List Event) (before now : Option (List (List ℕ))) (report : List Line)
     → IsRunReport config detail events before now report → IsPromised config detail (jobs_of events) report

@@ -1,5 +1,5 @@
 -- The front announces the request that it pushed: a back that sleeps, and knew of none before it, is sent an event.
-use Rattle.std.proofs.Common.{◌≡◌, ℕ, ◌+◌, ◌-◌, Bool, true, false, List, refl, inl, inr, arith, None}
+use Rattle.std.proofs.Common.{◌≡◌, ℕ, ◌+◌, ◌-◌, Bool, true, false, List, refl, inl, inr, arith, None, length}
 use Rattle.std.specs.Prelude.{if◌then◌else◌}
 use Rattle.std.specs.List.{list_any}
 use Rattle.blk_base.specs.Options.{Options}
@@ -25,13 +25,13 @@ use Rattle.machine_pipeline.proofs.Issuing.{ring_turned, slots_turned, frames_tu
 turned_on : (config : Options) (w : World) (g : Flow) (d : Pipeline) (s s' : FrontStage)
     → may_front_sleep s ≡ true → may_front_sleep s' ≡ true → is_issuing s' ≡ is_issuing s
     → Holds config w g d s w.back.stage
-    → FrontAt g.start g.pushed g.taken g.front_seen g.submitted g.replies (next_request w.front) w.front.entry w.front.ending s'
+    → FrontAt g.shape g.start g.pushed g.taken g.front_seen g.submitted g.replies (next_request w.front) w.front.entry w.front.ending s'
     → filled s ≡ 0 → filled s' ≡ 0 → entered s ≡ 0 → entered s' ≡ 0 → named_frames s' ≡ 0 → granted_frames s' ≡ 0
     → (w.back.asleep ≡ true → FrontSends s g.pushed g.fetched → FrontSends s' g.pushed g.fetched)
     → Holds config (with_front w s' w.front.entry w.under.pages) g d s' w.back.stage
 turned_on config w g d s s' i i' same h at full full' few few' unnamed ungranted sends =
-    issue_kept config w g d s s' w.front.entry w.under.pages i i' same h at h.memory (λ f low high x lt. refl) (λ x lt. refl) (record { flags = refl; frame = refl })
-    (slots_turned g.start g.fetched g.pushed g.taken g.replied g.submitted g.replies w.under.pages w.under.pages s s' w.back.stage (λ x from to. refl) (omega arith) few' h.slots)
+    issue_kept config w g d s s' w.front.entry w.under.pages i i' same h at h.memory (λ f low high x lt. refl) (λ x lt. refl) (λ page lt. record { flags = refl; frame = refl })
+    (slots_turned g.shape g.start g.fetched g.pushed g.taken g.replied g.submitted g.replies w.under.pages w.under.pages s s' w.back.stage h.shaped.narrow (λ f x from to in_it behind. refl) few' h.slots)
     (frames_turned g.pushed w.under.pages w.under.pages s s' w.front.requests (omega arith) (λ n x lt i l. refl) h.frames)
     (entries_turned g.pushed w.under.pages w.under.pages w.under.grants.live s s' w.front.ending w.front.requests i' (omega arith) (omega arith) (λ n x lt a in_it. record { flags = refl; frame = refl }) h.entries)
     sends
@@ -69,6 +69,7 @@ event_goes config w g d old safe h = record {
 
 -- a back that sleeps is bound to the front's port
 bound_asleep : (b : BackStage) (asleep : Bool) → (may_back_sleep b ≡ false → asleep ≡ false) → asleep ≡ true → is_bound_back b ≡ true
+bound_asleep back.InitWait asleep may t = let no = may refl in absurd (cc)
 bound_asleep back.MapRing asleep may t = let no = may refl in absurd (cc)
 bound_asleep back.Bind asleep may t = let no = may refl in absurd (cc)
 bound_asleep b asleep may t = refl
@@ -87,6 +88,7 @@ send_goes config w g d safe h =
       does = said_nothing d _ w.front.told safe.front_told;
       holds = record {
         started = h.started;
+        shaped = h.shaped;
         sized = h.sized;
         indices = h.indices;
         queue = h.queue;
@@ -102,13 +104,13 @@ send_goes config w g d safe h =
         back_at = h.back_at;
         unhalted = h.unhalted;
         memory = h.memory;
-        ring = ring_turned g.start g.pushed g.replied w.under.pages w.under.pages front.Send front.Loop w.back.stage refl refl (λ x lt. refl) (record { flags = refl; frame = refl }) h.ring;
-        slots = slots_turned g.start g.fetched g.pushed g.taken g.replied g.submitted g.replies w.under.pages w.under.pages front.Send front.Loop w.back.stage (λ x from to. refl) (omega arith) refl h.slots;
+        ring = ring_turned g.shape.order g.start g.pushed g.replied w.under.pages w.under.pages front.Send front.Loop (length w.back.pages) h.shaped.narrow refl refl (λ x lt. refl) (λ page lt. record { flags = refl; frame = refl }) h.ring;
+        slots = slots_turned g.shape g.start g.fetched g.pushed g.taken g.replied g.submitted g.replies w.under.pages w.under.pages front.Send front.Loop w.back.stage h.shaped.narrow (λ f x from to in_it behind. refl) refl h.slots;
         frames = frames_turned g.pushed w.under.pages w.under.pages front.Send front.Loop w.front.requests (omega arith) (λ n x lt i l. refl) h.frames;
         telling = record { size = h.telling.size; so_far = tt };
         entries = entries_turned g.pushed w.under.pages w.under.pages w.under.grants.live front.Send front.Loop w.front.ending w.front.requests refl (omega arith) (omega arith) (λ n x lt a in_it. record { flags = refl; frame = refl }) h.entries;
         mapped = h.mapped;
-        page = h.page;
+        paged = h.paged;
         front_sleep = record { arming = λ t. absurd (cc); armed = z.armed; may = λ t. absurd (cc); woken = z.woken };
         back_sleep = record {
           arming = u.arming;

@@ -26,16 +26,16 @@ pub record IsIdleRing (w : World) : Type 0 where
   pub no_request : w.front.requests ≡ []
 
 -- after the halt a front that waits, and not for its negotiation, is in its loop or closed
-waits_at : (connected : Bool) (made : ℕ) (w : World) (b : BackStage) (v : View) (s : FrontStage) → IsLeaving connected made w.under.pages b s → not (is_led s) ≡ true → is_wait (ask_at s v) ≡ true → (s ≡ front.Loop) ⊎ (s ≡ front.Closed)
-waits_at connected made w b v front.Loop p free waits = inl refl
-waits_at connected made w b v front.Closed p free waits = inr refl
-waits_at connected made w b v front.Initialised p free waits = absurd (true≢false (sym free))
-waits_at connected made w b v front.Left p free waits = absurd (true≢false (sym free))
-waits_at connected made w b v (front.RingWord k) p free waits = absurd (true≢false (sym waits))
-waits_at connected made w b v front.RingRead p free waits = absurd (true≢false (sym waits))
-waits_at connected made w b v (front.RingEnd seen) p free waits = absurd (true≢false (sym waits))
-waits_at connected made w b v front.ClosePort p free waits = absurd (true≢false (sym waits))
-waits_at connected made w b v s p free waits = absurd p
+waits_at : (connected : Bool) (made order : ℕ) (w : World) (b : BackStage) (v : View) (s : FrontStage) → IsLeaving connected made order w.under.pages w.back.pages b s → not (is_led s) ≡ true → is_wait (ask_at s v) ≡ true → (s ≡ front.Loop) ⊎ (s ≡ front.Closed)
+waits_at connected made order w b v front.Loop p free waits = inl refl
+waits_at connected made order w b v front.Closed p free waits = inr refl
+waits_at connected made order w b v front.Initialised p free waits = absurd (true≢false (sym free))
+waits_at connected made order w b v front.Left p free waits = absurd (true≢false (sym free))
+waits_at connected made order w b v (front.RingWord k) p free waits = absurd (true≢false (sym waits))
+waits_at connected made order w b v (front.RingRead page) p free waits = absurd (true≢false (sym waits))
+waits_at connected made order w b v (front.RingEnd page seen) p free waits = absurd (true≢false (sym waits))
+waits_at connected made order w b v front.ClosePort p free waits = absurd (true≢false (sym waits))
+waits_at connected made order w b v s p free waits = absurd p
 
 pub quiet_rests : (config : Options) (w : World) → is_quiet w ≡ true → IsStanding config w → IsIdleRing w
 quiet_rests config w quiet stands = by_kept stands.kept
@@ -59,7 +59,7 @@ quiet_rests config w quiet stands = by_kept stands.kept
         let waiting = both_true (not (is_led w.front.stage)) (is_wait (ask_at w.front.stage w.front)) idle in
         record {
           ring = over.ring;
-          front_at = waits_at d.front.connected w.under.channels.made w w.back.stage w.front w.front.stage over.front_at waiting.0 waiting.1;
+          front_at = waits_at d.front.connected w.under.channels.made w.front.shape.order w w.back.stage w.front w.front.stage over.front_at waiting.0 waiting.1;
           no_job = over.no_job;
           no_request = over.no_request;
         }

@@ -17,7 +17,7 @@ use Rattle.machine_pipeline.specs.Plain.{IsPlain}
 use Rattle.machine_pipeline.proofs.Flow.{frames_of, own_segments}
 use Rattle.machine_pipeline.proofs.Segments.{few_frames, own_here, own_sound, own_sectors, ranged, eleven}
 use Rattle.machine_pipeline.proofs.Holds.{IsSubmitted, AreWorks, IsWork}
-use Rattle.blk_base.specs.declared.operation.Abi.TheVariants.{X64}
+use Rattle.blk_base.specs.declared.operation.Abi.{Abi}
 use Rattle.blk_layout.specs.Entry.{request_of}
 use Rattle.blk_layout.specs.Range.{IsInRange}
 use Rattle.blk_layout.proofs.Back.{reads_back}
@@ -58,9 +58,9 @@ serves config number size r (transfer.Write tag) way writable within shaped =
     rw (way, writable (ap is_write way), some, few, own_sound r shaped, on_disk) refl
 
 -- the job of the entry's words
-pub entry_job : (config : Options) (number size k : ℕ) (r : Request) → IsPlain config → k < 2 ^ 32 → IsSubmitted config.sectors k r → (is_write r.transfer ≡ true → config.read_only ≡ false) → begun number (request_of X64 (entry_of r)) size (verdict_of (request_of X64 (entry_of r)) (info_of config)) ≡ moving number (entry_request r) size (is_write r.transfer) r.sector (own_segments r)
-entry_job config number size k r plain few s writable =
-    ap (λ (x : RawRequest). begun number x size (verdict_of x (info_of config))) (reads_back X64 (entry_request r) (in_range config.sectors k r plain.sectors few s))
+pub entry_job : (abi : Abi) (config : Options) (number size k : ℕ) (r : Request) → IsPlain config → k < 2 ^ 32 → IsSubmitted config.sectors k r → (is_write r.transfer ≡ true → config.read_only ≡ false) → begun number (request_of abi (entry_of abi r)) size (verdict_of (request_of abi (entry_of abi r)) (info_of config)) ≡ moving number (entry_request r) size (is_write r.transfer) r.sector (own_segments r)
+entry_job abi config number size k r plain few s writable =
+    ap (λ (x : RawRequest). begun number x size (verdict_of x (info_of config))) (reads_back abi (entry_request r) (in_range config.sectors k r plain.sectors few s))
     ∙ serves config number size r r.transfer refl writable s.sector s.shaped
 
 -- that job is the one of the request

@@ -8,26 +8,30 @@ use Rattle.blk_base.specs.declared.ask.BackAnswer.{BackAnswer}
 use Rattle.blk_base.specs.declared.moves.Move.{Move as Shown}
 use Rattle.pipeline_laws.specs.Pipeline.{Pipeline}
 use Rattle.ring_words.specs.Ring.{Ring, requests_of}
+use Rattle.ring_words.specs.Shape.{Shape, entry_words_of}
 use Rattle.xen_pages.specs.Pages.{word_of}
 use Rattle.grant_table.specs.Table.{frame_of}
 use Rattle.blk_front.specs.declared.request.Request.{Request}
-use Rattle.blk_front.specs.View.{slot_word}
+use Rattle.blk_front.specs.View.{slot_frame, slot_word}
 use Rattle.blk_front.specs.Step.{entry_of, entry_request}
 use Rattle.std.proofs.lemmas.Bool.{cases_eq}
 use Rattle.std.proofs.lemmas.List.{take_more}
-use Rattle.blk_base.specs.declared.operation.Abi.TheVariants.{X64}
+use Rattle.blk_base.specs.declared.operation.Abi.{Abi}
+use Rattle.blk_base.specs.declared.operation.Abi.TheVariants.{X64, X32}
 use Rattle.blk_layout.proofs.Back.{length-words_of}
 use Rattle.blk_back.specs.declared.stage.Stage.{Stage as BackStage}
 use Rattle.blk_back.specs.declared.stage.Stage.TheVariants as stage
+use Rattle.blk_back.specs.View.{slot_page}
 use Rattle.blk_back.specs.Step.{fetched}
 use Rattle.split_model.specs.World.{World}
+use Rattle.machine_pipeline.proofs.Slots.{some_words}
 use Rattle.machine_pipeline.proofs.Lists.{get_within}
 use Rattle.machine_pipeline.proofs.Flow.{Flow, wrapped, is_issuing, ending_at, telling_at}
-use Rattle.machine_pipeline.proofs.Holds.{Holds}
+use Rattle.machine_pipeline.proofs.Holds.{Holds, slot_of}
 use Rattle.machine_pipeline.proofs.BackStill.{BackStands}
-use Rattle.machine_pipeline.proofs.BackQuiet.{IsBetween, goes_moved, quiet_with, front_sleep_at, back_sleep_at}
+use Rattle.machine_pipeline.proofs.BackQuiet.{IsBetween, bound_terms, goes_moved, quiet_with, front_sleep_at, back_sleep_at}
 use Rattle.machine_pipeline.proofs.BackFences.{between}
-use Rattle.machine_pipeline.proofs.BackWrites.{page_at}
+use Rattle.machine_pipeline.proofs.BackWrites.{slot_is}
 use Rattle.machine_pipeline.proofs.BackLooks.{LooksAs}
 use Rattle.machine_pipeline.proofs.StationsBack.{begins_fetch}
 use Rattle.machine_pipeline.proofs.Turns.{does_step}
@@ -44,11 +48,15 @@ some_requests start fetched seen word ring cons here from some = elim (cases_eq 
   | inr other ↦ omega arith
 ]
 
+-- word i of the entry that is copied, as the back reads it
+abbrev pub entry_word : World → ℕ → ℕ
+entry_word w i = word_of w.under.pages (frame_of w.under.grants (slot_page w.back w.back.ring.cons i)) (slot_word w.back.shape w.back.ring.cons i)
+
 -- the next request that was pushed and not fetched, and each word of its entry
 pub record IsNext (w : World) (g : Flow) : Type 0 where
   pub r : Request
   pub known : slice_get g.submitted g.fetched ≡ Some r
-  pub words : (i : ℕ) → i < 28 → word_of w.under.pages (frame_of w.under.grants w.back.page) (slot_word w.back.ring.cons i) ≡ slice_index (entry_of r) i
+  pub words : (i : ℕ) → i < entry_words_of g.shape.abi → entry_word w i ≡ slice_index (entry_of g.shape.abi r) i
 
 pub next_pushed : (config : Options) (w : World) (g : Flow) (d : Pipeline) (b : BackStage) → BackStands config w g d b → IsBetween b w.back → g.fetched < g.back_seen → IsNext w g
 next_pushed config w g d b p i some =
@@ -61,21 +69,26 @@ next_pushed config w g d b p i some =
       r = found.0;
       known = found.1;
       words = λ k lt.
-          ap (λ (f : ℕ). word_of w.under.pages f (slot_word w.back.ring.cons k)) (page_at config w g d b p i)
-          ∙ ap (λ (c : ℕ). word_of w.under.pages 2 (slot_word c k)) x.fetched
-          ∙ h.slots.entries g.fetched found.0 (omega arith) pushed found.1 k lt;
+          ap (λ (f : ℕ). word_of w.under.pages f (slot_word w.back.shape w.back.ring.cons k)) (slot_is config w g d b w.back.ring.cons k p i.bound i.hands lt)
+          ∙ (ap (λ (s : Shape). word_of w.under.pages (slot_frame g.shape w.back.ring.cons k) (slot_word s w.back.ring.cons k)) (h.paged.shaped (bound_terms b i.bound))
+          ∙ (ap (λ (c : ℕ). slot_of w.under.pages g.shape c k) x.fetched ∙ h.slots.entries g.fetched found.0 (omega arith) pushed found.1 k lt));
     }
 
-pub length_entry : (r : Request) → length (entry_of r) ≡ 28
-length_entry r = length-words_of X64 (entry_request r)
+pub length_entry : (abi : Abi) (r : Request) → length (entry_of abi r) ≡ entry_words_of abi
+length_entry X64 r = length-words_of X64 (entry_request r)
+length_entry X32 r = length-words_of X32 (entry_request r)
 
 -- one word more of the entry
-pub one_more : (r : Request) (k word : ℕ) (entry : List ℕ) → k < 28 → entry ≡ take k (entry_of r) → word ≡ slice_index (entry_of r) k → entry ++ word ∷ [] ≡ take (k + 1) (entry_of r)
-one_more r k word entry lt begun here = rw (begun, here) (sym (take_more (entry_of r) k 0 (let all = length_entry r in omega arith)))
+pub one_more : (abi : Abi) (r : Request) (k word : ℕ) (entry : List ℕ) → k < entry_words_of abi → entry ≡ take k (entry_of abi r) → word ≡ slice_index (entry_of abi r) k → entry ++ word ∷ [] ≡ take (k + 1) (entry_of abi r)
+one_more abi r k word entry lt begun here = rw (begun, here) (sym (take_more (entry_of abi r) k 0 (let all = length_entry abi r in omega arith)))
+
+many_words : (abi : Abi) → 1 < entry_words_of abi
+many_words X64 = omega arith
+many_words X32 = omega arith
 
 -- the entry's first word is read in the loop
 pub goes_first : (config : Options) (w : World) (g : Flow) (d : Pipeline) (shown : Shown) (given : BackAnswer) (word : ℕ)
-    → word ≡ word_of w.under.pages (frame_of w.under.grants w.back.page) (slot_word w.back.ring.cons 0)
+    → word ≡ entry_word w 0
     → w.back.asleep ≡ false
     → (requests_of w.back.ring w.back.seen == 0) ≡ false
     → BackStands config w g d stage.Loop
@@ -83,13 +96,13 @@ pub goes_first : (config : Options) (w : World) (g : Flow) (d : Pipeline) (shown
 goes_first config w g d shown given word read awake some p =
     let h : Holds config w g d w.front.stage stage.Loop = p.holds in
     let x = h.indices in
-    let i : IsBetween stage.Loop w.back = between stage.Loop w.back refl refl refl refl in
+    let i : IsBetween stage.Loop w.back = between stage.Loop w.back refl refl refl in
     let more : g.fetched < g.back_seen = some_requests g.start g.fetched g.back_seen w.back.seen w.back.ring x.fetched x.back_saw x.back_from some in
     let n : IsNext w g = next_pushed config w g d stage.Loop p i more in
     let s = begins_fetch config g d (is_ready w.front.stage) (is_issuing w.front.stage) (ending_at w.front.stage w.front.ending) (telling_at w.front.stage) None w.front.requests w.back.jobs.works w.under.pages (omega (arith, more, x.back_to)) h.stations in
     goes_moved config w g d (Some s.step) stage.Loop (stage.Fetch 1) (record w.back { entry = word ∷ [] }) w.under.pages w.under.channels g.back_seen shown given (does_step shown (back_lines w.back.told given ++ halt_lines w.back.halted w.back.halted) (rw (p.untold, h.unhalted) refl) s) p
-    (quiet_with config w g d stage.Loop (stage.Fetch 1) w.back.asleep w.back.seen (word ∷ []) w.under.channels g.back_seen h i (between (stage.Fetch 1) w.back refl refl refl refl) s.now x
-    (omega arith, omega arith, more, (n.r, n.known, one_more n.r 0 word [] (omega arith) refl (read ∙ n.words 0 (omega arith))))
+    (quiet_with config w g d stage.Loop (stage.Fetch 1) w.back.asleep w.back.seen (word ∷ []) w.under.channels g.back_seen h i (between (stage.Fetch 1) w.back refl refl refl) s.now x
+    (omega arith, many_words g.shape.abi, more, (n.r, n.known, one_more g.shape.abi n.r 0 word [] (some_words g.shape.abi) refl (read ∙ n.words 0 (some_words g.shape.abi))))
     (front_sleep_at g.start g.taken g.replied w.under.pages w.front.asleep w.under.channels.front_pending w.front.stage stage.Loop (stage.Fetch 1) (λ t s. absurd s) h.front_sleep)
     (back_sleep_at g.start g.fetched g.pushed w.under.pages w.back.asleep w.under.channels.back_pending w.front.stage stage.Loop (stage.Fetch 1) (λ t. absurd (false≢true t)) (λ t. awake) h.back_sleep)
     refl refl)

@@ -10,13 +10,11 @@ use Rattle.blk_base.specs.declared.ask.BackAnswer.{BackAnswer}
 use Rattle.blk_base.specs.declared.moves.Move.{Move as Shown}
 use Rattle.pipeline_laws.specs.Pipeline.{Pipeline}
 use Rattle.ring_words.specs.Ring.{Ring, next_of}
-use Rattle.xen_pages.specs.Pages.{word_of}
-use Rattle.grant_table.specs.Table.{frame_of}
+use Rattle.ring_words.specs.Shape.{Shape, entry_words_of}
 use Rattle.event_channel.specs.Channels.{taken}
 use Rattle.back_jobs.specs.Task.{Work}
 use Rattle.blk_front.specs.declared.request.Request.{Request}
 use Rattle.blk_front.specs.declared.stage.Stage.{Stage as FrontStage}
-use Rattle.blk_front.specs.View.{slot_word}
 use Rattle.blk_front.specs.Step.{entry_of}
 use Rattle.blk_front.specs.Request.{is_write}
 use Rattle.blk_front.specs.Submit.{ending_of, is_ready}
@@ -33,10 +31,10 @@ use Rattle.machine_pipeline.proofs.StationsBack.{fetches}
 use Rattle.machine_pipeline.proofs.Holds.{Holds, AreIndices, IsSubmitted, IsWork, AreReplies, AreSlots}
 use Rattle.machine_pipeline.proofs.Turns.{BackGoes, Stepped, does_step}
 use Rattle.machine_pipeline.proofs.BackStill.{BackStands}
-use Rattle.machine_pipeline.proofs.BackQuiet.{IsBetween, goes_still, quiet_with, ring_at, front_sleep_at, back_sleep_at}
+use Rattle.machine_pipeline.proofs.BackQuiet.{IsBetween, goes_still, quiet_with, paged_at, front_sleep_at, back_sleep_at}
 use Rattle.machine_pipeline.proofs.BackFences.{between}
 use Rattle.std.proofs.lemmas.List.{take_all}
-use Rattle.blk_base.specs.declared.operation.Abi.TheVariants.{X64}
+use Rattle.blk_base.specs.declared.operation.Abi.{Abi}
 use Rattle.blk_layout.specs.Entry.{request_of}
 use Rattle.segment_list.specs.declared.verdict.DiskInfo.{DiskInfo}
 use Rattle.segment_list.specs.Verdict.{verdict_of}
@@ -46,14 +44,13 @@ use Rattle.blk_front.specs.Step.{entry_request}
 use Rattle.blk_back.specs.Step.{next_number}
 use Rattle.machine_pipeline.proofs.BackWrites.{next_wrapped}
 use Rattle.machine_pipeline.proofs.BackLooks.{LooksAs}
-use Rattle.machine_pipeline.proofs.BackFetch.{IsNext, next_pushed, one_more, length_entry}
+use Rattle.machine_pipeline.proofs.BackFetch.{IsNext, entry_word, next_pushed, one_more, length_entry}
 use Rattle.machine_pipeline.proofs.BackBegins.{entry_job, is_work, works_with}
 
 -- one request more was fetched
 indices_with : (g : Flow) (front_ring back_ring : Ring) (front_seen back_seen number last waiting unfinished ending : ℕ) → g.fetched < g.back_seen → AreIndices g front_ring back_ring front_seen back_seen number last waiting unfinished ending → AreIndices (record g { fetched = g.fetched + 1 }) front_ring (record back_ring { cons = next_of back_ring.cons }) front_seen back_seen ((number + 1) % 2 ^ 64) last waiting unfinished ending
 indices_with g front_ring back_ring front_seen back_seen number last waiting unfinished ending more x = record {
   front_entries = x.front_entries;
-  back_entries = x.back_entries;
   pushed = x.pushed;
   taken = x.taken;
   replied = x.replied;
@@ -81,8 +78,8 @@ replies_with fetched taken replied replies h = record {
   distinct = h.distinct;
 }
 
-slots_with : (start fetched pushed taken replied : ℕ) (submitted : List Request) (replies : List Reply) (pages : List ℕ) (s : FrontStage) (k : ℕ) → AreSlots start fetched pushed taken replied submitted replies pages s (stage.Fetch k) → AreSlots start (fetched + 1) pushed taken replied submitted replies pages s stage.Loop
-slots_with start fetched pushed taken replied submitted replies pages s k h = record {
+slots_with : (shape : Shape) (start fetched pushed taken replied : ℕ) (submitted : List Request) (replies : List Reply) (pages : List ℕ) (s : FrontStage) (k : ℕ) → AreSlots shape start fetched pushed taken replied submitted replies pages s (stage.Fetch k) → AreSlots shape start (fetched + 1) pushed taken replied submitted replies pages s stage.Loop
+slots_with shape start fetched pushed taken replied submitted replies pages s k h = record {
   entries = λ j r from to e i lt. h.entries j r (omega arith) to e i lt;
   entry = h.entry;
   responses = h.responses;
@@ -92,7 +89,7 @@ slots_with start fetched pushed taken replied submitted replies pages s k h = re
 goes_fetched : (config : Options) (w : World) (g : Flow) (d : Pipeline) (k : ℕ) (shown : Shown) (given : BackAnswer) (r : Request) (words : List ℕ)
     → BackStands config w g d (stage.Fetch k)
     → slice_get g.submitted g.fetched ≡ Some r
-    → words ≡ entry_of r
+    → words ≡ entry_of w.back.shape.abi r
     → LooksAs config w d shown given (fetched w.back words)
 goes_fetched config w g d k shown given r words p known e = subst (λ (ws : List ℕ). LooksAs config w d shown given (fetched w.back ws)) (sym e) (record {
   flow = record g { fetched = g.fetched + 1 };
@@ -100,6 +97,7 @@ goes_fetched config w g d k shown given r words p known e = subst (λ (ws : List
   does = does_step shown (back_lines w.back.told given ++ halt_lines w.back.halted w.back.halted) (rw (p.untold, h.unhalted) refl) s;
   holds = record {
     started = h.started;
+    shaped = h.shaped;
     sized = h.sized;
     indices = indices_with g w.front.ring w.back.ring w.front.seen w.back.seen w.back.fetched w.front.last w.front.waiting (length w.front.requests) (ending_of w.front.stage) h.back_at.2 x;
     queue = h.queue;
@@ -115,13 +113,13 @@ goes_fetched config w g d k shown given r words p known e = subst (λ (ws : List
     back_at = tt;
     unhalted = h.unhalted;
     memory = h.memory;
-    ring = ring_at g.start g.pushed g.replied w.under.pages w.front.stage (stage.Fetch k) stage.Loop refl h.ring;
-    slots = slots_with g.start g.fetched g.pushed g.taken g.replied g.submitted g.replies w.under.pages w.front.stage k h.slots;
+    ring = h.ring;
+    slots = slots_with g.shape g.start g.fetched g.pushed g.taken g.replied g.submitted g.replies w.under.pages w.front.stage k h.slots;
     frames = h.frames;
     telling = h.telling;
     entries = h.entries;
-    mapped = record { counted = λ test. h.mapped.counted test ∙ ap (λ (l : List Mapping). count_by test (l ++ w.back.page ∷ [])) (sym (started_hands w.back.jobs (next_number w.back) (request_of X64 (entry_of r)))); framed = h.mapped.framed };
-    page = record { gref = λ u. h.page.gref refl; mode = λ u. h.page.mode refl };
+    mapped = record { counted = λ test. h.mapped.counted test ∙ ap (λ (l : List Mapping). count_by test (l ++ w.back.pages)) (sym (started_hands w.back.jobs (next_number w.back) (request_of w.back.shape.abi (entry_of w.back.shape.abi r)))); framed = h.mapped.framed };
+    paged = paged_at g.shape w.back.shape w.back.ring.entries w.back.grefs w.back.port w.back.pages (stage.Fetch k) stage.Loop refl refl h.paged;
     front_sleep = front_sleep_at g.start g.taken g.replied w.under.pages w.front.asleep w.under.channels.front_pending w.front.stage (stage.Fetch k) stage.Loop (λ u s. absurd s) h.front_sleep;
     back_sleep = record { arming = λ u. absurd (false≢true u); armed = λ u. absurd (false≢true (sym awake ∙ u)); may = λ u. awake; woken = λ u. absurd (false≢true (sym awake ∙ u)) };
     ports = h.ports;
@@ -141,13 +139,13 @@ goes_fetched config w g d k shown given r words p known e = subst (λ (ws : List
     number = omega (arith, x.count, x.few, x.all, x.fetched_pushed)
 
     t : Work
-    t = begun (next_number w.back) (request_of X64 (entry_of r)) w.back.jobs.info.sectors (verdict_of (request_of X64 (entry_of r)) w.back.jobs.info)
+    t = begun (next_number w.back) (request_of w.back.shape.abi (entry_of w.back.shape.abi r)) w.back.jobs.info.sectors (verdict_of (request_of w.back.shape.abi (entry_of w.back.shape.abi r)) w.back.jobs.info)
 
     sub : IsSubmitted config.sectors g.fetched r
     sub = subst (λ (sectors : ℕ). IsSubmitted sectors g.fetched r) h.sized.sectors (h.submitted.each g.fetched r known)
 
     made : t ≡ moving (next_number w.back) (entry_request r) w.back.jobs.info.sectors (is_write r.transfer) r.sector (own_segments r)
-    made = ap (λ (i : DiskInfo). begun (next_number w.back) (request_of X64 (entry_of r)) w.back.jobs.info.sectors (verdict_of (request_of X64 (entry_of r)) i)) h.info ∙ entry_job config (next_number w.back) w.back.jobs.info.sectors g.fetched r p.plain (omega (arith, x.few, x.all, x.fetched_pushed)) sub (h.sized.writable g.fetched r known)
+    made = ap (λ (i : DiskInfo). begun (next_number w.back) (request_of w.back.shape.abi (entry_of w.back.shape.abi r)) w.back.jobs.info.sectors (verdict_of (request_of w.back.shape.abi (entry_of w.back.shape.abi r)) i)) h.info ∙ entry_job w.back.shape.abi config (next_number w.back) w.back.jobs.info.sectors g.fetched r p.plain (omega (arith, x.few, x.all, x.fetched_pushed)) sub (h.sized.writable g.fetched r known)
 
     is : IsWork g.submitted (g.fetched + 1) t
     is = subst (λ (u : Work). IsWork g.submitted (g.fetched + 1) u) (sym made) (is_work g.submitted g.fetched w.back.jobs.info.sectors config.sectors (next_number w.back) r number known sub)
@@ -161,8 +159,8 @@ goes_fetched config w g d k shown given r words p known e = subst (λ (ws : List
     s = fetches config g d (is_ready w.front.stage) (is_issuing w.front.stage) (ending_at w.front.stage w.front.ending) (telling_at w.front.stage) None w.front.requests w.back.jobs.works w.under.pages t (omega (arith, x.back_to, h.back_at.2)) (ap (λ (u : Work). u.number) made ∙ number) (ap (λ (u : Work). worked u.stage u.moved) made) unread h.stations
 
 goes_further : (config : Options) (w : World) (g : Flow) (d : Pipeline) (k word : ℕ) (shown : Shown) (given : BackAnswer) (last : Bool)
-    → (k == 27) ≡ last
-    → word ≡ word_of w.under.pages (frame_of w.under.grants w.back.page) (slot_word w.back.ring.cons k)
+    → (k + 1 == entry_words_of w.back.shape.abi) ≡ last
+    → word ≡ entry_word w k
     → BackStands config w g d (stage.Fetch k)
     → LooksAs config w d shown given (if last then fetched w.back (w.back.entry ++ word ∷ []) else record w.back { entry = w.back.entry ++ word ∷ []; stage = stage.Fetch (k + 1) })
 goes_further config w g d k word shown given last tested read p = by_test last tested
@@ -170,11 +168,14 @@ goes_further config w g d k word shown given last tested read p = by_test last t
     h : Holds config w g d w.front.stage (stage.Fetch k)
     h = p.holds
 
-    few : k < 28
+    few : k < entry_words_of g.shape.abi
     few = h.back_at.1
 
+    abi : w.back.shape.abi ≡ g.shape.abi
+    abi = ap (λ (x : Shape). x.abi) (h.paged.shaped refl)
+
     i : IsBetween (stage.Fetch k) w.back
-    i = between (stage.Fetch k) w.back refl refl refl refl
+    i = between (stage.Fetch k) w.back refl refl refl
 
     n : IsNext w g
     n = next_pushed config w g d (stage.Fetch k) p i h.back_at.2
@@ -188,22 +189,25 @@ goes_further config w g d k word shown given last tested read p = by_test last t
     same : n.r ≡ r
     same = same_Some n.r r (sym n.known ∙ known)
 
-    more : w.back.entry ++ word ∷ [] ≡ take (k + 1) (entry_of r)
-    more = one_more r k word w.back.entry few h.back_at.3.2 (read ∙ n.words k few ∙ ap (λ (q : Request). slice_index (entry_of q) k) same)
+    more : w.back.entry ++ word ∷ [] ≡ take (k + 1) (entry_of g.shape.abi r)
+    more = one_more g.shape.abi r k word w.back.entry few h.back_at.3.2 (read ∙ n.words k few ∙ ap (λ (q : Request). slice_index (entry_of g.shape.abi q) k) same)
 
-    by_test : (last : Bool) → (k == 27) ≡ last → LooksAs config w d shown given (if last then fetched w.back (w.back.entry ++ word ∷ []) else record w.back { entry = w.back.entry ++ word ∷ []; stage = stage.Fetch (k + 1) })
+    by_test : (last : Bool) → (k + 1 == entry_words_of w.back.shape.abi) ≡ last → LooksAs config w d shown given (if last then fetched w.back (w.back.entry ++ word ∷ []) else record w.back { entry = w.back.entry ++ word ∷ []; stage = stage.Fetch (k + 1) })
     by_test true u =
-        let all : take (k + 1) (entry_of r) ≡ entry_of r = take_all (k + 1) (entry_of r) (let sized = length_entry r in let whole : k ≡ 27 = grind (arith, nat_tests) in omega arith) in
-        goes_fetched config w g d k shown given r (w.back.entry ++ word ∷ []) p known (more ∙ all)
+        let whole : k + 1 ≡ entry_words_of w.back.shape.abi = grind (arith, nat_tests) in
+        let words : entry_words_of w.back.shape.abi ≡ entry_words_of g.shape.abi = ap entry_words_of abi in
+        let all : take (k + 1) (entry_of g.shape.abi r) ≡ entry_of g.shape.abi r = take_all (k + 1) (entry_of g.shape.abi r) (let sized = length_entry g.shape.abi r in omega arith) in
+        goes_fetched config w g d k shown given r (w.back.entry ++ word ∷ []) p known (more ∙ (all ∙ ap (λ (x : Abi). entry_of x r) (sym abi)))
     by_test false u =
-        let apart : k ≢ 27 = grind (arith, nat_tests) in
+        let apart : k + 1 ≢ entry_words_of w.back.shape.abi = grind (arith, nat_tests) in
+        let words : entry_words_of w.back.shape.abi ≡ entry_words_of g.shape.abi = ap entry_words_of abi in
         let awake : w.back.asleep ≡ false = h.back_sleep.may refl in
         goes_still config w g d (stage.Fetch k) (stage.Fetch (k + 1)) (record w.back { entry = w.back.entry ++ word ∷ [] }) w.under.pages w.under.channels g.back_seen shown given p
-        (quiet_with config w g d (stage.Fetch k) (stage.Fetch (k + 1)) w.back.asleep w.back.seen (w.back.entry ++ word ∷ []) w.under.channels g.back_seen h i (between (stage.Fetch (k + 1)) w.back refl refl refl refl) h.stations h.indices
+        (quiet_with config w g d (stage.Fetch k) (stage.Fetch (k + 1)) w.back.asleep w.back.seen (w.back.entry ++ word ∷ []) w.under.channels g.back_seen h i (between (stage.Fetch (k + 1)) w.back refl refl refl) h.stations h.indices
         (omega arith, omega arith, h.back_at.2, (r, known, more))
         (front_sleep_at g.start g.taken g.replied w.under.pages w.front.asleep w.under.channels.front_pending w.front.stage (stage.Fetch k) (stage.Fetch (k + 1)) (λ t s. absurd s) h.front_sleep)
         (back_sleep_at g.start g.fetched g.pushed w.under.pages w.back.asleep w.under.channels.back_pending w.front.stage (stage.Fetch k) (stage.Fetch (k + 1)) (λ t. absurd (false≢true t)) (λ t. awake) h.back_sleep)
         refl refl)
 
 pub goes_fetch : (config : Options) (w : World) (g : Flow) (d : Pipeline) (k : ℕ) → BackStands config w g d (stage.Fetch k) → BackGoes config w d (stage.Fetch k)
-goes_fetch config w g d k p = goes_further config w g d k (word_of w.under.pages (frame_of w.under.grants w.back.page) (slot_word w.back.ring.cons k)) _ _ (k == 27) refl refl p
+goes_fetch config w g d k p = goes_further config w g d k (entry_word w k) _ _ (k + 1 == entry_words_of w.back.shape.abi) refl refl p

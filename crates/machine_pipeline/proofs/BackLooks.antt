@@ -10,6 +10,7 @@ use Rattle.blk_base.specs.declared.moves.Move.{Move as Shown}
 use Rattle.schedule_text.specs.declared.line.Line.TheVariants.{Move}
 use Rattle.pipeline_laws.specs.Pipeline.{Pipeline}
 use Rattle.ring_words.specs.Ring.{Ring, overruns}
+use Rattle.ring_words.specs.Shape.{entries_of}
 use Rattle.xen_pages.specs.Pages.{word_of}
 use Rattle.grant_table.specs.Table.{frame_of}
 use Rattle.blk_front.specs.declared.stage.Stage.{Stage as FrontStage}
@@ -17,23 +18,24 @@ use Rattle.blk_front.specs.declared.stage.Stage.TheVariants as front
 use Rattle.blk_front.specs.Submit.{is_connected, ending_of}
 use Rattle.blk_back.specs.declared.stage.Stage.{Stage as BackStage}
 use Rattle.blk_back.specs.declared.stage.Stage.TheVariants as stage
-use Rattle.blk_back.specs.View.{View}
+use Rattle.blk_back.specs.View.{View, page_of}
 use Rattle.blk_back.specs.declared.told.Halt.TheVariants as halt
 use Rattle.blk_back.specs.Step.{give_up, looked}
 use Rattle.split_model.specs.World.{World}
 use Rattle.split_model.specs.Shown.{back_lines, halt_lines}
+use Rattle.machine_pipeline.proofs.Slots.{few_entries}
 use Rattle.machine_pipeline.proofs.Flow.{Flow, wrapped, has_ring, is_fetching}
 use Rattle.machine_pipeline.proofs.Holds.{Holds, AreIndices, BackSends}
 use Rattle.machine_pipeline.proofs.Turns.{BackGoes, Goes}
 use Rattle.machine_pipeline.proofs.BackStill.{BackStands}
-use Rattle.machine_pipeline.proofs.BackQuiet.{IsBetween, goes_still, quiet_with, front_sleep_at, back_sleep_at, stations_between}
+use Rattle.machine_pipeline.proofs.BackQuiet.{IsBetween, goes_still, quiet_with, bound_terms, front_sleep_at, back_sleep_at, stations_between}
 use Rattle.machine_pipeline.proofs.BackFences.{between}
-use Rattle.machine_pipeline.proofs.BackWrites.{page_at}
+use Rattle.machine_pipeline.proofs.BackWrites.{first_at}
 
 -- an honest front is never further ahead than the ring has entries
-no_overrun : (start replied pushed word : ℕ) (ring : Ring) → ring.entries ≡ 32 → ring.prod ≡ wrapped start replied → word ≡ wrapped start pushed → replied ≤ pushed → pushed ≤ replied + 32 → overruns ring word ≡ false
-no_overrun start replied pushed word ring size prod here from to =
-    let ahead : distance_of ring.prod word ≤ 32 = omega arith in
+no_overrun : (start replied pushed word entries : ℕ) (ring : Ring) → entries ≤ 512 → ring.entries ≡ entries → ring.prod ≡ wrapped start replied → word ≡ wrapped start pushed → replied ≤ pushed → pushed ≤ replied + entries → overruns ring word ≡ false
+no_overrun start replied pushed word entries ring few size prod here from to =
+    let ahead : distance_of ring.prod word ≤ entries = omega arith in
     grind (arith, nat_tests)
 
 same_index : (start m n : ℕ) → m ≤ n → n < m + 2 ^ 32 → wrapped start n ≡ wrapped start m → n ≡ m
@@ -53,16 +55,15 @@ pub record IsLook (w : World) (g : Flow) (word : ℕ) : Type 0 where
   pub none : word ≡ w.back.ring.cons → g.pushed ≡ g.fetched
   pub indices : AreIndices (record g { back_seen = g.pushed }) w.front.ring w.back.ring w.front.seen word w.back.fetched w.front.last w.front.waiting (length w.front.requests) (ending_of w.front.stage)
 
-pub look : (config : Options) (w : World) (g : Flow) (d : Pipeline) (b : BackStage) (word : ℕ) → Holds config w g d w.front.stage b → word ≡ wrapped g.start g.pushed → IsLook w g word
-look config w g d b word h here =
+pub look : (config : Options) (w : World) (g : Flow) (d : Pipeline) (b : BackStage) (word : ℕ) → Holds config w g d w.front.stage b → IsBetween b w.back → word ≡ wrapped g.start g.pushed → IsLook w g word
+look config w g d b word h i here =
     let x = h.indices in
     record {
       is = here;
-      bounded = no_overrun g.start g.replied g.pushed word w.back.ring x.back_entries x.replied here (omega (arith, x.replied_fetched, x.fetched_pushed)) (omega (arith, x.all, x.held, x.room, x.taken_replied));
+      bounded = no_overrun g.start g.replied g.pushed word (entries_of g.shape.order) w.back.ring (few_entries g.shape.order h.shaped.narrow) (h.paged.entries_are (bound_terms b i.bound)) x.replied here (omega (arith, x.replied_fetched, x.fetched_pushed)) (omega (arith, x.all, x.held, x.room, x.taken_replied));
       none = λ e. same_index g.start g.fetched g.pushed x.fetched_pushed (omega (arith, x.all, x.few)) (sym here ∙ e ∙ x.fetched);
       indices = record {
         front_entries = x.front_entries;
-        back_entries = x.back_entries;
         pushed = x.pushed;
         taken = x.taken;
         replied = x.replied;
@@ -99,16 +100,16 @@ looks_by config w g d b word shown given otherwise false true p i unfetching uns
 looks_by config w g d b word shown given otherwise false false p i unfetching unsent l bounded none =
     let h : Holds config w g d w.front.stage b = p.holds in
     goes_still config w g d b stage.Loop (record w.back { seen = word }) w.under.pages w.under.channels g.pushed shown given p
-    (quiet_with config w g d b stage.Loop w.back.asleep word w.back.entry w.under.channels g.pushed h i (between stage.Loop w.back refl refl refl refl) (stations_between config w g d b h unfetching i.none) l.indices tt
+    (quiet_with config w g d b stage.Loop w.back.asleep word w.back.entry w.under.channels g.pushed h i (between stage.Loop w.back refl refl refl) (stations_between config w g d b h unfetching i.none) l.indices tt
     (front_sleep_at g.start g.taken g.replied w.under.pages w.front.asleep w.under.channels.front_pending w.front.stage b stage.Loop (λ t s. absurd (unsent s)) h.front_sleep)
     (back_sleep_at g.start g.fetched g.pushed w.under.pages w.back.asleep w.under.channels.back_pending w.front.stage b stage.Loop (λ t. absurd (false≢true t)) (λ t. absurd (false≢true (sym t))) h.back_sleep)
     refl refl)
 
--- the producer stands in word 0 of the ring's page
-producer : (config : Options) (w : World) (g : Flow) (d : Pipeline) (b : BackStage) → BackStands config w g d b → IsBetween b w.back → word_of w.under.pages (frame_of w.under.grants w.back.page) 0 ≡ wrapped g.start g.pushed
+-- the producer stands in word 0 of the ring's first page
+producer : (config : Options) (w : World) (g : Flow) (d : Pipeline) (b : BackStage) → BackStands config w g d b → IsBetween b w.back → word_of w.under.pages (frame_of w.under.grants (page_of w.back 0)) 0 ≡ wrapped g.start g.pushed
 producer config w g d b p i =
     let h : Holds config w g d w.front.stage b = p.holds in
-    ap (λ (f : ℕ). word_of w.under.pages f 0) (page_at config w g d b p i) ∙ h.ring.requests (rung w.front.stage p.connected)
+    ap (λ (f : ℕ). word_of w.under.pages f 0) (first_at config w g d b p i) ∙ h.ring.requests (rung w.front.stage p.connected)
   where
     rung : (s : FrontStage) → is_connected s ≡ true → has_ring s ≡ true
     rung (front.RingWord k) c = c
@@ -118,28 +119,28 @@ producer config w g d b p i =
 pub goes_look_again : (config : Options) (w : World) (g : Flow) (d : Pipeline) → BackStands config w g d stage.LookAgain → BackGoes config w d stage.LookAgain
 goes_look_again config w g d p =
     let h : Holds config w g d w.front.stage stage.LookAgain = p.holds in
-    let i : IsBetween stage.LookAgain w.back = between stage.LookAgain w.back refl refl refl refl in
-    let word : ℕ = word_of w.under.pages (frame_of w.under.grants w.back.page) 0 in
-    let l : IsLook w g word = look config w g d stage.LookAgain word h (producer config w g d stage.LookAgain p i) in
+    let i : IsBetween stage.LookAgain w.back = between stage.LookAgain w.back refl refl refl in
+    let word : ℕ = word_of w.under.pages (frame_of w.under.grants (page_of w.back 0)) 0 in
+    let l : IsLook w g word = look config w g d stage.LookAgain word h i (producer config w g d stage.LookAgain p i) in
     looks_by config w g d stage.LookAgain word _ _ (record w.back { seen = word; stage = stage.Loop; asleep = true }) (overruns w.back.ring word) (word == w.back.ring.cons) p i refl (λ s. s) l l.bounded
     (λ same.
     let e : g.pushed ≡ g.fetched = l.none (grind (arith, nat_tests)) in
     goes_still config w g d stage.LookAgain stage.Loop (record w.back { seen = word; asleep = true }) w.under.pages w.under.channels g.pushed _ _ p
-    (quiet_with config w g d stage.LookAgain stage.Loop true word w.back.entry w.under.channels g.pushed h i (between stage.Loop w.back refl refl refl refl) h.stations l.indices tt
+    (quiet_with config w g d stage.LookAgain stage.Loop true word w.back.entry w.under.channels g.pushed h i (between stage.Loop w.back refl refl refl) h.stations l.indices tt
     (front_sleep_at g.start g.taken g.replied w.under.pages w.front.asleep w.under.channels.front_pending w.front.stage stage.LookAgain stage.Loop (λ t s. absurd s) h.front_sleep)
     (record { arming = λ t. absurd (false≢true t); armed = λ t. h.back_sleep.arming refl; may = λ t. absurd (false≢true (sym t)); woken = λ t. inl e })
     refl refl))
 
 -- in the loop with nothing at hand: where nothing is new the back stores its event word
-pub goes_loop_look : (config : Options) (w : World) (g : Flow) (d : Pipeline) (shown : Shown) (given : BackAnswer) (word : ℕ) → word ≡ word_of w.under.pages (frame_of w.under.grants w.back.page) 0 → w.back.asleep ≡ false → BackStands config w g d stage.Loop → LooksAs config w d shown given (looked w.back word (record w.back { seen = word; stage = stage.StoreEvent }))
+pub goes_loop_look : (config : Options) (w : World) (g : Flow) (d : Pipeline) (shown : Shown) (given : BackAnswer) (word : ℕ) → word ≡ word_of w.under.pages (frame_of w.under.grants (page_of w.back 0)) 0 → w.back.asleep ≡ false → BackStands config w g d stage.Loop → LooksAs config w d shown given (looked w.back word (record w.back { seen = word; stage = stage.StoreEvent }))
 goes_loop_look config w g d shown given word read awake p =
     let h : Holds config w g d w.front.stage stage.Loop = p.holds in
-    let i : IsBetween stage.Loop w.back = between stage.Loop w.back refl refl refl refl in
-    let l : IsLook w g word = look config w g d stage.Loop word h (read ∙ producer config w g d stage.Loop p i) in
+    let i : IsBetween stage.Loop w.back = between stage.Loop w.back refl refl refl in
+    let l : IsLook w g word = look config w g d stage.Loop word h i (read ∙ producer config w g d stage.Loop p i) in
     looks_by config w g d stage.Loop word shown given (record w.back { seen = word; stage = stage.StoreEvent }) (overruns w.back.ring word) (word == w.back.ring.cons) p i refl (λ s. s) l l.bounded
     (λ same.
     goes_still config w g d stage.Loop stage.StoreEvent (record w.back { seen = word }) w.under.pages w.under.channels g.pushed shown given p
-    (quiet_with config w g d stage.Loop stage.StoreEvent w.back.asleep word w.back.entry w.under.channels g.pushed h i (between stage.StoreEvent w.back refl refl refl refl) h.stations l.indices tt
+    (quiet_with config w g d stage.Loop stage.StoreEvent w.back.asleep word w.back.entry w.under.channels g.pushed h i (between stage.StoreEvent w.back refl refl refl) h.stations l.indices tt
     (front_sleep_at g.start g.taken g.replied w.under.pages w.front.asleep w.under.channels.front_pending w.front.stage stage.Loop stage.StoreEvent (λ t s. absurd s) h.front_sleep)
     (back_sleep_at g.start g.fetched g.pushed w.under.pages w.back.asleep w.under.channels.back_pending w.front.stage stage.Loop stage.StoreEvent (λ t. absurd (false≢true t)) (λ t. awake) h.back_sleep)
     refl refl))

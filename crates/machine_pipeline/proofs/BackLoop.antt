@@ -1,5 +1,5 @@
 -- The back's loop: it replies to what is done, or sleeps, or looks for more, or begins to copy the next entry.
-use Rattle.std.proofs.Common.{◌≡◌, ℕ, ◌==◌, Bool, true, false, if◌then◌else◌, inr, List, [], ◌∷◌, ◌++◌, refl, sym, subst}
+use Rattle.std.proofs.Common.{◌≡◌, ℕ, ◌==◌, Bool, true, false, if◌then◌else◌, inr, List, [], ◌∷◌, ◌++◌, refl, sym, subst, arith}
 use Rattle.std.specs.Prelude.{Option, Some, None}
 use Rattle.std.proofs.lemmas.Bool.{false≢true}
 use Rattle.blk_base.specs.Options.{Options}
@@ -19,13 +19,11 @@ use Rattle.grant_table.specs.Table.{frame_of}
 use Rattle.event_channel.specs.Channels.{ChannelState, taken}
 use Rattle.hypervisor.specs.Hypervisor.{Hypervisor}
 use Rattle.hypervisor.specs.Act.{BackAct, Took, back_act, back_watched, watch_next, watch_taken}
-use Rattle.back_jobs.specs.Hands.{hands_in}
-use Rattle.blk_front.specs.View.{slot_word}
 use Rattle.blk_back.specs.declared.stage.Reply.{Reply}
 use Rattle.blk_back.specs.declared.stage.Stage.{Stage as BackStage}
 use Rattle.blk_back.specs.declared.stage.Stage.TheVariants as stage
-use Rattle.blk_back.specs.View.{View}
-use Rattle.blk_back.specs.Ask.{next_reply, loop_ask}
+use Rattle.blk_back.specs.View.{View, page_of, slot_page}
+use Rattle.blk_back.specs.Ask.{next_reply, loop_ask, index_ask, entry_ask}
 use Rattle.blk_back.specs.Step.{looked, loop_step}
 use Rattle.split_model.specs.World.{World}
 use Rattle.split_model.specs.Shown.{back_lines, halt_lines}
@@ -35,12 +33,13 @@ use Rattle.machine_pipeline.proofs.Turns.{BackGoes, Goes, no_move}
 use Rattle.machine_pipeline.proofs.Keyed.{goes_keyed}
 use Rattle.machine_pipeline.proofs.BackStill.{BackStands}
 use Rattle.machine_pipeline.proofs.BackQuiet.{IsBetween, goes_still, quiet_with, quiet}
-use Rattle.machine_pipeline.proofs.BackFences.{page_frame, between}
+use Rattle.machine_pipeline.proofs.BackFences.{between}
+use Rattle.machine_pipeline.proofs.BackWrites.{slot_is}
+use Rattle.machine_pipeline.proofs.Slots.{response_fits}
 use Rattle.blk_base.specs.declared.ask.BackAsk.{BackAsk}
 use Rattle.blk_base.specs.declared.ask.BackAsk.TheVariants as ask
-use Rattle.blk_back.specs.View.{slot_word as back_slot_word}
 use Rattle.machine_pipeline.proofs.BackLooks.{goes_loop_look}
-use Rattle.machine_pipeline.proofs.BackFetch.{goes_first}
+use Rattle.machine_pipeline.proofs.BackFetch.{entry_word, goes_first}
 use Rattle.machine_pipeline.proofs.BackReplyBegins.{goes_reply}
 use Rattle.machine_pipeline.specs.Step.{IsSame}
 
@@ -59,7 +58,7 @@ abbrev pub ActGoes : Options → World → Pipeline → (BackAnswer → View) �
 ActGoes config w d step act = Goes config (says_by w step act) (next_by w step act) d
 
 -- no event is there to be taken
-stays : (config : Options) (w : World) (g : Flow) (d : Pipeline) (b : BackStage) → BackStands config w g d b → Goes config [] w d
+pub stays : (config : Options) (w : World) (g : Flow) (d : Pipeline) (b : BackStage) → BackStands config w g d b → Goes config [] w d
 stays config w g d b p = record { flow = g; step = None; does = no_move IsSame d (λ a b same. same); holds = subst (λ (s : BackStage). Holds config w g d w.front.stage s) (sym p.at) p.holds }
 
 -- an event wakes the back
@@ -71,7 +70,7 @@ goes_woken : (config : Options) (w : World) (g : Flow) (d : Pipeline) (shown : S
     → Goes config (Move shown ∷ back_lines w.back.told given ++ halt_lines w.back.halted w.back.halted) (record { front = w.front; back = record w.back { asleep = false; told = None }; under = (let u : Hypervisor = w.under in record u { channels = c }) }) d
 goes_woken config w g d shown given c pending made ports p =
     let h : Holds config w g d w.front.stage stage.Loop = p.holds in
-    let i : IsBetween stage.Loop w.back = between stage.Loop w.back refl refl refl refl in
+    let i : IsBetween stage.Loop w.back = between stage.Loop w.back refl refl refl in
     subst (λ (s : BackStage). Goes config (Move shown ∷ back_lines w.back.told given ++ halt_lines w.back.halted w.back.halted) (record { front = w.front; back = record w.back { stage = s; asleep = false; told = None }; under = (let u : Hypervisor = w.under in record u { channels = c }) }) d) (sym p.at)
     (goes_still config w g d stage.Loop stage.Loop (record w.back { asleep = false }) w.under.pages c g.back_seen shown given p
     (quiet_with config w g d stage.Loop stage.Loop false w.back.seen w.back.entry c g.back_seen h i i h.stations h.indices tt
@@ -84,7 +83,7 @@ goes_watched : (config : Options) (w : World) (g : Flow) (d : Pipeline) (shown :
     → Goes config (Move shown ∷ back_lines w.back.told given ++ halt_lines w.back.halted w.back.halted) (record { front = w.front; back = record w.back { told = None }; under = w.under }) d
 goes_watched config w g d shown given p =
     let h : Holds config w g d w.front.stage stage.Loop = p.holds in
-    let i : IsBetween stage.Loop w.back = between stage.Loop w.back refl refl refl refl in
+    let i : IsBetween stage.Loop w.back = between stage.Loop w.back refl refl refl in
     subst (λ (s : BackStage). Goes config (Move shown ∷ back_lines w.back.told given ++ halt_lines w.back.halted w.back.halted) (record { front = w.front; back = record w.back { stage = s; told = None }; under = w.under }) d) (sym p.at)
     (goes_still config w g d stage.Loop stage.Loop w.back w.under.pages w.under.channels g.back_seen shown given p
     (quiet config w g d stage.Loop stage.Loop h i i h.stations tt (λ t r. inr (inr r)) (λ t. t) (λ t. cc)))
@@ -99,7 +98,7 @@ waits config w g d false (Some path) p =
 
 -- the producer, or the next entry's first word
 abbrev read_ask : Bool → View → BackAsk
-read_ask none v = if none then ask.Read v.page 0 else ask.Read v.page (back_slot_word v.ring.cons 0)
+read_ask none v = if none then index_ask v 0 else entry_ask v 0
 
 abbrev read_step : Bool → View → BackAnswer → View
 read_step none v (answer.Word word) = if none then looked v word (record v { seen = word; stage = stage.StoreEvent }) else record v { entry = word ∷ []; stage = stage.Fetch 1 }
@@ -108,8 +107,8 @@ read_step none v given = v
 
 reads : (config : Options) (w : World) (g : Flow) (d : Pipeline) (none : Bool) → (requests_of w.back.ring w.back.seen == 0) ≡ none → w.back.asleep ≡ false → BackStands config w g d stage.Loop
     → ActGoes config w d (read_step none w.back) (back_act w.under back_mover.Back (read_ask none w.back) Took)
-reads config w g d true some awake p = goes_loop_look config w g d _ _ (word_of w.under.pages (frame_of w.under.grants w.back.page) 0) refl awake p
-reads config w g d false some awake p = goes_first config w g d _ _ (word_of w.under.pages (frame_of w.under.grants w.back.page) (slot_word w.back.ring.cons 0)) refl awake some p
+reads config w g d true some awake p = goes_loop_look config w g d _ _ (word_of w.under.pages (frame_of w.under.grants (page_of w.back 0)) 0) refl awake p
+reads config w g d false some awake p = goes_first config w g d _ _ (entry_word w 0) refl awake some p
 
 looks : (config : Options) (w : World) (g : Flow) (d : Pipeline) (asleep : Bool) → w.back.asleep ≡ asleep → BackStands config w g d stage.Loop
     → ActGoes config w d (loop_step w.back None) (back_act w.under back_mover.Back (if asleep then ask.Wait else read_ask (requests_of w.back.ring w.back.seen == 0) w.back) Took)
@@ -119,8 +118,7 @@ looks config w g d false sleeps p = reads config w g d (requests_of w.back.ring 
 loops : (config : Options) (w : World) (g : Flow) (d : Pipeline) (r : Option Reply) → next_reply w.back ≡ r → BackStands config w g d stage.Loop
     → ActGoes config w d (loop_step w.back r) (back_act w.under back_mover.Back (loop_ask w.back r) Took)
 loops config w g d (Some rep) e p =
-    let h : Holds config w g d w.front.stage stage.Loop = p.holds in
-    goes_reply config w g d rep (frame_of w.under.grants w.back.page) _ _ p (page_frame w.under.grants (hands_in w.back.jobs.works) w.back.page p.held h.mapped.framed (h.page.gref refl)) e
+    goes_reply config w g d rep (frame_of w.under.grants (slot_page w.back w.back.ring.prod 0)) _ _ p (slot_is config w g d stage.Loop w.back.ring.prod 0 p refl refl (response_fits g.shape.abi 0 (omega arith))) e
 loops config w g d None e p = looks config w g d w.back.asleep refl p
 
 pub goes_loop : (config : Options) (w : World) (g : Flow) (d : Pipeline) → BackStands config w g d stage.Loop → BackGoes config w d stage.Loop

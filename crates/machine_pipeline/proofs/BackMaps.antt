@@ -1,78 +1,82 @@
--- The back maps the ring's page, and is bound to the front's port.
-use Rattle.std.proofs.Common.{◌≡◌, ◌≢◌, ℕ, ◌+◌, ◌*◌, ◌<◌, ◌==◌, cond, Bool, true, false, List, [], ◌∷◌, ◌++◌, refl, ap, sym, subst, ◌∙◌, arith, length-set}
-use Rattle.std.specs.Prelude.{All, Some, None}
-use Rattle.std.proofs.lemmas.Bool.{false≢true}
+-- The back waits for the terms of its front, maps the pages of the ring, and is bound to the front's port.
+use Rattle.std.proofs.Common.{◌≡◌, ◌≢◌, ℕ, ◌+◌, ◌*◌, ◌/◌, ◌%◌, ◌^◌, ◌<◌, ◌≤◌, ◌==◌, if◌then◌else◌, cond, Bool, true, false, List, [], ◌∷◌, ◌++◌, length, refl, ap, sym, subst, ◌∙◌, inl, inr, arith, length-set, length-append}
+use Rattle.std.specs.Prelude.{All, Option, Some, None, Result, Ok, nat_lt, slice_index_or}
+use Rattle.std.proofs.lemmas.Option.{none-some}
+use Rattle.std.proofs.lemmas.Bool.{false≢true, cases_eq}
 use Rattle.std.proofs.lemmas.Bool.Decides.{nat_tests}
+use Rattle.std.proofs.lemmas.List.{append-nil, append_assoc, get_or_append_left, get_or-append-add}
+use Rattle.std.proofs.lemmas.List.FromFn.{length-range_with_len, get_or-range_with_len}
+use Rattle.std.proofs.lemmas.List.Sums.{sum_by_push}
 use Rattle.blk_base.specs.Options.{Options}
 use Rattle.blk_base.specs.declared.parts.Mapping.{Mapping}
+use Rattle.blk_base.specs.declared.parts.End.TheVariants as end
 use Rattle.blk_base.specs.declared.parts.Mode.TheVariants.{ReadWrite}
+use Rattle.blk_base.specs.declared.ask.BackAnswer.{BackAnswer}
 use Rattle.blk_base.specs.declared.ask.BackAnswer.TheVariants as answer
 use Rattle.blk_base.specs.declared.moves.BackMover.TheVariants as back_mover
+use Rattle.blk_base.specs.declared.moves.Mover.TheVariants as mover
+use Rattle.blk_base.specs.declared.moves.Move.{Move as Shown}
 use Rattle.blk_base.specs.declared.moves.Move.TheVariants as moves
+use Rattle.schedule_text.specs.declared.line.Line.TheVariants.{Move}
 use Rattle.pipeline_laws.specs.Pipeline.{Pipeline}
+use Rattle.ring_words.specs.Shape.{Shape}
 use Rattle.grant_table.specs.declared.held.Held.{Held}
-use Rattle.grant_table.specs.Table.{entry_word0, entry_word1, mappings_of}
-use Rattle.event_channel.specs.Channels.{ChannelState, state_of, bound}
+use Rattle.grant_table.specs.declared.entry.MapRefusal.{MapRefusal}
+use Rattle.grant_table.specs.Entry.{mapped_entry}
+use Rattle.grant_table.specs.Table.{entry_word0, entry_word1, mappings_of, verdict_at, next_mapping, with_entry_word0}
+use Rattle.event_channel.specs.Channels.{ChannelState, state_of, bound, taken}
 use Rattle.event_channel.specs.declared.channels.PortState.{PortState}
 use Rattle.event_channel.specs.declared.channels.PortState.TheVariants.{Unbound}
+use Rattle.hypervisor.specs.Hypervisor.{Hypervisor}
+use Rattle.hypervisor.specs.Act.{map_act, bind_act, back_watched, watch_next, watch_taken}
+use Rattle.back_jobs.specs.Task.{Work}
 use Rattle.back_jobs.specs.Hands.{hands_in}
 use Rattle.blk_front.specs.declared.request.Request.{Request}
 use Rattle.blk_front.specs.declared.stage.Stage.{Stage as FrontStage}
-use Rattle.blk_front.specs.declared.stage.Stage.TheVariants as front
 use Rattle.blk_front.specs.Request.{frame_at}
 use Rattle.blk_front.specs.Submit.{is_ready, is_connected}
+use Rattle.blk_back.specs.declared.stage.Stage.{Stage as BackStage}
 use Rattle.blk_back.specs.declared.stage.Stage.TheVariants as stage
-use Rattle.blk_back.specs.View.{View}
+use Rattle.blk_back.specs.View.{no_page}
+use Rattle.blk_back.specs.Ask.{next_gref}
+use Rattle.blk_back.specs.Step.{step_at}
+use Rattle.blk_back.specs.Hands.{given_up}
 use Rattle.split_model.specs.World.{World}
-use Rattle.machine_pipeline.proofs.Flow.{Flow, frames_of, is_ring_granted, is_ring_named, is_issuing, ending_at, telling_at}
-use Rattle.machine_pipeline.proofs.Holds.{Holds, IsPooled, PortsAt}
-use Rattle.machine_pipeline.proofs.Turns.{BackGoes, silent}
-use Rattle.machine_pipeline.proofs.Kept.{SameFrame, SameGrants, other_frame, slots_kept, front_sleep_kept, back_sleep_kept}
+use Rattle.split_model.specs.Shown.{back_lines, halt_lines}
+use Rattle.machine_pipeline.proofs.Flow.{Flow, frames_of, has_terms, is_back_arming, is_bound_back, is_fetching, reply_at, is_issuing, ending_at, telling_at}
+use Rattle.machine_pipeline.proofs.Holds.{Holds, BackAt, PagesAt, IsPooled, PortsAt, IsGranted, IsFrontSleep, flags_with}
+use Rattle.machine_pipeline.proofs.Turns.{BackGoes, Goes, silent}
+use Rattle.machine_pipeline.proofs.Slots.{few_pages}
+use Rattle.machine_pipeline.proofs.Kept.{SameFrame, SameEntry, SameGrants, other_frame, other_entry, slots_kept, front_sleep_kept, back_sleep_kept}
 use Rattle.machine_pipeline.proofs.ReadsKept.{stations_elsewhere}
-use Rattle.machine_pipeline.proofs.Frames.{is_submitted, entered_few}
+use Rattle.machine_pipeline.proofs.Frames.{is_submitted}
 use Rattle.machine_pipeline.proofs.Lists.{all_at, all_from}
 use Rattle.machine_pipeline.proofs.Data.{pooled_at}
-use Rattle.machine_pipeline.proofs.BackStill.{BackStands, ending_submitted, revoking_ends, frames_elsewhere, told_elsewhere}
-use Rattle.machine_pipeline.proofs.BackQuiet.{goes_still, ring_at, slots_at, front_sleep_at, back_sleep_at}
-use Rattle.std.specs.Prelude.{Result, Ok}
-use Rattle.std.proofs.lemmas.List.Sums.{sum_by_push}
-use Rattle.grant_table.specs.declared.entry.MapRefusal.{MapRefusal}
-use Rattle.grant_table.specs.Entry.{mapped_entry}
-use Rattle.grant_table.specs.Table.{verdict_at, next_mapping, with_entry_word0}
-use Rattle.hypervisor.specs.Act.{map_act, bind_act}
-use Rattle.blk_back.specs.Step.{step_at}
-use Rattle.machine_pipeline.proofs.Holds.{IsGranted, flags_with}
-use Rattle.machine_pipeline.proofs.Kept.{other_entry}
-use Rattle.machine_pipeline.proofs.BackWrites.{begun}
 use Rattle.machine_pipeline.proofs.Mapped.{mapped_more}
-use Rattle.machine_pipeline.proofs.BackLoop.{ActGoes}
+use Rattle.machine_pipeline.proofs.Keyed.{goes_keyed}
+use Rattle.machine_pipeline.proofs.BackStill.{BackStands, ending_submitted, revoking_ends, frames_elsewhere, told_elsewhere}
+use Rattle.machine_pipeline.proofs.BackQuiet.{goes_still, slots_at, front_sleep_at, back_sleep_at}
+use Rattle.machine_pipeline.proofs.BackWrites.{begun, named_to, granted_to}
+use Rattle.machine_pipeline.proofs.BackLoop.{ActGoes, stays}
 
-granted_to : (s : FrontStage) → is_connected s ≡ true → is_ring_granted s ≡ true
-granted_to (front.RingWord k) c = c
-granted_to front.RingFrame c = c
-granted_to front.RingFence c = c
-granted_to front.RingFlags c = c
-granted_to s c = refl
-
-named_to : (s : FrontStage) → is_connected s ≡ true → is_ring_named s ≡ true
-named_to (front.RingWord k) c = c
-named_to front.RingFrame c = c
-named_to s c = refl
-
-maps_ring : (pages : List ℕ) → entry_word0 pages 8 ≡ 1 → entry_word1 pages 8 ≡ 2 → verdict_at pages 8 ReadWrite ≡ Ok 2
-maps_ring pages flags frame = rw (flags, frame) refl
+maps_ring : (pages : List ℕ) (page : ℕ) → page < 16 → entry_word0 pages (8 + page) ≡ 1 → entry_word1 pages (8 + page) ≡ 2 + page → verdict_at pages (8 + page) ReadWrite ≡ Ok (2 + page)
+maps_ring pages page few flags frame =
+    let reached : nat_lt 1023 (8 + page) ≡ false = grind (arith, nat_tests) in
+    let low : nat_lt (2 + page) 2 ≡ false = grind (arith, nat_tests) in
+    let high : nat_lt 1023 (2 + page) ≡ false = grind (arith, nat_tests) in
+    rw (flags, frame, reached, low, high) refl
 
 abbrev as_mapped : ℕ → Held → ℕ
 as_mapped gref h = cond (h.mapping.gref == gref) 1 0
 
--- a mapping of the ring's page is none of a request's frame
+-- a mapping of a page of the ring is none of a request's frame
 mapped_beside : (live : List Held) (h : Held) (gref : ℕ) → h.mapping.gref ≢ gref → mappings_of gref (live ++ h ∷ []) ≡ mappings_of gref live
 mapped_beside live h gref apart =
     let sum : mappings_of gref (live ++ h ∷ []) ≡ mappings_of gref live + as_mapped gref h = sum_by_push (as_mapped gref) live h in
     let none : as_mapped gref h ≡ 0 = grind (arith, nat_tests) in
     omega (arith, sum, none)
 
--- the entries of a request stay as they are where a mapping of the ring's page is made
+-- the entries of a request stay as they are where a mapping of a page of the ring is made
 granted_still : (pushed : ℕ) (old new : List ℕ) (live : List Held) (h : Held) (s : FrontStage) (r : Request)
     → ((place : ℕ) → place < frames_of r → h.mapping.gref ≢ frame_at r place + 6)
     → SameGrants old new r
@@ -86,83 +90,181 @@ granted_still pushed old new live h s r apart same was = record {
   flags_next = λ e place t lt. let entry = same place lt in entry.flags ∙ was.flags_next e place t lt;
 }
 
--- what a write of the ring's entry leaves of a request's
-entry_beside : (pages : List ℕ) (value : ℕ) (r : Request) → All IsPooled r.frames.items → SameGrants pages (with_entry_word0 pages 8 value) r
-entry_beside pages value r all place lt = let pooled = pooled_at r all place in
-    other_entry pages 8 (frame_at r place + 6) value (omega arith) (omega (arith, pooled.1)) (omega (arith, pooled.0))
+-- what a write of an entry of the ring leaves of a request's
+entry_beside : (pages : List ℕ) (gref value : ℕ) (r : Request) → gref < 24 → All IsPooled r.frames.items → SameGrants pages (with_entry_word0 pages gref value) r
+entry_beside pages gref value r low all place lt = let pooled = pooled_at r all place in
+    other_entry pages gref (frame_at r place + 6) value (omega arith) (omega (arith, pooled.1)) (omega (arith, pooled.0))
 
--- the view with the page in hand
-abbrev with_page : View → Mapping → View
-with_page v m = record v { page = m; stage = stage.Bind }
+-- a stage before the port is bound
+pub record IsSetting (b : BackStage) : Type 0 where
+  pub terms : has_terms b ≡ true
+  pub fetching : is_fetching b ≡ false
+  pub replying : reply_at b ≡ None
+  pub unarmed : is_back_arming b ≡ false
+  pub unbound : is_bound_back b ≡ false
+  pub given : given_up b ≡ []
 
-maps : (config : Options) (w : World) (g : Flow) (d : Pipeline) (verdict : Result ℕ MapRefusal) → BackStands config w g d stage.MapRing → verdict ≡ Ok 2 → ActGoes config w d (step_at stage.MapRing w.back) (Some (map_act w.under back_mover.Back 8 ReadWrite verdict))
-maps config w g d verdict p e = subst (λ (x : Result ℕ MapRefusal). ActGoes config w d (step_at stage.MapRing w.back) (Some (map_act w.under back_mover.Back 8 ReadWrite x))) (sym e) (record {
-  flow = g;
-  step = None;
-  does = silent (moves.Map back_mover.Back 8 ReadWrite (w.under.grants.made + 1) 2) w.back.told w.back.halted (answer.Mapped (next_mapping w.under.grants 8 ReadWrite)) d p.untold h.unhalted;
-  holds = record {
-    started = h.started;
-    sized = h.sized;
-    indices = h.indices;
-    queue = h.queue;
-    submitted = h.submitted;
-    pool = h.pool;
-    stations = stations_elsewhere config g d (is_ready w.front.stage) (is_issuing w.front.stage) false (ending_at w.front.stage w.front.ending) (telling_at w.front.stage) None w.front.requests w.back.jobs.works w.under.pages new w.front.sectors w.front.last h.submitted (λ f low high. others f (omega arith)) h.stations;
-    works = h.works;
-    counted = h.counted;
-    info = h.info;
-    replies = h.replies;
-    front_at = h.front_at;
-    unused = h.unused;
-    back_at = h.back_at;
-    unhalted = h.unhalted;
-    memory = length-set w.under.pages (0 * 1024 + 16) value ∙ h.memory;
-    ring = record { begun = begun g.start new w.front.stage p.connected; requests = λ t. others 2 (omega arith) 0 (omega arith) ∙ h.ring.requests t; responses = λ t. others 2 (omega arith) 2 (omega arith) ∙ h.ring.responses t; named = λ t u. cc; granted = λ t u. cc };
-    slots = slots_at g.start g.fetched g.pushed g.taken g.replied g.submitted g.replies new w.front.stage stage.MapRing stage.Bind (λ rep t i lt. cc) (slots_kept g.start g.fetched g.pushed g.taken g.replied g.submitted g.replies w.under.pages new w.front.stage stage.MapRing (λ i from to. others 2 (omega arith) i to) (entered_few g.start g.pushed g.taken g.front_seen g.submitted g.replies _ w.front.entry w.front.ending w.front.stage h.front_at) h.slots);
-    frames = frames_elsewhere config w g d w.front.stage stage.MapRing new h (λ f low high. others f (omega arith));
-    telling = told_elsewhere config w g d w.front.stage stage.MapRing new h (λ f low high. others f (omega arith));
-    entries = record {
-      each = all_from (IsGranted g.pushed new (w.under.grants.live ++ made ∷ []) w.front.stage) w.front.requests (λ i r at.
-          let is = is_submitted config w g d w.front.stage stage.MapRing h i r at in
-          granted_still g.pushed w.under.pages new w.under.grants.live made w.front.stage r
-          (λ place lt. let pooled = pooled_at r is.frames place in omega (arith, pooled.0))
-          (entry_beside w.under.pages value r is.frames)
-          (all_at (IsGranted g.pushed w.under.pages w.under.grants.live w.front.stage) w.front.requests i r h.entries.each at));
-      ending = λ e at place from lt.
-          let is = ending_submitted config w g d w.front.stage stage.MapRing e h (revoking_ends w.front.stage w.front.ending e at) in
-          let entry = entry_beside w.under.pages value e.request is.frames place lt in
-          entry.flags ∙ h.entries.ending e at place from lt;
-    };
-    mapped = mapped_more w.under.grants.live (hands_in w.back.jobs.works ++ []) (hands_in w.back.jobs.works ++ mapping ∷ []) mapping 2 refl (record { front = hands_in w.back.jobs.works; rest = []; without = refl; with_it = refl }) h.mapped;
-    page = record { gref = λ t. refl; mode = λ t. refl };
-    front_sleep = front_sleep_at g.start g.taken g.replied new w.front.asleep w.under.channels.front_pending w.front.stage stage.MapRing stage.Bind (λ t s. absurd s) (front_sleep_kept g.start g.taken g.replied w.under.pages new w.front.asleep w.under.channels.front_pending w.front.stage stage.MapRing (others 2 (omega arith) 3 (omega arith)) h.front_sleep);
-    back_sleep = back_sleep_at g.start g.fetched g.pushed new w.back.asleep w.under.channels.back_pending w.front.stage stage.MapRing stage.Bind (λ t. t) (λ t. h.back_sleep.may refl) (back_sleep_kept g.start g.fetched g.pushed w.under.pages new w.back.asleep w.under.channels.back_pending w.front.stage stage.MapRing (others 2 (omega arith) 1 (omega arith)) h.back_sleep);
-    ports = h.ports;
-  };
-})
+setting : (b : BackStage) → has_terms b ≡ true → is_fetching b ≡ false → reply_at b ≡ None → is_back_arming b ≡ false → is_bound_back b ≡ false → given_up b ≡ [] → IsSetting b
+setting b terms fetching replying unarmed unbound given = record { terms = terms; fetching = fetching; replying = replying; unarmed = unarmed; unbound = unbound; given = given }
+
+back_at_setting : (b : BackStage) (shape : Shape) (start fetched back_seen replied : ℕ) (submitted : List Request) (works : List Work) (entry : List ℕ) → IsSetting b → fetched ≡ 0 → BackAt shape start fetched back_seen replied submitted works entry b
+back_at_setting stage.MapRing shape start fetched back_seen replied submitted works entry i none = none
+back_at_setting stage.Bind shape start fetched back_seen replied submitted works entry i none = none
+back_at_setting stage.InitWait shape start fetched back_seen replied submitted works entry i none = none
+back_at_setting b shape start fetched back_seen replied submitted works entry i none = absurd (cc)
+
+-- one page more is mapped
+gref_more : (pages : List Mapping) (m : Mapping) → ((page : ℕ) → page < length pages → (slice_index_or pages page no_page).gref ≡ 8 + page) → m.gref ≡ 8 + length pages → (page : ℕ) → page < length (pages ++ m ∷ []) → (slice_index_or (pages ++ m ∷ []) page no_page).gref ≡ 8 + page
+gref_more pages m all last page within = elim (cases_eq page (length pages)) [
+  | inl e ↦
+      let at : slice_index_or (pages ++ m ∷ []) (length pages + 0) no_page ≡ m = get_or-append-add pages (m ∷ []) 0 no_page in
+      let here : length pages + 0 ≡ page = omega arith in
+      let found : slice_index_or (pages ++ m ∷ []) page no_page ≡ m = subst (λ (n : ℕ). slice_index_or (pages ++ m ∷ []) n no_page ≡ m) here at in
+      ap (λ (x : Mapping). x.gref) found ∙ (last ∙ omega arith)
+  | inr apart ↦
+      let long = length-append pages (m ∷ []) in
+      let before : page < length pages = omega arith in
+      ap (λ (x : Mapping). x.gref) (get_or_append_left pages (m ∷ []) no_page page before) ∙ all page before
+]
+
+mode_more : (pages : List Mapping) (m : Mapping) → ((page : ℕ) → page < length pages → (slice_index_or pages page no_page).mode ≡ ReadWrite) → m.mode ≡ ReadWrite → (page : ℕ) → page < length (pages ++ m ∷ []) → (slice_index_or (pages ++ m ∷ []) page no_page).mode ≡ ReadWrite
+mode_more pages m all last page within = elim (cases_eq page (length pages)) [
+  | inl e ↦
+      let at : slice_index_or (pages ++ m ∷ []) (length pages + 0) no_page ≡ m = get_or-append-add pages (m ∷ []) 0 no_page in
+      let here : length pages + 0 ≡ page = omega arith in
+      let found : slice_index_or (pages ++ m ∷ []) page no_page ≡ m = subst (λ (n : ℕ). slice_index_or (pages ++ m ∷ []) n no_page ≡ m) here at in
+      ap (λ (x : Mapping). x.mode) found ∙ last
+  | inr apart ↦
+      let long = length-append pages (m ∷ []) in
+      let before : page < length pages = omega arith in
+      ap (λ (x : Mapping). x.mode) (get_or_append_left pages (m ∷ []) no_page page before) ∙ all page before
+]
+
+maps : (config : Options) (w : World) (g : Flow) (d : Pipeline) (verdict : Result ℕ MapRefusal) (b' : BackStage)
+    → BackStands config w g d stage.MapRing
+    → verdict ≡ Ok (2 + length w.back.pages)
+    → next_gref w.back ≡ 8 + length w.back.pages
+    → (if nat_lt (length w.back.pages + 1) (length w.back.grefs) then stage.MapRing else stage.Bind) ≡ b'
+    → IsSetting b'
+    → PagesAt b' g.shape.order (length w.back.pages + 1)
+    → ActGoes config w d (step_at stage.MapRing w.back) (Some (map_act w.under back_mover.Back (next_gref w.back) ReadWrite verdict))
+maps config w g d verdict b' p e named stepped i mapped = subst (λ (x : Result ℕ MapRefusal). ActGoes config w d (step_at stage.MapRing w.back) (Some (map_act w.under back_mover.Back (next_gref w.back) ReadWrite x))) (sym e)
+    (subst (λ (s : BackStage). Goes config (Move (moves.Map back_mover.Back gref ReadWrite (w.under.grants.made + 1) (2 + length w.back.pages)) ∷ back_lines w.back.told (answer.Mapped mapping) ++ halt_lines w.back.halted w.back.halted) (record { front = w.front; back = record w.back { pages = w.back.pages ++ mapping ∷ []; stage = s; told = None }; under = under }) d) (sym stepped) (record {
+      flow = g;
+      step = None;
+      does = silent (moves.Map back_mover.Back gref ReadWrite (w.under.grants.made + 1) (2 + length w.back.pages)) w.back.told w.back.halted (answer.Mapped mapping) d p.untold h.unhalted;
+      holds = record {
+        started = h.started;
+        shaped = h.shaped;
+        sized = h.sized;
+        indices = h.indices;
+        queue = h.queue;
+        submitted = h.submitted;
+        pool = h.pool;
+        stations = rw (i.fetching, i.replying) (stations_elsewhere config g d (is_ready w.front.stage) (is_issuing w.front.stage) false (ending_at w.front.stage w.front.ending) (telling_at w.front.stage) None w.front.requests w.back.jobs.works w.under.pages new w.front.sectors w.front.last h.submitted (λ f low high. others f (omega arith)) h.stations);
+        works = h.works;
+        counted = rw (i.replying) h.counted;
+        info = h.info;
+        replies = h.replies;
+        front_at = h.front_at;
+        unused = h.unused;
+        back_at = back_at_setting b' g.shape g.start g.fetched g.back_seen g.replied g.submitted w.back.jobs.works w.back.entry i h.back_at;
+        unhalted = h.unhalted;
+        memory = length-set w.under.pages (gref / 512 * 1024 + 2 * (gref % 512)) value ∙ h.memory;
+        ring = record {
+          begun = begun g.start new w.front.stage p.connected;
+          requests = λ t. others 2 (omega arith) 0 (omega arith) ∙ h.ring.requests t;
+          responses = λ t. others 2 (omega arith) 2 (omega arith) ∙ h.ring.responses t;
+          named = λ page lt from. (let x = beside page (let all = named_to w.front.stage (2 ^ g.shape.order) p.connected in omega arith) (let long = more in omega arith) in x.frame) ∙ h.ring.named page lt (let long = more in omega arith);
+          granted = λ page lt from. (let x = beside page (let all = granted_to w.front.stage (2 ^ g.shape.order) p.connected in omega arith) (let long = more in omega arith) in x.flags) ∙ h.ring.granted page lt (let long = more in omega arith);
+        };
+        slots = slots_at g.shape g.start g.fetched g.pushed g.taken g.replied g.submitted g.replies new w.front.stage stage.MapRing b' (λ rep t k lt. absurd (none-some rep (sym i.replying ∙ t))) (slots_kept g.shape g.start g.fetched g.pushed g.taken g.replied g.submitted g.replies w.under.pages new w.front.stage stage.MapRing h.shaped.narrow (λ f v from to within behind. others f (omega arith) v within) h.slots);
+        frames = frames_elsewhere config w g d w.front.stage stage.MapRing new h (λ f low high. others f (omega arith));
+        telling = told_elsewhere config w g d w.front.stage stage.MapRing new h (λ f low high. others f (omega arith));
+        entries = record {
+          each = all_from (IsGranted g.pushed new (w.under.grants.live ++ made ∷ []) w.front.stage) w.front.requests (λ k r at.
+              let is = is_submitted config w g d w.front.stage stage.MapRing h k r at in
+              granted_still g.pushed w.under.pages new w.under.grants.live made w.front.stage r
+              (λ place lt. let pooled = pooled_at r is.frames place in omega (arith, pooled.0, low))
+              (entry_beside w.under.pages gref value r low is.frames)
+              (all_at (IsGranted g.pushed w.under.pages w.under.grants.live w.front.stage) w.front.requests k r h.entries.each at));
+          ending = λ e at place from lt.
+              let is = ending_submitted config w g d w.front.stage stage.MapRing e h (revoking_ends w.front.stage w.front.ending e at) in
+              let entry = entry_beside w.under.pages gref value e.request low is.frames place lt in
+              entry.flags ∙ h.entries.ending e at place from lt;
+        };
+        mapped = mapped_more w.under.grants.live (hands_in w.back.jobs.works ++ w.back.pages) (given_up b' ++ (hands_in w.back.jobs.works ++ (w.back.pages ++ mapping ∷ []))) mapping (2 + length w.back.pages) (omega (arith, named)) (record { front = hands_in w.back.jobs.works ++ w.back.pages; rest = []; without = sym (append-nil (hands_in w.back.jobs.works ++ w.back.pages)); with_it = ap (λ (l : List Mapping). l ++ (hands_in w.back.jobs.works ++ (w.back.pages ++ mapping ∷ []))) i.given ∙ sym (append_assoc (hands_in w.back.jobs.works) w.back.pages (mapping ∷ [])) }) h.mapped;
+        paged = record {
+          shaped = λ t. h.paged.shaped refl;
+          entries_are = λ t. h.paged.entries_are refl;
+          grefs_are = λ t. h.paged.grefs_are refl;
+          port_is = λ t. h.paged.port_is refl;
+          mapped = subst (PagesAt b' g.shape.order) (sym more) mapped;
+          gref = gref_more w.back.pages mapping h.paged.gref named;
+          mode = mode_more w.back.pages mapping h.paged.mode refl;
+        };
+        front_sleep = front_sleep_at g.start g.taken g.replied new w.front.asleep w.under.channels.front_pending w.front.stage stage.MapRing b' (λ t s. absurd s) (front_sleep_kept g.start g.taken g.replied w.under.pages new w.front.asleep w.under.channels.front_pending w.front.stage stage.MapRing (others 2 (omega arith) 3 (omega arith)) h.front_sleep);
+        back_sleep = back_sleep_at g.start g.fetched g.pushed new w.back.asleep w.under.channels.back_pending w.front.stage stage.MapRing b' (λ t. absurd (false≢true (sym i.unarmed ∙ t))) (λ t. h.back_sleep.may refl) (back_sleep_kept g.start g.fetched g.pushed w.under.pages new w.back.asleep w.under.channels.back_pending w.front.stage stage.MapRing (others 2 (omega arith) 1 (omega arith)) h.back_sleep);
+        ports = subst (λ (bound : Bool). PortsAt (is_connected w.front.stage) bound w.under.channels.made w.under.channels.ports) (sym i.unbound) h.ports;
+      };
+    }))
   where
     h : Holds config w g d w.front.stage stage.MapRing
     h = p.holds
 
+    gref : ℕ
+    gref = next_gref w.back
+
+    low : gref < 24
+    low = let few = few_pages g.shape.order h.shaped.narrow in let fewer = h.paged.mapped in omega (arith, named)
+
     value : ℕ
-    value = mapped_entry (entry_word0 w.under.pages 8) ReadWrite
+    value = mapped_entry (entry_word0 w.under.pages gref) ReadWrite
 
     new : List ℕ
-    new = with_entry_word0 w.under.pages 8 value
+    new = with_entry_word0 w.under.pages gref value
 
     mapping : Mapping
-    mapping = next_mapping w.under.grants 8 ReadWrite
+    mapping = next_mapping w.under.grants gref ReadWrite
 
     made : Held
-    made = record { mapping = mapping; frame = 2 }
+    made = record { mapping = mapping; frame = 2 + length w.back.pages }
+
+    under : Hypervisor
+    under = let u : Hypervisor = w.under in record u { grants = record { made = u.grants.made + 1; live = u.grants.live ++ made ∷ [] }; pages = new }
+
+    more : length (w.back.pages ++ mapping ∷ []) ≡ length w.back.pages + 1
+    more = length-append w.back.pages (mapping ∷ [])
 
     others : (f : ℕ) → f ≢ 0 → SameFrame w.under.pages new f
-    others f apart = other_frame w.under.pages 0 16 value f (omega arith) apart
+    others f apart = other_frame w.under.pages (gref / 512) (2 * (gref % 512)) value f (omega (arith, low)) (omega (arith, low))
+
+    beside : (page : ℕ) → page < 2 ^ g.shape.order → length w.back.pages + 1 ≤ page → SameEntry w.under.pages new (8 + page)
+    beside page few from = let all = few_pages g.shape.order h.shaped.narrow in other_entry w.under.pages gref (8 + page) value (omega (arith, low)) (omega arith) (omega (arith, named))
+
+-- whether another page is to be mapped
+maps_by : (config : Options) (w : World) (g : Flow) (d : Pipeline) (more : Bool) → BackStands config w g d stage.MapRing → (length w.back.grefs ≡ 2 ^ g.shape.order) → next_gref w.back ≡ 8 + length w.back.pages → verdict_at w.under.pages (next_gref w.back) ReadWrite ≡ Ok (2 + length w.back.pages) → nat_lt (length w.back.pages + 1) (length w.back.grefs) ≡ more
+    → BackGoes config w d stage.MapRing
+maps_by config w g d true p all named verdict further =
+    let lt : length w.back.pages + 1 < length w.back.grefs = grind (arith, nat_tests) in
+    maps config w g d (verdict_at w.under.pages (next_gref w.back) ReadWrite) stage.MapRing p verdict named (rw further refl) (setting stage.MapRing refl refl refl refl refl refl) (omega arith)
+maps_by config w g d false p all named verdict further =
+    let h : Holds config w g d w.front.stage stage.MapRing = p.holds in
+    let fewer = h.paged.mapped in
+    let last : length w.back.pages + 1 ≡ 2 ^ g.shape.order = grind (arith, nat_tests) in
+    maps config w g d (verdict_at w.under.pages (next_gref w.back) ReadWrite) stage.Bind p verdict named (rw further refl) (setting stage.Bind refl refl refl refl refl refl) last
 
 pub goes_map_ring : (config : Options) (w : World) (g : Flow) (d : Pipeline) → BackStands config w g d stage.MapRing → BackGoes config w d stage.MapRing
 goes_map_ring config w g d p =
     let h : Holds config w g d w.front.stage stage.MapRing = p.holds in
-    maps config w g d (verdict_at w.under.pages 8 ReadWrite) p (maps_ring w.under.pages (h.ring.granted (granted_to w.front.stage p.connected) refl) (h.ring.named (named_to w.front.stage p.connected) refl))
+    let fewer : length w.back.pages < 2 ^ g.shape.order = h.paged.mapped in
+    let few = few_pages g.shape.order h.shaped.narrow in
+    let all : length w.back.grefs ≡ 2 ^ g.shape.order = ap length (h.paged.grefs_are refl) ∙ length-range_with_len 8 (2 ^ g.shape.order) in
+    let named : next_gref w.back ≡ 8 + length w.back.pages = ap (λ (l : List ℕ). slice_index_or l (length w.back.pages) 0) (h.paged.grefs_are refl) ∙ get_or-range_with_len 8 (2 ^ g.shape.order) (length w.back.pages) 0 fewer in
+    let flags = h.ring.granted (length w.back.pages) (let bound = granted_to w.front.stage (2 ^ g.shape.order) p.connected in omega arith) (omega arith) in
+    let frame = h.ring.named (length w.back.pages) (let bound = named_to w.front.stage (2 ^ g.shape.order) p.connected in omega arith) (omega arith) in
+    let verdict : verdict_at w.under.pages (next_gref w.back) ReadWrite ≡ Ok (2 + length w.back.pages) = ap (λ (n : ℕ). verdict_at w.under.pages n ReadWrite) named ∙ maps_ring w.under.pages (length w.back.pages) (omega arith) flags frame in
+    maps_by config w g d (nat_lt (length w.back.pages + 1) (length w.back.grefs)) p all named verdict refl
 
 -- the front's one port waits to be bound
 waits_bound : (c : ChannelState) (connected : Bool) → connected ≡ true → PortsAt connected false c.made c.ports → state_of c 1 ≡ Unbound
@@ -173,11 +275,12 @@ is_bound_now : (c : ChannelState) (connected : Bool) → connected ≡ true → 
 is_bound_now c false is at = absurd (false≢true is)
 is_bound_now c true is at = (at.0, rw (at.0, at.1) refl)
 
-binds : (config : Options) (w : World) (g : Flow) (d : Pipeline) (state : PortState) → BackStands config w g d stage.Bind → state ≡ Unbound → ActGoes config w d (step_at stage.Bind w.back) (Some (bind_act w.under 1 state))
-binds config w g d state p e =
+binds : (config : Options) (w : World) (g : Flow) (d : Pipeline) (port : ℕ) (state : PortState) → BackStands config w g d stage.Bind → port ≡ 1 → state ≡ Unbound → ActGoes config w d (step_at stage.Bind w.back) (Some (bind_act w.under port state))
+binds config w g d port state p one e =
     let h : Holds config w g d w.front.stage stage.Bind = p.holds in
     let c : ChannelState = bound w.under.channels 1 in
-    subst (λ (x : PortState). ActGoes config w d (step_at stage.Bind w.back) (Some (bind_act w.under 1 x))) (sym e)
+    subst (λ (n : ℕ). ActGoes config w d (step_at stage.Bind w.back) (Some (bind_act w.under n state))) (sym one)
+    (subst (λ (x : PortState). ActGoes config w d (step_at stage.Bind w.back) (Some (bind_act w.under 1 x))) (sym e)
     (goes_still config w g d stage.Bind stage.Loop w.back w.under.pages c g.back_seen _ _ p (record {
       indices = h.indices;
       stations = h.stations;
@@ -188,16 +291,58 @@ binds config w g d state p e =
       unhalted = h.unhalted;
       memory = h.memory;
       others = λ f apart k lt. refl;
-      ring = ring_at g.start g.pushed g.replied w.under.pages w.front.stage stage.Bind stage.Loop refl h.ring;
-      slots = slots_at g.start g.fetched g.pushed g.taken g.replied g.submitted g.replies w.under.pages w.front.stage stage.Bind stage.Loop (λ rep t i lt. cc) h.slots;
+      ring = h.ring;
+      slots = slots_at g.shape g.start g.fetched g.pushed g.taken g.replied g.submitted g.replies w.under.pages w.front.stage stage.Bind stage.Loop (λ rep t i lt. cc) h.slots;
       hands = refl;
-      page = record { gref = λ t. h.page.gref refl; mode = λ t. h.page.mode refl };
+      paged = record { shaped = λ t. h.paged.shaped refl; entries_are = λ t. h.paged.entries_are refl; grefs_are = λ t. h.paged.grefs_are refl; port_is = λ t. h.paged.port_is refl; mapped = h.paged.mapped; gref = h.paged.gref; mode = h.paged.mode };
       front_sleep = front_sleep_at g.start g.taken g.replied w.under.pages w.front.asleep w.under.channels.front_pending w.front.stage stage.Bind stage.Loop (λ t s. absurd s) h.front_sleep;
       back_sleep = back_sleep_at g.start g.fetched g.pushed w.under.pages w.back.asleep w.under.channels.back_pending w.front.stage stage.Bind stage.Loop (λ t. t) (λ t. h.back_sleep.may refl) h.back_sleep;
       ports = is_bound_now w.under.channels (is_connected w.front.stage) p.connected h.ports;
-    }))
+    })))
 
 pub goes_bind : (config : Options) (w : World) (g : Flow) (d : Pipeline) → BackStands config w g d stage.Bind → BackGoes config w d stage.Bind
 goes_bind config w g d p =
     let h : Holds config w g d w.front.stage stage.Bind = p.holds in
-    binds config w g d (state_of w.under.channels 1) p (waits_bound w.under.channels (is_connected w.front.stage) p.connected h.ports)
+    binds config w g d w.back.port (state_of w.under.channels w.back.port) p (h.paged.port_is refl)
+    (ap (state_of w.under.channels) (h.paged.port_is refl) ∙ waits_bound w.under.channels (is_connected w.front.stage) p.connected h.ports)
+
+-- an event or a watch leaves a back that waits for terms as it is
+goes_waited : (config : Options) (w : World) (g : Flow) (d : Pipeline) (shown : Shown) (given : BackAnswer) (c : ChannelState)
+    → c.front_pending ≡ w.under.channels.front_pending
+    → c.made ≡ w.under.channels.made
+    → c.ports ≡ w.under.channels.ports
+    → BackStands config w g d stage.InitWait
+    → Goes config (Move shown ∷ back_lines w.back.told given ++ halt_lines w.back.halted w.back.halted) (record { front = w.front; back = record w.back { told = None }; under = (let u : Hypervisor = w.under in record u { channels = c }) }) d
+goes_waited config w g d shown given c pending made ports p =
+    let h : Holds config w g d w.front.stage stage.InitWait = p.holds in
+    let awake : w.back.asleep ≡ false = h.back_sleep.may refl in
+    subst (λ (s : BackStage). Goes config (Move shown ∷ back_lines w.back.told given ++ halt_lines w.back.halted w.back.halted) (record { front = w.front; back = record w.back { stage = s; told = None }; under = (let u : Hypervisor = w.under in record u { channels = c }) }) d) (sym p.at)
+    (goes_still config w g d stage.InitWait stage.InitWait w.back w.under.pages c g.back_seen shown given p (record {
+      indices = h.indices;
+      stations = h.stations;
+      works = h.works;
+      counted = h.counted;
+      info = refl;
+      back_at = h.back_at;
+      unhalted = h.unhalted;
+      memory = h.memory;
+      others = λ f apart k lt. refl;
+      ring = h.ring;
+      slots = h.slots;
+      hands = refl;
+      paged = h.paged;
+      front_sleep = subst (λ (b : Bool). IsFrontSleep g.start g.taken g.replied w.under.pages w.front.asleep b w.front.stage stage.InitWait) (sym pending) h.front_sleep;
+      back_sleep = record { arming = λ t. absurd (false≢true t); armed = λ t. absurd (false≢true (sym awake ∙ t)); may = λ t. awake; woken = λ t. absurd (false≢true (sym awake ∙ t)) };
+      ports = rw (made, ports) h.ports;
+    }))
+
+waits_on : (config : Options) (w : World) (g : Flow) (d : Pipeline) (pending : Bool) (next : Option (List ℕ)) → BackStands config w g d stage.InitWait
+    → ActGoes config w d (step_at stage.InitWait w.back) (if pending then Some (record { answer = answer.Event; under = (let u : Hypervisor = w.under in record u { channels = taken w.under.channels end.Back }); shown = moves.Event mover.Back }) else back_watched w.under next)
+waits_on config w g d true next p = goes_waited config w g d (moves.Event mover.Back) answer.Event (taken w.under.channels end.Back) refl refl refl p
+waits_on config w g d false None p = stays config w g d stage.InitWait p
+waits_on config w g d false (Some path) p =
+    let left : Hypervisor = watch_taken w.under end.Back in
+    goes_keyed config _ _ d left.keys (goes_waited config w g d (moves.Watched mover.Back path) (answer.Watched path) w.under.channels refl refl refl p)
+
+pub goes_init_wait : (config : Options) (w : World) (g : Flow) (d : Pipeline) → BackStands config w g d stage.InitWait → BackGoes config w d stage.InitWait
+goes_init_wait config w g d p = waits_on config w g d w.under.channels.back_pending (watch_next w.under end.Back) p

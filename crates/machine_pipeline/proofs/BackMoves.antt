@@ -12,7 +12,7 @@ use Rattle.machine_pipeline.proofs.Flow.{Flow}
 use Rattle.machine_pipeline.proofs.Holds.{Holds, Stands}
 use Rattle.machine_pipeline.proofs.Turns.{BackGoes, Goes}
 use Rattle.machine_pipeline.proofs.BackStill.{BackStands}
-use Rattle.machine_pipeline.proofs.BackMaps.{goes_map_ring, goes_bind}
+use Rattle.machine_pipeline.proofs.BackMaps.{goes_init_wait, goes_map_ring, goes_bind}
 use Rattle.machine_pipeline.proofs.BackLoop.{goes_loop}
 use Rattle.machine_pipeline.proofs.BackFetched.{goes_fetch}
 use Rattle.machine_pipeline.proofs.BackReplies.{goes_reply_high, goes_reply_last}
@@ -22,6 +22,7 @@ use Rattle.machine_pipeline.proofs.BackWrites.{goes_send, goes_store_event}
 use Rattle.machine_pipeline.proofs.BackLooks.{goes_look_again}
 
 pub back_goes : (config : Options) (w : World) (g : Flow) (d : Pipeline) (b : BackStage) → BackStands config w g d b → BackGoes config w d b
+back_goes config w g d stage.InitWait p = goes_init_wait config w g d p
 back_goes config w g d stage.MapRing p = goes_map_ring config w g d p
 back_goes config w g d stage.Bind p = goes_bind config w g d p
 back_goes config w g d stage.Loop p = goes_loop config w g d p

@@ -1,5 +1,5 @@
 -- A move of the back from one stage to another over the same memory.
-use Rattle.std.proofs.Common.{◌≡◌, ℕ, ◌+◌, ◌<◌, Bool, true, false, List, [], ◌∷◌, ◌++◌, length, refl, ap, sym, subst, ◌∙◌, inl, inr}
+use Rattle.std.proofs.Common.{◌≡◌, ℕ, ◌+◌, ◌^◌, ◌<◌, Bool, true, false, List, ◌∷◌, ◌++◌, length, refl, ap, sym, subst, ◌∙◌, inl, inr}
 use Rattle.std.specs.Prelude.{Option, Some, None, ◌⊎◌}
 use Rattle.std.proofs.lemmas.Option.{none-some}
 use Rattle.std.proofs.lemmas.Bool.{false≢true}
@@ -7,43 +7,63 @@ use Rattle.blk_base.specs.Options.{Options}
 use Rattle.blk_base.specs.declared.ask.BackAnswer.{BackAnswer}
 use Rattle.blk_base.specs.declared.moves.Move.{Move as Shown}
 use Rattle.schedule_text.specs.declared.line.Line.TheVariants.{Move}
-use Rattle.xen_pages.specs.Pages.{word_of}
+use Rattle.blk_base.specs.declared.parts.Mapping.{Mapping}
+use Rattle.ring_words.specs.Shape.{Shape}
 use Rattle.event_channel.specs.Channels.{ChannelState}
 use Rattle.back_jobs.specs.Hands.{hands_in}
 use Rattle.blk_front.specs.declared.request.Request.{Request}
 use Rattle.blk_front.specs.declared.stage.Stage.{Stage as FrontStage}
-use Rattle.blk_front.specs.View.{slot_word}
 use Rattle.blk_front.specs.Submit.{is_ready, is_connected, ending_of}
 use Rattle.blk_back.specs.declared.stage.Reply.{Reply}
 use Rattle.blk_back.specs.declared.stage.Stage.{Stage as BackStage}
+use Rattle.blk_back.specs.declared.stage.Stage.TheVariants as back
 use Rattle.blk_back.specs.View.{View}
 use Rattle.blk_back.specs.Ask.{response_word}
 use Rattle.blk_back.specs.Hands.{hands_at}
 use Rattle.split_model.specs.World.{World}
 use Rattle.split_model.specs.Shown.{back_lines, halt_lines}
-use Rattle.machine_pipeline.proofs.Flow.{Flow, wrapped, is_back_arming, may_back_sleep, is_bound_back, has_page, reply_at, reply_count, responded, ending_at, is_issuing, is_fetching, telling_at}
+use Rattle.machine_pipeline.proofs.Flow.{Flow, wrapped, is_back_arming, may_back_sleep, is_bound_back, has_terms, reply_at, reply_count, responded, ending_at, is_issuing, is_fetching, telling_at}
 use Rattle.machine_pipeline.proofs.Stations.{AreStations}
-use Rattle.machine_pipeline.proofs.Holds.{Holds, AreIndices, AreRingWords, AreSlots, IsFrontSleep, IsBackSleep, BackSends, BackAt, PortsAt}
+use Rattle.machine_pipeline.proofs.Holds.{Holds, AreIndices, AreSlots, PagesAt, ArePaged, slot_of, IsFrontSleep, IsBackSleep, BackSends, BackAt, PortsAt}
 use Rattle.pipeline_laws.specs.Pipeline.{Pipeline, Step}
 use Rattle.machine_pipeline.specs.Step.{Does, IsSame, after_step}
 use Rattle.machine_pipeline.proofs.Turns.{Goes, silent}
 use Rattle.machine_pipeline.proofs.BackStill.{BackStands, Moves, still}
 
--- with the same memory at another stage
-pub ring_at : (start pushed replied : ℕ) (pages : List ℕ) (s : FrontStage) (b b' : BackStage) → (has_page b' ≡ true) → AreRingWords start pushed replied pages s b → AreRingWords start pushed replied pages s b'
-ring_at start pushed replied pages s b b' paged h = record {
-  begun = h.begun;
-  requests = h.requests;
-  responses = h.responses;
-  named = λ t u. absurd (false≢true (sym u ∙ paged));
-  granted = λ t u. absurd (false≢true (sym u ∙ paged));
+-- a back that is bound to its port has the terms of its front
+pub bound_terms : (b : BackStage) → is_bound_back b ≡ true → has_terms b ≡ true
+bound_terms back.InitWait bound = bound
+bound_terms b bound = refl
+
+-- and all pages of the ring
+pub all_mapped : (b : BackStage) (order count : ℕ) → is_bound_back b ≡ true → PagesAt b order count → count ≡ 2 ^ order
+all_mapped back.InitWait order count bound h = absurd (false≢true bound)
+all_mapped back.MapRing order count bound h = absurd (false≢true bound)
+all_mapped b order count bound h = h
+
+pub mapped_all : (b : BackStage) (order count : ℕ) → is_bound_back b ≡ true → count ≡ 2 ^ order → PagesAt b order count
+mapped_all back.InitWait order count bound h = absurd (false≢true bound)
+mapped_all back.MapRing order count bound h = absurd (false≢true bound)
+mapped_all b order count bound h = h
+
+-- so they are at each such stage
+pub paged_at : (shape back_shape : Shape) (entries : ℕ) (grefs : List ℕ) (port : ℕ) (pages : List Mapping) (b b' : BackStage) → is_bound_back b ≡ true → is_bound_back b' ≡ true → ArePaged shape back_shape entries grefs port pages b → ArePaged shape back_shape entries grefs port pages b'
+paged_at shape back_shape entries grefs port pages b b' bound still h = record {
+  shaped = λ t. h.shaped (bound_terms b bound);
+  entries_are = λ t. h.entries_are (bound_terms b bound);
+  grefs_are = λ t. h.grefs_are (bound_terms b bound);
+  port_is = λ t. h.port_is (bound_terms b bound);
+  mapped = mapped_all b' shape.order (length pages) still (all_mapped b shape.order (length pages) bound h.mapped);
+  gref = h.gref;
+  mode = h.mode;
 }
 
-pub slots_at : (start fetched pushed taken replied : ℕ) (submitted : List Request) (replies : List Reply) (pages : List ℕ) (s : FrontStage) (b b' : BackStage)
-    → ((rep : Reply) → reply_at b' ≡ Some rep → (i : ℕ) → i < responded b' → word_of pages 2 (slot_word (wrapped start replied) i) ≡ response_word rep i)
-    → AreSlots start fetched pushed taken replied submitted replies pages s b
-    → AreSlots start fetched pushed taken replied submitted replies pages s b'
-slots_at start fetched pushed taken replied submitted replies pages s b b' here h = record { entries = h.entries; entry = h.entry; responses = h.responses; response = here }
+-- with the same memory at another stage
+pub slots_at : (shape : Shape) (start fetched pushed taken replied : ℕ) (submitted : List Request) (replies : List Reply) (pages : List ℕ) (s : FrontStage) (b b' : BackStage)
+    → ((rep : Reply) → reply_at b' ≡ Some rep → (i : ℕ) → i < responded b' → slot_of pages shape (wrapped start replied) i ≡ response_word rep i)
+    → AreSlots shape start fetched pushed taken replied submitted replies pages s b
+    → AreSlots shape start fetched pushed taken replied submitted replies pages s b'
+slots_at shape start fetched pushed taken replied submitted replies pages s b b' here h = record { entries = h.entries; entry = h.entry; responses = h.responses; response = here }
 
 pub front_sleep_at : (start taken replied : ℕ) (pages : List ℕ) (asleep pending : Bool) (s : FrontStage) (b b' : BackStage)
     → (asleep ≡ true → BackSends b replied taken → (replied ≡ taken) ⊎ (pending ≡ true) ⊎ BackSends b' replied taken)
@@ -89,12 +109,11 @@ pub goes_still : (config : Options) (w : World) (g : Flow) (d : Pipeline) (b b' 
 goes_still config w g d b b' v pages channels seen shown answer p m =
     goes_moved config w g d None b b' v pages channels seen shown answer (let h : Holds config w g d w.front.stage b = p.holds in silent shown w.back.told w.back.halted answer d p.untold h.unhalted) p m
 
--- a stage with the page in hand where no response is being written
+-- a stage with all pages in hand where no response is being written
 pub record IsBetween (b : BackStage) (v : View) : Type 0 where
-  pub paged : has_page b ≡ true
   pub bound : is_bound_back b ≡ true
   pub none : reply_at b ≡ None
-  pub hands : hands_at b v ≡ hands_in v.jobs.works ++ v.page ∷ []
+  pub hands : hands_at b v ≡ hands_in v.jobs.works ++ v.pages
 
 -- from one such stage to another over the same memory
 pub quiet_with : {d' : Pipeline} (config : Options) (w : World) (g : Flow) (d : Pipeline) (b b' : BackStage) (asleep : Bool) (word : ℕ) (entry : List ℕ) (channels : ChannelState) (seen : ℕ)
@@ -103,7 +122,7 @@ pub quiet_with : {d' : Pipeline} (config : Options) (w : World) (g : Flow) (d : 
     → IsBetween b' w.back
     → AreStations config g d' (is_ready w.front.stage) (is_issuing w.front.stage) (is_fetching b') (ending_at w.front.stage w.front.ending) (telling_at w.front.stage) (reply_at b') w.front.requests w.back.jobs.works w.under.pages
     → AreIndices (record g { back_seen = seen }) w.front.ring w.back.ring w.front.seen word w.back.fetched w.front.last w.front.waiting (length w.front.requests) (ending_of w.front.stage)
-    → BackAt g.start g.fetched seen g.replied g.submitted w.back.jobs.works entry b'
+    → BackAt g.shape g.start g.fetched seen g.replied g.submitted w.back.jobs.works entry b'
     → IsFrontSleep g.start g.taken g.replied w.under.pages w.front.asleep channels.front_pending w.front.stage b'
     → IsBackSleep g.start g.fetched g.pushed w.under.pages asleep channels.back_pending w.front.stage b'
     → channels.made ≡ w.under.channels.made
@@ -119,10 +138,10 @@ quiet_with config w g d b b' asleep word entry channels seen h i j stations indi
   unhalted = h.unhalted;
   memory = h.memory;
   others = λ f apart k lt. refl;
-  ring = ring_at g.start g.pushed g.replied w.under.pages w.front.stage b b' j.paged h.ring;
-  slots = slots_at g.start g.fetched g.pushed g.taken g.replied g.submitted g.replies w.under.pages w.front.stage b b' (λ rep t k lt. absurd (none-some rep (sym j.none ∙ t))) h.slots;
+  ring = h.ring;
+  slots = slots_at g.shape g.start g.fetched g.pushed g.taken g.replied g.submitted g.replies w.under.pages w.front.stage b b' (λ rep t k lt. absurd (none-some rep (sym j.none ∙ t))) h.slots;
   hands = j.hands ∙ sym i.hands;
-  page = record { gref = λ t. h.page.gref i.paged; mode = λ t. h.page.mode i.paged };
+  paged = paged_at g.shape w.back.shape w.back.ring.entries w.back.grefs w.back.port w.back.pages b b' i.bound j.bound h.paged;
   front_sleep = front_sleep;
   back_sleep = back_sleep;
   ports = rw (made, ports) (subst (λ (bound : Bool). PortsAt (is_connected w.front.stage) bound w.under.channels.made w.under.channels.ports) (i.bound ∙ sym j.bound) h.ports);
@@ -134,7 +153,7 @@ pub quiet : (config : Options) (w : World) (g : Flow) (d : Pipeline) (b b' : Bac
     → IsBetween b w.back
     → IsBetween b' w.back
     → AreStations config g d (is_ready w.front.stage) (is_issuing w.front.stage) (is_fetching b') (ending_at w.front.stage w.front.ending) (telling_at w.front.stage) (reply_at b') w.front.requests w.back.jobs.works w.under.pages
-    → BackAt g.start g.fetched g.back_seen g.replied g.submitted w.back.jobs.works w.back.entry b'
+    → BackAt g.shape g.start g.fetched g.back_seen g.replied g.submitted w.back.jobs.works w.back.entry b'
     → (w.front.asleep ≡ true → BackSends b g.replied g.taken → (g.replied ≡ g.taken) ⊎ (w.under.channels.front_pending ≡ true) ⊎ BackSends b' g.replied g.taken)
     → (is_back_arming b' ≡ true → is_back_arming b ≡ true)
     → (may_back_sleep b' ≡ false → w.back.asleep ≡ false)

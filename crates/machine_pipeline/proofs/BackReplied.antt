@@ -2,19 +2,19 @@
 use Rattle.std.proofs.Common.{◌≡◌, ℕ, zero, suc, ◌+◌, ◌-◌, ◌<◌, Bool, true, List, [], ◌∷◌, ◌++◌, length, refl, ap, sym, subst, ◌∙◌, inl, inr, arith, ◌≢◌, ◌^◌, ◌≤◌, length-append, false}
 use Rattle.std.specs.Prelude.{Option, Some, None, slice_get, ◌⊎◌}
 use Rattle.std.proofs.lemmas.Option.{none-some, same_Some, slice_get-get_or}
-use Rattle.std.proofs.lemmas.Bool.{false≢true}
 use Rattle.blk_base.specs.Options.{Options}
 use Rattle.schedule_text.specs.declared.line.Line.TheVariants.{Move}
 use Rattle.pipeline_laws.specs.Pipeline.{Pipeline}
 use Rattle.ring_words.specs.Ring.{Ring, next_of}
-use Rattle.xen_pages.specs.Pages.{word_of, with_word}
+use Rattle.xen_pages.specs.Pages.{with_word}
 use Rattle.grant_table.specs.Table.{frame_of}
 use Rattle.event_channel.specs.Channels.{taken}
-use Rattle.back_jobs.specs.Hands.{hands_in}
 use Rattle.blk_front.specs.declared.request.Request.{Request}
 use Rattle.blk_front.specs.declared.stage.Stage.{Stage as FrontStage}
 use Rattle.blk_front.specs.declared.stage.Stage.TheVariants as front
-use Rattle.blk_front.specs.View.{slot_word, next_request}
+use Rattle.ring_words.specs.Shape.{Shape}
+use Rattle.blk_back.specs.View.{page_of}
+use Rattle.blk_front.specs.View.{next_request}
 use Rattle.blk_front.specs.Submit.{is_ready, is_connected, ending_of}
 use Rattle.blk_back.specs.declared.stage.Reply.{Reply}
 use Rattle.blk_back.specs.declared.stage.Stage.TheVariants as stage
@@ -23,16 +23,15 @@ use Rattle.blk_back.specs.Step.{fetched}
 use Rattle.split_model.specs.World.{World}
 use Rattle.split_model.specs.Shown.{halt_lines}
 use Rattle.machine_pipeline.proofs.Flow.{Flow, wrapped, ending_at, is_issuing, telling_at}
-use Rattle.machine_pipeline.proofs.Holds.{Holds, AreIndices, IsReplying, IsReply, AreReplies, IsEnding, IsTaken, FrontAt, AreRingWords, AreSlots, IsFrontSleep}
+use Rattle.machine_pipeline.proofs.Holds.{Holds, AreIndices, IsReplying, IsReply, AreReplies, IsEnding, IsTaken, FrontAt, AreRingWords, AreSlots, slot_of, IsFrontSleep}
 use Rattle.machine_pipeline.proofs.Turns.{BackGoes, Stepped, does_step}
-use Rattle.machine_pipeline.proofs.Kept.{slots_kept, front_sleep_kept, back_sleep_kept}
+use Rattle.machine_pipeline.proofs.Kept.{front_sleep_kept, back_sleep_kept}
 use Rattle.machine_pipeline.proofs.ReadsKept.{stations_elsewhere}
-use Rattle.machine_pipeline.proofs.Frames.{entered_few}
 use Rattle.machine_pipeline.proofs.BackStill.{BackStands, told_elsewhere, frames_beside, entries_beside}
-use Rattle.machine_pipeline.proofs.BackQuiet.{back_sleep_at}
-use Rattle.machine_pipeline.proofs.BackFences.{page_frame}
+use Rattle.machine_pipeline.proofs.BackQuiet.{paged_at, back_sleep_at}
+use Rattle.machine_pipeline.proofs.BackFences.{first_frame}
 use Rattle.schedule_text.specs.declared.line.Line.TheVariants as lines
-use Rattle.machine_pipeline.proofs.BackWrites.{RingWritten, ring_written, begun, next_wrapped}
+use Rattle.machine_pipeline.proofs.BackWrites.{RingWritten, ring_written, begun, named_to, granted_to, slots_beside, next_wrapped}
 use Rattle.std.proofs.lemmas.List.Elements.{All-push}
 use Rattle.std.proofs.lemmas.List.Quantifiers.{all_pairs_push}
 use Rattle.blk_front.specs.declared.stage.Ending.{Ending}
@@ -46,7 +45,6 @@ use Rattle.machine_pipeline.proofs.StationsBack.{replies}
 indices_replied : (g : Flow) (replies : List Reply) (front_ring back_ring : Ring) (front_seen back_seen number last waiting unfinished ending : ℕ) → g.replied < g.fetched → AreIndices g front_ring back_ring front_seen back_seen number last waiting unfinished ending → AreIndices (record g { replied = g.replied + 1; replies = replies }) front_ring (record back_ring { prod = next_of back_ring.prod }) front_seen back_seen number last waiting unfinished ending
 indices_replied g replies front_ring back_ring front_seen back_seen number last waiting unfinished ending owed x = record {
   front_entries = x.front_entries;
-  back_entries = x.back_entries;
   pushed = x.pushed;
   taken = x.taken;
   replied = next_wrapped g.start g.replied back_ring.prod x.replied;
@@ -74,27 +72,27 @@ last_or_before [] rep r (suc k) e = absurd (none-some r e)
 last_or_before (x ∷ replies) rep r zero e = inl e
 last_or_before (x ∷ replies) rep r (suc k) e = elim (last_or_before replies rep r k e) [ inl h ↦ inl h | inr h ↦ inr (let at = h.0 in omega arith, h.1) ]
 
-slots_replied : (start fetched pushed taken replied old : ℕ) (submitted : List Request) (replies : List Reply) (pages : List ℕ) (s : FrontStage) (rep : Reply) → length replies + taken ≡ replied → AreSlots start fetched pushed taken replied submitted replies pages s (stage.Producer rep) → AreSlots start fetched pushed taken (replied + 1) submitted (replies ++ rep ∷ []) pages s (stage.ProducerFence old)
-slots_replied start fetched pushed taken replied old submitted replies pages s rep counted h = record {
+slots_replied : (shape : Shape) (start fetched pushed taken replied old : ℕ) (submitted : List Request) (replies : List Reply) (pages : List ℕ) (s : FrontStage) (rep : Reply) → length replies + taken ≡ replied → AreSlots shape start fetched pushed taken replied submitted replies pages s (stage.Producer rep) → AreSlots shape start fetched pushed taken (replied + 1) submitted (replies ++ rep ∷ []) pages s (stage.ProducerFence old)
+slots_replied shape start fetched pushed taken replied old submitted replies pages s rep counted h = record {
   entries = h.entries;
   entry = h.entry;
   responses = λ k r e i lt. elim (last_or_before replies rep r k e) [
     | inl before ↦ h.responses k r before i lt
     | inr last ↦
         let at : taken + k ≡ replied = omega (arith, last.0) in
-        subst (λ (x : Reply). word_of pages 2 (slot_word (wrapped start (taken + k)) i) ≡ response_word x i) last.1
-        (ap (λ (n : ℕ). word_of pages 2 (slot_word (wrapped start n) i)) at ∙ h.response rep refl i lt)
+        subst (λ (x : Reply). slot_of pages shape (wrapped start (taken + k)) i ≡ response_word x i) last.1
+        (ap (λ (n : ℕ). slot_of pages shape (wrapped start n) i) at ∙ h.response rep refl i lt)
   ];
   response = λ r e i lt. cc;
 }
 
-ring_replied : (start pushed replied word old : ℕ) (before new : List ℕ) (s : FrontStage) (rep : Reply) → RingWritten before new 2 word → word ≡ wrapped start (replied + 1) → is_connected s ≡ true → AreRingWords start pushed replied before s (stage.Producer rep) → AreRingWords start pushed (replied + 1) new s (stage.ProducerFence old)
-ring_replied start pushed replied word old before new s rep r e c h = record {
+ring_replied : (order start pushed replied mapped word : ℕ) (before new : List ℕ) (s : FrontStage) → RingWritten before new 2 2 word → word ≡ wrapped start (replied + 1) → is_connected s ≡ true → mapped ≡ 2 ^ order → AreRingWords order start pushed replied before s mapped → AreRingWords order start pushed (replied + 1) new s mapped
+ring_replied order start pushed replied mapped word before new s r e c all h = record {
   begun = begun start new s c;
-  requests = λ t. r.words 0 (omega arith) ∙ h.requests t;
+  requests = λ t. r.words 2 0 (omega arith) ∙ h.requests t;
   responses = λ t. r.here ∙ e;
-  named = λ t u. absurd (false≢true (sym u));
-  granted = λ t u. absurd (false≢true (sym u));
+  named = λ page lt from. absurd (let bound = named_to s (2 ^ order) c in omega arith);
+  granted = λ page lt from. absurd (let bound = granted_to s (2 ^ order) c in omega arith);
 }
 
 front_sleep_replied : (start taken replied old : ℕ) (pages : List ℕ) (asleep pending : Bool) (s : FrontStage) (rep : Reply) → IsFrontSleep start taken replied pages asleep pending s (stage.Producer rep) → IsFrontSleep start taken (replied + 1) pages asleep pending s (stage.ProducerFence old)
@@ -123,21 +121,21 @@ ending_still submitted before rep e other h = record {
 abbrev taken_still : (taken seen : ℕ) (replies : List Reply) (rep : Reply) → IsTaken taken seen replies → IsTaken taken seen (replies ++ rep ∷ [])
 taken_still taken seen replies rep t = record { rep = t.rep; oldest = get_append replies (rep ∷ []) 0 t.rep t.oldest; seen = t.seen }
 
-front_still : (start pushed taken seen : ℕ) (submitted : List Request) (replies : List Reply) (next : Option Request) (entry : List ℕ)
+front_still : (shape : Shape) (start pushed taken seen : ℕ) (submitted : List Request) (replies : List Reply) (next : Option Request) (entry : List ℕ)
     (ending : Option Ending) (s : FrontStage) (rep : Reply)
     → ((e : Ending) → ending_at s ending ≡ Some e → rep.id ≢ e.request.number)
-    → FrontAt start pushed taken seen submitted replies next entry ending s
-    → FrontAt start pushed taken seen submitted (replies ++ rep ∷ []) next entry ending s
-front_still start pushed taken seen submitted before next entry ending (front.ResponseHigh low) rep other h = (taken_still taken seen before rep h.0, h.1)
-front_still start pushed taken seen submitted before next entry ending (front.ResponseLast low high) rep other h =
+    → FrontAt shape start pushed taken seen submitted replies next entry ending s
+    → FrontAt shape start pushed taken seen submitted (replies ++ rep ∷ []) next entry ending s
+front_still shape start pushed taken seen submitted before next entry ending (front.ResponseHigh low) rep other h = (taken_still taken seen before rep h.0, h.1)
+front_still shape start pushed taken seen submitted before next entry ending (front.ResponseLast low high) rep other h =
     (taken_still taken seen before rep h.0, h.1, h.2)
-front_still start pushed taken seen submitted before next entry ending (front.GrantRead place) rep other h =
+front_still shape start pushed taken seen submitted before next entry ending (front.GrantRead place) rep other h =
     (h.0, h.1, ending_still submitted before rep h.0 (other h.0 h.1) h.2, h.3)
-front_still start pushed taken seen submitted before next entry ending (front.GrantEnd place old) rep other h =
+front_still shape start pushed taken seen submitted before next entry ending (front.GrantEnd place old) rep other h =
     (h.0, h.1, ending_still submitted before rep h.0 (other h.0 h.1) h.2, h.3)
-front_still start pushed taken seen submitted before next entry ending (front.ReadData n) rep other h =
+front_still shape start pushed taken seen submitted before next entry ending (front.ReadData n) rep other h =
     (h.0, h.1, ending_still submitted before rep h.0 (other h.0 h.1) h.2, h.3)
-front_still start pushed taken seen submitted before next entry ending s rep other h = h
+front_still shape start pushed taken seen submitted before next entry ending s rep other h = h
 
 pub goes_producer : (config : Options) (w : World) (g : Flow) (d : Pipeline) (rep : Reply) → BackStands config w g d (stage.Producer rep) → BackGoes config w d (stage.Producer rep)
 goes_producer config w g d rep p = record {
@@ -146,30 +144,31 @@ goes_producer config w g d rep p = record {
   does = does_step _ (lines.Reply rep.id rep.status ∷ halt_lines w.back.halted w.back.halted) (rw h.unhalted refl) s;
   holds = record {
     started = h.started;
+    shaped = h.shaped;
     sized = h.sized;
     indices = indices_replied g (g.replies ++ rep ∷ []) w.front.ring w.back.ring w.front.seen w.back.seen w.back.fetched w.front.last w.front.waiting (length w.front.requests) (ending_of w.front.stage) owed x;
     queue = h.queue;
     submitted = h.submitted;
     pool = h.pool;
-    stations = stations_elsewhere config flow (after_step d (Some s.step)) (is_ready w.front.stage) (is_issuing w.front.stage) false (ending_at w.front.stage w.front.ending) (telling_at w.front.stage) None w.front.requests w.back.jobs.works w.under.pages new w.front.sectors w.front.last h.submitted (λ f low high. wrote.others f (omega arith)) s.now;
+    stations = stations_elsewhere config flow (after_step d (Some s.step)) (is_ready w.front.stage) (is_issuing w.front.stage) false (ending_at w.front.stage w.front.ending) (telling_at w.front.stage) None w.front.requests w.back.jobs.works w.under.pages new w.front.sectors w.front.last h.submitted (λ f low high. wrote.others f (inr low)) s.now;
     works = h.works;
     counted = omega (arith, h.counted);
     info = h.info;
     replies = replies_more g.fetched g.taken g.replied g.replies rep a.positive a.reached a.op others h.replies;
-    front_at = front_still g.start g.pushed g.taken g.front_seen g.submitted g.replies (next_request w.front) w.front.entry w.front.ending w.front.stage rep ending_other h.front_at;
+    front_at = front_still g.shape g.start g.pushed g.taken g.front_seen g.submitted g.replies (next_request w.front) w.front.entry w.front.ending w.front.stage rep ending_other h.front_at;
     unused = h.unused;
     back_at = (omega arith, x.replied ∙ ap (λ (i : ℕ). wrapped g.start i) (omega arith));
     unhalted = h.unhalted;
     memory = wrote.memory;
-    ring = ring_replied g.start g.pushed g.replied word w.back.ring.prod w.under.pages new w.front.stage rep wrote next p.connected h.ring;
-    slots = slots_replied g.start g.fetched g.pushed g.taken g.replied w.back.ring.prod g.submitted g.replies new w.front.stage rep h.replies.counted (slots_kept g.start g.fetched g.pushed g.taken g.replied g.submitted g.replies w.under.pages new w.front.stage (stage.Producer rep) (λ i from to. wrote.words i (omega arith)) (entered_few g.start g.pushed g.taken g.front_seen g.submitted g.replies _ w.front.entry w.front.ending w.front.stage h.front_at) h.slots);
+    ring = ring_replied g.shape.order g.start g.pushed g.replied (length w.back.pages) word w.under.pages new w.front.stage wrote next p.connected h.paged.mapped h.ring;
+    slots = slots_replied g.shape g.start g.fetched g.pushed g.taken g.replied w.back.ring.prod g.submitted g.replies new w.front.stage rep h.replies.counted (slots_beside g.shape g.start g.fetched g.pushed g.taken g.replied 2 word g.submitted g.replies w.under.pages new w.front.stage (stage.Producer rep) wrote (omega arith) h.shaped.narrow h.slots);
     frames = frames_beside config w g d w.front.stage (stage.Producer rep) new h wrote.others;
-    telling = told_elsewhere config w g d w.front.stage (stage.Producer rep) new h (λ f low high. wrote.others f (omega arith));
+    telling = told_elsewhere config w g d w.front.stage (stage.Producer rep) new h (λ f low high. wrote.others f (inr low));
     entries = entries_beside config w g d w.front.stage (stage.Producer rep) new h wrote.others;
     mapped = h.mapped;
-    page = record { gref = λ t. h.page.gref refl; mode = λ t. h.page.mode refl };
-    front_sleep = front_sleep_replied g.start g.taken g.replied w.back.ring.prod new w.front.asleep w.under.channels.front_pending w.front.stage rep (front_sleep_kept g.start g.taken g.replied w.under.pages new w.front.asleep w.under.channels.front_pending w.front.stage (stage.Producer rep) (wrote.words 3 (omega arith)) h.front_sleep);
-    back_sleep = back_sleep_at g.start g.fetched g.pushed new w.back.asleep w.under.channels.back_pending w.front.stage (stage.Producer rep) (stage.ProducerFence w.back.ring.prod) (λ t. t) (λ t. cc) (back_sleep_kept g.start g.fetched g.pushed w.under.pages new w.back.asleep w.under.channels.back_pending w.front.stage (stage.Producer rep) (wrote.words 1 (omega arith)) h.back_sleep);
+    paged = paged_at g.shape w.back.shape w.back.ring.entries w.back.grefs w.back.port w.back.pages (stage.Producer rep) (stage.ProducerFence w.back.ring.prod) refl refl h.paged;
+    front_sleep = front_sleep_replied g.start g.taken g.replied w.back.ring.prod new w.front.asleep w.under.channels.front_pending w.front.stage rep (front_sleep_kept g.start g.taken g.replied w.under.pages new w.front.asleep w.under.channels.front_pending w.front.stage (stage.Producer rep) (wrote.words 2 3 (omega arith)) h.front_sleep);
+    back_sleep = back_sleep_at g.start g.fetched g.pushed new w.back.asleep w.under.channels.back_pending w.front.stage (stage.Producer rep) (stage.ProducerFence w.back.ring.prod) (λ t. t) (λ t. cc) (back_sleep_kept g.start g.fetched g.pushed w.under.pages new w.back.asleep w.under.channels.back_pending w.front.stage (stage.Producer rep) (wrote.words 2 1 (omega arith)) h.back_sleep);
     ports = h.ports;
   };
 }
@@ -200,10 +199,10 @@ goes_producer config w g d rep p = record {
     owed = omega (arith, h.counted)
 
     frame : ℕ
-    frame = frame_of w.under.grants w.back.page
+    frame = frame_of w.under.grants (page_of w.back 0)
 
     in_two : frame ≡ 2
-    in_two = page_frame w.under.grants (hands_in w.back.jobs.works) w.back.page p.held h.mapped.framed (h.page.gref refl)
+    in_two = first_frame config w g d (stage.Producer rep) p refl refl
 
     word : ℕ
     word = next_of w.back.ring.prod
@@ -214,5 +213,5 @@ goes_producer config w g d rep p = record {
     new : List ℕ
     new = with_word w.under.pages frame 2 word
 
-    wrote : RingWritten w.under.pages new 2 word
-    wrote = ring_written w.under.pages frame 2 word in_two (omega arith) h.memory
+    wrote : RingWritten w.under.pages new 2 2 word
+    wrote = ring_written w.under.pages frame 2 2 word in_two (omega arith) (omega arith) (omega arith) h.memory

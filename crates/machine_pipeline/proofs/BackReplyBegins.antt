@@ -15,7 +15,7 @@ use Rattle.hypervisor.specs.Act.{with_pages}
 use Rattle.back_jobs.specs.Task.{Work}
 use Rattle.back_jobs.specs.Jobs.{Held as Jobs}
 use Rattle.blk_front.specs.declared.request.Request.{Request}
-use Rattle.blk_front.specs.View.{slot_word}
+use Rattle.blk_front.specs.View.{slot_frame, slot_word}
 use Rattle.blk_back.specs.declared.stage.Reply.{Reply}
 use Rattle.blk_back.specs.declared.stage.Stage.TheVariants as stage
 use Rattle.blk_back.specs.Ask.{response_word, next_reply, reply_of}
@@ -111,19 +111,19 @@ replying submitted fetched works rep l h =
 
 pub goes_reply : (config : Options) (w : World) (g : Flow) (d : Pipeline) (rep : Reply) (frame : ℕ) (shown : Shown) (given : BackAnswer)
     → BackStands config w g d stage.Loop
-    → frame ≡ 2
+    → frame ≡ slot_frame g.shape w.back.ring.prod 0
     → next_reply w.back ≡ Some rep
-    → Goes config (Move shown ∷ back_lines w.back.told given ++ halt_lines w.back.halted w.back.halted) (record { front = w.front; back = record w.back { jobs = without_done w.back.jobs; stage = stage.ReplyHigh rep; told = None }; under = with_pages w.under (with_word w.under.pages frame (slot_word w.back.ring.prod 0) (response_word rep 0)) }) d
-goes_reply config w g d rep frame shown given p in_two e =
+    → Goes config (Move shown ∷ back_lines w.back.told given ++ halt_lines w.back.halted w.back.halted) (record { front = w.front; back = record w.back { jobs = without_done w.back.jobs; stage = stage.ReplyHigh rep; told = None }; under = with_pages w.under (with_word w.under.pages frame (slot_word w.back.shape w.back.ring.prod 0) (response_word rep 0)) }) d
+goes_reply config w g d rep frame shown given p placed e =
     goes_word config w g d (Some s.step) stage.Loop (stage.ReplyHigh rep) rep 0 (without_done w.back.jobs) frame shown given (does_step shown (back_lines w.back.told given ++ halt_lines w.back.halted w.back.halted) (rw (p.untold, h.unhalted) refl) s) p
-    (record { few = omega arith; here = refl; upto = refl; paged = refl; paged_still = refl; bound = refl; bound_still = refl; unarmed = refl; sleeps = refl })
-    in_two (λ s. s) (λ j lt. absurd (omega arith))
+    (record { few = omega arith; here = refl; upto = refl; bound = refl; bound_still = refl; unarmed = refl; sleeps = refl })
+    placed (λ s. s) (λ j lt. absurd (omega arith))
     (rw gone s.now)
     (rw gone (record { each = all_remove (IsWork g.submitted g.fetched) works l.place within h.works.each; ascending = all_pairs_remove (λ (a b : Work). a.number < b.number) works l.place within h.works.ascending }))
     (rw gone (omega (arith, length-remove works l.place within, h.counted)))
     refl
     (rw gone (replying g.submitted g.fetched works rep l h.works))
-    (ap (λ (m : List Mapping). m ++ w.back.page ∷ []) (done_hands w.back.jobs))
+    (ap (λ (m : List Mapping). m ++ w.back.pages) (done_hands w.back.jobs))
   where
     h : Holds config w g d w.front.stage stage.Loop
     h = p.holds

@@ -1,6 +1,6 @@
 -- A move of the back that leaves the pipeline as it is: what it changes, and that all else that holds goes on holding.
-use Rattle.std.proofs.Common.{◌≡◌, ◌≢◌, ℕ, ◌+◌, ◌-◌, ◌<◌, ◌≤◌, true, List, length, ap, sym, ◌∙◌, arith}
-use Rattle.std.specs.Prelude.{All, Option, Some, None, count_by}
+use Rattle.std.proofs.Common.{◌≡◌, ℕ, ◌+◌, ◌-◌, ◌<◌, ◌≤◌, true, List, length, ap, sym, ◌∙◌, inl, inr, arith}
+use Rattle.std.specs.Prelude.{All, Option, Some, None, count_by, ◌⊎◌}
 use Rattle.std.proofs.lemmas.Option.{none-some}
 use Rattle.blk_base.specs.Options.{Options}
 use Rattle.blk_base.specs.declared.parts.Mapping.{Mapping}
@@ -20,7 +20,7 @@ use Rattle.split_model.specs.Safe.{AreHeld}
 use Rattle.machine_pipeline.specs.Plain.{IsPlain}
 use Rattle.machine_pipeline.proofs.Flow.{Flow, ending_at, revoking_at, is_bound_back, reply_at, reply_count, is_issuing, is_fetching, telling_at}
 use Rattle.machine_pipeline.proofs.Stations.{AreStations, saw_more}
-use Rattle.machine_pipeline.proofs.Holds.{Holds, IsEnding, AreIndices, IsSubmitted, AreWorks, AreRingWords, AreSlots, IsPooled, IsFilled, AreDataWords, AreEntries, IsPaged, IsFrontSleep, IsBackSleep, BackAt, PortsAt}
+use Rattle.machine_pipeline.proofs.Holds.{Holds, IsEnding, AreIndices, IsSubmitted, AreWorks, AreRingWords, AreSlots, IsPooled, IsFilled, AreDataWords, AreEntries, ArePaged, IsFrontSleep, IsBackSleep, BackAt, PortsAt}
 use Rattle.machine_pipeline.proofs.Lists.{all_from}
 use Rattle.machine_pipeline.proofs.Frames.{ending_is, told_few, is_submitted}
 use Rattle.machine_pipeline.proofs.Data.{SameData, pooled_at}
@@ -36,21 +36,25 @@ pub record BackStands (config : Options) (w : World) (g : Flow) (d : Pipeline) (
   pub connected : is_connected w.front.stage ≡ true
   pub holds : Holds config w g d w.front.stage b
 
--- what a move changes: the back's view, the ring's frame, the marks of events, and the producer as the back last saw it
+-- a frame that is none of the ring's
+abbrev pub IsRingless : ℕ → Type 0
+IsRingless f = (f < 2) ⊎ (18 ≤ f)
+
+-- what a move changes: the back's view, the ring's frames, the marks of events, and the producer as the back last saw it
 pub record Moves (config : Options) (w : World) (g : Flow) (d : Pipeline) (s : FrontStage) (b b' : BackStage) (v : View) (pages : List ℕ) (channels : ChannelState) (seen : ℕ) : Type 0 where
   pub indices : AreIndices (record g { back_seen = seen }) w.front.ring v.ring w.front.seen v.seen v.fetched w.front.last w.front.waiting (length w.front.requests) (ending_of s)
   pub stations : AreStations config g d (is_ready s) (is_issuing s) (is_fetching b') (ending_at s w.front.ending) (telling_at s) (reply_at b') w.front.requests v.jobs.works w.under.pages
   pub works : AreWorks g.submitted g.fetched v.jobs.works
   pub counted : length v.jobs.works + reply_count (reply_at b') + g.replied ≡ g.fetched
   pub info : v.jobs.info ≡ w.back.jobs.info
-  pub back_at : BackAt g.start g.fetched seen g.replied g.submitted v.jobs.works v.entry b'
+  pub back_at : BackAt g.shape g.start g.fetched seen g.replied g.submitted v.jobs.works v.entry b'
   pub unhalted : v.halted ≡ None
   pub memory : length pages ≡ 1114112
-  pub others : (f : ℕ) → f ≢ 2 → SameFrame w.under.pages pages f
-  pub ring : AreRingWords g.start g.pushed g.replied pages s b'
-  pub slots : AreSlots g.start g.fetched g.pushed g.taken g.replied g.submitted g.replies pages s b'
+  pub others : (f : ℕ) → IsRingless f → SameFrame w.under.pages pages f
+  pub ring : AreRingWords g.shape.order g.start g.pushed g.replied pages s (length v.pages)
+  pub slots : AreSlots g.shape g.start g.fetched g.pushed g.taken g.replied g.submitted g.replies pages s b'
   pub hands : hands_at b' v ≡ hands_at b w.back
-  pub page : IsPaged v.page b'
+  pub paged : ArePaged g.shape v.shape v.ring.entries v.grefs v.port v.pages b'
   pub front_sleep : IsFrontSleep g.start g.taken g.replied pages w.front.asleep channels.front_pending s b'
   pub back_sleep : IsBackSleep g.start g.fetched g.pushed pages v.asleep channels.back_pending s b'
   pub ports : PortsAt (is_connected s) (is_bound_back b') channels.made channels.ports
@@ -67,7 +71,7 @@ pub ending_submitted : (config : Options) (w : World) (g : Flow) (d : Pipeline) 
     → ending_at s w.front.ending ≡ Some e
     → IsSubmitted w.front.sectors (e.request.number - 1) e.request
 ending_submitted config w g d s b e h same =
-    let is : IsEnding g.submitted g.replies e = ending_is g.start g.pushed g.taken g.front_seen g.submitted g.replies _ w.front.entry w.front.ending s e
+    let is : IsEnding g.submitted g.replies e = ending_is g.shape g.start g.pushed g.taken g.front_seen g.submitted g.replies _ w.front.entry w.front.ending s e
     h.front_at same in
     h.submitted.each (e.request.number - 1) e.request is.known
 
@@ -88,25 +92,25 @@ pub told_elsewhere : (config : Options) (w : World) (g : Flow) (d : Pipeline) (s
 told_elsewhere config w g d s b pages h same =
     data_kept w.under.pages pages w.front.words w.front.ending s
     (λ e at. let is = ending_submitted config w g d s b e h at in data_same w.under.pages pages e.request is.frames same)
-    (told_few g.start g.pushed g.taken g.front_seen g.submitted g.replies _ w.front.entry w.front.ending s h.front_at) h.telling
+    (told_few g.shape g.start g.pushed g.taken g.front_seen g.submitted g.replies _ w.front.entry w.front.ending s h.front_at) h.telling
 
--- the back's writes to its page leave the requests' frames and the entries as they are
-pub frames_beside : (config : Options) (w : World) (g : Flow) (d : Pipeline) (s : FrontStage) (b : BackStage) (pages : List ℕ) → Holds config w g d s b → ((f : ℕ) → f ≢ 2 → SameFrame w.under.pages pages f) → All (IsFilled g.pushed pages s) w.front.requests
-frames_beside config w g d s b pages h others = frames_elsewhere config w g d s b pages h (λ f low high. others f (omega arith))
+-- the back's writes to the ring leave the requests' frames and the entries as they are
+pub frames_beside : (config : Options) (w : World) (g : Flow) (d : Pipeline) (s : FrontStage) (b : BackStage) (pages : List ℕ) → Holds config w g d s b → ((f : ℕ) → IsRingless f → SameFrame w.under.pages pages f) → All (IsFilled g.pushed pages s) w.front.requests
+frames_beside config w g d s b pages h others = frames_elsewhere config w g d s b pages h (λ f low high. others f (inr low))
 
 -- where the frames of entries don't change, a request's entries don't
 pub grants_same : (old new : List ℕ) (r : Request) → All IsPooled r.frames.items → SameFrame old new 0 → SameFrame old new 1 → SameGrants old new r
 grants_same old new r all zeroth first place lt = let pooled = pooled_at r all place in
     same_entry old new (frame_at r place + 6) (omega (arith, pooled.1)) zeroth first
 
-pub entries_beside : (config : Options) (w : World) (g : Flow) (d : Pipeline) (s : FrontStage) (b : BackStage) (pages : List ℕ) → Holds config w g d s b → ((f : ℕ) → f ≢ 2 → SameFrame w.under.pages pages f) → AreEntries g.pushed pages w.under.grants.live s w.front.ending w.front.requests
+pub entries_beside : (config : Options) (w : World) (g : Flow) (d : Pipeline) (s : FrontStage) (b : BackStage) (pages : List ℕ) → Holds config w g d s b → ((f : ℕ) → IsRingless f → SameFrame w.under.pages pages f) → AreEntries g.pushed pages w.under.grants.live s w.front.ending w.front.requests
 entries_beside config w g d s b pages h others =
     entries_kept g.pushed w.under.pages pages w.under.grants.live s w.front.ending w.front.requests
     (all_from (SameGrants w.under.pages pages) w.front.requests
     (λ i r e. let is = is_submitted config w g d s b h i r e in
-    grants_same w.under.pages pages r is.frames (others 0 (omega arith)) (others 1 (omega arith))))
+    grants_same w.under.pages pages r is.frames (others 0 (inl (omega arith))) (others 1 (inl (omega arith)))))
     (λ e at. let is = ending_submitted config w g d s b e h (revoking_ends s w.front.ending e at) in
-    grants_same w.under.pages pages e.request is.frames (others 0 (omega arith)) (others 1 (omega arith)))
+    grants_same w.under.pages pages e.request is.frames (others 0 (inl (omega arith))) (others 1 (inl (omega arith))))
     h.entries
 
 pub still : (config : Options) (w : World) (g : Flow) (d d' : Pipeline) (s : FrontStage) (b b' : BackStage) (v : View) (pages : List ℕ) (channels : ChannelState) (seen : ℕ)
@@ -115,13 +119,14 @@ pub still : (config : Options) (w : World) (g : Flow) (d d' : Pipeline) (s : Fro
     → Holds config (record { front = w.front; back = v; under = record w.under { pages = pages; channels = channels } }) (record g { back_seen = seen }) d' s b'
 still config w g d d' s b b' v pages channels seen h m = record {
   started = h.started;
+  shaped = h.shaped;
   sized = h.sized;
   indices = m.indices;
   queue = h.queue;
   submitted = h.submitted;
   pool = h.pool;
   stations = saw_more config g g.front_seen seen d' (is_ready s) (is_issuing s) (is_fetching b') (ending_at s w.front.ending) (telling_at s) (reply_at b') w.front.requests v.jobs.works pages
-      (stations_elsewhere config g d' (is_ready s) (is_issuing s) (is_fetching b') (ending_at s w.front.ending) (telling_at s) (reply_at b') w.front.requests v.jobs.works w.under.pages pages w.front.sectors w.front.last h.submitted (λ f low high. m.others f (omega arith)) m.stations);
+      (stations_elsewhere config g d' (is_ready s) (is_issuing s) (is_fetching b') (ending_at s w.front.ending) (telling_at s) (reply_at b') w.front.requests v.jobs.works w.under.pages pages w.front.sectors w.front.last h.submitted (λ f low high. m.others f (inr low)) m.stations);
   works = m.works;
   counted = m.counted;
   info = m.info ∙ h.info;
@@ -134,10 +139,10 @@ still config w g d d' s b b' v pages channels seen h m = record {
   ring = m.ring;
   slots = m.slots;
   frames = frames_beside config w g d s b pages h m.others;
-  telling = told_elsewhere config w g d s b pages h (λ f low high. m.others f (omega arith));
+  telling = told_elsewhere config w g d s b pages h (λ f low high. m.others f (inr low));
   entries = entries_beside config w g d s b pages h m.others;
   mapped = record { counted = λ test. h.mapped.counted test ∙ ap (λ (l : List Mapping). count_by test l) (sym m.hands); framed = h.mapped.framed };
-  page = m.page;
+  paged = m.paged;
   front_sleep = m.front_sleep;
   back_sleep = m.back_sleep;
   ports = m.ports;

@@ -1,11 +1,13 @@
--- What a write of the back to the ring's page leaves as it was.
-use Rattle.std.proofs.Common.{◌≡◌, ◌≢◌, ℕ, ◌+◌, ◌*◌, ◌<◌, Bool, true, false, if◌then◌else◌, List, length, refl, sym, subst, ◌∙◌, inl, inr, arith, length-set}
+-- What a write of the back to a page of the ring leaves as it was.
+use Rattle.std.proofs.Common.{◌≡◌, ◌≢◌, ℕ, ◌+◌, ◌*◌, ◌^◌, ◌<◌, ◌≤◌, Bool, true, false, if◌then◌else◌, List, ◌++◌, length, refl, sym, subst, ◌∙◌, inl, inr, arith, length-set, get_or-set_other}
+use Rattle.std.proofs.lemmas.Nat.{pow_pos}
 use Rattle.std.specs.List.{list_any}
 use Rattle.std.proofs.lemmas.Bool.{false≢true}
 use Rattle.blk_base.specs.Options.{Options}
 use Rattle.blk_base.specs.declared.parts.End.TheVariants as end
 use Rattle.pipeline_laws.specs.Pipeline.{Pipeline}
 use Rattle.ring_words.specs.Ring.{next_of}
+use Rattle.ring_words.specs.Shape.{Shape, entry_words_of, slot_word_of}
 use Rattle.xen_pages.specs.Pages.{word_of, with_word}
 use Rattle.grant_table.specs.Table.{frame_of}
 use Rattle.event_channel.specs.Channels.{ChannelState, sent, is_bound_port}
@@ -13,32 +15,37 @@ use Rattle.event_channel.specs.declared.channels.PortState.{PortState}
 use Rattle.back_jobs.specs.Hands.{hands_in}
 use Rattle.blk_front.specs.declared.stage.Stage.{Stage as FrontStage}
 use Rattle.blk_front.specs.declared.stage.Stage.TheVariants as front
+use Rattle.blk_front.specs.declared.request.Request.{Request}
+use Rattle.blk_front.specs.View.{slot_frame}
 use Rattle.blk_front.specs.Submit.{is_connected}
 use Rattle.blk_back.specs.declared.stage.Stage.{Stage as BackStage}
 use Rattle.blk_back.specs.declared.stage.Stage.TheVariants as stage
+use Rattle.blk_back.specs.declared.stage.Reply.{Reply}
+use Rattle.blk_back.specs.View.{page_of, slot_page}
+use Rattle.blk_back.specs.Hands.{hands_at}
+use Rattle.blk_back.proofs.Slots.{slot_within}
 use Rattle.split_model.specs.World.{World}
-use Rattle.machine_pipeline.proofs.Flow.{Flow, wrapped, has_page}
-use Rattle.machine_pipeline.proofs.Holds.{Holds, RingBegun, AreRingWords, PortsAt}
+use Rattle.machine_pipeline.proofs.Flow.{Flow, wrapped, named_pages, granted_pages, is_bound_back}
+use Rattle.machine_pipeline.proofs.Holds.{Holds, RingBegun, AreRingWords, AreSlots, PortsAt}
 use Rattle.machine_pipeline.proofs.Turns.{BackGoes}
-use Rattle.machine_pipeline.proofs.Kept.{SameFrame, other_word, other_frame, written, slots_kept, front_sleep_kept}
-use Rattle.machine_pipeline.proofs.Frames.{entered_few}
-use Rattle.machine_pipeline.proofs.BackStill.{BackStands}
-use Rattle.machine_pipeline.proofs.BackQuiet.{IsBetween, goes_still, quiet_with, slots_at, front_sleep_at, back_sleep_at}
-use Rattle.machine_pipeline.proofs.BackFences.{page_frame, between}
+use Rattle.machine_pipeline.proofs.Kept.{SameFrame, other_frame, written, slots_kept, front_sleep_kept}
+use Rattle.machine_pipeline.proofs.BackStill.{BackStands, IsRingless}
+use Rattle.machine_pipeline.proofs.BackQuiet.{IsBetween, goes_still, quiet_with, bound_terms, paged_at, slots_at, front_sleep_at, back_sleep_at}
+use Rattle.machine_pipeline.proofs.BackFences.{frame_is, first_frame, between}
 
--- one word of the ring's page was written
-pub record RingWritten (old new : List ℕ) (word value : ℕ) : Type 0 where
-  pub here : word_of new 2 word ≡ value
-  pub words : (w : ℕ) → w ≢ word → word_of new 2 w ≡ word_of old 2 w
-  pub others : (f : ℕ) → f ≢ 2 → SameFrame old new f
+-- one word of a frame of the ring was written
+pub record RingWritten (old new : List ℕ) (frame word value : ℕ) : Type 0 where
+  pub here : word_of new frame word ≡ value
+  pub words : (f w : ℕ) → f * 1024 + w ≢ frame * 1024 + word → word_of new f w ≡ word_of old f w
+  pub others : (f : ℕ) → IsRingless f → SameFrame old new f
   pub memory : length new ≡ 1114112
 
-pub ring_written : (pages : List ℕ) (frame word value : ℕ) → frame ≡ 2 → word < 1024 → length pages ≡ 1114112 → RingWritten pages (with_word pages frame word value) word value
-ring_written pages frame word value e within sized = subst (λ (f : ℕ). RingWritten pages (with_word pages f word value) word value) (sym e) (record {
-  here = written pages 2 word value sized (omega arith) within;
-  words = λ w apart. other_word pages 2 word value w apart;
-  others = λ f apart. other_frame pages 2 word value f within apart;
-  memory = length-set pages (2 * 1024 + word) value ∙ sized;
+pub ring_written : (pages : List ℕ) (frame f word value : ℕ) → frame ≡ f → 2 ≤ f → f < 18 → word < 1024 → length pages ≡ 1114112 → RingWritten pages (with_word pages frame word value) f word value
+ring_written pages frame f word value e low high within sized = subst (λ (x : ℕ). RingWritten pages (with_word pages x word value) f word value) (sym e) (record {
+  here = written pages f word value sized (omega arith) within;
+  words = λ g w apart. get_or-set_other pages (f * 1024 + word) (g * 1024 + w) value 0 apart;
+  others = λ g apart. other_frame pages f word value g within (elim apart [ inl below ↦ omega arith | inr above ↦ omega arith ]);
+  memory = length-set pages (f * 1024 + word) value ∙ sized;
 })
 
 -- once the front is connected, its ring was begun
@@ -46,31 +53,64 @@ pub begun : (start : ℕ) (pages : List ℕ) (s : FrontStage) → is_connected s
 begun start pages (front.RingWord k) c = absurd (false≢true c)
 begun start pages s c = tt
 
--- another word than the producers
-pub ring_beside : (start pushed replied word value : ℕ) (old new : List ℕ) (s : FrontStage) (b b' : BackStage)
-    → RingWritten old new word value
-    → word ≢ 0
-    → word ≢ 2
+-- and all of its frames are granted
+pub named_to : (s : FrontStage) (pages : ℕ) → is_connected s ≡ true → named_pages s pages ≡ pages
+named_to (front.RingWord k) pages c = absurd (false≢true c)
+named_to (front.RingFrame page) pages c = absurd (false≢true c)
+named_to (front.RingFence page) pages c = absurd (false≢true c)
+named_to (front.RingFlags page) pages c = absurd (false≢true c)
+named_to s pages c = refl
+
+pub granted_to : (s : FrontStage) (pages : ℕ) → is_connected s ≡ true → granted_pages s pages ≡ pages
+granted_to (front.RingWord k) pages c = absurd (false≢true c)
+granted_to (front.RingFrame page) pages c = absurd (false≢true c)
+granted_to (front.RingFence page) pages c = absurd (false≢true c)
+granted_to (front.RingFlags page) pages c = absurd (false≢true c)
+granted_to s pages c = refl
+
+-- another word than the producers, where all pages of the ring are mapped
+pub ring_beside : (order start pushed replied mapped frame word value : ℕ) (old new : List ℕ) (s : FrontStage)
+    → RingWritten old new frame word value
+    → frame * 1024 + word ≢ 2048
+    → frame * 1024 + word ≢ 2050
     → is_connected s ≡ true
-    → has_page b' ≡ true
-    → AreRingWords start pushed replied old s b
-    → AreRingWords start pushed replied new s b'
-ring_beside start pushed replied word value old new s b b' r first second c paged h = record {
+    → mapped ≡ 2 ^ order
+    → AreRingWords order start pushed replied old s mapped
+    → AreRingWords order start pushed replied new s mapped
+ring_beside order start pushed replied mapped frame word value old new s r first second c all h = record {
   begun = begun start new s c;
-  requests = λ t. r.words 0 (λ e. first (sym e)) ∙ h.requests t;
-  responses = λ t. r.words 2 (λ e. second (sym e)) ∙ h.responses t;
-  named = λ t u. absurd (false≢true (sym u ∙ paged));
-  granted = λ t u. absurd (false≢true (sym u ∙ paged));
+  requests = λ t. r.words 2 0 (λ same. first (sym same)) ∙ h.requests t;
+  responses = λ t. r.words 2 2 (λ same. second (sym same)) ∙ h.responses t;
+  named = λ page lt from. absurd (let bound = named_to s (2 ^ order) c in omega arith);
+  granted = λ page lt from. absurd (let bound = granted_to s (2 ^ order) c in omega arith);
 }
+
+-- and another than the entries'
+pub slots_beside : (shape : Shape) (start fetched pushed taken replied word value : ℕ) (submitted : List Request) (replies : List Reply) (old new : List ℕ) (s : FrontStage) (b : BackStage)
+    → RingWritten old new 2 word value
+    → word < 16
+    → shape.order ≤ 4
+    → AreSlots shape start fetched pushed taken replied submitted replies old s b
+    → AreSlots shape start fetched pushed taken replied submitted replies new s b
+slots_beside shape start fetched pushed taken replied word value submitted replies old new s b r low narrow h =
+    slots_kept shape start fetched pushed taken replied submitted replies old new s b narrow (λ f w from to within behind. r.words f w (λ same. omega arith)) h
 
 pub next_wrapped : (start n index : ℕ) → index ≡ wrapped start n → next_of index ≡ wrapped start (n + 1)
 next_wrapped start n index e = omega arith
 
--- the ring's page is in frame 2
-pub page_at : (config : Options) (w : World) (g : Flow) (d : Pipeline) (b : BackStage) → BackStands config w g d b → IsBetween b w.back → frame_of w.under.grants w.back.page ≡ 2
-page_at config w g d b p i =
+-- a page of the ring is in its frame
+pub page_at : (config : Options) (w : World) (g : Flow) (d : Pipeline) (b : BackStage) (page : ℕ) → BackStands config w g d b → IsBetween b w.back → page < 2 ^ g.shape.order → frame_of w.under.grants (page_of w.back page) ≡ 2 + page
+page_at config w g d b page p i within = frame_is config w g d b page p i.bound i.hands within
+
+pub first_at : (config : Options) (w : World) (g : Flow) (d : Pipeline) (b : BackStage) → BackStands config w g d b → IsBetween b w.back → frame_of w.under.grants (page_of w.back 0) ≡ 2
+first_at config w g d b p i = page_at config w g d b 0 p i (pow_pos g.shape.order)
+
+-- and a word of an entry where the front has it
+pub slot_is : (config : Options) (w : World) (g : Flow) (d : Pipeline) (b : BackStage) (k i : ℕ) → BackStands config w g d b → is_bound_back b ≡ true → hands_at b w.back ≡ hands_in w.back.jobs.works ++ w.back.pages → i < entry_words_of g.shape.abi → frame_of w.under.grants (slot_page w.back k i) ≡ slot_frame g.shape k i
+slot_is config w g d b k i p bound hands lt =
     let h : Holds config w g d w.front.stage b = p.holds in
-    page_frame w.under.grants (hands_in w.back.jobs.works) w.back.page (rw (i.hands) at p.held) h.mapped.framed (h.page.gref i.paged)
+    let shaped : w.back.shape ≡ g.shape = h.paged.shaped (bound_terms b bound) in
+    rw shaped (frame_is config w g d b (slot_word_of g.shape k i).0 p bound hands (slot_within g.shape k i lt))
 
 -- the back sends the front an event
 bound_pending : (made : ℕ) (ports : List PortState) (pending : Bool) (c : Bool) → c ≡ true → PortsAt c true made ports → (if list_any is_bound_port ports then true else pending) ≡ true
@@ -82,7 +122,7 @@ goes_send config w g d p =
     let h : Holds config w g d w.front.stage stage.Send = p.holds in
     let c : ChannelState = sent w.under.channels end.Back in
     goes_still config w g d stage.Send stage.Loop w.back w.under.pages c g.back_seen _ _ p
-    (quiet_with config w g d stage.Send stage.Loop w.back.asleep w.back.seen w.back.entry c g.back_seen h (between stage.Send w.back refl refl refl refl) (between stage.Loop w.back refl refl refl refl) h.stations h.indices tt
+    (quiet_with config w g d stage.Send stage.Loop w.back.asleep w.back.seen w.back.entry c g.back_seen h (between stage.Send w.back refl refl refl) (between stage.Loop w.back refl refl refl) h.stations h.indices tt
     (record { arming = h.front_sleep.arming; armed = h.front_sleep.armed; may = h.front_sleep.may; woken = λ t. inr (inl (bound_pending w.under.channels.made w.under.channels.ports w.under.channels.front_pending (is_connected w.front.stage) p.connected h.ports)) })
     (back_sleep_at g.start g.fetched g.pushed w.under.pages w.back.asleep w.under.channels.back_pending w.front.stage stage.Send stage.Loop (λ t. t) (λ t. cc) h.back_sleep)
     refl refl)
@@ -91,10 +131,10 @@ goes_send config w g d p =
 pub goes_store_event : (config : Options) (w : World) (g : Flow) (d : Pipeline) → BackStands config w g d stage.StoreEvent → BackGoes config w d stage.StoreEvent
 goes_store_event config w g d p =
     let h : Holds config w g d w.front.stage stage.StoreEvent = p.holds in
-    let frame : ℕ = frame_of w.under.grants w.back.page in
-    let in_two : frame ≡ 2 = page_at config w g d stage.StoreEvent p (between stage.StoreEvent w.back refl refl refl refl) in
+    let frame : ℕ = frame_of w.under.grants (page_of w.back 0) in
+    let in_two : frame ≡ 2 = first_frame config w g d stage.StoreEvent p refl refl in
     let new : List ℕ = with_word w.under.pages frame 1 (next_of w.back.ring.cons) in
-    let r : RingWritten w.under.pages new 1 (next_of w.back.ring.cons) = ring_written w.under.pages frame 1 (next_of w.back.ring.cons) in_two (omega arith) h.memory in
+    let r : RingWritten w.under.pages new 2 1 (next_of w.back.ring.cons) = ring_written w.under.pages frame 2 1 (next_of w.back.ring.cons) in_two (omega arith) (omega arith) (omega arith) h.memory in
     let event : word_of new 2 1 ≡ wrapped g.start (g.fetched + 1) = r.here ∙ next_wrapped g.start g.fetched w.back.ring.cons h.indices.fetched in
     let awake : w.back.asleep ≡ false = h.back_sleep.may refl in
     goes_still config w g d stage.StoreEvent stage.EventFence w.back new w.under.channels g.back_seen _ _ p (record {
@@ -107,11 +147,11 @@ goes_store_event config w g d p =
       unhalted = h.unhalted;
       memory = r.memory;
       others = r.others;
-      ring = ring_beside g.start g.pushed g.replied 1 (next_of w.back.ring.cons) w.under.pages new w.front.stage stage.StoreEvent stage.EventFence r (omega arith) (omega arith) p.connected refl h.ring;
-      slots = slots_at g.start g.fetched g.pushed g.taken g.replied g.submitted g.replies new w.front.stage stage.StoreEvent stage.EventFence (λ rep t i lt. cc) (slots_kept g.start g.fetched g.pushed g.taken g.replied g.submitted g.replies w.under.pages new w.front.stage stage.StoreEvent (λ k from to. r.words k (omega arith)) (entered_few g.start g.pushed g.taken g.front_seen g.submitted g.replies _ w.front.entry w.front.ending w.front.stage h.front_at) h.slots);
+      ring = ring_beside g.shape.order g.start g.pushed g.replied (length w.back.pages) 2 1 (next_of w.back.ring.cons) w.under.pages new w.front.stage r (omega arith) (omega arith) p.connected h.paged.mapped h.ring;
+      slots = slots_at g.shape g.start g.fetched g.pushed g.taken g.replied g.submitted g.replies new w.front.stage stage.StoreEvent stage.EventFence (λ rep t i lt. cc) (slots_beside g.shape g.start g.fetched g.pushed g.taken g.replied 1 (next_of w.back.ring.cons) g.submitted g.replies w.under.pages new w.front.stage stage.StoreEvent r (omega arith) h.shaped.narrow h.slots);
       hands = refl;
-      page = record { gref = λ t. h.page.gref t; mode = λ t. h.page.mode t };
-      front_sleep = front_sleep_at g.start g.taken g.replied new w.front.asleep w.under.channels.front_pending w.front.stage stage.StoreEvent stage.EventFence (λ t s. absurd s) (front_sleep_kept g.start g.taken g.replied w.under.pages new w.front.asleep w.under.channels.front_pending w.front.stage stage.StoreEvent (r.words 3 (omega arith)) h.front_sleep);
+      paged = paged_at g.shape w.back.shape w.back.ring.entries w.back.grefs w.back.port w.back.pages stage.StoreEvent stage.EventFence refl refl h.paged;
+      front_sleep = front_sleep_at g.start g.taken g.replied new w.front.asleep w.under.channels.front_pending w.front.stage stage.StoreEvent stage.EventFence (λ t s. absurd s) (front_sleep_kept g.start g.taken g.replied w.under.pages new w.front.asleep w.under.channels.front_pending w.front.stage stage.StoreEvent (r.words 2 3 (omega arith)) h.front_sleep);
       back_sleep = record { arming = λ t. event; armed = λ t. event; may = λ t. awake; woken = λ t. absurd (false≢true (sym awake ∙ t)) };
       ports = h.ports;
     })

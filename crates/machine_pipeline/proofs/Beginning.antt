@@ -66,7 +66,7 @@ begins config w g d number sector count frames (transfer.Write tag) safe e h =
       flow = g;
       step = Some s.step;
       does = does_step _ (front_lines w.front.told) (rw safe.front_told refl) s;
-      holds = filled_on config w g d (next d s.step) front.Loop (front.Data 1) r 0 refl refl h s.now e refl (omega arith) refl (λ m in_it upto. omega arith) (omega arith) refl refl refl (r, e, (omega arith, omega arith, refl)) (λ sends. sends);
+      holds = filled_on config w g d (next d s.step) front.Loop (front.Data 1) r 0 refl refl h s.now e refl (omega arith) refl (λ m in_it upto. omega arith) refl refl refl (r, e, (omega arith, omega arith, refl)) (λ sends. sends);
     }
 begins config w g d number sector count frames transfer.Read safe e h =
     let r : Request = record { number = number; sector = sector; count = count; transfer = transfer.Read; frames = record { items = frames } } in
@@ -83,7 +83,7 @@ begins config w g d number sector count frames transfer.Read safe e h =
       holds = entry_moved config w g d (next d s.step) front.Loop (front.GrantFence 0) r 0 w.front.entry (2 * ((frame_at r 0 + 6) % 512) + 1) (frame_at r 0) refl refl h s.now following in_it (omega arith)
           (λ other lt apart. other_named w.under.pages (frame_at r 0 + 6) other (frame_at r 0) (omega (arith, pooled.1)) lt apart)
           (λ new same. frames_unfilled g.submitted w.front.requests g.pushed w.front.waiting w.under.pages new front.Loop (front.GrantFence 0) r following refl same h.frames)
-          (omega arith) refl (r, e, in_it)
+          refl (r, e, in_it)
           (named_now w.under.pages r 0 h.memory following.frames following.own in_it (λ a upto. absurd (omega arith)))
           (λ a upto. absurd (omega arith)) (λ sends. sends);
     }

@@ -5,6 +5,7 @@ use Rattle.blk_base.specs.Distance.{distance_of}
 use Rattle.blk_base.specs.declared.ask.FrontAnswer.{FrontAnswer}
 use Rattle.blk_base.specs.declared.ask.FrontAnswer.TheVariants as answer
 use Rattle.ring_words.specs.Ring.{responses_of, notifies}
+use Rattle.ring_words.specs.Shape.{entry_words_of}
 use Rattle.blk_layout.specs.declared.response.Response.{Response}
 use Rattle.blk_layout.specs.Response.{response_of}
 use Rattle.hypervisor.specs.Act.{FrontAct, BackAct, Took}
@@ -17,7 +18,7 @@ use Rattle.blk_front.specs.declared.stage.Ending.{Ending}
 use Rattle.blk_front.specs.declared.told.Told.TheVariants as told
 use Rattle.blk_front.specs.Request.{has_data, words_in}
 use Rattle.blk_front.specs.View.{View, next_request}
-use Rattle.blk_front.specs.Step.{at, broken, looked, issue_stage, data_stage, granted, entry_of, loop_step, issued, response_at, is_mapped, finished, ended, revoked, sector_told, data_step, step_at}
+use Rattle.blk_front.specs.Step.{at, broken, looked, issue_stage, data_stage, granted, entry_of, loop_step, issued, response_at, is_mapped, finished, ended, revoked, sector_told, data_step, ring_left, step_at}
 use Rattle.blk_front.specs.Submit.{is_connected}
 use Rattle.blk_front.specs.declared.state.FrontState.{FrontState}
 use Rattle.blk_front.specs.declared.state.FrontState.TheVariants as state
@@ -69,7 +70,7 @@ data_stage_on (Some r) n = either_stage (nat_lt (n + 1) (words_in r)) (front.Dat
 granted_on : (v : View) (next : Option Request) (place : ℕ) → IsOn v → IsOn (granted next place v)
 granted_on v None place p = p
 granted_on v (Some r) place p = either (nat_lt (place + 1) (length r.frames.items)) (at (front.GrantFrame (place + 1)) v)
-    (record v { stage = front.Slot 0; entry = entry_of r }) refl refl
+    (record v { stage = front.Slot 0; entry = entry_of v.shape.abi r }) refl refl
 
 ended_on : (v : View) (e : Ending) → IsOn (ended e v)
 ended_on v e = either (has_data e.request.transfer e.status)
@@ -89,16 +90,16 @@ data_on v (Some e) n word p =
 -- a connected front stays so, whatever it is told
 step_on : (s : Stage) (v : View) (x : FrontAnswer) → IsOn v → is_connected s ≡ true → IsOn (step_at s v x)
 step_on (front.RingWord k) v x p e = absurd (true≢false (sym e))
-step_on front.RingFrame v x p e = absurd (true≢false (sym e))
-step_on front.RingFence v x p e = absurd (true≢false (sym e))
-step_on front.RingFlags v x p e = absurd (true≢false (sym e))
+step_on (front.RingFrame page) v x p e = absurd (true≢false (sym e))
+step_on (front.RingFence page) v x p e = absurd (true≢false (sym e))
+step_on (front.RingFlags page) v x p e = absurd (true≢false (sym e))
 step_on front.NewPort v x p e = refl
 step_on front.Loop v x p e = loop_on v (next_request v) x p
 step_on (front.Data n) v x p e = data_stage_on (next_request v) n
 step_on (front.GrantFrame place) v x p e = refl
 step_on (front.GrantFence place) v x p e = refl
 step_on (front.GrantFlags place) v x p e = granted_on v (next_request v) place p
-step_on (front.Slot k) v x p e = either_stage (k == 27) front.Producer (front.Slot (k + 1)) refl refl
+step_on (front.Slot k) v x p e = either_stage (k + 1 == entry_words_of v.shape.abi) front.Producer (front.Slot (k + 1)) refl refl
 step_on front.Producer v x p e = refl
 step_on (front.ProducerFence old) v x p e = refl
 step_on (front.RequestEvent old) v (answer.Word event) p e = either_stage (notifies old v.ring.prod event) front.Send front.Loop refl refl
@@ -111,8 +112,8 @@ step_on (front.GrantEnd place before) v (answer.Word word) p f = either (word ==
 step_on (front.ReadData n) v (answer.Word word) p f = data_on v v.ending n word p
 step_on front.StoreEvent v x p e = refl
 step_on front.EventFence v x p e = refl
-step_on front.RingRead v (answer.Word word) p e = either (is_mapped word) (broken word v) (at (front.RingEnd word) v) refl refl
-step_on (front.RingEnd before) v (answer.Word word) p e = either (word == before) (at front.ClosePort v) (broken word v) refl refl
+step_on (front.RingRead page) v (answer.Word word) p e = either (is_mapped word) (broken word v) (at (front.RingEnd page word) v) refl refl
+step_on (front.RingEnd page before) v (answer.Word word) p e = either (word == before) (at (ring_left v page) v) (broken word v) (either_stage (nat_lt (page + 1) (2 ^ v.shape.order)) (front.RingRead (page + 1)) front.ClosePort refl refl) refl
 step_on front.ClosePort v x p e = refl
 step_on front.LookAgain v (answer.Word word) p e = looked_on v word (record v { seen = word; stage = front.Loop; asleep = true }) refl
 step_on s v x p e = p
@@ -145,6 +146,7 @@ stage_after P w h entered p moved = p
 -- in each state a connected front stays so
 entered_on : (v : View) (s : FrontState) → IsOn v → IsOn (in_state s v)
 entered_on v state.Closing p = p
+entered_on v (state.Agreed order) p = p
 entered_on v s p = refl
 
 pub connected_happens : (w : World) (h : Happening) → is_connected w.front.stage ≡ true → (let x : World = happens w h in is_connected x.front.stage ≡ true)

@@ -1,6 +1,6 @@
 -- A front that made its ring and its port waits until it is connected: it takes events and watches, and is as it was. Once it is connected the pipeline is ready, and once it closes the pipeline does.
-use Rattle.std.proofs.Common.{◌≡◌, ℕ, ◌&&◌, not, if◌then◌else◌, Bool, true, false, List, [], ◌∷◌, length, refl, ap, sym, ◌∙◌, subst, true≢false}
-use Rattle.std.specs.Prelude.{Option, Some, None, is_some}
+use Rattle.std.proofs.Common.{◌≡◌, ℕ, ◌≤◌, ◌&&◌, not, if◌then◌else◌, Bool, true, false, List, [], ◌∷◌, length, refl, ap, sym, ◌∙◌, subst, arith, true≢false}
+use Rattle.std.specs.Prelude.{Option, Some, None, is_some, nat_le}
 use Rattle.blk_base.specs.Options.{Options}
 use Rattle.blk_base.specs.declared.moves.Move.TheVariants as moves
 use Rattle.blk_base.specs.declared.moves.Mover.TheVariants as mover
@@ -12,19 +12,22 @@ use Rattle.blk_front.specs.declared.stage.Stage.{Stage as FrontStage}
 use Rattle.blk_front.specs.declared.stage.Stage.TheVariants as front
 use Rattle.blk_front.specs.View.{View}
 use Rattle.ring_words.specs.Ring.{Ring}
+use Rattle.ring_words.specs.Shape.{Shape, entries_of}
 use Rattle.blk_front.specs.declared.state.FrontState.{FrontState}
 use Rattle.blk_front.specs.declared.state.FrontState.TheVariants as states
-use Rattle.blk_front.specs.State.{is_open, may_enter, in_state}
+use Rattle.blk_front.specs.State.{is_open, is_unmade, may_enter, in_state}
 use Rattle.blk_front.specs.Submit.{is_initialised, is_ready, ending_of}
 use Rattle.split_model.specs.World.{World}
 use Rattle.split_model.specs.Shown.{state_lines}
 use Rattle.split_model.specs.Happening.{FrontEnters, happens, lines_at}
 use Rattle.split_model.proofs.SafeActs.{front_event}
 use Rattle.split_model.proofs.States.{enters_cases}
+use Rattle.line_text.proofs.Both.{both_true}
+use Rattle.machine_pipeline.specs.Plain.{IsPlain}
 use Rattle.machine_pipeline.specs.Allowed.{MayEnter}
 use Rattle.machine_pipeline.specs.Step.{IsSame}
-use Rattle.machine_pipeline.proofs.Flow.{Flow, is_issuing, is_fetching, ending_at, telling_at, reply_at}
-use Rattle.machine_pipeline.proofs.Holds.{AreIndices, BackAt, Holds}
+use Rattle.machine_pipeline.proofs.Flow.{Flow, wrapped, is_issuing, is_fetching, ending_at, telling_at, reply_at}
+use Rattle.machine_pipeline.proofs.Holds.{AreIndices, IsUnused, BackAt, Holds}
 use Rattle.machine_pipeline.proofs.Turns.{Goes, FrontGoes, front_says, front_next, said_nothing, Stepped, does_alone}
 use Rattle.machine_pipeline.proofs.Keyed.{untold, watched_goes}
 use Rattle.machine_pipeline.proofs.Notified.{marked}
@@ -73,6 +76,7 @@ becomes_ready config w g d h = record {
   does = does_alone s;
   holds = record {
     started = h.started;
+    shaped = h.shaped;
     sized = h.sized;
     indices = h.indices;
     queue = h.queue;
@@ -89,13 +93,13 @@ becomes_ready config w g d h = record {
     unhalted = h.unhalted;
     memory = h.memory;
     ring = (let was = h.ring in record { begun = tt; requests = was.requests; responses = was.responses; named = was.named; granted = was.granted });
-    slots = slots_rest g.start g.fetched g.pushed g.taken g.replied g.submitted g.replies w.under.pages front.Initialised front.Loop w.back.stage at_loop h.slots;
+    slots = slots_rest g.shape g.start g.fetched g.pushed g.taken g.replied g.submitted g.replies w.under.pages front.Initialised front.Loop w.back.stage at_loop h.slots;
     frames = frames_rest g.pushed w.under.pages front.Initialised front.Loop w.front.requests at_loop h.frames;
     telling = data_rests w.under.pages w.under.pages w.front.words w.front.ending w.front.ending front.Initialised front.Loop refl h.telling;
     entries = entries_rest g.pushed w.under.pages w.under.grants.live front.Initialised front.Loop w.front.ending w.front.ending w.front.requests at_loop
         (λ e same. absurd (unrevoked front.Loop w.front.ending e refl same)) h.entries;
     mapped = h.mapped;
-    page = h.page;
+    paged = h.paged;
     front_sleep = (let was = h.front_sleep in record { arming = was.arming; armed = was.armed; may = λ t. was.may refl; woken = was.woken });
     back_sleep = (let was = h.back_sleep in record { arming = was.arming; armed = was.armed; may = was.may; woken = was.woken });
     ports = h.ports;
@@ -114,7 +118,6 @@ indices_closing : (g : Flow) (front_ring back_ring : Ring) (front_seen back_seen
     → AreIndices (record g { closing = true }) front_ring back_ring front_seen back_seen number last waiting unfinished ending
 indices_closing g front_ring back_ring front_seen back_seen number last waiting unfinished ending h = record {
   front_entries = h.front_entries;
-  back_entries = h.back_entries;
   pushed = h.pushed;
   taken = h.taken;
   replied = h.replied;
@@ -144,6 +147,7 @@ begins_to_close config w g d stays_open h = record {
   does = does_alone s;
   holds = record {
     started = (let was = h.started in record { whole = was.whole; known = was.known; closing = refl });
+    shaped = h.shaped;
     sized = h.sized;
     indices = indices_closing g w.front.ring w.back.ring w.front.seen w.back.seen w.back.fetched w.front.last w.front.waiting (length w.front.requests) (ending_of w.front.stage) h.indices;
     queue = h.queue;
@@ -165,7 +169,7 @@ begins_to_close config w g d stays_open h = record {
     telling = h.telling;
     entries = h.entries;
     mapped = h.mapped;
-    page = h.page;
+    paged = h.paged;
     front_sleep = h.front_sleep;
     back_sleep = h.back_sleep;
     ports = h.ports;
@@ -180,17 +184,55 @@ pub yet_open : (closing rest : Bool) → (not closing && rest) ≡ true → clos
 yet_open false rest t = refl
 yet_open true rest t = absurd (true≢false (sym t))
 
+-- the front's terms, as an order that is agreed makes them
+abbrev on_terms : View → (order entries prod cons seen : ℕ) → View
+on_terms v order entries prod cons seen = record v { shape = record v.shape { order = order }; ring = record { entries = entries; prod = prod; cons = cons }; seen = seen }
+
+-- the order that it wished leaves a front as it is that hasn't begun its ring
+agreed_same : (v : View) (order : ℕ) → order ≡ v.shape.order → v.ring.entries ≡ entries_of v.shape.order → v.ring.prod ≡ v.start → v.ring.cons ≡ v.start → v.seen ≡ v.start → in_state (states.Agreed order) v ≡ v
+agreed_same v order wished entries prod cons seen =
+    ap (λ (n : ℕ). on_terms v n (entries_of n) v.start v.start v.start) wished
+    ∙ (ap (λ (n : ℕ). on_terms v v.shape.order n v.start v.start v.start) (sym entries)
+    ∙ (ap (λ (n : ℕ). on_terms v v.shape.order v.ring.entries n v.start v.start) (sym prod)
+    ∙ (ap (λ (n : ℕ). on_terms v v.shape.order v.ring.entries v.ring.prod n v.start) (sym cons)
+    ∙ ap (λ (n : ℕ). on_terms v v.shape.order v.ring.entries v.ring.prod v.ring.cons n) (sym seen))))
+
+pub unmade_unready : (s : FrontStage) → is_unmade s ≡ true → is_ready s ≡ false
+unmade_unready (front.RingWord k) t = refl
+unmade_unready s t = absurd (true≢false (sym t))
+
+-- at the start nothing was pushed, and all its indices are the first one
+agrees : (config : Options) (w : World) (g : Flow) (d : Pipeline) (order : ℕ) → IsPlain config → order ≡ w.front.shape.order → is_unmade w.front.stage ≡ true → Holds config w g d w.front.stage w.back.stage
+    → Goes config [] (record { front = in_state (states.Agreed order) w.front; back = w.back; under = w.under }) d
+agrees config w g d order plain wished unmade h =
+    subst (λ (v : View). Goes config [] (record { front = v; back = w.back; under = w.under }) d)
+    (sym (agreed_same w.front order wished (x.front_entries ∙ ap (λ (s : Shape). entries_of s.order) (sym h.shaped.known)) (x.pushed ∙ first g.pushed none) (x.taken ∙ first g.taken (omega (arith, pushed.0, none))) (x.front_saw ∙ first g.front_seen (omega (arith, pushed.1, none)))))
+    (stays IsSame config w g d (λ a b same. same) h)
+  where
+    x : AreIndices g w.front.ring w.back.ring w.front.seen w.back.seen w.back.fetched w.front.last w.front.waiting (length w.front.requests) (ending_of w.front.stage)
+    x = h.indices
+
+    none : g.pushed ≡ 0
+    none = (subst (λ (b : Bool). IsUnused b g.pushed w.front.last) (unmade_unready w.front.stage unmade) h.unused).0
+
+    pushed : (g.taken ≤ g.pushed) × (g.front_seen ≤ g.pushed)
+    pushed = (omega (arith, x.taken_replied, x.replied_fetched, x.fetched_pushed), omega (arith, x.front_to, x.replied_fetched, x.fetched_pushed))
+
+    first : (n : ℕ) → n ≡ 0 → wrapped g.start n ≡ w.front.start
+    first n e = let small = plain.start in let whole = h.started.whole in let known = h.started.known in omega arith
+
 -- a state that the front enters; where it may not nothing changes
-pub enters_goes : (config : Options) (w : World) (g : Flow) (d : Pipeline) (state : FrontState) → MayEnter w state → Holds config w g d w.front.stage w.back.stage → Goes config (lines_at w (FrontEnters state)) (happens w (FrontEnters state)) d
-enters_goes config w g d state may h = enters_cases (λ v shown. Goes config shown (record { front = v; back = w.back; under = w.under }) d) state w.front (entered state may) (stays IsSame config w g d (λ a b same. same) h)
+pub enters_goes : (config : Options) (w : World) (g : Flow) (d : Pipeline) (state : FrontState) → IsPlain config → MayEnter w state → Holds config w g d w.front.stage w.back.stage → Goes config (lines_at w (FrontEnters state)) (happens w (FrontEnters state)) d
+enters_goes config w g d state plain may h = enters_cases (λ v shown. Goes config shown (record { front = v; back = w.back; under = w.under }) d) state w.front (entered state may) (stays IsSame config w g d (λ a b same. same) h)
   where
     -- a back that serves hasn't halted
     unhalted : is_some w.back.halted ≡ true → ⊥
     unhalted t = true≢false (sym t ∙ ap is_some h.unhalted)
 
     entered : (s : FrontState) → MayEnter w s → may_enter s w.front ≡ true → Goes config (state_lines s) (record { front = in_state s w.front; back = w.back; under = w.under }) d
+    entered (states.Agreed order) may can = agrees config w g d order plain may (both_true (is_unmade w.front.stage) (nat_le order w.front.shape.order) can).0 h
     entered states.Connected may can = becomes_ready config w g d (subst (λ (s : FrontStage). Holds config w g d s w.back.stage) (initialised_is w.front.stage can) h)
     entered states.Closing may can = begins_to_close config w g d (yet_open w.front.closing (is_open w.front.stage) can) h
-    entered states.Leaving may can = absurd (subst (BackAt g.start g.fetched g.back_seen g.replied g.submitted w.back.jobs.works w.back.entry) may h.back_at)
+    entered states.Leaving may can = absurd (subst (BackAt g.shape g.start g.fetched g.back_seen g.replied g.submitted w.back.jobs.works w.back.entry) may h.back_at)
     entered states.Closed may can = absurd (unhalted may)
     entered (states.Broken word) may can = absurd may

@@ -1,5 +1,5 @@
 -- The front reads a grant entry, ends it, and tells the answer: what all that holds becomes.
-use Rattle.std.proofs.Common.{◌≡◌, ◌≢◌, ℕ, ◌+◌, ◌-◌, ◌*◌, ◌<◌, ◌≤◌, ◌==◌, ◌⊎◌, inl, inr, if◌then◌else◌, Bool, true, List, [], ◌∷◌, refl, ap, sym, ◌∙◌, subst, arith, true≢false, length-set, false, length}
+use Rattle.std.proofs.Common.{◌≡◌, ◌≢◌, ℕ, ◌+◌, ◌-◌, ◌*◌, ◌<◌, ◌≤◌, ◌==◌, ◌⊎◌, inl, inr, if◌then◌else◌, Bool, true, List, [], ◌∷◌, refl, ap, sym, ◌∙◌, subst, arith, true≢false, length-set, false, length, ◌^◌}
 use Rattle.std.specs.Prelude.{Option, Some, None, slice_get, nat_lt}
 use Rattle.std.proofs.lemmas.Option.{none-some, same_Some}
 use Rattle.std.proofs.lemmas.Bool.Decides.{nat_tests}
@@ -33,7 +33,7 @@ use Rattle.machine_pipeline.proofs.Holds.{Holds, FrontAt, FrontSends, IsUnused, 
 use Rattle.machine_pipeline.proofs.Turns.{Goes, FrontGoes, front_says, front_next, said_nothing, does_step}
 use Rattle.machine_pipeline.proofs.Lists.{all_from}
 use Rattle.machine_pipeline.proofs.Data.{SameData, pooled_at}
-use Rattle.machine_pipeline.proofs.Kept.{as_connected, SameFrame, SameEntry, SameGrants, data_same, other_frame, other_entry, slots_kept, frames_kept, entries_kept}
+use Rattle.machine_pipeline.proofs.Kept.{as_connected, SameFrame, SameEntry, SameGrants, data_same, other_frame, other_entry, slots_kept, frames_kept, entries_kept, SameRing}
 use Rattle.machine_pipeline.proofs.Hands.{ending_apart, ending_own_apart}
 use Rattle.machine_pipeline.proofs.Frames.{is_submitted}
 use Rattle.machine_pipeline.proofs.Resting.{IsResting, at_loop, at_read, at_end, at_data, data_rests, slots_rest, frames_rest, entries_rest}
@@ -42,6 +42,7 @@ use Rattle.machine_pipeline.proofs.Stations.{AreStations}
 use Rattle.machine_pipeline.proofs.StationsFront.{answers, answers_read}
 use Rattle.machine_pipeline.proofs.ReadsKept.{stations_elsewhere}
 use Rattle.machine_pipeline.proofs.Indices.{indices_room}
+use Rattle.machine_pipeline.proofs.Slots.{few_pages}
 
 -- the machine with the front at another stage, with that ending request, that pool, those words of data, and that memory
 abbrev pub finishing_at : World → FrontStage → Option Ending → List Bool → (words pages : List ℕ) → World
@@ -58,15 +59,16 @@ pub ends_on : (config : Options) (w : World) (g : Flow) (d d' : Pipeline) (s s' 
     → Holds config w g d s w.back.stage
     → AreStations config g d' (is_ready s') (is_issuing s') (is_fetching w.back.stage) (ending_at s' ending) (telling_at s') (reply_at w.back.stage) w.front.requests w.back.jobs.works pages
     → ArePooled pool w.front.requests (ending_at s' ending)
-    → FrontAt g.start g.pushed g.taken g.front_seen g.submitted g.replies (next_request w.front) w.front.entry ending s'
+    → FrontAt g.shape g.start g.pushed g.taken g.front_seen g.submitted g.replies (next_request w.front) w.front.entry ending s'
     → AreDataWords pages words ending s'
     → AreEntries g.pushed pages w.under.grants.live s' ending w.front.requests
     → length pages ≡ 1114112
     → ((f : ℕ) → 2 ≤ f → SameFrame w.under.pages pages f)
-    → SameEntry w.under.pages pages 8
+    → SameRing w.under.pages pages
     → Holds config (finishing_at w s' ending pool words pages) g d' s' w.back.stage
 ends_on config w g d d' s s' ending pool words pages i i' restless unarmed fewer h stations pooled at told entries sized frames entry = record {
   started = h.started;
+  shaped = h.shaped;
   sized = h.sized;
   indices = indices_room g w.front.ring w.back.ring w.front.seen w.back.seen w.back.fetched w.front.last w.front.waiting (length w.front.requests) (ending_of s) (ending_of s') (let was = h.indices in let room = was.room in omega arith) h.indices;
   queue = h.queue;
@@ -86,10 +88,10 @@ ends_on config w g d d' s s' ending pool words pages i i' restless unarmed fewer
     begun = i'.begun g.start pages;
     requests = λ t. frames 2 (omega arith) 0 (omega arith) ∙ was.requests i.ring;
     responses = λ t. frames 2 (omega arith) 2 (omega arith) ∙ was.responses i.ring;
-    named = λ t u. entry.frame ∙ was.named i.named u;
-    granted = λ t u. entry.flags ∙ was.granted i.granted u;
+    named = λ page lt unmapped. let kept = entry page (among page (let all = i'.named (2 ^ g.shape.order) in omega arith)) in kept.frame ∙ was.named page (subst (λ (n : ℕ). page < n) (i'.named (2 ^ g.shape.order) ∙ sym (i.named (2 ^ g.shape.order))) lt) unmapped;
+    granted = λ page lt unmapped. let kept = entry page (among page (let all = i'.granted (2 ^ g.shape.order) in omega arith)) in kept.flags ∙ was.granted page (subst (λ (n : ℕ). page < n) (i'.granted (2 ^ g.shape.order) ∙ sym (i.granted (2 ^ g.shape.order))) lt) unmapped;
   });
-  slots = slots_rest g.start g.fetched g.pushed g.taken g.replied g.submitted g.replies pages s s' w.back.stage i' (slots_kept g.start g.fetched g.pushed g.taken g.replied g.submitted g.replies w.under.pages pages s w.back.stage (λ x from to. frames 2 (omega arith) x to) (let few = i.entered_none in omega arith) h.slots);
+  slots = slots_rest g.shape g.start g.fetched g.pushed g.taken g.replied g.submitted g.replies pages s s' w.back.stage i' (slots_kept g.shape g.start g.fetched g.pushed g.taken g.replied g.submitted g.replies w.under.pages pages s w.back.stage h.shaped.narrow (λ f x from to within behind. frames f from x within) h.slots);
   frames = frames_rest g.pushed pages s s' w.front.requests i' (frames_kept g.pushed w.under.pages pages s w.front.requests
       (all_from (SameData w.under.pages pages) w.front.requests
       (λ j r e. let is = is_submitted config w g d s w.back.stage h j r e in data_same w.under.pages pages r is.frames
@@ -97,12 +99,15 @@ ends_on config w g d d' s s' ending pool words pages i i' restless unarmed fewer
   telling = told;
   entries = entries;
   mapped = h.mapped;
-  page = h.page;
+  paged = h.paged;
   front_sleep = (let was = h.front_sleep in record { arming = λ t. absurd (true≢false (sym t ∙ unarmed)); armed = λ t. absurd (true≢false (sym t ∙ was.may restless)); may = λ t. was.may restless; woken = was.woken });
   back_sleep = (let was = h.back_sleep in record { arming = λ t. frames 2 (omega arith) 1 (omega arith) ∙ was.arming t; armed = λ t. frames 2 (omega arith) 1 (omega arith) ∙ was.armed t; may = was.may; woken = λ t. by_wake (was.woken t) });
   ports = subst (λ (b : Bool). PortsAt b (is_bound_back w.back.stage) w.under.channels.made w.under.channels.ports) (as_connected s s' i.ready i'.ready) h.ports;
 }
   where
+    among : (page : ℕ) → page < 2 ^ g.shape.order → page < 16
+    among page lt = let few = few_pages g.shape.order h.shaped.narrow in omega arith
+
     by_wake : (g.pushed ≡ g.fetched) ⊎ (w.under.channels.back_pending ≡ true) ⊎ FrontSends s g.pushed g.fetched → (g.pushed ≡ g.fetched) ⊎ (w.under.channels.back_pending ≡ true) ⊎ FrontSends s' g.pushed g.fetched
     by_wake (inl same) = inl same
     by_wake (inr (inl t)) = inr (inl t)
@@ -134,7 +139,7 @@ grant_read_goes config w g d place told h =
           (front.GrantRead place) (front.GrantEnd place flags) refl h.telling)
           (entries_rest g.pushed w.under.pages w.under.grants.live (front.GrantRead place)
           (front.GrantEnd place flags) w.front.ending w.front.ending w.front.requests (at_end place flags) entries.ending entries)
-          h.memory (λ f from x lt. refl) (record { flags = refl; frame = refl });
+          h.memory (λ f from x lt. refl) (λ page lt. record { flags = refl; frame = refl });
     }))
   where
     at : IsEndingAt g.submitted g.replies w.front.ending (λ x. place < frames_of x.request)
@@ -276,8 +281,8 @@ grant_end_goes config w g d place before untold h =
     elsewhere : (p : Pipeline) (ending : Option Ending) (telling : Option ℕ) → AreStations config g p true false (is_fetching w.back.stage) ending telling (reply_at w.back.stage) w.front.requests w.back.jobs.works w.under.pages → AreStations config g p true false (is_fetching w.back.stage) ending telling (reply_at w.back.stage) w.front.requests w.back.jobs.works pages
     elsewhere p ending telling = stations_elsewhere config g p true false (is_fetching w.back.stage) ending telling (reply_at w.back.stage) w.front.requests w.back.jobs.works w.under.pages pages w.front.sectors w.front.last h.submitted (λ f from to. words f (omega arith))
 
-    eighth : SameEntry w.under.pages pages 8
-    eighth = let from = pooled.0 in apart_entry 8 (omega arith) (omega arith)
+    ring_kept : SameRing w.under.pages pages
+    ring_kept page lt = let from = pooled.0 in apart_entry (8 + page) (omega arith) (omega arith)
 
     stations : AreStations config g d true false (is_fetching w.back.stage) (Some e) None
         (reply_at w.back.stage) w.front.requests w.back.jobs.works w.under.pages
@@ -297,7 +302,7 @@ grant_end_goes config w g d place before untold h =
           holds = ends_on config w g d (next d s.step) (front.GrantEnd place before) front.Loop None (with_all_free w.front.pool e.request.frames.items) w.front.words pages (at_end place before) at_loop refl refl (omega arith) h
               (elsewhere (next d s.step) None None s.now) (pooled_free w.front.pool w.front.requests e its.frames owned) tt
               (data_rests w.under.pages pages w.front.words w.front.ending None (front.GrantEnd place before) front.Loop refl h.telling)
-              (entries_end front.Loop None at_loop (λ x same. absurd (none-some x same))) sized words eighth;
+              (entries_end front.Loop None at_loop (λ x same. absurd (none-some x same))) sized words ring_kept;
         }
     by_data true t =
         let read = data_are e.request.transfer e.status t in
@@ -311,7 +316,7 @@ grant_end_goes config w g d place before untold h =
               (reply_at w.back.stage) w.front.requests w.back.jobs.works pages) (sym here) (elsewhere (next d s.step) (Some e) (Some 0) s.now))
               h.pool (e, here, is, (some_word e.request its.shaped, read.0, read.1))
               (let was = h.telling in record { size = was.size; so_far = λ x same k lt. absurd (omega arith) })
-              (entries_end (front.ReadData 0) w.front.ending (at_data 0) (λ x same. absurd (none-some x same))) sized words eighth;
+              (entries_end (front.ReadData 0) w.front.ending (at_data 0) (λ x same. absurd (none-some x same))) sized words ring_kept;
         }
 
     by_more : (b : Bool) → nat_lt (place + 1) (frames_of e.request) ≡ b
@@ -325,7 +330,7 @@ grant_end_goes config w g d place before untold h =
           (elsewhere d w.front.ending None h.stations) h.pool (e, here, is, further)
           (data_rests w.under.pages pages w.front.words w.front.ending w.front.ending (front.GrantEnd place before)
           (front.GrantRead (place + 1)) refl h.telling)
-          (entries_end (front.GrantRead (place + 1)) w.front.ending (at_read (place + 1)) left) sized words eighth;
+          (entries_end (front.GrantRead (place + 1)) w.front.ending (at_read (place + 1)) left) sized words ring_kept;
     }
       where
         further : place + 1 < frames_of e.request

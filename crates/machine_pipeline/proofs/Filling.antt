@@ -66,11 +66,11 @@ pub filled_on : (config : Options) (w : World) (g : Flow) (d d' : Pipeline) (s s
     → Holds config w g d s w.back.stage
     → AreStations config g d' (is_ready s') (is_issuing s') (is_fetching w.back.stage) (ending_at s' w.front.ending) (telling_at s') (reply_at w.back.stage) w.front.requests w.back.jobs.works w.under.pages
     → next_request w.front ≡ Some r → is_issuing s' ≡ true → n < words_in r → filled s ≡ n → ((m : ℕ) → m < words_in r → m < filled s' → m ≤ n)
-    → entered s ≤ 28 → entered s' ≡ 0 → named_frames s' ≡ 0 → granted_frames s' ≡ 0
-    → FrontAt g.start g.pushed g.taken g.front_seen g.submitted g.replies (next_request w.front) w.front.entry w.front.ending s'
+    → entered s' ≡ 0 → named_frames s' ≡ 0 → granted_frames s' ≡ 0
+    → FrontAt g.shape g.start g.pushed g.taken g.front_seen g.submitted g.replies (next_request w.front) w.front.entry w.front.ending s'
     → (FrontSends s g.pushed g.fetched → ⊥)
     → Holds config (with_front w s' w.front.entry (with_word w.under.pages (frame_at r (n / 1024)) (n % 1024) (filling_at r.transfer n))) g d' s' w.back.stage
-filled_on config w g d d' s s' r n i i' h stations e begun within so_far more few unentered unnamed ungranted at unsent =
+filled_on config w g d d' s s' r n i i' h stations e begun within so_far more unentered unnamed ungranted at unsent =
     let next : IsNext g.submitted w.front.requests g.pushed w.front.waiting r = next_is w.front g.submitted w.front.sectors w.front.last g.pushed _ r h.queue h.submitted h.pool e in
     let frame : ℕ = frame_at r (n / 1024) in
     let word : ℕ = n % 1024 in
@@ -89,8 +89,8 @@ filled_on config w g d d' s s' r n i i' h stations e begun within so_far more fe
     (λ a in_it. others j x q known here low high a (n / 1024) in_it place)) stations) at
     (length-set w.under.pages (frame * 1024 + word) value ∙ h.memory)
     (λ x lt. elsewhere 2 (omega arith) x (omega arith))
-    (same_entry w.under.pages _ 8 (omega arith) (elsewhere 0 (omega arith)) (elsewhere 1 (omega arith)))
-    (slots_turned g.start g.fetched g.pushed g.taken g.replied g.submitted g.replies w.under.pages _ s s' w.back.stage (λ x from to. elsewhere 2 (omega arith) x to) few unentered h.slots)
+    (λ page lt. same_entry w.under.pages _ (8 + page) (omega arith) (elsewhere 0 (omega arith)) (elsewhere 1 (omega arith)))
+    (slots_turned g.shape g.start g.fetched g.pushed g.taken g.replied g.submitted g.replies w.under.pages _ s s' w.back.stage h.shaped.narrow (λ f x from to in_it behind. elsewhere f (omega arith) x in_it) unentered h.slots)
     (frames_filled g.submitted w.front.requests g.pushed w.front.waiting w.under.pages s s' r n next h.memory within so_far more h.frames)
     (entries_turned g.pushed w.under.pages _ w.under.grants.live s s' w.front.ending w.front.requests i' (omega arith) (omega arith)
     (entries_elsewhere config w g d s w.back.stage h _ (λ gref lt. same_entry w.under.pages _ gref lt (elsewhere 0 (omega arith)) (elsewhere 1 (omega arith)))) h.entries)
@@ -123,11 +123,11 @@ data_goes config w g d n safe h = subst (λ (next : Option Request). DataGoes co
         → Holds config (with_front w (if b then front.Data (n + 1) else front.GrantFrame 0) w.front.entry
         (with_word w.under.pages (frame_at r (n / 1024)) (n % 1024) (filling_at r.transfer n)))
         g d (if b then front.Data (n + 1) else front.GrantFrame 0) w.back.stage
-    by_test true t = filled_on config w g d d (front.Data n) (front.Data (n + 1)) r n refl refl h h.stations h.front_at.1 refl h.front_at.2.1 refl (λ m in_it upto. omega arith) (omega arith) refl refl refl (r, h.front_at.1, (omega arith, further (n + 1) (words_in r) t, h.front_at.2.2)) (λ sends. sends)
+    by_test true t = filled_on config w g d d (front.Data n) (front.Data (n + 1)) r n refl refl h h.stations h.front_at.1 refl h.front_at.2.1 refl (λ m in_it upto. omega arith) refl refl refl (r, h.front_at.1, (omega arith, further (n + 1) (words_in r) t, h.front_at.2.2)) (λ sends. sends)
       where
         further : (n words : ℕ) → nat_lt n words ≡ true → n < words
         further n words t = grind (arith, nat_tests)
-    by_test false t = filled_on config w g d d (front.Data n) (front.GrantFrame 0) r n refl refl h h.stations h.front_at.1 refl h.front_at.2.1 refl (λ m in_it upto. last n (words_in r) t m in_it) (omega arith) refl refl refl (r, h.front_at.1, has_frame) (λ sends. sends)
+    by_test false t = filled_on config w g d d (front.Data n) (front.GrantFrame 0) r n refl refl h h.stations h.front_at.1 refl h.front_at.2.1 refl (λ m in_it upto. last n (words_in r) t m in_it) refl refl refl (r, h.front_at.1, has_frame) (λ sends. sends)
       where
         last : (n words : ℕ) → nat_lt (n + 1) words ≡ false → (m : ℕ) → m < words → m ≤ n
         last n words t m in_it = grind (arith, nat_tests)

@@ -2,6 +2,7 @@
 use Rattle.std.specs.Prelude.{ℕ, ◌+◌, ◌/◌, ◌%◌, ◌^◌, ◌==◌, Bool, true, false, List, [], length, take, count_by, Option, Some, None}
 use Rattle.blk_base.specs.declared.config.Job.{Job}
 use Rattle.blk_base.specs.declared.config.Job.TheVariants as jobs
+use Rattle.ring_words.specs.Shape.{Shape}
 use Rattle.blk_layout.specs.declared.segment.Segment.{Segment}
 use Rattle.blk_front.specs.declared.request.Request.{Request}
 use Rattle.blk_front.specs.declared.request.Transfer.{Transfer}
@@ -18,8 +19,9 @@ use Rattle.blk_back.specs.declared.stage.Stage.{Stage as BackStage}
 use Rattle.blk_back.specs.declared.stage.Stage.TheVariants as back
 use Rattle.pipeline_laws.specs.Station.{Station, Working, Failed, Ended}
 
--- the ring's first index; how many requests were pushed, how many of them fetched, how many of these replied to, and how many of the responses taken; how many responses and requests the front and the back saw in the producers; the requests, number 1 first; the responses that the front hasn't taken, oldest first; and whether the front began to close
+-- the ring's shape and its first index; how many requests were pushed, how many of them fetched, how many of these replied to, and how many of the responses taken; how many responses and requests the front and the back saw in the producers; the requests, number 1 first; the responses that the front hasn't taken, oldest first; and whether the front began to close
 pub record Flow : Type 0 where
+  pub shape : Shape
   pub start : ℕ
   pub pushed : ℕ
   pub fetched : ℕ
@@ -31,8 +33,8 @@ pub record Flow : Type 0 where
   pub replies : List Reply
   pub closing : Bool
 
-abbrev pub start_flow : ℕ → Flow
-start_flow start = record { start = start; pushed = 0; fetched = 0; replied = 0; taken = 0; front_seen = 0; back_seen = 0; submitted = []; replies = []; closing = false }
+abbrev pub start_flow : Shape → ℕ → Flow
+start_flow shape start = record { shape = shape; start = start; pushed = 0; fetched = 0; replied = 0; taken = 0; front_seen = 0; back_seen = 0; submitted = []; replies = []; closing = false }
 
 -- a whole index as the ring's words have it
 abbrev pub wrapped : ℕ → ℕ → ℕ
@@ -43,18 +45,20 @@ abbrev pub has_ring : FrontStage → Bool
 has_ring (front.RingWord k) = false
 has_ring s = true
 
--- the ring's frame stands in its grant entry, and is granted
-abbrev pub is_ring_named : FrontStage → Bool
-is_ring_named (front.RingWord k) = false
-is_ring_named front.RingFrame = false
-is_ring_named s = true
+-- how many frames of the ring stand in their grant entries, and how many are granted, of a ring of so many pages
+abbrev pub named_pages : FrontStage → (pages : ℕ) → ℕ
+named_pages (front.RingWord k) pages = 0
+named_pages (front.RingFrame page) pages = page
+named_pages (front.RingFence page) pages = page + 1
+named_pages (front.RingFlags page) pages = page + 1
+named_pages s pages = pages
 
-abbrev pub is_ring_granted : FrontStage → Bool
-is_ring_granted (front.RingWord k) = false
-is_ring_granted front.RingFrame = false
-is_ring_granted front.RingFence = false
-is_ring_granted front.RingFlags = false
-is_ring_granted s = true
+abbrev pub granted_pages : FrontStage → (pages : ℕ) → ℕ
+granted_pages (front.RingWord k) pages = 0
+granted_pages (front.RingFrame page) pages = page
+granted_pages (front.RingFence page) pages = page
+granted_pages (front.RingFlags page) pages = page
+granted_pages s pages = pages
 
 -- a request is being issued: its data, its grant, its entry, and then the producer
 abbrev pub is_issuing : FrontStage → Bool
@@ -202,12 +206,13 @@ worked (job.GiveUp m) moved = Failed
 worked (job.Done status) moved = Ended status
 worked s moved = Working moved
 
--- the back holds the ring's page, and is bound to the front's port
-abbrev pub has_page : BackStage → Bool
-has_page back.MapRing = false
-has_page s = true
+-- the back has the terms of its front, and is bound to its port
+abbrev pub has_terms : BackStage → Bool
+has_terms back.InitWait = false
+has_terms s = true
 
 abbrev pub is_bound_back : BackStage → Bool
+is_bound_back back.InitWait = false
 is_bound_back back.MapRing = false
 is_bound_back back.Bind = false
 is_bound_back s = true

@@ -1,9 +1,10 @@
 -- The requests of both ends and their frames, as they stand in the whole machine.
-use Rattle.std.proofs.Common.{◌≡◌, ◌≢◌, ℕ, ◌+◌, ◌-◌, ◌<◌, ◌≤◌, Bool, false, cond, List, [], ap, sym, ◌∙◌, subst, arith}
-use Rattle.std.specs.Prelude.{Option, Some, None, slice_get, count_by}
+use Rattle.std.proofs.Common.{◌≡◌, ◌≢◌, ℕ, ◌+◌, ◌-◌, ◌^◌, ◌<◌, ◌≤◌, Bool, false, cond, List, [], length, ap, sym, ◌∙◌, subst, arith}
+use Rattle.std.specs.Prelude.{Option, Some, None, slice_get, slice_index_or, count_by}
 use Rattle.std.proofs.lemmas.Option.{none-some, same_Some}
 use Rattle.std.proofs.lemmas.List.Sums.{sum_by-append}
 use Rattle.blk_base.specs.Options.{Options}
+use Rattle.ring_words.specs.Shape.{Shape}
 use Rattle.blk_base.specs.declared.parts.Mapping.{Mapping}
 use Rattle.grant_table.specs.declared.held.Held.{Held}
 use Rattle.pipeline_laws.specs.Pipeline.{Pipeline}
@@ -20,43 +21,49 @@ use Rattle.back_jobs.specs.Hands.{hands_in}
 use Rattle.blk_back.specs.declared.stage.Reply.{Reply}
 use Rattle.blk_back.specs.declared.stage.Stage.{Stage as BackStage}
 use Rattle.blk_back.specs.declared.stage.Stage.TheVariants as back
-use Rattle.blk_back.specs.Hands.{given_up, page_at, hands_at}
+use Rattle.blk_back.specs.View.{no_page}
+use Rattle.blk_back.specs.Hands.{given_up, hands_at}
 use Rattle.split_model.specs.World.{World}
-use Rattle.machine_pipeline.proofs.Flow.{Flow, ending_at, telling_at, reply_at, entered, worked, frames_of}
+use Rattle.machine_pipeline.proofs.Flow.{Flow, ending_at, telling_at, reply_at, named_pages, worked, frames_of}
 use Rattle.machine_pipeline.proofs.Stations.{worked_kind}
 use Rattle.machine_pipeline.proofs.Holds.{Holds, FrontAt, IsEndingAt, BackAt, IsReplying, IsEnding, IsSubmitted, IsWork}
 use Rattle.machine_pipeline.proofs.Data.{pooled_at}
 use Rattle.machine_pipeline.proofs.Lists.{all_at}
-use Rattle.machine_pipeline.proofs.Hands.{IsQueued, queued, frames_apart, work_hand, hands_none, page_none, nothing_given_up}
+use Rattle.machine_pipeline.proofs.Hands.{IsQueued, queued, frames_apart, work_hand, hands_none, pages_none, mapped_few, nothing_given_up}
+use Rattle.machine_pipeline.proofs.Slots.{few_pages}
 
 -- the request whose grant is being ended
-pub ending_is : (start pushed taken front_seen : ℕ) (submitted : List Request) (replies : List Reply) (next : Option Request) (entry : List ℕ) (ending : Option Ending) (s : FrontStage) (e : Ending) → FrontAt start pushed taken front_seen submitted replies next entry ending s → ending_at s ending ≡ Some e → IsEnding submitted replies e
-ending_is start pushed taken front_seen submitted replies next entry ending (front.GrantRead place) e h same = subst (IsEnding submitted replies) (same_Some h.0 e (sym h.1 ∙ same)) h.2
-ending_is start pushed taken front_seen submitted replies next entry ending (front.GrantEnd place before) e h same = subst (IsEnding submitted replies) (same_Some h.0 e (sym h.1 ∙ same)) h.2
-ending_is start pushed taken front_seen submitted replies next entry ending (front.ReadData n) e h same = subst (IsEnding submitted replies) (same_Some h.0 e (sym h.1 ∙ same)) h.2
-ending_is start pushed taken front_seen submitted replies next entry ending s e h same = absurd (none-some e same)
+pub ending_is : (shape : Shape) (start pushed taken front_seen : ℕ) (submitted : List Request) (replies : List Reply) (next : Option Request) (entry : List ℕ) (ending : Option Ending) (s : FrontStage) (e : Ending) → FrontAt shape start pushed taken front_seen submitted replies next entry ending s → ending_at s ending ≡ Some e → IsEnding submitted replies e
+ending_is shape start pushed taken front_seen submitted replies next entry ending (front.GrantRead place) e h same = subst (IsEnding submitted replies) (same_Some h.0 e (sym h.1 ∙ same)) h.2
+ending_is shape start pushed taken front_seen submitted replies next entry ending (front.GrantEnd place before) e h same = subst (IsEnding submitted replies) (same_Some h.0 e (sym h.1 ∙ same)) h.2
+ending_is shape start pushed taken front_seen submitted replies next entry ending (front.ReadData n) e h same = subst (IsEnding submitted replies) (same_Some h.0 e (sym h.1 ∙ same)) h.2
+ending_is shape start pushed taken front_seen submitted replies next entry ending s e h same = absurd (none-some e same)
 
 -- the response that is being written
-pub reply_is : (start fetched back_seen replied : ℕ) (submitted : List Request) (works : List Work) (entry : List ℕ) (b : BackStage) (rep : Reply) → BackAt start fetched back_seen replied submitted works entry b → reply_at b ≡ Some rep → IsReplying fetched works rep
-reply_is start fetched back_seen replied submitted works entry (back.ReplyHigh r) rep h same = subst (IsReplying fetched works) (same_Some r rep same) h
-reply_is start fetched back_seen replied submitted works entry (back.ReplyLast r) rep h same = subst (IsReplying fetched works) (same_Some r rep same) h
-reply_is start fetched back_seen replied submitted works entry (back.Producer r) rep h same = subst (IsReplying fetched works) (same_Some r rep same) h
-reply_is start fetched back_seen replied submitted works entry b rep h same = absurd (none-some rep same)
+pub reply_is : (shape : Shape) (start fetched back_seen replied : ℕ) (submitted : List Request) (works : List Work) (entry : List ℕ) (b : BackStage) (rep : Reply) → BackAt shape start fetched back_seen replied submitted works entry b → reply_at b ≡ Some rep → IsReplying fetched works rep
+reply_is shape start fetched back_seen replied submitted works entry (back.ReplyHigh r) rep h same = subst (IsReplying fetched works) (same_Some r rep same) h
+reply_is shape start fetched back_seen replied submitted works entry (back.ReplyLast r) rep h same = subst (IsReplying fetched works) (same_Some r rep same) h
+reply_is shape start fetched back_seen replied submitted works entry (back.Producer r) rep h same = subst (IsReplying fetched works) (same_Some r rep same) h
+reply_is shape start fetched back_seen replied submitted works entry b rep h same = absurd (none-some rep same)
 
 -- how far the words of the ring, of data and of an entry that are being written go
-pub few_words : (start pushed taken front_seen : ℕ) (submitted : List Request) (replies : List Reply) (next : Option Request) (entry : List ℕ) (ending : Option Ending) (s : FrontStage) → FrontAt start pushed taken front_seen submitted replies next entry ending s → (k : ℕ) → s ≡ front.RingWord k → k ≤ 16
-few_words start pushed taken front_seen submitted replies next entry ending s h k e =
-    let within : k < 16 = subst (λ (x : FrontStage). FrontAt start pushed taken front_seen submitted replies next entry ending x) e h in
+pub few_words : (shape : Shape) (start pushed taken front_seen : ℕ) (submitted : List Request) (replies : List Reply) (next : Option Request) (entry : List ℕ) (ending : Option Ending) (s : FrontStage) → FrontAt shape start pushed taken front_seen submitted replies next entry ending s → (k : ℕ) → s ≡ front.RingWord k → k ≤ 16
+few_words shape start pushed taken front_seen submitted replies next entry ending s h k e =
+    let within : k < 16 = subst (λ (x : FrontStage). FrontAt shape start pushed taken front_seen submitted replies next entry ending x) e h in
     omega arith
 
-pub entered_few : (start pushed taken front_seen : ℕ) (submitted : List Request) (replies : List Reply) (next : Option Request) (entry : List ℕ) (ending : Option Ending) (s : FrontStage) → FrontAt start pushed taken front_seen submitted replies next entry ending s → entered s ≤ 28
-entered_few start pushed taken front_seen submitted replies next entry ending (front.Slot k) h = omega (arith, h.0)
-entered_few start pushed taken front_seen submitted replies next entry ending s h = omega arith
+-- frames of the ring that are named are its own
+pub named_at : (shape : Shape) (start pushed taken front_seen : ℕ) (submitted : List Request) (replies : List Reply) (next : Option Request) (entry : List ℕ) (ending : Option Ending) (s : FrontStage) → shape.order ≤ 4 → FrontAt shape start pushed taken front_seen submitted replies next entry ending s → named_pages s (2 ^ shape.order) ≤ 16
+named_at shape start pushed taken front_seen submitted replies next entry ending (front.RingWord k) narrow h = omega arith
+named_at shape start pushed taken front_seen submitted replies next entry ending (front.RingFrame page) narrow h = let few = few_pages shape.order narrow in omega (arith, h)
+named_at shape start pushed taken front_seen submitted replies next entry ending (front.RingFence page) narrow h = let few = few_pages shape.order narrow in omega (arith, h)
+named_at shape start pushed taken front_seen submitted replies next entry ending (front.RingFlags page) narrow h = let few = few_pages shape.order narrow in omega (arith, h)
+named_at shape start pushed taken front_seen submitted replies next entry ending s narrow h = few_pages shape.order narrow
 
 -- the data of the ending request that are told have so many words
-pub told_few : (start pushed taken front_seen : ℕ) (submitted : List Request) (replies : List Reply) (next : Option Request) (entry : List ℕ) (ending : Option Ending) (s : FrontStage) → FrontAt start pushed taken front_seen submitted replies next entry ending s → (n : ℕ) → s ≡ front.ReadData n → (e : Ending) → ending ≡ Some e → n < words_in e.request
-told_few start pushed taken front_seen submitted replies next entry ending s h n is e here =
-    let at : IsEndingAt submitted replies ending (λ x. (n < words_in x.request) × (x.request.transfer ≡ transfer.Read) × (x.status ≡ Okay)) = subst (λ (x : FrontStage). FrontAt start pushed taken front_seen submitted replies next entry ending x) is h in
+pub told_few : (shape : Shape) (start pushed taken front_seen : ℕ) (submitted : List Request) (replies : List Reply) (next : Option Request) (entry : List ℕ) (ending : Option Ending) (s : FrontStage) → FrontAt shape start pushed taken front_seen submitted replies next entry ending s → (n : ℕ) → s ≡ front.ReadData n → (e : Ending) → ending ≡ Some e → n < words_in e.request
+told_few shape start pushed taken front_seen submitted replies next entry ending s h n is e here =
+    let at : IsEndingAt submitted replies ending (λ x. (n < words_in x.request) × (x.request.transfer ≡ transfer.Read) × (x.status ≡ Okay)) = subst (λ (x : FrontStage). FrontAt shape start pushed taken front_seen submitted replies next entry ending x) is h in
     subst (λ (x : Ending). n < words_in x.request) (same_Some at.0 e (sym at.1 ∙ here)) at.3.0
 
 -- one of the front's requests is a submitted one
@@ -80,10 +87,14 @@ pub none_in_hands : (config : Options) (w : World) (g : Flow) (d : Pipeline) (s 
 none_in_hands config w g d s b h j r here a in_r works others test apart =
     let is = is_submitted config w g d s b h j r here in
     let in_pool = pooled_at r is.frames a in
-    let given : given_up b ≡ [] = nothing_given_up b g.start g.fetched g.back_seen g.replied g.submitted w.back.jobs.works w.back.entry h.back_at in
+    let given : given_up b ≡ [] = nothing_given_up g.shape b g.start g.fetched g.back_seen g.replied g.submitted w.back.jobs.works w.back.entry h.back_at in
     let jobs : count_by test (hands_in works) ≡ 0 = hands_none test works one in
-    let page : count_by test (page_at b w.back.page) ≡ 0 = page_none test b w.back.page (λ t. apart w.back.page (let gref = h.page.gref t in omega (arith, in_pool.0))) in
-    let split = sum_by-append (λ (x : Mapping). cond (test x) 1 0) (hands_in works) (page_at b w.back.page) in
+    let pages : count_by test w.back.pages ≡ 0 = pages_none test w.back.pages (λ page lt. apart (slice_index_or w.back.pages page no_page) (
+    let gref = h.paged.gref page lt in
+    let few = few_pages g.shape.order h.shaped.narrow in
+    let all = mapped_few b g.shape.order (length w.back.pages) h.paged.mapped in
+    omega (arith, in_pool.0))) in
+    let split = sum_by-append (λ (x : Mapping). cond (test x) 1 0) (hands_in works) w.back.pages in
     rw given (omega arith)
   where
     one : (i : ℕ) (t : Work) (m : Mapping) → slice_get works i ≡ Some t → mapping_at t.stage ≡ Some m → test m ≡ false

@@ -1,5 +1,5 @@
 -- The front grants the frames of the request that it issues, one by one.
-use Rattle.std.proofs.Common.{◌≡◌, ◌≢◌, ℕ, ◌+◌, ◌-◌, ◌*◌, ◌/◌, ◌%◌, ◌<◌, ◌≤◌, ◌==◌, Bool, true, false, List, [], ◌∷◌, length, get_or, refl, sym, ◌∙◌, subst, arith, length-set, get_or-set_other}
+use Rattle.std.proofs.Common.{◌≡◌, ◌≢◌, ℕ, ◌+◌, ◌-◌, ◌*◌, ◌/◌, ◌%◌, ◌<◌, ◌≤◌, ◌==◌, Bool, true, false, List, [], ◌∷◌, length, get_or, refl, sym, ◌∙◌, subst, arith, length-set, get_or-set_other, ap}
 use Rattle.std.specs.Prelude.{All, Option, Some, None, nat_lt, if◌then◌else◌}
 use Rattle.std.proofs.lemmas.Bool.Decides.{nat_tests}
 use Rattle.blk_base.specs.declared.moves.Move.TheVariants as moves
@@ -31,9 +31,11 @@ use Rattle.machine_pipeline.proofs.Lists.{all_at}
 use Rattle.machine_pipeline.proofs.Next.{FramesDiffer, IsNext, next_is}
 use Rattle.machine_pipeline.proofs.Turns.{Goes, FrontGoes, said_nothing}
 use Rattle.machine_pipeline.proofs.Issuing.{issuing, frames_elsewhere, slots_turned, frames_turned, entries_turned, with_front, issue_moved, issue_kept}
+use Rattle.ring_words.specs.Shape.{Shape}
 use Rattle.machine_pipeline.proofs.Stations.{AreStations, turned}
 use Rattle.machine_pipeline.proofs.ReadsKept.{stations_elsewhere}
 use Rattle.blk_front.specs.Submit.{is_ready}
+use Rattle.machine_pipeline.proofs.Slots.{some_words}
 
 -- the frame word of another reference's entry
 pub other_named : (pages : List ℕ) (gref other value : ℕ) → gref < 1024 → other < 1024 → other ≢ gref → SameEntry pages (with_word pages (gref / 512) (2 * (gref % 512) + 1) value) other
@@ -99,13 +101,13 @@ pub entry_moved : (config : Options) (w : World) (g : Flow) (d d' : Pipeline) (s
     → word < 1024
     → SameOthers w.under.pages (with_word w.under.pages ((frame_at r place + 6) / 512) word value) (frame_at r place + 6)
     → ((new : List ℕ) → All (SameData w.under.pages new) w.front.requests → All (IsFilled g.pushed new s') w.front.requests)
-    → entered s ≤ 28 → entered s' ≡ 0
-    → FrontAt g.start g.pushed g.taken g.front_seen g.submitted g.replies (next_request w.front) entry w.front.ending s'
+    → entered s' ≡ 0
+    → FrontAt g.shape g.start g.pushed g.taken g.front_seen g.submitted g.replies (next_request w.front) entry w.front.ending s'
     → AreNamed (with_word w.under.pages ((frame_at r place + 6) / 512) word value) r (named_frames s')
     → AreGranted (with_word w.under.pages ((frame_at r place + 6) / 512) word value) r (granted_frames s')
     → (FrontSends s g.pushed g.fetched → ⊥)
     → Holds config (with_front w s' entry (with_word w.under.pages ((frame_at r place + 6) / 512) word value)) g d' s' w.back.stage
-entry_moved config w g d d' s s' r place entry word value i i' h stations next in_it within others filled_so few none at named granted unsent =
+entry_moved config w g d d' s s' r place entry word value i i' h stations next in_it within others filled_so none at named granted unsent =
     let gref : ℕ = frame_at r place + 6 in
     let pooled : IsPooled (frame_at r place) = pooled_at r next.frames place in
     let low = pooled.0 in
@@ -115,8 +117,8 @@ entry_moved config w g d d' s s' r place entry word value i i' h stations next i
     (stations_elsewhere config g d' (is_ready s') (is_issuing s') (is_fetching w.back.stage) (ending_at s' w.front.ending) (telling_at s') (reply_at w.back.stage) w.front.requests w.back.jobs.works w.under.pages _ w.front.sectors w.front.last h.submitted (λ f from to. elsewhere f (omega arith)) stations) at
     (length-set w.under.pages (gref / 512 * 1024 + word) value ∙ h.memory)
     (λ x lt. elsewhere 2 (omega arith) x (omega arith))
-    (others 8 (omega arith) (omega arith))
-    (slots_turned g.start g.fetched g.pushed g.taken g.replied g.submitted g.replies w.under.pages _ s s' w.back.stage (λ x from to. elsewhere 2 (omega arith) x to) few none h.slots)
+    (λ page lt. others (8 + page) (omega arith) (omega arith))
+    (slots_turned g.shape g.start g.fetched g.pushed g.taken g.replied g.submitted g.replies w.under.pages _ s s' w.back.stage h.shaped.narrow (λ f x from to in_it behind. elsewhere f (omega arith) x in_it) none h.slots)
     (filled_so _ (frames_elsewhere config w g d s w.back.stage h _ (λ f from. elsewhere f (omega arith))))
     (entries_with g.submitted w.front.requests g.pushed w.front.waiting w.under.pages _ w.under.grants.live s s' w.front.ending r place i' next in_it others
     named granted h.entries)
@@ -130,8 +132,8 @@ entry_on : (config : Options) (w : World) (g : Flow) (d : Pipeline) (s s' : Fron
     → place < frames_of r
     → word < 1024
     → SameOthers w.under.pages (with_word w.under.pages ((frame_at r place + 6) / 512) word value) (frame_at r place + 6)
-    → filled s' ≤ filled s → entered s ≤ 28 → entered s' ≡ 0
-    → FrontAt g.start g.pushed g.taken g.front_seen g.submitted g.replies (next_request w.front) entry w.front.ending s'
+    → filled s' ≤ filled s → entered s' ≡ 0
+    → FrontAt g.shape g.start g.pushed g.taken g.front_seen g.submitted g.replies (next_request w.front) entry w.front.ending s'
     → AreNamed (with_word w.under.pages ((frame_at r place + 6) / 512) word value) r (named_frames s')
     → AreGranted (with_word w.under.pages ((frame_at r place + 6) / 512) word value) r (granted_frames s')
     → (FrontSends s g.pushed g.fetched → ⊥)
@@ -234,7 +236,7 @@ frame_goes config w g d place safe h = subst (λ (q : Option Request). NameGoes 
       does = said_nothing d _ w.front.told safe.front_told;
       holds = entry_on config w g d (front.GrantFrame place) (front.GrantFence place) r place w.front.entry (2 * ((frame_at r place + 6) % 512) + 1) (frame_at r place) refl refl refl h next h.front_at.2 (omega arith)
           (λ other lt apart. other_named w.under.pages (frame_at r place + 6) other (frame_at r place) (omega (arith, pooled.1)) lt apart)
-          (omega arith) (omega arith) refl h.front_at
+          (omega arith) refl h.front_at
           (named_now w.under.pages r place h.memory next.frames next.own h.front_at.2 (was.named_next next.number))
           (flags_still w.under.pages r place (frame_at r place) next.frames next.own h.front_at.2 (was.flags_next next.number))
           (λ sends. sends);
@@ -245,8 +247,8 @@ fence_goes config w g d place safe h = record {
   flow = g;
   step = None;
   does = said_nothing d _ w.front.told safe.front_told;
-  holds = issue_kept config w g d (front.GrantFence place) (front.GrantFlags place) w.front.entry w.under.pages refl refl refl h h.front_at h.memory (λ f low high x lt. refl) (λ x lt. refl) (record { flags = refl; frame = refl })
-      (slots_turned g.start g.fetched g.pushed g.taken g.replied g.submitted g.replies w.under.pages w.under.pages (front.GrantFence place) (front.GrantFlags place) w.back.stage (λ x from to. refl) (omega arith) refl h.slots)
+  holds = issue_kept config w g d (front.GrantFence place) (front.GrantFlags place) w.front.entry w.under.pages refl refl refl h h.front_at h.memory (λ f low high x lt. refl) (λ x lt. refl) (λ page lt. record { flags = refl; frame = refl })
+      (slots_turned g.shape g.start g.fetched g.pushed g.taken g.replied g.submitted g.replies w.under.pages w.under.pages (front.GrantFence place) (front.GrantFlags place) w.back.stage h.shaped.narrow (λ f x from to in_it behind. refl) refl h.slots)
       (frames_turned g.pushed w.under.pages w.under.pages (front.GrantFence place) (front.GrantFlags place) w.front.requests (omega arith) (λ n x lt i l. refl) h.frames)
       (entries_turned g.pushed w.under.pages w.under.pages w.under.grants.live (front.GrantFence place) (front.GrantFlags place) w.front.ending w.front.requests refl (omega arith) (omega arith) (λ n x lt a in_it. record { flags = refl; frame = refl }) h.entries)
       (λ t sends. sends);
@@ -285,7 +287,7 @@ flags_goes config w g d place safe h = subst (λ (q : Option Request). GrantGoes
     now = granted_now w.under.pages r place h.memory next.frames next.own h.front_at.2 (was.named_next next.number) (was.flags_next next.number)
 
     on : (s' : FrontStage) (entry : List ℕ) → may_front_sleep s' ≡ true → is_issuing s' ≡ true → filled s' ≤ 11264 → entered s' ≡ 0
-        → FrontAt g.start g.pushed g.taken g.front_seen g.submitted g.replies (next_request w.front) entry w.front.ending s'
+        → FrontAt g.shape g.start g.pushed g.taken g.front_seen g.submitted g.replies (next_request w.front) entry w.front.ending s'
         → ((a : ℕ) → a < named_frames s' → a < frames_of r → a < place + 1)
         → ((a : ℕ) → a < granted_frames s' → a < frames_of r → a < place + 1)
         → Holds config (with_front w s' entry new) g d s' w.back.stage
@@ -293,12 +295,12 @@ flags_goes config w g d place safe h = subst (λ (q : Option Request). GrantGoes
         let pooled = pooled_at r next.frames place in
         entry_on config w g d (front.GrantFlags place) s' r place entry (2 * ((frame_at r place + 6) % 512)) (grant_flags r.transfer) refl i' same h next h.front_at.2 (omega arith)
         (λ other lt apart. other_entry w.under.pages (frame_at r place + 6) other (grant_flags r.transfer) (omega (arith, pooled.1)) lt apart)
-        filled_few (omega arith) none at
+        filled_few none at
         (λ a upto in_it. let its = now a (few a upto in_it) in_it in its.0) (λ a upto in_it. let its = now a (fewer a upto in_it) in_it in its.1)
         (λ sends. sends)
 
     by_test : (b : Bool) → nat_lt (place + 1) (frames_of r) ≡ b
-        → (let x : View = (if b then at (front.GrantFrame (place + 1)) w.front else record w.front { stage = front.Slot 0; entry = entry_of r }) in
+        → (let x : View = (if b then at (front.GrantFrame (place + 1)) w.front else record w.front { stage = front.Slot 0; entry = entry_of w.front.shape.abi r }) in
         Goes config
         (lines.Move (moves.FrontWrite ((frame_at r place + 6) / 512) (2 * ((frame_at r place + 6) % 512)) (grant_flags r.transfer)) ∷ front_lines x.told)
         (record { front = record x { told = None }; back = w.back; under = (let u : Hypervisor = w.under in record u { pages = new }) }) d)
@@ -316,7 +318,7 @@ flags_goes config w g d place safe h = subst (λ (q : Option Request). GrantGoes
       flow = g;
       step = None;
       does = said_nothing d _ w.front.told safe.front_told;
-      holds = on (front.Slot 0) (entry_of r) refl refl (omega arith) refl (omega arith, (r, h.front_at.1, refl))
+      holds = on (front.Slot 0) (entry_of w.front.shape.abi r) refl refl (omega arith) refl (some_words g.shape.abi, (r, h.front_at.1, ap (λ (x : Shape). entry_of x.abi r) h.shaped.known))
           (λ a upto in_it. last place (frames_of r) t a in_it) (λ a upto in_it. last place (frames_of r) t a in_it);
     }
       where

@@ -1,8 +1,8 @@
 -- The mappings in the hands of the back and its jobs, and those of one request's frame among them.
-use Rattle.std.proofs.Common.{◌≡◌, ◌≢◌, ℕ, zero, suc, ◌+◌, ◌-◌, ◌<◌, ◌≤◌, ◌==◌, ◌⊎◌, inl, inr, Bool, true, false, cond, List, [], ◌∷◌, refl, ap, sym, ◌∙◌, subst, arith}
-use Rattle.std.specs.Prelude.{Option, Some, None, slice_get, count_by, sum_by, nat_lt}
+use Rattle.std.proofs.Common.{◌≡◌, ◌≢◌, ℕ, zero, suc, ◌+◌, ◌-◌, ◌^◌, ◌<◌, ◌≤◌, ◌==◌, ◌⊎◌, inl, inr, Bool, true, false, cond, List, [], ◌∷◌, length, refl, ap, sym, ◌∙◌, subst, arith}
+use Rattle.std.specs.Prelude.{Option, Some, None, slice_get, slice_index_or, count_by, sum_by, nat_lt}
 use Rattle.std.specs.List.{list_any}
-use Rattle.std.proofs.lemmas.Option.{none-some, same_Some, slice_get-get_or}
+use Rattle.std.proofs.lemmas.Option.{none-some, same_Some, slice_get-get_or, slice_get_within, get_or_from_slice_get}
 use Rattle.std.proofs.lemmas.List.Sums.{sum_by-append}
 use Rattle.std.proofs.lemmas.Bool.Decides.{nat_tests}
 use Rattle.blk_base.specs.declared.parts.Mapping.{Mapping}
@@ -16,10 +16,12 @@ use Rattle.back_jobs.specs.Jobs.{mapping_at}
 use Rattle.back_jobs.specs.Hands.{hands_in}
 use Rattle.blk_back.specs.declared.stage.Stage.{Stage as BackStage}
 use Rattle.blk_back.specs.declared.stage.Stage.TheVariants as back
-use Rattle.blk_back.specs.Hands.{given_up, page_at}
+use Rattle.ring_words.specs.Shape.{Shape}
+use Rattle.blk_back.specs.View.{no_page}
+use Rattle.blk_back.specs.Hands.{given_up}
 use Rattle.blk_front.specs.Request.{frame_at}
-use Rattle.machine_pipeline.proofs.Flow.{frames_of, uses, ending_uses, has_page}
-use Rattle.machine_pipeline.proofs.Holds.{AreQueued, IsPooled, ArePooled, IsHand, AtWork, IsWork, BackAt}
+use Rattle.machine_pipeline.proofs.Flow.{frames_of, uses, ending_uses}
+use Rattle.machine_pipeline.proofs.Holds.{AreQueued, IsPooled, ArePooled, IsHand, AtWork, IsWork, BackAt, PagesAt}
 use Rattle.machine_pipeline.proofs.Stations.{StandsAt, AreOpen, IsTaking, finishing, finishing_kind, kind_of, early_open, apart}
 use Rattle.machine_pipeline.proofs.Lists.{all_at, place_of_any, count_two, count_one, count_none, sum_one, sum_two}
 
@@ -126,7 +128,7 @@ ending_own_apart pool requests e pooled a b other in_a in_b in_pool = λ same.
     let two = uses_two e.request a b (frame_at e.request a) other in_a in_b refl (sym same) in
     omega arith
 
--- a request whose number no job with a mapping has is not mapped, nor is the ring's page its frame
+-- a request whose number no job with a mapping has is not mapped, nor is its frame one of the ring's
 -- the mapping in a job's hand is that of one of its request's frames
 pub record IsHandOf (m : Mapping) (r : Request) : Type 0 where
   pub place : ℕ
@@ -167,16 +169,16 @@ hands_none test (t ∷ works) none =
         one m t zero x e = rw (sym (same_Some m x e)) t
         one m t (suc i) x e = absurd (none-some x e)
 
-pub nothing_given_up : (b : BackStage) (start fetched back_seen replied : ℕ) (submitted : List Request) (works : List Work) (entry : List ℕ) → BackAt start fetched back_seen replied submitted works entry b → given_up b ≡ []
-nothing_given_up (back.GiveUp m) start fetched back_seen replied submitted works entry h = absurd h
-nothing_given_up b start fetched back_seen replied submitted works entry h = refl
+pub nothing_given_up : (shape : Shape) (b : BackStage) (start fetched back_seen replied : ℕ) (submitted : List Request) (works : List Work) (entry : List ℕ) → BackAt shape start fetched back_seen replied submitted works entry b → given_up b ≡ []
+nothing_given_up shape (back.GiveUp m) start fetched back_seen replied submitted works entry h = absurd h
+nothing_given_up shape b start fetched back_seen replied submitted works entry h = refl
 
-pub page_none : (test : Mapping → Bool) (b : BackStage) (page : Mapping) → (has_page b ≡ true → test page ≡ false) → count_by test (page_at b page) ≡ 0
-page_none test back.MapRing page none = refl
-page_none test back.ClosePort page none = refl
-page_none test back.Halted page none = refl
-page_none test b page none = count_none test (page ∷ []) one
-  where
-    one : (i : ℕ) (x : Mapping) → slice_get (page ∷ []) i ≡ Some x → test x ≡ false
-    one zero x e = rw (sym (same_Some page x e)) (none refl)
-    one (suc i) x e = absurd (none-some x e)
+-- no more pages are mapped than the ring has
+pub mapped_few : (b : BackStage) (order count : ℕ) → PagesAt b order count → count ≤ 2 ^ order
+mapped_few back.InitWait order count h = omega (arith, h)
+mapped_few back.MapRing order count h = omega (arith, h)
+mapped_few b order count h = omega (arith, h)
+
+-- so each is of one of the ring's frames
+pub pages_none : (test : Mapping → Bool) (pages : List Mapping) → ((page : ℕ) → page < length pages → test (slice_index_or pages page no_page) ≡ false) → count_by test pages ≡ 0
+pages_none test pages none = count_none test pages (λ i m e. subst (λ (x : Mapping). test x ≡ false) (get_or_from_slice_get pages i m no_page e) (none i (slice_get_within pages i m e)))

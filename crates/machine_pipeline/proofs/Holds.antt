@@ -3,7 +3,9 @@ use Rattle.std.specs.Prelude.{◌≡◌, ◌≢◌, ℕ, ◌+◌, ◌-◌, ◌*�
 use Rattle.blk_base.specs.declared.parts.Mapping.{Mapping}
 use Rattle.blk_base.specs.declared.parts.Mode.TheVariants.{ReadWrite}
 use Rattle.blk_base.specs.declared.operation.Status.TheVariants.{Okay}
+use Rattle.std.specs.List.{range_with_len}
 use Rattle.ring_words.specs.Ring.{Ring}
+use Rattle.ring_words.specs.Shape.{Shape, entries_of, entry_words_of}
 use Rattle.xen_pages.specs.Pages.{word_of}
 use Rattle.grant_table.specs.declared.held.Held.{Held}
 use Rattle.grant_table.specs.Table.{entry_word0, entry_word1, mappings_of}
@@ -17,7 +19,7 @@ use Rattle.blk_front.specs.Request.{is_write, tag_of, operation_of, grant_flags,
 use Rattle.blk_front.specs.declared.stage.Ending.{Ending}
 use Rattle.blk_front.specs.declared.stage.Stage.{Stage as FrontStage}
 use Rattle.blk_front.specs.declared.stage.Stage.TheVariants as front
-use Rattle.blk_front.specs.View.{fresh_word, slot_word, next_request}
+use Rattle.blk_front.specs.View.{fresh_word, slot_frame, slot_word, next_request}
 use Rattle.blk_front.specs.Step.{entry_of}
 use Rattle.blk_front.specs.Submit.{is_ready, is_connected, ending_of}
 use Rattle.back_jobs.specs.declared.stage.Stage.{Stage as JobStage}
@@ -27,18 +29,17 @@ use Rattle.blk_back.specs.declared.stage.Reply.{Reply}
 use Rattle.blk_back.specs.declared.stage.Stage.{Stage as BackStage}
 use Rattle.blk_back.specs.declared.stage.Stage.TheVariants as back
 use Rattle.blk_back.specs.Ask.{response_word}
-use Rattle.blk_back.specs.View.{info_of}
+use Rattle.blk_back.specs.View.{no_page, info_of}
 use Rattle.blk_back.specs.Hands.{hands_at}
 use Rattle.blk_base.specs.Options.{Options}
 use Rattle.split_model.specs.World.{World}
 use Rattle.split_model.specs.Safe.{IsSafe}
-use Rattle.machine_pipeline.proofs.Flow.{Flow, wrapped, has_ring, is_ring_named, is_ring_granted, filled, named_frames, granted_frames, entered, ending_at, revoking_at, revoked, telling_at, frames_of, uses, ending_frames, ending_uses, is_front_arming, may_front_sleep, reply_at, reply_count, responded, is_back_arming, may_back_sleep, has_page, is_bound_back, own_segments, data_word, is_issuing, is_fetching}
+use Rattle.machine_pipeline.proofs.Flow.{Flow, wrapped, has_ring, named_pages, granted_pages, filled, named_frames, granted_frames, entered, ending_at, revoking_at, revoked, telling_at, frames_of, uses, ending_frames, ending_uses, is_front_arming, may_front_sleep, reply_at, reply_count, responded, is_back_arming, may_back_sleep, has_terms, is_bound_back, own_segments, data_word, is_issuing, is_fetching}
 use Rattle.machine_pipeline.proofs.Stations.{AreStations}
 
 -- the indices of both ends are whole ones, wrapped, in the order of a request's way; `held` requests are unfinished, `waiting` of them not issued, and `ending` more have their grant ended
 pub record AreIndices (g : Flow) (front_ring back_ring : Ring) (front_seen back_seen number last waiting unfinished ending : ℕ) : Type 0 where
-  pub front_entries : front_ring.entries ≡ 32
-  pub back_entries : back_ring.entries ≡ 32
+  pub front_entries : front_ring.entries ≡ entries_of g.shape.order
   pub pushed : front_ring.prod ≡ wrapped g.start g.pushed
   pub taken : front_ring.cons ≡ wrapped g.start g.taken
   pub replied : back_ring.prod ≡ wrapped g.start g.replied
@@ -56,7 +57,7 @@ pub record AreIndices (g : Flow) (front_ring back_ring : Ring) (front_seen back_
   pub all : last ≡ g.pushed + waiting
   pub few : last < 2 ^ 32
   pub held : unfinished + g.taken ≡ last
-  pub room : unfinished + ending ≤ 32
+  pub room : unfinished + ending ≤ entries_of g.shape.order
 
 -- the front's requests are submitted ones, in order of number; those that wait are the next ones to be pushed
 pub record AreQueued (submitted : List Request) (pushed : ℕ) (requests : List Request) (waiting : ℕ) : Type 0 where
@@ -174,28 +175,31 @@ IsNextAt next P = (r : Request) × (next ≡ Some r) × P r
 abbrev pub IsEndingAt : List Request → List Reply → Option Ending → (Ending → Type 0) → Type 0
 IsEndingAt submitted replies ending P = (e : Ending) × (ending ≡ Some e) × IsEnding submitted replies e × P e
 
-abbrev pub FrontAt : (start pushed taken front_seen : ℕ) → List Request → List Reply → Option Request → List ℕ → Option Ending → FrontStage → Type 0
-FrontAt start pushed taken front_seen submitted replies next entry ending (front.RingWord k) = k < 16
-FrontAt start pushed taken front_seen submitted replies next entry ending (front.Data n) = IsNextAt next (λ r. (1 ≤ n) × (n < words_in r) × (is_write r.transfer ≡ true))
-FrontAt start pushed taken front_seen submitted replies next entry ending (front.GrantFrame place) = IsNextAt next (λ r. place < frames_of r)
-FrontAt start pushed taken front_seen submitted replies next entry ending (front.GrantFence place) = IsNextAt next (λ r. place < frames_of r)
-FrontAt start pushed taken front_seen submitted replies next entry ending (front.GrantFlags place) = IsNextAt next (λ r. place < frames_of r)
-FrontAt start pushed taken front_seen submitted replies next entry ending (front.Slot k) = (k < 28) × IsNextAt next (λ r. entry ≡ entry_of r)
-FrontAt start pushed taken front_seen submitted replies next entry ending front.Producer = IsNextAt next (λ r. Unit {0})
-FrontAt start pushed taken front_seen submitted replies next entry ending (front.ProducerFence old) = (1 ≤ pushed) × (old ≡ wrapped start (pushed - 1))
-FrontAt start pushed taken front_seen submitted replies next entry ending (front.RequestEvent old) = (1 ≤ pushed) × (old ≡ wrapped start (pushed - 1))
-FrontAt start pushed taken front_seen submitted replies next entry ending (front.ResponseHigh low) = (t : IsTaken taken front_seen replies) × (low ≡ response_word t.rep 0)
-FrontAt start pushed taken front_seen submitted replies next entry ending (front.ResponseLast low high) = (t : IsTaken taken front_seen replies) × (low ≡ response_word t.rep 0) × (high ≡ response_word t.rep 1)
-FrontAt start pushed taken front_seen submitted replies next entry ending (front.GrantRead place) = IsEndingAt submitted replies ending (λ e. place < frames_of e.request)
-FrontAt start pushed taken front_seen submitted replies next entry ending (front.GrantEnd place before) = IsEndingAt submitted replies ending (λ e. (place < frames_of e.request) × (before ≡ grant_flags e.request.transfer))
-FrontAt start pushed taken front_seen submitted replies next entry ending (front.ReadData n) = IsEndingAt submitted replies ending (λ e. (n < words_in e.request) × (e.request.transfer ≡ transfer.Read) × (e.status ≡ Okay))
-FrontAt start pushed taken front_seen submitted replies next entry ending front.RingRead = ⊥
-FrontAt start pushed taken front_seen submitted replies next entry ending (front.RingEnd before) = ⊥
-FrontAt start pushed taken front_seen submitted replies next entry ending front.ClosePort = ⊥
-FrontAt start pushed taken front_seen submitted replies next entry ending front.Left = ⊥
-FrontAt start pushed taken front_seen submitted replies next entry ending front.Closed = ⊥
-FrontAt start pushed taken front_seen submitted replies next entry ending (front.Broken word) = ⊥
-FrontAt start pushed taken front_seen submitted replies next entry ending s = Unit {0}
+abbrev pub FrontAt : Shape → (start pushed taken front_seen : ℕ) → List Request → List Reply → Option Request → List ℕ → Option Ending → FrontStage → Type 0
+FrontAt shape start pushed taken front_seen submitted replies next entry ending (front.RingWord k) = k < 16
+FrontAt shape start pushed taken front_seen submitted replies next entry ending (front.RingFrame page) = page < 2 ^ shape.order
+FrontAt shape start pushed taken front_seen submitted replies next entry ending (front.RingFence page) = page < 2 ^ shape.order
+FrontAt shape start pushed taken front_seen submitted replies next entry ending (front.RingFlags page) = page < 2 ^ shape.order
+FrontAt shape start pushed taken front_seen submitted replies next entry ending (front.Data n) = IsNextAt next (λ r. (1 ≤ n) × (n < words_in r) × (is_write r.transfer ≡ true))
+FrontAt shape start pushed taken front_seen submitted replies next entry ending (front.GrantFrame place) = IsNextAt next (λ r. place < frames_of r)
+FrontAt shape start pushed taken front_seen submitted replies next entry ending (front.GrantFence place) = IsNextAt next (λ r. place < frames_of r)
+FrontAt shape start pushed taken front_seen submitted replies next entry ending (front.GrantFlags place) = IsNextAt next (λ r. place < frames_of r)
+FrontAt shape start pushed taken front_seen submitted replies next entry ending (front.Slot k) = (k < entry_words_of shape.abi) × IsNextAt next (λ r. entry ≡ entry_of shape.abi r)
+FrontAt shape start pushed taken front_seen submitted replies next entry ending front.Producer = IsNextAt next (λ r. Unit {0})
+FrontAt shape start pushed taken front_seen submitted replies next entry ending (front.ProducerFence old) = (1 ≤ pushed) × (old ≡ wrapped start (pushed - 1))
+FrontAt shape start pushed taken front_seen submitted replies next entry ending (front.RequestEvent old) = (1 ≤ pushed) × (old ≡ wrapped start (pushed - 1))
+FrontAt shape start pushed taken front_seen submitted replies next entry ending (front.ResponseHigh low) = (t : IsTaken taken front_seen replies) × (low ≡ response_word t.rep 0)
+FrontAt shape start pushed taken front_seen submitted replies next entry ending (front.ResponseLast low high) = (t : IsTaken taken front_seen replies) × (low ≡ response_word t.rep 0) × (high ≡ response_word t.rep 1)
+FrontAt shape start pushed taken front_seen submitted replies next entry ending (front.GrantRead place) = IsEndingAt submitted replies ending (λ e. place < frames_of e.request)
+FrontAt shape start pushed taken front_seen submitted replies next entry ending (front.GrantEnd place before) = IsEndingAt submitted replies ending (λ e. (place < frames_of e.request) × (before ≡ grant_flags e.request.transfer))
+FrontAt shape start pushed taken front_seen submitted replies next entry ending (front.ReadData n) = IsEndingAt submitted replies ending (λ e. (n < words_in e.request) × (e.request.transfer ≡ transfer.Read) × (e.status ≡ Okay))
+FrontAt shape start pushed taken front_seen submitted replies next entry ending (front.RingRead page) = ⊥
+FrontAt shape start pushed taken front_seen submitted replies next entry ending (front.RingEnd page before) = ⊥
+FrontAt shape start pushed taken front_seen submitted replies next entry ending front.ClosePort = ⊥
+FrontAt shape start pushed taken front_seen submitted replies next entry ending front.Left = ⊥
+FrontAt shape start pushed taken front_seen submitted replies next entry ending front.Closed = ⊥
+FrontAt shape start pushed taken front_seen submitted replies next entry ending (front.Broken word) = ⊥
+FrontAt shape start pushed taken front_seen submitted replies next entry ending s = Unit {0}
 
 -- before it is connected nothing was submitted
 abbrev pub IsUnused : Bool → (pushed last : ℕ) → Type 0
@@ -209,40 +213,45 @@ pub record IsReplying (fetched : ℕ) (works : List Work) (rep : Reply) : Type 0
   pub op : rep.op < 2 ^ 8
   pub alone : All (λ (t : Work). t.number ≢ rep.id) works
 
-abbrev pub BackAt : (start fetched back_seen replied : ℕ) → List Request → List Work → List ℕ → BackStage → Type 0
-BackAt start fetched back_seen replied submitted works entry back.MapRing = fetched ≡ 0
-BackAt start fetched back_seen replied submitted works entry back.Bind = fetched ≡ 0
-BackAt start fetched back_seen replied submitted works entry (back.Fetch k) = (1 ≤ k) × (k < 28) × (fetched < back_seen) × ((r : Request) × (slice_get submitted fetched ≡ Some r) × (entry ≡ take k (entry_of r)))
-BackAt start fetched back_seen replied submitted works entry (back.ReplyHigh rep) = IsReplying fetched works rep
-BackAt start fetched back_seen replied submitted works entry (back.ReplyLast rep) = IsReplying fetched works rep
-BackAt start fetched back_seen replied submitted works entry (back.Producer rep) = IsReplying fetched works rep
-BackAt start fetched back_seen replied submitted works entry (back.ProducerFence old) = (1 ≤ replied) × (old ≡ wrapped start (replied - 1))
-BackAt start fetched back_seen replied submitted works entry (back.ResponseEvent old) = (1 ≤ replied) × (old ≡ wrapped start (replied - 1))
-BackAt start fetched back_seen replied submitted works entry (back.GiveUp m) = ⊥
-BackAt start fetched back_seen replied submitted works entry back.UnmapRing = ⊥
-BackAt start fetched back_seen replied submitted works entry back.ClosePort = ⊥
-BackAt start fetched back_seen replied submitted works entry back.UnmapUnbound = ⊥
-BackAt start fetched back_seen replied submitted works entry back.Halted = ⊥
-BackAt start fetched back_seen replied submitted works entry s = Unit {0}
+abbrev pub BackAt : Shape → (start fetched back_seen replied : ℕ) → List Request → List Work → List ℕ → BackStage → Type 0
+BackAt shape start fetched back_seen replied submitted works entry back.InitWait = fetched ≡ 0
+BackAt shape start fetched back_seen replied submitted works entry back.MapRing = fetched ≡ 0
+BackAt shape start fetched back_seen replied submitted works entry back.Bind = fetched ≡ 0
+BackAt shape start fetched back_seen replied submitted works entry (back.Fetch k) = (1 ≤ k) × (k < entry_words_of shape.abi) × (fetched < back_seen) × ((r : Request) × (slice_get submitted fetched ≡ Some r) × (entry ≡ take k (entry_of shape.abi r)))
+BackAt shape start fetched back_seen replied submitted works entry (back.ReplyHigh rep) = IsReplying fetched works rep
+BackAt shape start fetched back_seen replied submitted works entry (back.ReplyLast rep) = IsReplying fetched works rep
+BackAt shape start fetched back_seen replied submitted works entry (back.Producer rep) = IsReplying fetched works rep
+BackAt shape start fetched back_seen replied submitted works entry (back.ProducerFence old) = (1 ≤ replied) × (old ≡ wrapped start (replied - 1))
+BackAt shape start fetched back_seen replied submitted works entry (back.ResponseEvent old) = (1 ≤ replied) × (old ≡ wrapped start (replied - 1))
+BackAt shape start fetched back_seen replied submitted works entry (back.GiveUp m) = ⊥
+BackAt shape start fetched back_seen replied submitted works entry back.UnmapRing = ⊥
+BackAt shape start fetched back_seen replied submitted works entry back.ClosePort = ⊥
+BackAt shape start fetched back_seen replied submitted works entry back.UnmapUnbound = ⊥
+BackAt shape start fetched back_seen replied submitted works entry back.Halted = ⊥
+BackAt shape start fetched back_seen replied submitted works entry s = Unit {0}
 
--- the ring's producers hold what was pushed and replied; before that, its words are being written; its frame's grant is as far as the front came, until the back maps it
+-- the ring's producers hold what was pushed and replied; before that, its words are being written; the grant of each of its frames is as far as the front came, until the back maps it
 abbrev pub RingBegun : ℕ → List ℕ → FrontStage → Type 0
 RingBegun start pages (front.RingWord k) = (j : ℕ) → j < k → word_of pages 2 j ≡ fresh_word start j
 RingBegun start pages s = Unit {0}
 
-pub record AreRingWords (start pushed replied : ℕ) (pages : List ℕ) (front_stage : FrontStage) (back_stage : BackStage) : Type 0 where
+pub record AreRingWords (order start pushed replied : ℕ) (pages : List ℕ) (front_stage : FrontStage) (mapped : ℕ) : Type 0 where
   pub begun : RingBegun start pages front_stage
   pub requests : has_ring front_stage ≡ true → word_of pages 2 0 ≡ wrapped start pushed
   pub responses : has_ring front_stage ≡ true → word_of pages 2 2 ≡ wrapped start replied
-  pub named : is_ring_named front_stage ≡ true → has_page back_stage ≡ false → entry_word1 pages 8 ≡ 2
-  pub granted : is_ring_granted front_stage ≡ true → has_page back_stage ≡ false → entry_word0 pages 8 ≡ 1
+  pub named : (page : ℕ) → page < named_pages front_stage (2 ^ order) → mapped ≤ page → entry_word1 pages (8 + page) ≡ 2 + page
+  pub granted : (page : ℕ) → page < granted_pages front_stage (2 ^ order) → mapped ≤ page → entry_word0 pages (8 + page) ≡ 1
+
+-- word i of the entry of index k, as memory has it
+abbrev pub slot_of : List ℕ → Shape → ℕ → ℕ → ℕ
+slot_of pages shape k i = word_of pages (slot_frame shape k i) (slot_word shape k i)
 
 -- the entries that were pushed and not fetched, the one that is being written, the responses that weren't taken, and the one that is being written
-pub record AreSlots (start fetched pushed taken replied : ℕ) (submitted : List Request) (replies : List Reply) (pages : List ℕ) (front_stage : FrontStage) (back_stage : BackStage) : Type 0 where
-  pub entries : (k : ℕ) (r : Request) → fetched ≤ k → k < pushed → slice_get submitted k ≡ Some r → (i : ℕ) → i < 28 → word_of pages 2 (slot_word (wrapped start k) i) ≡ slice_index (entry_of r) i
-  pub entry : (r : Request) → slice_get submitted pushed ≡ Some r → (i : ℕ) → i < entered front_stage → word_of pages 2 (slot_word (wrapped start pushed) i) ≡ slice_index (entry_of r) i
-  pub responses : (k : ℕ) (rep : Reply) → slice_get replies k ≡ Some rep → (i : ℕ) → i < 3 → word_of pages 2 (slot_word (wrapped start (taken + k)) i) ≡ response_word rep i
-  pub response : (rep : Reply) → reply_at back_stage ≡ Some rep → (i : ℕ) → i < responded back_stage → word_of pages 2 (slot_word (wrapped start replied) i) ≡ response_word rep i
+pub record AreSlots (shape : Shape) (start fetched pushed taken replied : ℕ) (submitted : List Request) (replies : List Reply) (pages : List ℕ) (front_stage : FrontStage) (back_stage : BackStage) : Type 0 where
+  pub entries : (k : ℕ) (r : Request) → fetched ≤ k → k < pushed → slice_get submitted k ≡ Some r → (i : ℕ) → i < entry_words_of shape.abi → slot_of pages shape (wrapped start k) i ≡ slice_index (entry_of shape.abi r) i
+  pub entry : (r : Request) → slice_get submitted pushed ≡ Some r → (i : ℕ) → i < entry_words_of shape.abi → i < entered front_stage → slot_of pages shape (wrapped start pushed) i ≡ slice_index (entry_of shape.abi r) i
+  pub responses : (k : ℕ) (rep : Reply) → slice_get replies k ≡ Some rep → (i : ℕ) → i < 3 → slot_of pages shape (wrapped start (taken + k)) i ≡ response_word rep i
+  pub response : (rep : Reply) → reply_at back_stage ≡ Some rep → (i : ℕ) → i < responded back_stage → slot_of pages shape (wrapped start replied) i ≡ response_word rep i
 
 -- the words of a write's data, once it is pushed, and as far as it is being issued
 pub record IsFilled (pushed : ℕ) (pages : List ℕ) (stage : FrontStage) (r : Request) : Type 0 where
@@ -278,10 +287,27 @@ pub record AreMapped (live : List Held) (hands : List Mapping) : Type 0 where
   pub counted : (test : Mapping → Bool) → count_by (λ (h : Held). test h.mapping) live ≡ count_by test hands
   pub framed : All (λ (h : Held). h.mapping.gref ≡ h.frame + 6) live
 
--- the ring's page is that of reference 8, for writing too
-pub record IsPaged (page : Mapping) (stage : BackStage) : Type 0 where
-  pub gref : has_page stage ≡ true → page.gref ≡ 8
-  pub mode : has_page stage ≡ true → page.mode ≡ ReadWrite
+-- how many pages of the ring are mapped
+abbrev pub PagesAt : BackStage → (order count : ℕ) → Type 0
+PagesAt back.InitWait order count = count ≡ 0
+PagesAt back.MapRing order count = count < 2 ^ order
+PagesAt s order count = count ≡ 2 ^ order
+
+-- the back's terms are the front's: its shape, the references of its ring's frames, which count from 8, and its port; each page of the ring is that of its reference, for writing too
+pub record ArePaged (shape back_shape : Shape) (entries : ℕ) (grefs : List ℕ) (port : ℕ) (pages : List Mapping) (stage : BackStage) : Type 0 where
+  pub shaped : has_terms stage ≡ true → back_shape ≡ shape
+  pub entries_are : has_terms stage ≡ true → entries ≡ entries_of shape.order
+  pub grefs_are : has_terms stage ≡ true → grefs ≡ range_with_len 8 (2 ^ shape.order)
+  pub port_is : has_terms stage ≡ true → port ≡ 1
+  pub mapped : PagesAt stage shape.order (length pages)
+  pub gref : (page : ℕ) → page < length pages → (slice_index_or pages page no_page).gref ≡ 8 + page
+  pub mode : (page : ℕ) → page < length pages → (slice_index_or pages page no_page).mode ≡ ReadWrite
+
+-- the ring's shape is the option's, and the front knows it
+pub record IsOfShape (config : Options) (shape front_shape : Shape) : Type 0 where
+  pub whole : shape ≡ record { abi = config.abi; order = config.order }
+  pub narrow : shape.order ≤ 4
+  pub known : front_shape ≡ shape
 
 -- the words of the sector that the front read so far
 abbrev pub IsReadSoFar : (pages words : List ℕ) → Option Ending → FrontStage → Type 0
@@ -339,6 +365,7 @@ pub record IsOfTheDisk (config : Options) (size : ℕ) (fixed : Bool) (submitted
 -- the machine with the front at stage s and the back at stage b, the flow of its words, and the pipeline that it stands for
 pub record Holds (config : Options) (w : World) (g : Flow) (d : Pipeline) (s : FrontStage) (b : BackStage) : Type 0 where
   pub started : IsStarted config.start g.start w.front.start g.closing w.front.closing
+  pub shaped : IsOfShape config g.shape w.front.shape
   pub sized : IsOfTheDisk config w.front.sectors w.front.read_only g.submitted
   pub indices : AreIndices g w.front.ring w.back.ring w.front.seen w.back.seen w.back.fetched w.front.last w.front.waiting (length w.front.requests) (ending_of s)
   pub queue : AreQueued g.submitted g.pushed w.front.requests w.front.waiting
@@ -349,18 +376,18 @@ pub record Holds (config : Options) (w : World) (g : Flow) (d : Pipeline) (s : F
   pub counted : length w.back.jobs.works + reply_count (reply_at b) + g.replied ≡ g.fetched
   pub info : w.back.jobs.info ≡ info_of config
   pub replies : AreReplies g.fetched g.taken g.replied g.replies
-  pub front_at : FrontAt g.start g.pushed g.taken g.front_seen g.submitted g.replies (next_request w.front) w.front.entry w.front.ending s
+  pub front_at : FrontAt g.shape g.start g.pushed g.taken g.front_seen g.submitted g.replies (next_request w.front) w.front.entry w.front.ending s
   pub unused : IsUnused (is_ready s) g.pushed w.front.last
-  pub back_at : BackAt g.start g.fetched g.back_seen g.replied g.submitted w.back.jobs.works w.back.entry b
+  pub back_at : BackAt g.shape g.start g.fetched g.back_seen g.replied g.submitted w.back.jobs.works w.back.entry b
   pub unhalted : w.back.halted ≡ None
   pub memory : length w.under.pages ≡ 1114112
-  pub ring : AreRingWords g.start g.pushed g.replied w.under.pages s b
-  pub slots : AreSlots g.start g.fetched g.pushed g.taken g.replied g.submitted g.replies w.under.pages s b
+  pub ring : AreRingWords g.shape.order g.start g.pushed g.replied w.under.pages s (length w.back.pages)
+  pub slots : AreSlots g.shape g.start g.fetched g.pushed g.taken g.replied g.submitted g.replies w.under.pages s b
   pub frames : All (IsFilled g.pushed w.under.pages s) w.front.requests
   pub telling : AreDataWords w.under.pages w.front.words w.front.ending s
   pub entries : AreEntries g.pushed w.under.pages w.under.grants.live s w.front.ending w.front.requests
   pub mapped : AreMapped w.under.grants.live (hands_at b w.back)
-  pub page : IsPaged w.back.page b
+  pub paged : ArePaged g.shape w.back.shape w.back.ring.entries w.back.grefs w.back.port w.back.pages b
   pub front_sleep : IsFrontSleep g.start g.taken g.replied w.under.pages w.front.asleep w.under.channels.front_pending s b
   pub back_sleep : IsBackSleep g.start g.fetched g.pushed w.under.pages w.back.asleep w.under.channels.back_pending s b
   pub ports : PortsAt (is_connected s) (is_bound_back b) w.under.channels.made w.under.channels.ports

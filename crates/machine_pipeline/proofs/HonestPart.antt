@@ -1,5 +1,5 @@
 -- The report before a hostile hand first overwrote a word is that of what happened before.
-use Rattle.std.proofs.Common.{◌≡◌, ℕ, Bool, true, false, List, [], ◌∷◌, ◌++◌, ◌⊎◌, inl, inr, refl, ap, sym, ◌∙◌, subst, append_assoc, true≢false}
+use Rattle.std.proofs.Common.{◌≡◌, ℕ, ◌*◌, ◌^◌, Bool, true, false, List, [], ◌∷◌, ◌++◌, ◌⊎◌, inl, inr, refl, ap, sym, ◌∙◌, subst, append_assoc, true≢false}
 use Rattle.std.specs.Prelude.{if◌then◌else◌, Result, Ok, Err}
 use Rattle.std.specs.List.{AllByRecursion, list_all}
 use Rattle.std.proofs.lemmas.List.{append-nil}
@@ -70,7 +70,7 @@ honest_at : (w : World) (h : Happening) → IsUnpoked h → AreHonest (lines_at 
 honest_at w (Submits job) may = submit_honest job (front_submit.submit_of w.front job).0
 honest_at w (Looks quiet) may = look_honest quiet lines.Busy refl
 honest_at w (Settles quiet) may = look_honest quiet lines.Unsettled refl
-honest_at w Dumps may = dump_lines_are (λ (line : Line). is_honest line ≡ true) w.under.pages 0 1024 (λ frame word value. refl)
+honest_at w Dumps may = dump_lines_are (λ (line : Line). is_honest line ≡ true) w.under.pages 0 (1024 * 2 ^ w.front.shape.order) (λ frame word value. refl)
 honest_at w (Pokes frame word value) may = absurd may
 honest_at w h may = silent_honest (lines_at w h) (move_silent w h refl)
 

@@ -2,6 +2,7 @@
 use Rattle.std.proofs.Common.{◌≡◌, ℕ, ◌+◌, ◌^◌, ◌<◌, ◌≤◌, refl, arith}
 use Rattle.blk_base.specs.Options.{Options}
 use Rattle.ring_words.specs.Ring.{Ring}
+use Rattle.ring_words.specs.Shape.{entries_of}
 use Rattle.split_model.specs.World.{World, start_of}
 use Rattle.machine_pipeline.specs.Plain.{IsPlain}
 use Rattle.machine_pipeline.proofs.Flow.{Flow, start_flow, wrapped}
@@ -9,12 +10,11 @@ use Rattle.machine_pipeline.proofs.Holds.{AreIndices}
 
 -- the front saw so many responses, and so many requests' grants are being ended
 pub indices_seen : (g : Flow) (whole : ℕ) (front_ring back_ring : Ring) (front_seen seen back_seen number last waiting unfinished ending ending' : ℕ)
-    → seen ≡ wrapped g.start whole → g.taken ≤ whole → whole ≤ g.replied → unfinished + ending' ≤ 32
+    → seen ≡ wrapped g.start whole → g.taken ≤ whole → whole ≤ g.replied → unfinished + ending' ≤ entries_of g.shape.order
     → AreIndices g front_ring back_ring front_seen back_seen number last waiting unfinished ending
     → AreIndices (record g { front_seen = whole }) front_ring back_ring seen back_seen number last waiting unfinished ending'
 indices_seen g whole front_ring back_ring front_seen seen back_seen number last waiting unfinished ending ending' saw from to room h = record {
   front_entries = h.front_entries;
-  back_entries = h.back_entries;
   pushed = h.pushed;
   taken = h.taken;
   replied = h.replied;
@@ -37,7 +37,7 @@ indices_seen g whole front_ring back_ring front_seen seen back_seen number last 
 
 -- as many responses as before
 pub indices_room : (g : Flow) (front_ring back_ring : Ring) (front_seen back_seen number last waiting unfinished ending ending' : ℕ)
-    → unfinished + ending' ≤ 32
+    → unfinished + ending' ≤ entries_of g.shape.order
     → AreIndices g front_ring back_ring front_seen back_seen number last waiting unfinished ending
     → AreIndices g front_ring back_ring front_seen back_seen number last waiting unfinished ending'
 indices_room g front_ring back_ring front_seen back_seen number last waiting unfinished ending ending' room h =
@@ -47,10 +47,9 @@ at_first : (start : ℕ) → start < 2 ^ 32 → start ≡ wrapped start 0
 at_first start few = omega arith
 
 -- at the start
-pub indices_first : (config : Options) → IsPlain config → (let w : World = start_of config in AreIndices (start_flow config.start) w.front.ring w.back.ring w.front.seen w.back.seen w.back.fetched 0 0 0 0)
+pub indices_first : (config : Options) → IsPlain config → (let w : World = start_of config in AreIndices (start_flow (record { abi = config.abi; order = config.order }) config.start) w.front.ring w.back.ring w.front.seen w.back.seen w.back.fetched 0 0 0 0)
 indices_first config plain = record {
   front_entries = refl;
-  back_entries = refl;
   pushed = begins;
   taken = begins;
   replied = begins;

@@ -1,5 +1,5 @@
 -- A step of the front while it issues a request leaves all as it was but its stage, its entry and words of memory.
-use Rattle.std.proofs.Common.{◌≡◌, ℕ, ◌<◌, ◌≤◌, Bool, true, false, List, length, get_or, refl, sym, ◌∙◌, inl, inr, arith}
+use Rattle.std.proofs.Common.{◌≡◌, ℕ, ◌<◌, ◌≤◌, Bool, true, false, List, length, get_or, refl, sym, ◌∙◌, inl, inr, arith, ◌^◌, subst}
 use Rattle.std.specs.Prelude.{All, Option, Some, None}
 use Rattle.std.proofs.lemmas.Option.{none-some, slice_get-get_or}
 use Rattle.blk_base.specs.Options.{Options}
@@ -17,19 +17,21 @@ use Rattle.blk_front.specs.Submit.{is_ready, is_connected, ending_of}
 use Rattle.blk_back.specs.declared.stage.Reply.{Reply}
 use Rattle.blk_back.specs.declared.stage.Stage.{Stage as BackStage}
 use Rattle.split_model.specs.World.{World}
-use Rattle.machine_pipeline.proofs.Flow.{Flow, has_ring, is_ring_named, is_ring_granted, filled, named_frames, granted_frames, entered, ending_at, revoking_at, is_front_arming, may_front_sleep, telling_at, is_issuing, is_fetching, reply_at}
+use Rattle.machine_pipeline.proofs.Flow.{Flow, has_ring, named_pages, granted_pages, filled, named_frames, granted_frames, entered, ending_at, revoking_at, is_front_arming, may_front_sleep, telling_at, is_issuing, is_fetching, reply_at}
 use Rattle.machine_pipeline.proofs.Holds.{FrontAt, RingBegun, AreRingWords, AreSlots, IsFilled, IsReadSoFar, AreEntries, FrontSends, IsFrontSleep, IsBackSleep, Holds}
 use Rattle.machine_pipeline.proofs.Frames.{is_submitted}
-use Rattle.machine_pipeline.proofs.Kept.{as_connected, SameFrame, SameEntry, SameGrants, data_same, slots_kept}
+use Rattle.ring_words.specs.Shape.{Shape}
+use Rattle.machine_pipeline.proofs.Kept.{as_connected, SameFrame, SameEntry, SameGrants, data_same, slots_kept, SameRing}
 use Rattle.machine_pipeline.proofs.Data.{SameData, pooled_at}
 use Rattle.machine_pipeline.proofs.Stations.{AreStations, turned}
 use Rattle.machine_pipeline.proofs.ReadsKept.{stations_elsewhere}
+use Rattle.machine_pipeline.proofs.Slots.{SameSlots, few_pages}
 
 -- the ring is made, no grant is being ended, and no event word was stored for sleep
 pub record IsIssuing (s : FrontStage) : Type 0 where
   pub ring : has_ring s ≡ true
-  pub named : is_ring_named s ≡ true
-  pub granted : is_ring_granted s ≡ true
+  pub named : (pages : ℕ) → named_pages s pages ≡ pages
+  pub granted : (pages : ℕ) → granted_pages s pages ≡ pages
   pub begun : (start : ℕ) (pages : List ℕ) → RingBegun start pages s
   pub ending : (e : Option Ending) → ending_at s e ≡ None
   pub unrevoked : (ending : Option Ending) (e : Ending) → revoking_at s ending ≡ Some e → ⊥
@@ -42,9 +44,9 @@ pub record IsIssuing (s : FrontStage) : Type 0 where
 -- so it is at the stages at which the front may sleep
 pub issuing : (s : FrontStage) → may_front_sleep s ≡ true → IsIssuing s
 issuing (front.RingWord k) t = absurd (cc)
-issuing front.RingFrame t = absurd (cc)
-issuing front.RingFence t = absurd (cc)
-issuing front.RingFlags t = absurd (cc)
+issuing (front.RingFrame page) t = absurd (cc)
+issuing (front.RingFence page) t = absurd (cc)
+issuing (front.RingFlags page) t = absurd (cc)
 issuing front.NewPort t = absurd (cc)
 issuing front.Initialised t = absurd (cc)
 issuing (front.ResponseHigh low) t = absurd (cc)
@@ -55,41 +57,46 @@ issuing (front.ReadData n) t = absurd (cc)
 issuing front.StoreEvent t = absurd (cc)
 issuing front.EventFence t = absurd (cc)
 issuing front.LookAgain t = absurd (cc)
-issuing front.RingRead t = absurd (cc)
-issuing (front.RingEnd before) t = absurd (cc)
+issuing (front.RingRead page) t = absurd (cc)
+issuing (front.RingEnd page before) t = absurd (cc)
 issuing front.ClosePort t = absurd (cc)
 issuing front.Left t = absurd (cc)
 issuing front.Closed t = absurd (cc)
 issuing (front.Broken word) t = absurd (cc)
-issuing s t = record { ring = refl; named = refl; granted = refl; begun = λ start pages. tt; ending = λ e. refl; unrevoked = λ ending e same. none-some e same; ended = refl; ready = refl; arming = refl; untelling = refl; silent = λ pages words ending. tt }
+issuing s t = record { ring = refl; named = λ pages. refl; granted = λ pages. refl; begun = λ start pages. tt; ending = λ e. refl; unrevoked = λ ending e same. none-some e same; ended = refl; ready = refl; arming = refl; untelling = refl; silent = λ pages words ending. tt }
 
 -- the ring's own words and the grant of its frame
-pub ring_turned : (start pushed replied : ℕ) (old new : List ℕ) (s s' : FrontStage) (b : BackStage)
+pub ring_turned : (order start pushed replied : ℕ) (old new : List ℕ) (s s' : FrontStage) (mapped : ℕ)
+    → order ≤ 4
     → may_front_sleep s ≡ true → may_front_sleep s' ≡ true
     → ((w : ℕ) → w < 16 → word_of new 2 w ≡ word_of old 2 w)
-    → SameEntry old new 8
-    → AreRingWords start pushed replied old s b
-    → AreRingWords start pushed replied new s' b
-ring_turned start pushed replied old new s s' b m m' same entry h = let i = issuing s m in let i' = issuing s' m' in record {
+    → SameRing old new
+    → AreRingWords order start pushed replied old s mapped
+    → AreRingWords order start pushed replied new s' mapped
+ring_turned order start pushed replied old new s s' mapped narrow m m' same entry h = let i = issuing s m in let i' = issuing s' m' in let few = few_pages order narrow in record {
   begun = i'.begun start new;
   requests = λ t. same 0 (omega arith) ∙ h.requests i.ring;
   responses = λ t. same 2 (omega arith) ∙ h.responses i.ring;
-  named = λ t u. entry.frame ∙ h.named i.named u;
-  granted = λ t u. entry.flags ∙ h.granted i.granted u;
+  named = λ page lt unmapped.
+      let kept = entry page (let all = i'.named (2 ^ order) in omega arith) in
+      kept.frame ∙ h.named page (subst (λ (n : ℕ). page < n) (i'.named (2 ^ order) ∙ sym (i.named (2 ^ order))) lt) unmapped;
+  granted = λ page lt unmapped.
+      let kept = entry page (let all = i'.granted (2 ^ order) in omega arith) in
+      kept.flags ∙ h.granted page (subst (λ (n : ℕ). page < n) (i'.granted (2 ^ order) ∙ sym (i.granted (2 ^ order))) lt) unmapped;
 }
 
 -- entries and responses, where no more of an entry was written
-pub slots_turned : (start fetched pushed taken replied : ℕ) (submitted : List Request) (replies : List Reply) (old new : List ℕ) (s s' : FrontStage) (b : BackStage)
-    → ((w : ℕ) → 16 ≤ w → w < 1024 → word_of new 2 w ≡ word_of old 2 w)
-    → entered s ≤ 28
+pub slots_turned : (shape : Shape) (start fetched pushed taken replied : ℕ) (submitted : List Request) (replies : List Reply) (old new : List ℕ) (s s' : FrontStage) (b : BackStage)
+    → shape.order ≤ 4
+    → SameSlots old new
     → entered s' ≡ 0
-    → AreSlots start fetched pushed taken replied submitted replies old s b
-    → AreSlots start fetched pushed taken replied submitted replies new s' b
-slots_turned start fetched pushed taken replied submitted replies old new s s' b same few none h =
-    let kept : AreSlots start fetched pushed taken replied submitted replies new s b = slots_kept start fetched pushed taken replied submitted replies old new s b same few h in
+    → AreSlots shape start fetched pushed taken replied submitted replies old s b
+    → AreSlots shape start fetched pushed taken replied submitted replies new s' b
+slots_turned shape start fetched pushed taken replied submitted replies old new s s' b narrow same none h =
+    let kept : AreSlots shape start fetched pushed taken replied submitted replies new s b = slots_kept shape start fetched pushed taken replied submitted replies old new s b narrow same h in
     record {
       entries = kept.entries;
-      entry = λ r e i lt. absurd (omega arith);
+      entry = λ r e i lt few. absurd (omega arith);
       responses = kept.responses;
       response = kept.response;
     }
@@ -178,11 +185,11 @@ pub issue_moved : (config : Options) (w : World) (g : Flow) (d d' : Pipeline) (s
     → may_front_sleep s ≡ true → may_front_sleep s' ≡ true
     → Holds config w g d s w.back.stage
     → AreStations config g d' (is_ready s') (is_issuing s') (is_fetching w.back.stage) (ending_at s' w.front.ending) (telling_at s') (reply_at w.back.stage) w.front.requests w.back.jobs.works pages
-    → FrontAt g.start g.pushed g.taken g.front_seen g.submitted g.replies (next_request w.front) entry w.front.ending s'
+    → FrontAt g.shape g.start g.pushed g.taken g.front_seen g.submitted g.replies (next_request w.front) entry w.front.ending s'
     → length pages ≡ 1114112
     → ((x : ℕ) → x < 16 → word_of pages 2 x ≡ word_of w.under.pages 2 x)
-    → SameEntry w.under.pages pages 8
-    → AreSlots g.start g.fetched g.pushed g.taken g.replied g.submitted g.replies pages s' w.back.stage
+    → SameRing w.under.pages pages
+    → AreSlots g.shape g.start g.fetched g.pushed g.taken g.replied g.submitted g.replies pages s' w.back.stage
     → All (IsFilled g.pushed pages s') w.front.requests
     → AreEntries g.pushed pages w.under.grants.live s' w.front.ending w.front.requests
     → (w.back.asleep ≡ true → FrontSends s g.pushed g.fetched → FrontSends s' g.pushed g.fetched)
@@ -196,6 +203,7 @@ issue_moved config w g d d' s s' entry pages m m' h stations at sized words name
     let connected : is_connected s' ≡ is_connected s = as_connected s' s i'.ready i.ready in
     record {
       started = h.started;
+      shaped = h.shaped;
       sized = h.sized;
       indices = rw ended h.indices;
       queue = h.queue;
@@ -211,13 +219,13 @@ issue_moved config w g d d' s s' entry pages m m' h stations at sized words name
       back_at = h.back_at;
       unhalted = h.unhalted;
       memory = sized;
-      ring = ring_turned g.start g.pushed g.replied w.under.pages pages s s' w.back.stage m m' words named h.ring;
+      ring = ring_turned g.shape.order g.start g.pushed g.replied w.under.pages pages s s' (length w.back.pages) h.shaped.narrow m m' words named h.ring;
       slots = slots;
       frames = frames;
       telling = record { size = h.telling.size; so_far = i'.silent pages w.front.words w.front.ending };
       entries = entries;
       mapped = h.mapped;
-      page = h.page;
+      paged = h.paged;
       front_sleep = front_sleep_turned g.start g.taken g.replied w.under.pages pages w.front.asleep w.under.channels.front_pending s s' w.back.stage m' (words 3 (omega arith)) h.front_sleep;
       back_sleep = back_sleep_turned g.start g.fetched g.pushed w.under.pages pages w.back.asleep w.under.channels.back_pending s s' w.back.stage (words 1 (omega arith)) sends h.back_sleep;
       ports = rw connected h.ports;
@@ -227,12 +235,12 @@ issue_moved config w g d d' s s' entry pages m m' h stations at sized words name
 pub issue_kept : (config : Options) (w : World) (g : Flow) (d : Pipeline) (s s' : FrontStage) (entry pages : List ℕ)
     → may_front_sleep s ≡ true → may_front_sleep s' ≡ true → is_issuing s' ≡ is_issuing s
     → Holds config w g d s w.back.stage
-    → FrontAt g.start g.pushed g.taken g.front_seen g.submitted g.replies (next_request w.front) entry w.front.ending s'
+    → FrontAt g.shape g.start g.pushed g.taken g.front_seen g.submitted g.replies (next_request w.front) entry w.front.ending s'
     → length pages ≡ 1114112
     → ((f : ℕ) → 18 ≤ f → f < 1018 → SameFrame w.under.pages pages f)
     → ((x : ℕ) → x < 16 → word_of pages 2 x ≡ word_of w.under.pages 2 x)
-    → SameEntry w.under.pages pages 8
-    → AreSlots g.start g.fetched g.pushed g.taken g.replied g.submitted g.replies pages s' w.back.stage
+    → SameRing w.under.pages pages
+    → AreSlots g.shape g.start g.fetched g.pushed g.taken g.replied g.submitted g.replies pages s' w.back.stage
     → All (IsFilled g.pushed pages s') w.front.requests
     → AreEntries g.pushed pages w.under.grants.live s' w.front.ending w.front.requests
     → (w.back.asleep ≡ true → FrontSends s g.pushed g.fetched → FrontSends s' g.pushed g.fetched)

@@ -38,7 +38,7 @@ took_goes config w g d number p t r m h is e at = record {
   holds = subst (λ (x : Work). let v : World = record { front = w.front; back = record w.back { jobs = record w.back.jobs { works = slice_set w.back.jobs.works p x }; told = None }; under = w.under } in Holds config v g (next d s.step) v.front.stage v.back.stage) (sym stepped)
       (job_holds config w g d (next d s.step) p t then w.under.pages w.under.grants h is.place refl s.now
       (work_of w g d (next d s.step) p t then r is refl refl refl (at_further (counted t) r m last moved at.1 refl))
-      h.memory (λ v lt. refl) (record { flags = refl; frame = refl }) (λ f low high v lt. refl) h.entries
+      h.memory (λ f low high v lt. refl) (λ page lt. record { flags = refl; frame = refl }) (λ f low high v lt. refl) h.entries
       (subst (λ (x : Work). AreMapped w.under.grants.live (hands_at w.back.stage (record w.back { jobs = record w.back.jobs { works = slice_set w.back.jobs.works p x } }))) stepped
       (subst (AreMapped w.under.grants.live) (sym (hands_step w p t (job.DiskWrite m) answer.Done is.place e tt)) h.mapped)));
 }
@@ -94,7 +94,7 @@ failed_goes config w g d number p t r m h is e at = record {
   does = does_step (moves.DiskWrite number t.disk) (lines.Fault t.id t.moved ∷ []) refl s;
   holds = job_holds config w g d (next d s.step) p t then w.under.pages w.under.grants h is.place refl s.now
       (work_of w g d (next d s.step) p t then r is refl refl refl (at.0.place, at.0.here, at.1))
-      h.memory (λ v lt. refl) (record { flags = refl; frame = refl }) (λ f low high v lt. refl) h.entries
+      h.memory (λ f low high v lt. refl) (λ page lt. record { flags = refl; frame = refl }) (λ f low high v lt. refl) h.entries
       (subst (AreMapped w.under.grants.live) (sym (hands_step w p t (job.DiskWrite m) answer.DiskFailed is.place e tt)) h.mapped);
 }
   where
@@ -128,7 +128,7 @@ gave_goes config w g d number p t r m words h is e at sized = record {
   does = does_step (moves.DiskRead number t.disk) (lines.EffectRead t.id t.moved words ∷ []) refl s;
   holds = job_holds config w g d (next d s.step) p t then w.under.pages w.under.grants h is.place refl s.now
       (work_of w g d (next d s.step) p t then r is refl refl refl (given, at.1, omega arith, at.2))
-      h.memory (λ v lt. refl) (record { flags = refl; frame = refl }) (λ f low high v lt. refl) h.entries
+      h.memory (λ f low high v lt. refl) (λ page lt. record { flags = refl; frame = refl }) (λ f low high v lt. refl) h.entries
       (subst (AreMapped w.under.grants.live) (sym (hands_step w p t (job.DiskRead m) (answer.Sector words) is.place e tt)) h.mapped);
 }
   where
@@ -170,7 +170,7 @@ gave_nothing config w g d number p t r m h is e at = record {
   does = does_step (moves.DiskRead number t.disk) (lines.Fault t.id t.moved ∷ []) refl s;
   holds = job_holds config w g d (next d s.step) p t then w.under.pages w.under.grants h is.place refl s.now
       (work_of w g d (next d s.step) p t then r is refl refl refl (at.0.place, at.0.here, at.1))
-      h.memory (λ v lt. refl) (record { flags = refl; frame = refl }) (λ f low high v lt. refl) h.entries
+      h.memory (λ f low high v lt. refl) (λ page lt. record { flags = refl; frame = refl }) (λ f low high v lt. refl) h.entries
       (subst (AreMapped w.under.grants.live) (sym (hands_step w p t (job.DiskRead m) answer.DiskFailed is.place e tt)) h.mapped);
 }
   where

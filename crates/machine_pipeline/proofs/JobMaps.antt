@@ -74,15 +74,15 @@ marked config w g d t r a live' flags h own in_r same others =
     (its.1, λ t. apart (sym t)))
     h.entries
 
--- what a write of an entry's flags leaves of the ring's frame, of the ring's entry, and of data
-ring_frame_same : (w : World) (gref value : ℕ) → gref < 1024 → SameFrame w.under.pages (with_entry_word0 w.under.pages gref value) 2
-ring_frame_same w gref value few = other_frame w.under.pages (gref / 512) (2 * (gref % 512)) value 2 (omega arith) (omega arith)
+-- what a write of an entry's flags leaves of the ring's frames, of their entries, and of data
+ring_frame_same : (w : World) (gref value : ℕ) → gref < 1024 → (f : ℕ) → 2 ≤ f → f < 18 → SameFrame w.under.pages (with_entry_word0 w.under.pages gref value) f
+ring_frame_same w gref value few f low high = other_frame w.under.pages (gref / 512) (2 * (gref % 512)) value f (omega arith) (omega arith)
 
 pool_same : (w : World) (gref value : ℕ) → gref < 1024 → (f : ℕ) → 18 ≤ f → f < 1018 → SameFrame w.under.pages (with_entry_word0 w.under.pages gref value) f
 pool_same w gref value few f low high = other_frame w.under.pages (gref / 512) (2 * (gref % 512)) value f (omega arith) (omega arith)
 
-ring_entry_same : (w : World) (gref value : ℕ) → gref < 1024 → 24 ≤ gref → SameEntry w.under.pages (with_entry_word0 w.under.pages gref value) 8
-ring_entry_same w gref value few low = other_entry w.under.pages gref 8 value few (omega arith) (omega arith)
+ring_entry_same : (w : World) (gref value : ℕ) → gref < 1024 → 24 ≤ gref → (page : ℕ) → page < 16 → SameEntry w.under.pages (with_entry_word0 w.under.pages gref value) (8 + page)
+ring_entry_same w gref value few low page lt = other_entry w.under.pages gref (8 + page) value few (omega arith) (omega arith)
 
 -- how many mappings a reference has beside one more
 more_mappings : (gref : ℕ) (live : List Held) (x : Held) → mappings_of gref (live ++ x ∷ []) ≡ mappings_of gref live + cond (x.mapping.gref == gref) 1 0

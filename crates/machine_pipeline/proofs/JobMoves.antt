@@ -28,7 +28,7 @@ use Rattle.back_jobs.specs.Jobs.{effect_at, mapping_at}
 use Rattle.back_jobs.specs.Hands.{hand_of, hands_in, Names, HandsAfter}
 use Rattle.back_jobs.proofs.Hands.{named_in, told_hands, framed as between}
 use Rattle.blk_back.proofs.Hands.{job_names}
-use Rattle.blk_back.specs.Hands.{hands_of, hands_at, given_up, page_at}
+use Rattle.blk_back.specs.Hands.{hands_of, hands_at, given_up}
 use Rattle.blk_back.specs.Step.{told_effect}
 use Rattle.split_model.specs.World.{World}
 use Rattle.split_model.specs.Shown.{back_lines}
@@ -94,7 +94,7 @@ live_hand w p t m place e held =
 pub hands_step : (w : World) (p : ℕ) (t : Work) (j : JobStage) (x : BackAnswer) → slice_get w.back.jobs.works p ≡ Some t → t.stage ≡ j → IsAnswer (ask_at j t) x → HandsAfter (ask_at j t) x (hands_of w.back) (hands_at w.back.stage (record w.back { jobs = record w.back.jobs { works = slice_set w.back.jobs.works p (step_at j t x) } }))
 hands_step w p t j x place e =
     subst (λ (s : JobStage). IsAnswer (ask_at s t) x → HandsAfter (ask_at s t) x (hands_of w.back) (hands_at w.back.stage (record w.back { jobs = record w.back.jobs { works = slice_set w.back.jobs.works p (step_at s t x) } }))) e
-    (λ own. between (ask_at t.stage t) x (given_up w.back.stage) (page_at w.back.stage w.back.page) (hands_in w.back.jobs.works) (hands_in (slice_set w.back.jobs.works p (step_at t.stage t x))) (told_hands w.back.jobs.works (Some p) (Some t) x place own))
+    (λ own. between (ask_at t.stage t) x (given_up w.back.stage) w.back.pages (hands_in w.back.jobs.works) (hands_in (slice_set w.back.jobs.works p (step_at t.stage t x))) (told_hands w.back.jobs.works (Some p) (Some t) x place own))
 
 pub at_work : (w : World) (g : Flow) (d : Pipeline) (p : ℕ) (t : Work) (r : Request) {j : JobStage} → IsAt w g d p t r → t.stage ≡ j → AtWork r t j → IsWork g.submitted g.fetched t
 at_work w g d p t r is e at = work_of w g d d p t t r is refl refl refl (subst (AtWork r t) (sym e) at)
@@ -215,7 +215,7 @@ read_goes config w g d number p t r m k o h held is e at = record {
   does = nothing (CallOf (ask_at (job.ReadWord m k) t) o) _ d (λ a b same. same_Some b a same.1);
   holds = job_holds config w g d d p t (step_at (job.ReadWord m k) t (answer.Word value)) w.under.pages w.under.grants h is.place refl (stations_stay config w g d p t (step_at (job.ReadWord m k) t (answer.Word value)) r w.under.pages h.stations is.place is.known refl (read_station (k == 127)) (λ q was reads. absurd (false≢true (sym reads ∙ at.3))))
       (work_of w g d d p t (step_at (job.ReadWord m k) t (answer.Word value)) r is refl refl refl (by_test (k == 127) refl))
-      h.memory (λ v lt. refl) (record { flags = refl; frame = refl }) (λ f low high v lt. refl) h.entries
+      h.memory (λ f low high v lt. refl) (λ page lt. record { flags = refl; frame = refl }) (λ f low high v lt. refl) h.entries
       (subst (AreMapped w.under.grants.live) (sym (hands_step w p t (job.ReadWord m k) (answer.Word value) is.place e tt)) h.mapped);
 }
   where

@@ -61,7 +61,7 @@ frame_apart config w g d r x k place q h here known at going other = elim (h.sta
       found.2 here a b in_z in_r (pooled_at found.1 is.frames a))
   | inr last ↦
       let e : Ending = last.0 in
-      let its : IsEnding g.submitted g.replies e = ending_is _ _ _ _ _ _ _ _ w.front.ending w.front.stage e h.front_at last.1 in
+      let its : IsEnding g.submitted g.replies e = ending_is g.shape _ _ _ _ _ _ _ _ w.front.ending w.front.stage e h.front_at last.1 in
       let one : e.request ≡ x = same_Some e.request x (sym its.known ∙ (ap (slice_get g.submitted) (omega (arith, last.2)) ∙ known)) in
       let is = is_submitted config w g d w.front.stage w.back.stage h place r here in
       subst (λ (z : Request). (a b : ℕ) → a < frames_of z → b < frames_of r → frame_at z a ≢ frame_at r b) one
@@ -306,7 +306,7 @@ data_returned config w g d p t r m j h x =
     let far = ending_apart w.front.pool w.front.requests e x.own.place r (subst (ArePooled w.front.pool w.front.requests) same h.pool) x.own.at
     (word_now t j / 1024) a (place_in r (word_now t j) x.own.shaped (now_in w g d p t r m j x)) lt (pooled_at r x.own.frames (word_now t j / 1024)) in
     λ s. far (sym s)))
-    (told_few _ _ _ _ _ _ _ _ w.front.ending w.front.stage h.front_at) h.telling
+    (told_few g.shape _ _ _ _ _ _ _ _ w.front.ending w.front.stage h.front_at) h.telling
 
 -- another frame is as it was
 frame_returned : (w : World) (g : Flow) (d : Pipeline) (p : ℕ) (t : Work) (r : Request) (m : Mapping) (j : ℕ)
@@ -352,8 +352,8 @@ write_goes config w g d number p t r m j o h held is e at = record {
       (job_makes config w g d d p t later (with_data w t r j) w.under.grants h is.place refl (stations_returned config w g d p t r m j (j == 127) last h x refl)
       (work_of w g d d p t later r is refl refl refl (at_next (j == 127) refl))
       (length-set w.under.pages (frame_at r (word_now t j / 1024) * 1024 + word_now t j % 1024) (slice_index t.words j) ∙ h.memory)
-      (frame_returned w g d p t r m j x 2 (omega arith))
-      (same_entry w.under.pages (with_data w t r j) 8 (omega arith) (frame_returned w g d p t r m j x 0 (omega arith))
+      (λ f low high. frame_returned w g d p t r m j x f high)
+      (λ page lt. same_entry w.under.pages (with_data w t r j) (8 + page) (omega arith) (frame_returned w g d p t r m j x 0 (omega arith))
       (frame_returned w g d p t r m j x 1 (omega arith)))
       (frames_returned config w g d p t r m j h x) (data_returned config w g d p t r m j h x) (entries_returned config w g d p t r m j h x)
       (subst (λ (u : Work). AreMapped w.under.grants.live (hands_at w.back.stage (record w.back { jobs = record w.back.jobs { works = slice_set w.back.jobs.works p u } }))) stepped

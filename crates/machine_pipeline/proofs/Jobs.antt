@@ -1,9 +1,10 @@
 -- What a move of a job leaves of all that holds, by what it changes.
-use Rattle.std.proofs.Common.{◌≡◌, ◌≢◌, ℕ, ◌-◌, ◌<◌, ◌≤◌, ◌⊎◌, inl, inr, Bool, true, false, List, length, refl, ap, sym, ◌∙◌, subst, arith, length-set}
+use Rattle.std.proofs.Common.{◌≡◌, ◌≢◌, ℕ, ◌+◌, ◌-◌, ◌<◌, ◌≤◌, ◌⊎◌, inl, inr, Bool, true, false, List, length, refl, ap, sym, ◌∙◌, subst, arith, length-set}
 use Rattle.std.specs.Prelude.{All, AllPairs, Some, None, slice_get, slice_set, nat_lt}
 use Rattle.std.proofs.lemmas.Option.{same_Some}
 use Rattle.std.proofs.lemmas.Bool.Decides.{nat_tests}
 use Rattle.blk_base.specs.Options.{Options}
+use Rattle.ring_words.specs.Shape.{Shape}
 use Rattle.grant_table.specs.Table.{GrantTable}
 use Rattle.pipeline_laws.specs.Station.{Request as Asked}
 use Rattle.pipeline_laws.specs.Pipeline.{Pipeline}
@@ -21,7 +22,8 @@ use Rattle.machine_pipeline.proofs.Stations.{AreStations}
 use Rattle.machine_pipeline.proofs.StationsBack.{job_stays}
 use Rattle.machine_pipeline.proofs.Holds.{Holds, BackAt, IsWork, AreWorks, IsFilled, AreDataWords, AreEntries, AreMapped}
 use Rattle.machine_pipeline.proofs.Lists.{all_at, all_from, pair_at, pairs_from, set_was}
-use Rattle.machine_pipeline.proofs.Frames.{few_words, entered_few}
+use Rattle.machine_pipeline.proofs.Frames.{few_words, named_at}
+use Rattle.machine_pipeline.proofs.Slots.{same_slots}
 use Rattle.machine_pipeline.proofs.Kept.{SameFrame, SameEntry, ring_kept, slots_kept, front_sleep_kept, back_sleep_kept}
 use Rattle.machine_pipeline.proofs.ReadBack.{ReadAt}
 use Rattle.machine_pipeline.proofs.ReadsKept.{stations_elsewhere}
@@ -67,14 +69,14 @@ works_after submitted fetched works p t t' here same now h = record {
 }
 
 -- the response that is being written is no job's
-back_works : (start fetched back_seen replied : ℕ) (submitted : List Request) (works works' : List Work) (entry : List ℕ) (b : BackStage)
+back_works : (shape : Shape) (start fetched back_seen replied : ℕ) (submitted : List Request) (works works' : List Work) (entry : List ℕ) (b : BackStage)
     → ((rep : Reply) → All (λ (x : Work). x.number ≢ rep.id) works → All (λ (x : Work). x.number ≢ rep.id) works')
-    → BackAt start fetched back_seen replied submitted works entry b
-    → BackAt start fetched back_seen replied submitted works' entry b
-back_works start fetched back_seen replied submitted works works' entry (back.ReplyHigh rep) alone h = record { positive = h.positive; reached = h.reached; op = h.op; alone = alone rep h.alone }
-back_works start fetched back_seen replied submitted works works' entry (back.ReplyLast rep) alone h = record { positive = h.positive; reached = h.reached; op = h.op; alone = alone rep h.alone }
-back_works start fetched back_seen replied submitted works works' entry (back.Producer rep) alone h = record { positive = h.positive; reached = h.reached; op = h.op; alone = alone rep h.alone }
-back_works start fetched back_seen replied submitted works works' entry b alone h = h
+    → BackAt shape start fetched back_seen replied submitted works entry b
+    → BackAt shape start fetched back_seen replied submitted works' entry b
+back_works shape start fetched back_seen replied submitted works works' entry (back.ReplyHigh rep) alone h = record { positive = h.positive; reached = h.reached; op = h.op; alone = alone rep h.alone }
+back_works shape start fetched back_seen replied submitted works works' entry (back.ReplyLast rep) alone h = record { positive = h.positive; reached = h.reached; op = h.op; alone = alone rep h.alone }
+back_works shape start fetched back_seen replied submitted works works' entry (back.Producer rep) alone h = record { positive = h.positive; reached = h.reached; op = h.op; alone = alone rep h.alone }
+back_works shape start fetched back_seen replied submitted works works' entry b alone h = h
 
 alone_after : (works : List Work) (p : ℕ) (t t' : Work) (id : ℕ) → slice_get works p ≡ Some t → t'.number ≡ t.number → All (λ (x : Work). x.number ≢ id) works → All (λ (x : Work). x.number ≢ id) (slice_set works p t')
 alone_after works p t t' id here same alone = all_from (λ (x : Work). x.number ≢ id) (slice_set works p t') (λ i x e.
@@ -111,8 +113,8 @@ pub job_makes : (config : Options) (w : World) (g : Flow) (d d' : Pipeline) (p :
     → StationsWith config w g d' (slice_set w.back.jobs.works p t') pages'
     → IsWork g.submitted g.fetched t'
     → length pages' ≡ 1114112
-    → SameFrame w.under.pages pages' 2
-    → SameEntry w.under.pages pages' 8
+    → ((f : ℕ) → 2 ≤ f → f < 18 → SameFrame w.under.pages pages' f)
+    → ((page : ℕ) → page < 16 → SameEntry w.under.pages pages' (8 + page))
     → All (IsFilled g.pushed pages' w.front.stage) w.front.requests
     → AreDataWords pages' w.front.words w.front.ending w.front.stage
     → AreEntries g.pushed pages' grants'.live w.front.stage w.front.ending w.front.requests
@@ -120,6 +122,7 @@ pub job_makes : (config : Options) (w : World) (g : Flow) (d d' : Pipeline) (p :
     → (let v : World = record { front = w.front; back = record w.back { jobs = record w.back.jobs { works = slice_set w.back.jobs.works p t' }; told = None }; under = record w.under { pages = pages'; grants = grants' } } in Holds config v g d' v.front.stage v.back.stage)
 job_makes config w g d d' p t t' pages' grants' h here number stations now sized ring entry frames told entries mapped = record {
   started = h.started;
+  shaped = h.shaped;
   sized = h.sized;
   indices = h.indices;
   queue = h.queue;
@@ -132,18 +135,18 @@ job_makes config w g d d' p t t' pages' grants' h here number stations now sized
   replies = h.replies;
   front_at = h.front_at;
   unused = h.unused;
-  back_at = back_works g.start g.fetched g.back_seen g.replied g.submitted w.back.jobs.works (slice_set w.back.jobs.works p t') w.back.entry w.back.stage (λ rep alone. alone_after w.back.jobs.works p t t' rep.id here number alone) h.back_at;
+  back_at = back_works g.shape g.start g.fetched g.back_seen g.replied g.submitted w.back.jobs.works (slice_set w.back.jobs.works p t') w.back.entry w.back.stage (λ rep alone. alone_after w.back.jobs.works p t t' rep.id here number alone) h.back_at;
   unhalted = h.unhalted;
   memory = sized;
-  ring = ring_kept g.start g.pushed g.replied w.under.pages pages' w.front.stage w.back.stage (λ v lt. ring v (omega arith)) (few_words _ _ _ _ _ _ _ _ _ w.front.stage h.front_at) entry h.ring;
-  slots = slots_kept g.start g.fetched g.pushed g.taken g.replied g.submitted g.replies w.under.pages pages' w.front.stage w.back.stage (λ v from to. ring v to) (entered_few _ _ _ _ _ _ _ _ _ w.front.stage h.front_at) h.slots;
+  ring = ring_kept g.shape.order g.start g.pushed g.replied w.under.pages pages' w.front.stage (length w.back.pages) (λ v lt. ring 2 (omega arith) (omega arith) v (omega arith)) (few_words g.shape _ _ _ _ _ _ _ _ _ w.front.stage h.front_at) (λ page lt. entry page (let few = named_at g.shape _ _ _ _ _ _ _ _ _ w.front.stage h.shaped.narrow h.front_at in omega arith)) h.ring;
+  slots = slots_kept g.shape g.start g.fetched g.pushed g.taken g.replied g.submitted g.replies w.under.pages pages' w.front.stage w.back.stage h.shaped.narrow (same_slots w.under.pages pages' (λ f v from to within. ring f from to v within)) h.slots;
   frames = frames;
   telling = told;
   entries = entries;
   mapped = mapped;
-  page = h.page;
-  front_sleep = front_sleep_kept g.start g.taken g.replied w.under.pages pages' w.front.asleep w.under.channels.front_pending w.front.stage w.back.stage (ring 3 (omega arith)) h.front_sleep;
-  back_sleep = back_sleep_kept g.start g.fetched g.pushed w.under.pages pages' w.back.asleep w.under.channels.back_pending w.front.stage w.back.stage (ring 1 (omega arith)) h.back_sleep;
+  paged = h.paged;
+  front_sleep = front_sleep_kept g.start g.taken g.replied w.under.pages pages' w.front.asleep w.under.channels.front_pending w.front.stage w.back.stage (ring 2 (omega arith) (omega arith) 3 (omega arith)) h.front_sleep;
+  back_sleep = back_sleep_kept g.start g.fetched g.pushed w.under.pages pages' w.back.asleep w.under.channels.back_pending w.front.stage w.back.stage (ring 2 (omega arith) (omega arith) 1 (omega arith)) h.back_sleep;
   ports = h.ports;
 }
 
@@ -155,8 +158,8 @@ pub job_holds : (config : Options) (w : World) (g : Flow) (d d' : Pipeline) (p :
     → StationsWith config w g d' (slice_set w.back.jobs.works p t') w.under.pages
     → IsWork g.submitted g.fetched t'
     → length pages' ≡ 1114112
-    → SameFrame w.under.pages pages' 2
-    → SameEntry w.under.pages pages' 8
+    → ((f : ℕ) → 2 ≤ f → f < 18 → SameFrame w.under.pages pages' f)
+    → ((page : ℕ) → page < 16 → SameEntry w.under.pages pages' (8 + page))
     → ((f : ℕ) → 18 ≤ f → f < 1018 → SameFrame w.under.pages pages' f)
     → AreEntries g.pushed pages' grants'.live w.front.stage w.front.ending w.front.requests
     → AreMapped grants'.live (hands_at w.back.stage (record w.back { jobs = record w.back.jobs { works = slice_set w.back.jobs.works p t' } }))

@@ -1,7 +1,8 @@
 -- What a write leaves as it was, subject by subject.
-use Rattle.std.proofs.Common.{◌≡◌, ◌≢◌, ℕ, zero, suc, ◌+◌, ◌*◌, ◌/◌, ◌%◌, ◌<◌, ◌≤◌, Bool, true, true≢false, List, length, refl, ap, sym, ◌∙◌, arith, get_or-set_other}
+use Rattle.std.proofs.Common.{◌≡◌, ◌≢◌, ℕ, zero, suc, ◌+◌, ◌*◌, ◌/◌, ◌%◌, ◌^◌, ◌<◌, ◌≤◌, Bool, true, true≢false, List, length, refl, ap, sym, ◌∙◌, arith, get_or-set_other}
 use Rattle.std.specs.Prelude.{All, Option, Some}
 use Rattle.std.proofs.lemmas.Grind.{get_or-set_at}
+use Rattle.ring_words.specs.Shape.{Shape, entry_words_of}
 use Rattle.xen_pages.specs.Pages.{word_of, with_word}
 use Rattle.grant_table.specs.declared.held.Held.{Held}
 use Rattle.grant_table.specs.Table.{entry_word0, entry_word1}
@@ -9,22 +10,22 @@ use Rattle.blk_front.specs.declared.request.Request.{Request}
 use Rattle.blk_front.specs.declared.stage.Ending.{Ending}
 use Rattle.blk_front.specs.declared.stage.Stage.{Stage as FrontStage}
 use Rattle.blk_front.specs.declared.stage.Stage.TheVariants as front
-use Rattle.blk_front.specs.View.{slot_word}
 use Rattle.blk_front.specs.Submit.{is_ready, is_connected}
 use Rattle.blk_back.specs.declared.stage.Reply.{Reply}
 use Rattle.blk_back.specs.declared.stage.Stage.{Stage as BackStage}
 use Rattle.blk_back.specs.declared.stage.Stage.TheVariants as back
 use Rattle.blk_front.specs.Request.{frame_at, words_in}
-use Rattle.machine_pipeline.proofs.Flow.{wrapped, ending_at, revoking_at, entered, responded, frames_of}
+use Rattle.machine_pipeline.proofs.Flow.{wrapped, named_pages, granted_pages, ending_at, revoking_at, responded, frames_of}
+use Rattle.machine_pipeline.proofs.Slots.{response_fits, SameSlots, slot_kept}
 use Rattle.machine_pipeline.proofs.Data.{SameData, pooled_at}
-use Rattle.machine_pipeline.proofs.Holds.{IsPooled, RingBegun, AreRingWords, AreSlots, IsFilled, IsReadSoFar, AreDataWords, AreEntries, IsFrontSleep, IsBackSleep}
+use Rattle.machine_pipeline.proofs.Holds.{IsPooled, RingBegun, AreRingWords, slot_of, AreSlots, IsFilled, IsReadSoFar, AreDataWords, AreEntries, IsFrontSleep, IsBackSleep}
 
 -- a front that is ready made its ring and its port
 ready_connected : (s : FrontStage) → is_ready s ≡ true → is_connected s ≡ true
 ready_connected (front.RingWord k) t = absurd (true≢false (sym t))
-ready_connected front.RingFrame t = absurd (true≢false (sym t))
-ready_connected front.RingFence t = absurd (true≢false (sym t))
-ready_connected front.RingFlags t = absurd (true≢false (sym t))
+ready_connected (front.RingFrame page) t = absurd (true≢false (sym t))
+ready_connected (front.RingFence page) t = absurd (true≢false (sym t))
+ready_connected (front.RingFlags page) t = absurd (true≢false (sym t))
 ready_connected front.NewPort t = absurd (true≢false (sym t))
 ready_connected s t = refl
 
@@ -44,6 +45,10 @@ data_same old new r all same n lt = let pooled = pooled_at r all (n / 1024) in s
 pub record SameEntry (old new : List ℕ) (gref : ℕ) : Type 0 where
   pub flags : entry_word0 new gref ≡ entry_word0 old gref
   pub frame : entry_word1 new gref ≡ entry_word1 old gref
+
+-- so are those of the ring's frames
+abbrev pub SameRing : (old new : List ℕ) → Type 0
+SameRing old new = (page : ℕ) → page < 16 → SameEntry old new (8 + page)
 
 pub written : (pages : List ℕ) (frame word value : ℕ) → length pages ≡ 1114112 → frame < 1088 → word < 1024 → word_of (with_word pages frame word value) frame word ≡ value
 written pages frame word value sized framed worded = get_or-set_at pages (frame * 1024 + word) (frame * 1024 + word) value 0 (omega arith) (omega arith)
@@ -76,55 +81,52 @@ other_entry pages gref other value few fewer apart = record {
   frame = get_or-set_other pages (gref / 512 * 1024 + 2 * (gref % 512)) (other / 512 * 1024 + (2 * (other % 512) + 1)) value 0 (omega arith);
 }
 
--- words of entries lie after the first 16 of the ring's frame
-pub slot_from : (index i : ℕ) → i < 28 → 16 ≤ slot_word index i
-slot_from index i lt = omega arith
-
-pub slot_to : (index i : ℕ) → i < 28 → slot_word index i < 1024
-slot_to index i lt = omega arith
-
--- the entries of indices that are less than a ring apart have no word in common
-pub slots_apart : (start m n i j : ℕ) → m < n → n < m + 32 → i < 28 → j < 28 → slot_word (wrapped start m) i ≢ slot_word (wrapped start n) j
-slots_apart start m n i j up near first second = λ same. omega arith
-
 ring_begun : (start : ℕ) (old new : List ℕ) (s : FrontStage) → ((w : ℕ) → w < 16 → word_of new 2 w ≡ word_of old 2 w) → ((k : ℕ) → s ≡ front.RingWord k → k ≤ 16) → RingBegun start old s → RingBegun start new s
 ring_begun start old new (front.RingWord k) same few h = λ j lt. let small = few k refl in same j (omega arith) ∙ h j lt
 ring_begun start old new s same few h = tt
 
-pub ring_kept : (start pushed replied : ℕ) (old new : List ℕ) (s : FrontStage) (b : BackStage)
+-- each frame that is granted is named too
+granted_named : (s : FrontStage) (pages page : ℕ) → page < granted_pages s pages → page < named_pages s pages
+granted_named (front.RingWord k) pages page lt = lt
+granted_named (front.RingFrame p) pages page lt = lt
+granted_named (front.RingFence p) pages page lt = omega arith
+granted_named (front.RingFlags p) pages page lt = omega arith
+granted_named s pages page lt = lt
+
+pub ring_kept : (order start pushed replied : ℕ) (old new : List ℕ) (s : FrontStage) (mapped : ℕ)
     → ((w : ℕ) → w < 16 → word_of new 2 w ≡ word_of old 2 w)
     → ((k : ℕ) → s ≡ front.RingWord k → k ≤ 16)
-    → SameEntry old new 8
-    → AreRingWords start pushed replied old s b
-    → AreRingWords start pushed replied new s b
-ring_kept start pushed replied old new s b same few entry h = record {
+    → ((page : ℕ) → page < named_pages s (2 ^ order) → SameEntry old new (8 + page))
+    → AreRingWords order start pushed replied old s mapped
+    → AreRingWords order start pushed replied new s mapped
+ring_kept order start pushed replied old new s mapped same few entry h = record {
   begun = ring_begun start old new s same few h.begun;
   requests = λ t. same 0 (omega arith) ∙ h.requests t;
   responses = λ t. same 2 (omega arith) ∙ h.responses t;
-  named = λ t u. entry.frame ∙ h.named t u;
-  granted = λ t u. entry.flags ∙ h.granted t u;
+  named = λ page named unmapped. let kept = entry page named in kept.frame ∙ h.named page named unmapped;
+  granted = λ page granted unmapped. let kept = entry page (granted_named s (2 ^ order) page granted) in kept.flags ∙ h.granted page granted unmapped;
 }
 
-pub slots_kept : (start fetched pushed taken replied : ℕ) (submitted : List Request) (replies : List Reply) (old new : List ℕ) (s : FrontStage) (b : BackStage)
-    → ((w : ℕ) → 16 ≤ w → w < 1024 → word_of new 2 w ≡ word_of old 2 w)
-    → entered s ≤ 28
-    → AreSlots start fetched pushed taken replied submitted replies old s b
-    → AreSlots start fetched pushed taken replied submitted replies new s b
-slots_kept start fetched pushed taken replied submitted replies old new s b same few h = record {
+pub responded_few : (b : BackStage) → responded b ≤ 3
+responded_few (back.ReplyHigh r) = omega arith
+responded_few (back.ReplyLast r) = omega arith
+responded_few (back.Producer r) = omega arith
+responded_few b = omega arith
+
+pub slots_kept : (shape : Shape) (start fetched pushed taken replied : ℕ) (submitted : List Request) (replies : List Reply) (old new : List ℕ) (s : FrontStage) (b : BackStage)
+    → shape.order ≤ 4
+    → SameSlots old new
+    → AreSlots shape start fetched pushed taken replied submitted replies old s b
+    → AreSlots shape start fetched pushed taken replied submitted replies new s b
+slots_kept shape start fetched pushed taken replied submitted replies old new s b narrow same h = record {
   entries = λ k r from to e i lt. here (wrapped start k) i lt ∙ h.entries k r from to e i lt;
-  entry = λ r e i lt. here (wrapped start pushed) i (omega arith) ∙ h.entry r e i lt;
-  responses = λ k rep e i lt. here (wrapped start (taken + k)) i (omega arith) ∙ h.responses k rep e i lt;
-  response = λ rep e i lt. here (wrapped start replied) i (let three = responded_few b in omega arith) ∙ h.response rep e i lt;
+  entry = λ r e i lt few. here (wrapped start pushed) i lt ∙ h.entry r e i lt few;
+  responses = λ k rep e i lt. here (wrapped start (taken + k)) i (response_fits shape.abi i lt) ∙ h.responses k rep e i lt;
+  response = λ rep e i lt. here (wrapped start replied) i (response_fits shape.abi i (let three = responded_few b in omega arith)) ∙ h.response rep e i lt;
 }
   where
-    here : (index i : ℕ) → i < 28 → word_of new 2 (slot_word index i) ≡ word_of old 2 (slot_word index i)
-    here index i lt = same (slot_word index i) (slot_from index i lt) (slot_to index i lt)
-
-    responded_few : (b : BackStage) → responded b ≤ 3
-    responded_few (back.ReplyHigh r) = omega arith
-    responded_few (back.ReplyLast r) = omega arith
-    responded_few (back.Producer r) = omega arith
-    responded_few b = omega arith
+    here : (index i : ℕ) → i < entry_words_of shape.abi → slot_of new shape index i ≡ slot_of old shape index i
+    here index i lt = slot_kept shape index i old new narrow lt same
 
 pub frames_kept : (pushed : ℕ) (old new : List ℕ) (s : FrontStage) (requests : List Request)
     → All (SameData old new) requests

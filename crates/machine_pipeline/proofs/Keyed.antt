@@ -35,6 +35,7 @@ keyed w keys = record { front = w.front; back = w.back; under = with_keys w.unde
 pub holds_keyed : (config : Options) (w : World) (g : Flow) (d : Pipeline) (s : FrontStage) (b : BackStage) (keys : Directory) → Holds config w g d s b → Holds config (keyed w keys) g d s b
 holds_keyed config w g d s b keys h = record {
   started = h.started;
+  shaped = h.shaped;
   sized = h.sized;
   indices = h.indices;
   queue = h.queue;
@@ -56,7 +57,7 @@ holds_keyed config w g d s b keys h = record {
   telling = h.telling;
   entries = h.entries;
   mapped = h.mapped;
-  page = h.page;
+  paged = h.paged;
   front_sleep = h.front_sleep;
   back_sleep = h.back_sleep;
   ports = h.ports;

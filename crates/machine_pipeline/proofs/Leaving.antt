@@ -1,32 +1,40 @@
 -- The back halts, since its front closes and has no request left: nothing is served from then on.
-use Rattle.std.proofs.Common.{◌≡◌, ℕ, ◌==◌, ◌&&◌, inl, inr, Bool, true, false, List, [], length, refl, ap, sym, ◌∙◌, subst, arith, true≢false}
-use Rattle.std.specs.Prelude.{Option, Some, None, is_some}
+use Rattle.std.proofs.Common.{◌≡◌, ◌≢◌, ℕ, ◌+◌, ◌^◌, ◌<◌, ◌≤◌, ◌==◌, ◌&&◌, inl, inr, Bool, true, false, List, [], ◌∷◌, ◌++◌, length, refl, ap, sym, ◌∙◌, subst, arith, true≢false}
+use Rattle.std.specs.Prelude.{Option, Some, None, is_some, slice_get}
+use Rattle.std.proofs.lemmas.Option.{slice_get_within, get_or_from_slice_get}
+use Rattle.std.proofs.lemmas.Bool.{cases_lt}
 use Rattle.std.proofs.lemmas.Bool.Decides.{nat_tests}
 use Rattle.blk_base.specs.Options.{Options}
-use Rattle.grant_table.specs.Table.{entry_word0}
+use Rattle.blk_base.specs.declared.parts.Mapping.{Mapping}
+use Rattle.ring_words.specs.Shape.{Shape}
 use Rattle.event_channel.specs.declared.channels.PortState.{PortState}
 use Rattle.pipeline_laws.specs.Pipeline.{Pipeline, Front, Leaves}
 use Rattle.blk_front.specs.declared.stage.Ending.{Ending}
 use Rattle.blk_front.specs.declared.stage.Stage.{Stage as FrontStage}
 use Rattle.blk_front.specs.declared.stage.Stage.TheVariants as front
 use Rattle.blk_front.specs.Step.{is_mapped}
+use Rattle.back_jobs.specs.Hands.{hands_in}
 use Rattle.back_jobs.specs.Jobs.{first_mapping, behind_mapping}
 use Rattle.back_jobs.specs.Task.{Work}
 use Rattle.blk_back.specs.declared.stage.Stage.{Stage as BackStage}
 use Rattle.blk_back.specs.declared.stage.Stage.TheVariants as back
 use Rattle.blk_back.specs.declared.told.Halt.{Halt}
-use Rattle.blk_back.specs.View.{View}
-use Rattle.blk_back.specs.Step.{giving_up}
+use Rattle.blk_back.specs.View.{View, no_page}
+use Rattle.blk_back.specs.Hands.{given_up}
+use Rattle.blk_back.specs.Step.{unbound, giving_up}
 use Rattle.split_model.specs.World.{World}
 use Rattle.split_model.specs.Shown.{halt_line, halt_lines}
 use Rattle.split_model.specs.Happening.{BackHalts, happens, lines_at}
 use Rattle.split_model.proofs.States.{halts_cases}
 use Rattle.machine_pipeline.specs.Allowed.{is_free, IsFarewell}
 use Rattle.machine_pipeline.specs.Step.{IsSame}
-use Rattle.machine_pipeline.proofs.Flow.{Flow, is_ring_granted, is_bound_back, ending_at, count_of}
-use Rattle.machine_pipeline.proofs.Holds.{Holds, PortsAt}
+use Rattle.machine_pipeline.proofs.Flow.{Flow, granted_pages, is_bound_back, ending_at, count_of}
+use Rattle.machine_pipeline.proofs.Holds.{AreMapped, Holds, PortsAt}
+use Rattle.machine_pipeline.proofs.Lists.{all_from, pairs_from}
+use Rattle.machine_pipeline.proofs.Slots.{few_pages, some_pages}
+use Rattle.machine_pipeline.proofs.Hands.{mapped_few, nothing_given_up}
 use Rattle.machine_pipeline.proofs.Turns.{no_move}
-use Rattle.machine_pipeline.proofs.Over.{IsDrained, IsGivingUp, IsUnmapped, IsLeaving, Over, HasGone, unclosed}
+use Rattle.machine_pipeline.proofs.Over.{IsDrained, IsGivingUp, AreOwn, AreUnmapped, IsLeaving, Over, HasGone, unclosed}
 use Rattle.line_text.proofs.Both.{both_true}
 use Rattle.machine_pipeline.proofs.Drained.{no_element, drained_at, no_job_left, finished_at}
 
@@ -50,12 +58,47 @@ pub one_port : (bound : Bool) (made : ℕ) (ports : List PortState) → PortsAt 
 one_port true made ports p = p.0
 one_port false made ports p = p.0
 
-leaving_at : (config : Options) (w : World) (g : Flow) (d : Pipeline) (s : FrontStage) (b b' : BackStage) → is_free s ≡ true → Holds config w g d s b → (is_ring_granted s ≡ true → IsUnmapped w.under.pages b')
-    → IsLeaving d.front.connected w.under.channels.made w.under.pages b' s
-leaving_at config w g d (front.RingWord k) b b' free h unmapped = (ap (λ (f : Front). f.connected) h.stations.front, h.ports.0)
-leaving_at config w g d front.Initialised b b' free h unmapped = (ap (λ (f : Front). f.connected) h.stations.front, one_port (is_bound_back b) w.under.channels.made w.under.channels.ports h.ports, unmapped refl)
-leaving_at config w g d front.Loop b b' free h unmapped = unmapped refl
-leaving_at config w g d s b b' free h unmapped = absurd (true≢false (sym free))
+-- frames of the ring that the back didn't map are granted, and no flag of theirs says that they are mapped
+unmapped_yet : (config : Options) (w : World) (g : Flow) (d : Pipeline) (s : FrontStage) (b : BackStage) → Holds config w g d s b → granted_pages s (2 ^ g.shape.order) ≡ 2 ^ g.shape.order → AreUnmapped w.front.shape.order w.under.pages w.back.pages
+unmapped_yet config w g d s b h all page within other =
+    let known : w.front.shape.order ≡ g.shape.order = ap (λ (x : Shape). x.order) h.shaped.known in
+    let among : page < 2 ^ g.shape.order = subst (λ (order : ℕ). page < 2 ^ order) known within in
+    elim (cases_lt page (length w.back.pages)) [
+      | inl mapped ↦ absurd (other page no_page mapped (h.paged.gref page mapped))
+      | inr left ↦ ap is_mapped (h.ring.granted page (subst (λ (n : ℕ). page < n) (sym all) among) (omega arith))
+    ]
+
+-- the pages that it mapped have references of their own
+own_pages : (config : Options) (w : World) (g : Flow) (d : Pipeline) (s : FrontStage) (b : BackStage) → Holds config w g d s b → AreOwn w.back.pages
+own_pages config w g d s b h = record {
+  grefs = all_from (λ (m : Mapping). (8 ≤ m.gref) × (m.gref < 24)) w.back.pages (λ i m e.
+      let within = slice_get_within w.back.pages i m e in
+      let at = gref i m e in
+      let few = few_pages g.shape.order h.shaped.narrow in
+      let many = mapped_few b g.shape.order (length w.back.pages) h.paged.mapped in
+      (omega arith, omega arith));
+  distinct = pairs_from (λ (m n : Mapping). m.gref ≢ n.gref) w.back.pages (λ i j m n lt e f.
+      let first = gref i m e in
+      let second = gref j n f in
+      λ same. omega arith);
+}
+  where
+    gref : (i : ℕ) (m : Mapping) → slice_get w.back.pages i ≡ Some m → m.gref ≡ 8 + i
+    gref i m e = subst (λ (x : Mapping). x.gref ≡ 8 + i) (get_or_from_slice_get w.back.pages i m no_page e) (h.paged.gref i (slice_get_within w.back.pages i m e))
+
+-- they alone are mapped
+left_mapped : (config : Options) (w : World) (g : Flow) (d : Pipeline) (s : FrontStage) (b : BackStage) → Holds config w g d s b → w.back.jobs.works ≡ [] → AreMapped w.under.grants.live w.back.pages
+left_mapped config w g d s b h no_job =
+    let given : given_up b ≡ [] = nothing_given_up g.shape b g.start g.fetched g.back_seen g.replied g.submitted w.back.jobs.works w.back.entry h.back_at in
+    subst (λ (works : List Work). AreMapped w.under.grants.live (hands_in works ++ w.back.pages)) no_job
+    (subst (λ (ms : List Mapping). AreMapped w.under.grants.live (ms ++ (hands_in w.back.jobs.works ++ w.back.pages))) given h.mapped)
+
+leaving_at : (config : Options) (w : World) (g : Flow) (d : Pipeline) (s : FrontStage) (b b' : BackStage) → is_free s ≡ true → Holds config w g d s b
+    → IsLeaving d.front.connected w.under.channels.made w.front.shape.order w.under.pages w.back.pages b' s
+leaving_at config w g d (front.RingWord k) b b' free h = (ap (λ (f : Front). f.connected) h.stations.front, h.ports.0)
+leaving_at config w g d front.Initialised b b' free h = (ap (λ (f : Front). f.connected) h.stations.front, one_port (is_bound_back b) w.under.channels.made w.under.channels.ports h.ports, unmapped_yet config w g d front.Initialised b h refl)
+leaving_at config w g d front.Loop b b' free h = unmapped_yet config w g d front.Loop b h refl
+leaving_at config w g d s b b' free h = absurd (true≢false (sym free))
 
 ring_left : (config : Options) (w : World) (g : Flow) (d : Pipeline) (s : FrontStage) (b : BackStage) → Holds config w g d s b → length w.front.requests ≡ 0 → w.under.channels.made ≡ 1 → IsDrained w.under.pages w.front.ring.cons w.back.ring.cons
 ring_left config w g d (front.RingWord k) b h none made = let unmade = h.ports.0 in absurd (omega arith)
@@ -68,11 +111,12 @@ backed w v = record { front = w.front; back = v; under = w.under }
 -- what stands then
 over_begins : (config : Options) (w : World) (g : Flow) (d : Pipeline) (why : Halt) (v : View)
     → Holds config w g d w.front.stage w.back.stage → IsFarewell w why
-    → v.halted ≡ Some why → v.jobs.works ≡ [] → v.ring.cons ≡ w.back.ring.cons
-    → IsGivingUp v.page v.stage → (is_ring_granted w.front.stage ≡ true → IsUnmapped w.under.pages v.stage)
+    → v.halted ≡ Some why → v.jobs.works ≡ [] → v.ring.cons ≡ w.back.ring.cons → v.pages ≡ w.back.pages
+    → IsGivingUp w.back.pages v.stage
     → Over config (backed w v) d w.front.stage v.stage
-over_begins config w g d why v h farewell halted no_job cons held unmapped =
+over_begins config w g d why v h farewell halted no_job cons same_pages held =
     let through = through_is w.front.closing (length w.front.requests) farewell.through in
+    let none : w.back.jobs.works ≡ [] = no_job_left config w g d w.front.stage w.back.stage h through.none in
     record {
       options = h.stations.options;
       closing = ap (λ (f : Front). f.closing) h.stations.front ∙ (h.started.closing ∙ through.closes);
@@ -81,11 +125,15 @@ over_begins config w g d why v h farewell halted no_job cons held unmapped =
       counted = h.stations.known.as_many ∙ h.submitted.counted;
       closes = through.closes;
       no_request = no_element w.front.requests through.none;
+      narrow = subst (λ (x : Shape). x.order ≤ 4) (sym h.shaped.known) h.shaped.narrow;
       halted = ap is_some halted;
       no_job = no_job;
       memory = h.memory;
-      back_at = held;
-      front_at = leaving_at config w g d w.front.stage w.back.stage v.stage farewell.free h unmapped;
+      back_at = subst (λ (ms : List Mapping). IsGivingUp ms v.stage) (sym same_pages) held;
+      own = subst AreOwn (sym same_pages) (own_pages config w g d w.front.stage w.back.stage h);
+      mapped = subst (AreMapped w.under.grants.live) (sym same_pages) (left_mapped config w g d w.front.stage w.back.stage h none);
+      front_at = subst (λ (ms : List Mapping). IsLeaving d.front.connected w.under.channels.made w.front.shape.order w.under.pages ms v.stage w.front.stage) (sym same_pages)
+          (leaving_at config w g d w.front.stage w.back.stage v.stage farewell.free h);
       ring = λ made. subst (IsDrained w.under.pages w.front.ring.cons) (sym cons) (ring_left config w g d w.front.stage w.back.stage h through.none made);
     }
 
@@ -100,16 +148,22 @@ leaves config w g d why v h farewell halted over = record {
   kept = inr over;
 }
 
--- before the back maps the ring, no flag says so
-unmapped_yet : (config : Options) (w : World) (g : Flow) (d : Pipeline) (s : FrontStage) → Holds config w g d s back.MapRing → is_ring_granted s ≡ true → is_mapped (entry_word0 w.under.pages 8) ≡ false
-unmapped_yet config w g d s h granted = ap is_mapped (h.ring.granted granted refl)
+-- a back that isn't bound holds pages that it mapped, or none
+giving_unbound : (held : List Mapping) → IsGivingUp held (unbound held)
+giving_unbound [] = refl
+giving_unbound (m ∷ held) = λ none. cc
+
+some_held : (held : List Mapping) → 0 < length held → held ≢ []
+some_held [] some = absurd (omega arith)
+some_held (m ∷ held) some = λ none. cc
 
 -- the back halts, or goes on with what it is at
 pub halts_goes : (config : Options) (w : World) (g : Flow) (d : Pipeline) (why : Halt) → Holds config w g d w.front.stage w.back.stage → IsFarewell w why → HasGone None IsSame config (lines_at w (BackHalts why)) (happens w (BackHalts why)) d
 halts_goes config w g d why h farewell = halts_cases (Leaving config w d) why w.back
-    (λ e. leaves config w g d why unmapped h farewell refl (over_begins config w g d why unmapped h farewell refl no_job refl tt (unmapped_yet config w g d w.front.stage (at e))))
-    (λ e. subst (λ (works : List Work). Leaving config w d (given_up works)) (sym no_job)
-    (leaves config w g d why (given_up []) h farewell refl (over_begins config w g d why (given_up []) h farewell refl refl refl (let looping : Holds config w g d w.front.stage back.Loop = at e in looping.page.gref refl) (λ t. tt))))
+    (λ e. leaves config w g d why unmapped h farewell refl (over_begins config w g d why unmapped h farewell refl no_job refl refl (giving_unbound w.back.pages)))
+    (λ e. subst (λ (works : List Work). Leaving config w d (given_up_jobs works)) (sym no_job)
+    (leaves config w g d why (given_up_jobs []) h farewell refl (over_begins config w g d why (given_up_jobs []) h farewell refl refl refl refl
+    (some_held w.back.pages (let looping : Holds config w g d w.front.stage back.Loop = at e in let all : length w.back.pages ≡ 2 ^ g.shape.order = looping.paged.mapped in let some = some_pages g.shape.order in omega arith)))))
     (record { step = None; does = rw h.unhalted (no_move IsSame d (λ a b same. same)); kept = inl (g, h) })
   where
     at : {b : BackStage} → w.back.stage ≡ b → Holds config w g d w.front.stage b
@@ -119,8 +173,8 @@ halts_goes config w g d why h farewell = halts_cases (Leaving config w d) why w.
     no_job = no_job_left config w g d w.front.stage w.back.stage h (let through = through_is w.front.closing (length w.front.requests) farewell.through in through.none)
 
     unmapped : View
-    unmapped = let v : View = w.back in record v { halted = Some why; stage = back.Halted }
+    unmapped = let v : View = w.back in record v { halted = Some why; stage = unbound v.pages }
 
     -- with these jobs before
-    given_up : List Work → View
-    given_up works = let v : View = w.back in record v { halted = Some why; stage = giving_up (first_mapping works); jobs = record v.jobs { works = behind_mapping works } }
+    given_up_jobs : List Work → View
+    given_up_jobs works = let v : View = w.back in record v { halted = Some why; stage = giving_up (first_mapping works); jobs = record v.jobs { works = behind_mapping works } }

@@ -3,6 +3,7 @@ pub mod Flow
 pub mod ReadBack
 pub mod Stations
 pub mod Holds
+pub mod Slots
 pub mod Data
 pub mod Segments
 pub mod Indices
@@ -59,6 +60,7 @@ pub mod Entering
 pub mod Pushing
 pub mod Producing
 pub mod Announcing
+pub mod Holding
 pub mod Refusing
 pub mod Submitting
 pub mod Submissions
@@ -70,6 +72,7 @@ pub mod StartingMoves
 pub mod StartingHolds
 pub mod Notified
 pub mod Connecting
+pub mod Attaching
 pub mod Quiet
 pub mod OverMoves
 pub mod OverRest

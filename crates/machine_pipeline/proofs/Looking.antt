@@ -110,7 +110,7 @@ pub at_stage_goes : (config : Options) (w : World) (g : Flow) (d : Pipeline) (s 
     → ending_of s ≡ 0 → ending_of s' ≡ 0
     → w.front.told ≡ None
     → Holds config w g d s w.back.stage
-    → FrontAt g.start g.pushed g.taken g.front_seen g.submitted g.replies (next_request w.front) w.front.entry w.front.ending s'
+    → FrontAt g.shape g.start g.pushed g.taken g.front_seen g.submitted g.replies (next_request w.front) w.front.entry w.front.ending s'
     → length pages ≡ 1114112
     → ((f : ℕ) → f ≢ 2 → SameFrame w.under.pages pages f)
     → ((x : ℕ) → x ≢ 3 → x < 1024 → word_of pages 2 x ≡ word_of w.under.pages 2 x)

@@ -50,6 +50,7 @@ pub marked : (config : Options) (w : World) (g : Flow) (d : Pipeline) (s : Front
     → Holds config (record { front = w.front; back = w.back; under = record w.under { channels = record w.under.channels { front_pending = front_pending; back_pending = back_pending } } }) g d s b
 marked config w g d s b front_pending back_pending front_sleep back_sleep h = record {
   started = h.started;
+  shaped = h.shaped;
   sized = h.sized;
   indices = h.indices;
   queue = h.queue;
@@ -71,7 +72,7 @@ marked config w g d s b front_pending back_pending front_sleep back_sleep h = re
   telling = h.telling;
   entries = h.entries;
   mapped = h.mapped;
-  page = h.page;
+  paged = h.paged;
   front_sleep = front_sleep;
   back_sleep = back_sleep;
   ports = h.ports;

@@ -1,7 +1,8 @@
--- What holds once the back has halted, since its front closes and has no request left: the back gives up the ring's page and its port, and then the front ends the ring's grant, closes its port, and is closed.
-use Rattle.std.proofs.Common.{◌≡◌, ℕ, ◌⊎◌, inl, Bool, true, false, List, [], length, refl, ap, sym, ◌∙◌, true≢false}
-use Rattle.std.specs.Prelude.{Option, is_some}
+-- What holds once the back has halted, since its front closes and has no request left: the back gives up the ring's pages and its port, and then the front ends the grants of the ring's frames, closes its port, and is closed.
+use Rattle.std.proofs.Common.{◌≡◌, ◌≢◌, ℕ, ◌+◌, ◌^◌, ◌<◌, ◌≤◌, ◌⊎◌, inl, Bool, true, false, List, [], length, refl, ap, sym, ◌∙◌, true≢false}
+use Rattle.std.specs.Prelude.{All, AllPairs, Option, is_some}
 use Rattle.xen_pages.specs.Pages.{word_of}
+use Rattle.grant_table.specs.declared.held.Held.{Held}
 use Rattle.grant_table.specs.Table.{entry_word0}
 use Rattle.blk_base.specs.Options.{Options}
 use Rattle.blk_base.specs.declared.config.Job.{Job}
@@ -20,45 +21,50 @@ use Rattle.blk_back.specs.declared.told.Halt.{Halt}
 use Rattle.split_model.specs.World.{World}
 use Rattle.machine_pipeline.specs.Step.{after_step, Does}
 use Rattle.machine_pipeline.proofs.Flow.{Flow}
-use Rattle.machine_pipeline.proofs.Holds.{Holds}
+use Rattle.machine_pipeline.proofs.Holds.{AreMapped, Holds}
 use Rattle.machine_pipeline.proofs.Turns.{GoesBy}
 
--- each request that was pushed was fetched and has its response, and each response was read (req_prod is word 0 of the ring's page, rsp_prod word 2)
+-- each request that was pushed was fetched and has its response, and each response was read (req_prod is word 0 of the ring's first page, rsp_prod word 2)
 pub record IsDrained (pages : List ℕ) (front_cons back_cons : ℕ) : Type 0 where
   pub served : word_of pages 2 0 ≡ word_of pages 2 2
   pub fetched : back_cons ≡ word_of pages 2 0
   pub read : front_cons ≡ word_of pages 2 2
 
--- what the back holds after its halt: the ring's page, of reference 8, until that is unmapped
-abbrev pub IsGivingUp : Mapping → BackStage → Type 0
-IsGivingUp page back.UnmapRing = page.gref ≡ 8
-IsGivingUp page back.ClosePort = Unit {0}
-IsGivingUp page back.Halted = Unit {0}
-IsGivingUp page b = ⊥
+-- what the back holds after its halt: pages of the ring, until each is unmapped
+abbrev pub IsGivingUp : List Mapping → BackStage → Type 0
+IsGivingUp held back.UnmapRing = held ≢ []
+IsGivingUp held back.UnmapUnbound = held ≢ []
+IsGivingUp held back.ClosePort = held ≡ []
+IsGivingUp held back.Halted = held ≡ []
+IsGivingUp held b = ⊥
 
--- where the back holds nothing, no flag says that the ring's frame is mapped
-abbrev pub IsUnmapped : List ℕ → BackStage → Type 0
-IsUnmapped pages back.UnmapRing = Unit {0}
-IsUnmapped pages b = is_mapped (entry_word0 pages 8) ≡ false
+-- they are of references of their own, of the 16 from 8 on
+pub record AreOwn (held : List Mapping) : Type 0 where
+  pub grefs : All (λ (m : Mapping). (8 ≤ m.gref) × (m.gref < 24)) held
+  pub distinct : AllPairs (λ (m n : Mapping). m.gref ≢ n.gref) held
+
+-- of a frame of the ring that the back doesn't hold no flag says that it is mapped
+abbrev pub AreUnmapped : (order : ℕ) → List ℕ → List Mapping → Type 0
+AreUnmapped order pages held = (page : ℕ) → page < 2 ^ order → All (λ (m : Mapping). m.gref ≢ 8 + page) held → is_mapped (entry_word0 pages (8 + page)) ≡ false
 
 -- how far the front came: it made nothing, or a port too; it leaves only after the back
-abbrev pub IsLeaving : (connected : Bool) (made : ℕ) (pages : List ℕ) → BackStage → FrontStage → Type 0
-IsLeaving connected made pages b (front.RingWord k) = (connected ≡ false) × (made ≡ 0)
-IsLeaving connected made pages b front.Initialised = (connected ≡ false) × (made ≡ 1) × IsUnmapped pages b
-IsLeaving connected made pages b front.Loop = IsUnmapped pages b
-IsLeaving connected made pages b front.RingRead = (b ≡ back.Halted) × (is_mapped (entry_word0 pages 8) ≡ false)
-IsLeaving connected made pages b (front.RingEnd seen) = (b ≡ back.Halted) × (entry_word0 pages 8 ≡ seen)
-IsLeaving connected made pages b front.ClosePort = Unit {0}
-IsLeaving connected made pages b front.Left = Unit {0}
-IsLeaving connected made pages b front.Closed = Unit {0}
-IsLeaving connected made pages b s = ⊥
+abbrev pub IsLeaving : (connected : Bool) (made order : ℕ) (pages : List ℕ) (held : List Mapping) → BackStage → FrontStage → Type 0
+IsLeaving connected made order pages held b (front.RingWord k) = (connected ≡ false) × (made ≡ 0)
+IsLeaving connected made order pages held b front.Initialised = (connected ≡ false) × (made ≡ 1) × AreUnmapped order pages held
+IsLeaving connected made order pages held b front.Loop = AreUnmapped order pages held
+IsLeaving connected made order pages held b (front.RingRead page) = (b ≡ back.Halted) × (page < 2 ^ order) × AreUnmapped order pages held
+IsLeaving connected made order pages held b (front.RingEnd page seen) = (b ≡ back.Halted) × (page < 2 ^ order) × AreUnmapped order pages held × (entry_word0 pages (8 + page) ≡ seen)
+IsLeaving connected made order pages held b front.ClosePort = Unit {0}
+IsLeaving connected made order pages held b front.Left = Unit {0}
+IsLeaving connected made order pages held b front.Closed = Unit {0}
+IsLeaving connected made order pages held b s = ⊥
 
 abbrev pub is_closed : FrontStage → Bool
 is_closed front.Closed = true
 is_closed s = false
 
--- what holds of the pipeline, of the front's last number and requests, of the back's halt, jobs and page, of both ends' next entries, and of memory, with the front at stage s and the back at stage b
-pub record IsOver (config : Options) (d : Pipeline) (last : ℕ) (front_closes : Bool) (requests : List Request) (front_cons : ℕ) (halt : Option Halt) (works : List Work) (page : Mapping) (back_cons made : ℕ) (pages : List ℕ) (s : FrontStage) (b : BackStage) : Type 0 where
+-- what holds of the pipeline, of the front's last number and requests and its ring's order, of the back's halt, jobs and pages, of both ends' next entries, and of mappings and memory, with the front at stage s and the back at stage b
+pub record IsOver (config : Options) (d : Pipeline) (last : ℕ) (front_closes : Bool) (requests : List Request) (front_cons order : ℕ) (halt : Option Halt) (works : List Work) (held : List Mapping) (back_cons made : ℕ) (live : List Held) (pages : List ℕ) (s : FrontStage) (b : BackStage) : Type 0 where
   pub options : d.options ≡ config
   pub closing : d.front.closing ≡ true
   pub closed : d.front.closed ≡ is_closed s
@@ -66,27 +72,31 @@ pub record IsOver (config : Options) (d : Pipeline) (last : ℕ) (front_closes :
   pub counted : length d.requests ≡ last
   pub closes : front_closes ≡ true
   pub no_request : requests ≡ []
+  pub narrow : order ≤ 4
   pub halted : is_some halt ≡ true
   pub no_job : works ≡ []
   pub memory : length pages ≡ 1114112
-  pub back_at : IsGivingUp page b
-  pub front_at : IsLeaving d.front.connected made pages b s
+  pub back_at : IsGivingUp held b
+  pub own : AreOwn held
+  pub mapped : AreMapped live held
+  pub front_at : IsLeaving d.front.connected made order pages held b s
   pub ring : made ≡ 1 → IsDrained pages front_cons back_cons
 
 -- the machine, and the pipeline that it stands for
 abbrev pub Over : Options → World → Pipeline → FrontStage → BackStage → Type 0
-Over config w d s b = IsOver config d w.front.last w.front.closing w.front.requests w.front.ring.cons w.back.halted w.back.jobs.works w.back.page w.back.ring.cons w.under.channels.made w.under.pages s b
+Over config w d s b = IsOver config d w.front.last w.front.closing w.front.requests w.front.ring.cons w.front.shape.order w.back.halted w.back.jobs.works w.back.pages w.back.ring.cons w.under.channels.made w.under.grants.live w.under.pages s b
 
 -- one pipeline with the options, the requests and the closing of another
 abbrev pub IsAlike : Pipeline → Pipeline → Type 0
 IsAlike d d' = (d'.options ≡ d.options) × (d'.requests ≡ d.requests) × (d'.front.closing ≡ d.front.closing)
 
--- what stands where the pipeline, memory and both stages change
-pub over_at : {config : Options} {d d' : Pipeline} {last : ℕ} {front_closes : Bool} {requests : List Request} {front_cons : ℕ} {halt : Option Halt} {works : List Work} {page : Mapping} {back_cons made : ℕ} {pages pages' : List ℕ} {s s' : FrontStage} {b b' : BackStage}
-    → IsOver config d last front_closes requests front_cons halt works page back_cons made pages s b
-    → IsAlike d d' → d'.front.closed ≡ is_closed s' → length pages' ≡ 1114112 → IsGivingUp page b' → IsLeaving d'.front.connected made pages' b' s' → (made ≡ 1 → IsDrained pages' front_cons back_cons)
-    → IsOver config d' last front_closes requests front_cons halt works page back_cons made pages' s' b'
-over_at o alike closed memory back_at front_at ring = record {
+-- what stands where the pipeline, memory, mappings and both stages change
+pub over_at : {config : Options} {d d' : Pipeline} {last : ℕ} {front_closes : Bool} {requests : List Request} {front_cons order : ℕ} {halt : Option Halt} {works : List Work} {held held' : List Mapping} {back_cons made : ℕ} {live live' : List Held} {pages pages' : List ℕ} {s s' : FrontStage} {b b' : BackStage}
+    → IsOver config d last front_closes requests front_cons order halt works held back_cons made live pages s b
+    → IsAlike d d' → d'.front.closed ≡ is_closed s' → length pages' ≡ 1114112 → IsGivingUp held' b' → AreOwn held' → AreMapped live' held'
+    → IsLeaving d'.front.connected made order pages' held' b' s' → (made ≡ 1 → IsDrained pages' front_cons back_cons)
+    → IsOver config d' last front_closes requests front_cons order halt works held' back_cons made live' pages' s' b'
+over_at o alike closed memory back_at own mapped front_at ring = record {
   options = alike.0 ∙ o.options;
   closing = alike.2 ∙ o.closing;
   closed = closed;
@@ -94,10 +104,13 @@ over_at o alike closed memory back_at front_at ring = record {
   counted = ap length alike.1 ∙ o.counted;
   closes = o.closes;
   no_request = o.no_request;
+  narrow = o.narrow;
   halted = o.halted;
   no_job = o.no_job;
   memory = memory;
   back_at = back_at;
+  own = own;
+  mapped = mapped;
   front_at = front_at;
   ring = ring;
 }

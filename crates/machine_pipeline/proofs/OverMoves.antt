@@ -1,6 +1,8 @@
--- A move of either end once the back has halted: the back gives up the ring's page and its port, and after it the front ends the ring's grant and closes its own.
-use Rattle.std.proofs.Common.{◌≡◌, ◌≢◌, ℕ, ◌+◌, ◌-◌, ◌/◌, ◌%◌, ◌<◌, ◌==◌, ◌||◌, inr, not, if◌then◌else◌, cond, Bool, true, false, List, [], ◌∷◌, ◌++◌, length, refl, ap, sym, ◌∙◌, subst, arith, length-set, true≢false}
-use Rattle.std.specs.Prelude.{Option, Some, None, count_by, slice_get}
+-- A move of either end once the back has halted: the back gives up the ring's pages and its port, and after it the front ends the grants of the ring's frames and closes its own.
+use Rattle.std.proofs.Common.{◌≡◌, ◌≢◌, ℕ, suc, ◌+◌, ◌-◌, ◌*◌, ◌/◌, ◌%◌, ◌^◌, ◌<◌, ◌≤◌, ◌==◌, ◌&&◌, ◌||◌, inl, inr, if◌then◌else◌, Bool, true, false, List, [], ◌∷◌, ◌++◌, length, refl, ap, sym, ◌∙◌, subst, arith, length-set, true≢false}
+use Rattle.std.specs.Prelude.{All, Option, Some, None, count_by, slice_get, nat_lt}
+use Rattle.std.proofs.lemmas.Bool.{cases_eq}
+use Rattle.std.proofs.lemmas.List.Elements.{All-head, All-tail, All-cons}
 use Rattle.std.proofs.lemmas.Option.{same_Some}
 use Rattle.std.proofs.lemmas.Bool.Decides.{nat_tests}
 use Rattle.blk_base.specs.Options.{Options}
@@ -22,17 +24,17 @@ use Rattle.schedule_text.specs.declared.line.Line.{Line}
 use Rattle.schedule_text.specs.declared.line.Line.TheVariants as lines
 use Rattle.xen_pages.specs.Pages.{word_of, with_word}
 use Rattle.grant_table.specs.declared.held.Held.{Held}
-use Rattle.grant_table.specs.Entry.{is_reading, is_writing, without_reading, unmapped_entry}
-use Rattle.grant_table.specs.Table.{GrantTable, entry_word0, with_entry_word0, mappings_of, writers_of, without, unmap_pages}
-use Rattle.hypervisor.specs.Act.{FrontAct, BackAct, Outcome, front_act, front_watched, back_act, back_watched, watch_next}
+use Rattle.grant_table.specs.Entry.{is_reading, is_writing, is_for_writing, without_reading, unmapped_entry}
+use Rattle.grant_table.specs.Table.{IsLive, entry_word0, with_entry_word0, mappings_of, writers_of, without, unmap_pages, unmap_table}
+use Rattle.hypervisor.specs.Act.{FrontAct, BackAct, Outcome, Took, front_act, front_watched, back_act, back_watched, watch_next}
 use Rattle.pipeline_laws.specs.Pipeline.{Pipeline}
 use Rattle.blk_front.specs.declared.request.Request.{Request}
 use Rattle.blk_front.specs.declared.stage.Stage.{Stage as FrontStage}
 use Rattle.blk_front.specs.declared.stage.Stage.TheVariants as front
 use Rattle.blk_front.specs.View as front_view
-use Rattle.blk_front.specs.View.{next_request, ring_frame, slot_frame, slot_word}
+use Rattle.blk_front.specs.View.{next_request, ring_frame, ring_page_frame, entry_frame, entry_word, slot_frame, slot_word}
 use Rattle.blk_front.specs.Ask.{is_through, loop_ask}
-use Rattle.blk_front.specs.Step.{at, broken, is_mapped, loop_step, step_at}
+use Rattle.blk_front.specs.Step.{at, broken, is_mapped, ring_left, loop_step, step_at}
 use Rattle.blk_front.specs.Submit.{is_connected}
 use Rattle.ring_words.specs.Ring.{responses_of}
 use Rattle.back_jobs.specs.Hands.{hands_in}
@@ -42,7 +44,9 @@ use Rattle.blk_back.specs.declared.stage.Stage.TheVariants as back
 use Rattle.blk_back.specs.declared.told.BackTold.{BackTold}
 use Rattle.blk_back.specs.declared.told.Halt.{Halt}
 use Rattle.blk_back.specs.Hands.{hands_at}
-use Rattle.blk_back.specs.Step.{job_ask_of}
+use Rattle.blk_back.specs.View as back_view
+use Rattle.blk_back.specs.Ask.{unmap_ask}
+use Rattle.blk_back.specs.Step.{other_pages, bound, unbound, job_ask_of}
 use Rattle.split_model.specs.World.{World}
 use Rattle.split_model.specs.Safe.{AreHeld, IsSafe}
 use Rattle.split_model.specs.Shown.{front_lines, back_lines, halt_lines}
@@ -50,8 +54,12 @@ use Rattle.split_model.specs.Happening.{job_turn, job_after, job_shows}
 use Rattle.split_model.proofs.SafeActs.{front_event, back_event}
 use Rattle.machine_pipeline.specs.Step.{Does, IsSame, CallOf}
 use Rattle.machine_pipeline.proofs.Turns.{front_turn_at, front_next, front_says, back_turn_at, back_next, back_says, nothing, no_move, said_nothing}
-use Rattle.machine_pipeline.proofs.Kept.{written, other_frame}
-use Rattle.machine_pipeline.proofs.Over.{IsDrained, IsLeaving, Over, HasGone, over_at}
+use Rattle.machine_pipeline.proofs.Holds.{AreMapped}
+use Rattle.machine_pipeline.proofs.Lists.{pair_at, pairs_from, count_none}
+use Rattle.machine_pipeline.proofs.Slots.{few_pages}
+use Rattle.machine_pipeline.proofs.Kept.{written, other_frame, other_entry}
+use Rattle.machine_pipeline.proofs.Mapped.{mapped_less}
+use Rattle.machine_pipeline.proofs.Over.{IsDrained, IsGivingUp, AreOwn, AreUnmapped, IsLeaving, Over, HasGone, over_at}
 
 -- the machine with that front, and its lines
 abbrev next_by : (FrontAnswer → front_view.View) → World → Option FrontAct → World
@@ -101,12 +109,12 @@ loops config w d told o =
     none = none_next w.front.waiting w.front.requests o.no_request
 
     looks : FrontAsk
-    looks = if responses_of w.front.ring w.front.seen == 0 then front_ask.Read ring_frame 2 else front_ask.Read (slot_frame w.front.ring.cons 0) (slot_word w.front.ring.cons 0)
+    looks = if responses_of w.front.ring w.front.seen == 0 then front_ask.Read ring_frame 2 else front_ask.Read (slot_frame w.front.shape w.front.ring.cons 0) (slot_word w.front.shape w.front.ring.cons 0)
 
     sleeps : (w.front.asleep || is_through w.front) ≡ true
     sleeps = either_true w.front.asleep (is_through w.front) (rw (o.closes, o.no_request) refl)
 
--- the words of the ring's page, where another frame was written
+-- the words of the ring's first page, where another frame was written
 still_drained : (old new : List ℕ) (front_cons back_cons : ℕ) → ((word : ℕ) → word < 1024 → word_of new 2 word ≡ word_of old 2 word) → IsDrained old front_cons back_cons → IsDrained new front_cons back_cons
 still_drained old new front_cons back_cons same h = record {
   served = same 0 (omega arith) ∙ (h.served ∙ sym (same 2 (omega arith)));
@@ -114,42 +122,96 @@ still_drained old new front_cons back_cons same h = record {
   read = h.read ∙ sym (same 2 (omega arith));
 }
 
--- the flags of the ring's grant are read
-reads_grant : (config : Options) (w : World) (d : Pipeline) → w.front.told ≡ None → Over config w d front.RingRead w.back.stage
-    → HasGone None IsSame config (front_says front.RingRead w (front_turn_at front.RingRead w)) (front_next front.RingRead w (front_turn_at front.RingRead w)) d
-reads_grant config w d told o =
-    subst (λ (b : Bool). let x : front_view.View = (if b then broken word w.front else at (front.RingEnd word) w.front) in
-    HasGone None IsSame config (lines.Move (moves.FrontRead 0 16 word) ∷ front_lines x.told) (record { front = record x { told = None }; back = w.back; under = w.under }) d) (sym o.front_at.1)
-    (record {
-      step = None;
-      does = said_nothing d (moves.FrontRead 0 16 word) w.front.told told;
-      kept = inr (over_at o (refl, refl, refl) o.closed o.memory o.back_at (o.front_at.0, refl) o.ring);
-    })
-  where
-    word : ℕ
-    word = word_of w.under.pages 0 16
+-- the flags of the grant of a frame of the ring
+ring_flags : (pages : List ℕ) (page : ℕ) → word_of pages (entry_frame (ring_page_frame page)) (entry_word (ring_page_frame page)) ≡ entry_word0 pages (8 + page)
+ring_flags pages page = ap (λ (gref : ℕ). entry_word0 pages gref) (let same : 2 + page + 6 ≡ 8 + page = omega arith in same)
 
--- and it is ended
-ends_grant : (config : Options) (w : World) (d : Pipeline) (seen : ℕ) → w.front.told ≡ None → Over config w d (front.RingEnd seen) w.back.stage
-    → HasGone None IsSame config (front_says (front.RingEnd seen) w (front_turn_at (front.RingEnd seen) w)) (front_next (front.RingEnd seen) w (front_turn_at (front.RingEnd seen) w)) d
-ends_grant config w d seen told o =
-    subst (λ (b : Bool). let x : front_view.View = (if b then at front.ClosePort w.front else broken word w.front) in
-    HasGone None IsSame config (lines.Move (moves.FrontCas 0 16 seen 0 word) ∷ front_lines x.told)
-    (record { front = record x { told = None }; back = w.back; under = (let h = w.under in record h { pages = if b then pages else h.pages }) }) d) (sym tested)
+-- a back that has halted holds nothing
+none_held : (config : Options) (w : World) (d : Pipeline) (s : FrontStage) → w.back.stage ≡ back.Halted → Over config w d s w.back.stage → (page : ℕ) → All (λ (m : Mapping). m.gref ≢ 8 + page) w.back.pages
+none_held config w d s halted o page = subst (All (λ (m : Mapping). m.gref ≢ 8 + page)) (sym (subst (IsGivingUp w.back.pages) halted o.back_at)) (λ k x lt. absurd (omega arith))
+
+-- they are read
+reads_grant : (config : Options) (w : World) (d : Pipeline) (page : ℕ) → w.front.told ≡ None → Over config w d (front.RingRead page) w.back.stage
+    → HasGone None IsSame config (front_says (front.RingRead page) w (front_turn_at (front.RingRead page) w)) (front_next (front.RingRead page) w (front_turn_at (front.RingRead page) w)) d
+reads_grant config w d page told o =
+    subst (λ (b : Bool). let x : front_view.View = (if b then broken word w.front else at (front.RingEnd page word) w.front) in
+    HasGone None IsSame config (lines.Move (moves.FrontRead frame place word) ∷ front_lines x.told) (record { front = record x { told = None }; back = w.back; under = w.under }) d) (sym unmapped)
     (record {
       step = None;
-      does = said_nothing d (moves.FrontCas 0 16 seen 0 word) w.front.told told;
-      kept = inr (over_at o (refl, refl, refl) o.closed (length-set w.under.pages 16 0 ∙ o.memory) o.back_at tt (λ made. still_drained w.under.pages pages w.front.ring.cons w.back.ring.cons (other_frame w.under.pages 0 16 0 2 (omega arith) (omega arith)) (o.ring made)));
+      does = said_nothing d (moves.FrontRead frame place word) w.front.told told;
+      kept = inr (over_at o (refl, refl, refl) o.closed o.memory o.back_at o.own o.mapped (o.front_at.0, o.front_at.1, o.front_at.2, sym (ring_flags w.under.pages page)) o.ring);
     })
   where
+    frame : ℕ
+    frame = entry_frame (ring_page_frame page)
+
+    place : ℕ
+    place = entry_word (ring_page_frame page)
+
     word : ℕ
-    word = word_of w.under.pages 0 16
+    word = word_of w.under.pages frame place
+
+    unmapped : is_mapped word ≡ false
+    unmapped = ap is_mapped (ring_flags w.under.pages page) ∙ o.front_at.2 page o.front_at.1 (none_held config w d (front.RingRead page) o.front_at.0 o page)
+
+-- and the grant is ended: the next frame's is looked at, or the port is closed
+ends_grant : (config : Options) (w : World) (d : Pipeline) (page seen : ℕ) → w.front.told ≡ None → Over config w d (front.RingEnd page seen) w.back.stage
+    → HasGone None IsSame config (front_says (front.RingEnd page seen) w (front_turn_at (front.RingEnd page seen) w)) (front_next (front.RingEnd page seen) w (front_turn_at (front.RingEnd page seen) w)) d
+ends_grant config w d page seen told o =
+    subst (λ (b : Bool). let x : front_view.View = (if b then at (ring_left w.front page) w.front else broken word w.front) in
+    HasGone None IsSame config (lines.Move (moves.FrontCas frame place seen 0 word) ∷ front_lines x.told)
+    (record { front = record x { told = None }; back = w.back; under = (let h = w.under in record h { pages = if b then pages else h.pages }) }) d) (sym tested)
+    (by_more (nat_lt (page + 1) (2 ^ w.front.shape.order)) refl)
+  where
+    frame : ℕ
+    frame = entry_frame (ring_page_frame page)
+
+    place : ℕ
+    place = entry_word (ring_page_frame page)
+
+    word : ℕ
+    word = word_of w.under.pages frame place
 
     pages : List ℕ
-    pages = with_word w.under.pages 0 16 0
+    pages = with_word w.under.pages frame place 0
+
+    few : page < 16
+    few = let all = few_pages w.front.shape.order o.narrow in omega (arith, o.front_at.1)
 
     tested : (word == seen) ≡ true
-    tested = let same : word ≡ seen = o.front_at.1 in grind (arith, nat_tests)
+    tested = let same : word ≡ seen = ring_flags w.under.pages page ∙ o.front_at.3 in grind (arith, nat_tests)
+
+    ended : entry_word0 pages (8 + page) ≡ 0
+    ended = sym (ring_flags pages page) ∙ written w.under.pages frame place 0 o.memory (omega (arith, few)) (omega (arith, few))
+
+    unmapped : AreUnmapped w.front.shape.order pages w.back.pages
+    unmapped other within none = elim (cases_eq other page) [
+      | inl e ↦ subst (λ (n : ℕ). is_mapped (entry_word0 pages (8 + n)) ≡ false) (sym e) (ap is_mapped ended)
+      | inr apart ↦
+          let all = few_pages w.front.shape.order o.narrow in
+          let same = other_entry w.under.pages (2 + page + 6) (8 + other) 0 (omega (arith, few)) (omega arith) (omega arith) in
+          ap is_mapped same.flags ∙ o.front_at.2 other within none
+    ]
+
+    drained : w.under.channels.made ≡ 1 → IsDrained pages w.front.ring.cons w.back.ring.cons
+    drained made = still_drained w.under.pages pages w.front.ring.cons w.back.ring.cons (other_frame w.under.pages frame place 0 2 (omega (arith, few)) (omega (arith, few))) (o.ring made)
+
+    sized : length pages ≡ 1114112
+    sized = length-set w.under.pages (frame * 1024 + place) 0 ∙ o.memory
+
+    by_more : (b : Bool) → nat_lt (page + 1) (2 ^ w.front.shape.order) ≡ b
+        → (let x : front_view.View = at (if b then front.RingRead (page + 1) else front.ClosePort) w.front in HasGone None IsSame config (lines.Move (moves.FrontCas frame place seen 0 word) ∷ front_lines x.told)
+        (record { front = record x { told = None }; back = w.back; under = (let h = w.under in record h { pages = pages }) }) d)
+    by_more true more = record {
+      step = None;
+      does = said_nothing d (moves.FrontCas frame place seen 0 word) w.front.told told;
+      kept = inr (over_at o (refl, refl, refl) o.closed sized o.back_at o.own o.mapped (o.front_at.0, (let lt : page + 1 < 2 ^ w.front.shape.order = grind (arith, nat_tests) in lt), unmapped) drained);
+    }
+    by_more false last = record {
+      step = None;
+      does = said_nothing d (moves.FrontCas frame place seen 0 word) w.front.told told;
+      kept = inr (over_at o (refl, refl, refl) o.closed sized o.back_at o.own o.mapped tt drained);
+    }
 
 -- its port is closed
 closes_port : (config : Options) (w : World) (d : Pipeline) → w.front.told ≡ None → Over config w d front.ClosePort w.back.stage
@@ -157,7 +219,7 @@ closes_port : (config : Options) (w : World) (d : Pipeline) → w.front.told ≡
 closes_port config w d told o = record {
   step = None;
   does = said_nothing d (moves.ClosePort mover.Front) w.front.told told;
-  kept = inr (over_at o (refl, refl, refl) o.closed o.memory o.back_at tt o.ring);
+  kept = inr (over_at o (refl, refl, refl) o.closed o.memory o.back_at o.own o.mapped tt o.ring);
 }
 
 pub front_ends : (config : Options) (w : World) (d : Pipeline) (s : FrontStage) → is_connected s ≡ true → w.front.told ≡ None → w.front.stage ≡ s → Over config w d s w.back.stage
@@ -171,8 +233,8 @@ front_ends config w d s on told e o = by_stage s on o
     by_stage (front.RingWord k) on o = absurd (true≢false (sym on))
     by_stage front.Initialised on o = waits config w d (step_at front.Initialised w.front) here (told, here) (λ path. (told, here))
     by_stage front.Loop on o = loops config w d told here
-    by_stage front.RingRead on o = reads_grant config w d told o
-    by_stage (front.RingEnd seen) on o = ends_grant config w d seen told o
+    by_stage (front.RingRead page) on o = reads_grant config w d page told o
+    by_stage (front.RingEnd page seen) on o = ends_grant config w d page seen told o
     by_stage front.ClosePort on o = closes_port config w d told o
     by_stage front.Left on o = waits config w d (step_at front.Left w.front) here (told, here) (λ path. (told, here))
     by_stage front.Closed on o = waits config w d (step_at front.Closed w.front) here (told, here) (λ path. (told, here))
@@ -198,71 +260,129 @@ unread n = by_writing (is_writing n) refl
     by_writing true t = let odd : n / 16 % 2 ≡ 1 = grind (arith, nat_tests) in by_reading (n - 16) (omega arith) (is_reading (n - 16)) refl
     by_writing false t = let even : n / 16 % 2 ≢ 1 = grind (arith, nat_tests) in by_reading n (omega arith) (is_reading n) refl
 
--- once the one mapping that lives is taken out none is left
-none_without : (number : ℕ) (live : List Held) → length live ≡ 1 → count_by (λ (h : Held). h.mapping.number == number) live ≡ 1 → without number live ≡ []
-none_without number [] long counted = absurd (omega arith)
-none_without number (x ∷ []) long counted = by_test (x.mapping.number == number) counted
+-- how far the front came stays, as the back gives up a page
+gave_up : (connected : Bool) (made order : ℕ) (old new : List ℕ) (held held' : List Mapping) (b b' : BackStage) (s : FrontStage) → (b ≡ back.Halted → ⊥) → (AreUnmapped order old held → AreUnmapped order new held') → IsLeaving connected made order old held b s → IsLeaving connected made order new held' b' s
+gave_up connected made order old new held held' b b' (front.RingWord k) serves still p = p
+gave_up connected made order old new held held' b b' front.Initialised serves still p = (p.0, p.1, still p.2)
+gave_up connected made order old new held held' b b' front.Loop serves still p = still p
+gave_up connected made order old new held held' b b' (front.RingRead page) serves still p = absurd (serves p.0)
+gave_up connected made order old new held held' b b' (front.RingEnd page seen) serves still p = absurd (serves p.0)
+gave_up connected made order old new held held' b b' front.ClosePort serves still p = tt
+gave_up connected made order old new held held' b b' front.Left serves still p = tt
+gave_up connected made order old new held held' b b' front.Closed serves still p = tt
+gave_up connected made order old new held held' b b' s serves still p = absurd p
+
+-- the machine and its lines once the back's first page was unmapped
+abbrev unmap_says : World → Option BackAct → List Line
+unmap_says w None = []
+unmap_says w (Some a) = lines.Move a.shown ∷ back_lines w.back.told a.answer ++ halt_lines w.back.halted w.back.halted
+
+abbrev unmap_next : World → back_view.View → Option BackAct → World
+unmap_next w v None = w
+unmap_next w v (Some a) = record { front = w.front; back = record v { told = None }; under = a.under }
+
+-- the references of those that are left are others
+none_left : (m : Mapping) (rest : List Mapping) (test : Mapping → Bool) → AreOwn (m ∷ rest) → ((x : Mapping) → x.gref ≢ m.gref → test x ≡ false) → count_by test rest ≡ 0
+none_left m rest test own passes = count_none test rest (λ i x e. passes x (λ same. pair_at (λ (a b : Mapping). a.gref ≢ b.gref) (m ∷ rest) 0 (i + 1) m x own.distinct (omega arith) refl (get_behind m rest i x e) (sym same)))
   where
-    by_test : (b : Bool) → 0 + cond b 1 0 ≡ 1 → (if not b then x ∷ [] else []) ≡ []
-    by_test true counted = refl
-    by_test false counted = absurd (omega arith)
-none_without number (x ∷ y ∷ live) long counted = absurd (omega arith)
+    get_behind : (m : Mapping) (rest : List Mapping) (i : ℕ) (x : Mapping) → slice_get rest i ≡ Some x → slice_get (m ∷ rest) (i + 1) ≡ Some x
+    get_behind m rest i x e = (let next : i + 1 ≡ suc i = omega arith in ap (slice_get (m ∷ rest)) next) ∙ e
 
-left_none : (table : GrantTable) (page : Mapping) → AreHeld table (page ∷ []) → without page.number table.live ≡ []
-left_none table page held =
-    let same : (page.number == page.number) ≡ true = grind (arith, nat_tests) in
-    none_without page.number table.live held.as_many (sym (held.counted page.number) ∙ ap (λ (b : Bool). 0 + cond b 1 0) same)
-
-not_halted : back.UnmapRing ≡ back.Halted → ⊥
-not_halted e = cc
-
--- how far the front came stays, as the back gives up its page
-gave_up : (connected : Bool) (made : ℕ) (old new : List ℕ) (s : FrontStage) → is_mapped (entry_word0 new 8) ≡ false → IsLeaving connected made old back.UnmapRing s → IsLeaving connected made new back.ClosePort s
-gave_up connected made old new (front.RingWord k) unmapped p = p
-gave_up connected made old new front.Initialised unmapped p = (p.0, p.1, unmapped)
-gave_up connected made old new front.Loop unmapped p = unmapped
-gave_up connected made old new front.RingRead unmapped p = absurd (not_halted p.0)
-gave_up connected made old new (front.RingEnd seen) unmapped p = absurd (not_halted p.0)
-gave_up connected made old new front.ClosePort unmapped p = tt
-gave_up connected made old new front.Left unmapped p = tt
-gave_up connected made old new front.Closed unmapped p = tt
-gave_up connected made old new s unmapped p = absurd p
-
--- and its port
-closed_port : (connected : Bool) (made : ℕ) (pages : List ℕ) (s : FrontStage) → IsLeaving connected made pages back.ClosePort s → IsLeaving connected made pages back.Halted s
-closed_port connected made pages (front.RingWord k) p = p
-closed_port connected made pages front.Initialised p = p
-closed_port connected made pages front.Loop p = p
-closed_port connected made pages front.RingRead p = (refl, p.1)
-closed_port connected made pages (front.RingEnd seen) p = (refl, p.1)
-closed_port connected made pages front.ClosePort p = tt
-closed_port connected made pages front.Left p = tt
-closed_port connected made pages front.Closed p = tt
-closed_port connected made pages s p = absurd p
-
--- the ring's page is unmapped
-unmaps_ring : (config : Options) (w : World) (d : Pipeline) → w.back.told ≡ None → AreHeld w.under.grants (w.back.page ∷ []) → Over config w d w.front.stage back.UnmapRing
-    → HasGone None IsSame config (back_says back.UnmapRing w (back_turn_at back.UnmapRing w)) (back_next back.UnmapRing w (back_turn_at back.UnmapRing w)) d
-unmaps_ring config w d told held o = record {
-  step = None;
-  does = said_back d (moves.Unmap back_mover.Back w.back.page.number) w.back.told w.back.halted back_answer.Done told;
-  kept = inr (subst (λ (pages : List ℕ). let v : World = record { front = w.front; back = w.back; under = (let h = w.under in record h { pages = pages }) } in Over config v d w.front.stage back.ClosePort) (sym written_so)
-      (over_at o (refl, refl, refl) o.closed (length-set w.under.pages 16 flags ∙ o.memory) tt (gave_up d.front.connected w.under.channels.made w.under.pages pages w.front.stage unmapped o.front_at) (λ made. still_drained w.under.pages pages w.front.ring.cons w.back.ring.cons (other_frame w.under.pages 0 16 flags 2 (omega arith) (omega arith)) (o.ring made))));
-}
+-- the back's first page is unmapped
+unmaps_first : (config : Options) (w : World) (d : Pipeline) (b : BackStage) (next : List Mapping → BackStage) (m : Mapping) (rest : List Mapping)
+    → w.back.pages ≡ m ∷ rest
+    → (b ≡ back.Halted → ⊥)
+    → ((held : List Mapping) → IsGivingUp held (next held))
+    → AreHeld w.under.grants (m ∷ rest)
+    → Over config w d w.front.stage b
+    → Over config (record { front = w.front; back = record w.back { pages = rest; stage = next rest; told = None }; under = (let h = w.under in record h { grants = unmap_table h.grants m; pages = unmap_pages h.grants h.pages m }) }) d w.front.stage (next rest)
+unmaps_first config w d b next m rest e serves gives held o =
+    subst (λ (ms : List ℕ). Over config (record { front = w.front; back = record w.back { pages = rest; stage = next rest; told = None }; under = (let h = w.under in record h { grants = unmap_table h.grants m; pages = ms }) }) d w.front.stage (next rest)) (sym written_so)
+    (over_at o (refl, refl, refl) o.closed (length-set w.under.pages (m.gref / 512 * 1024 + 2 * (m.gref % 512)) flags ∙ o.memory) (gives rest)
+    (record { grefs = All-tail (λ (x : Mapping). (8 ≤ x.gref) × (x.gref < 24)) m rest own.grefs; distinct = pairs_from (λ (x y : Mapping). x.gref ≢ y.gref) rest (λ i j x y lt first second. pair_at (λ (a b : Mapping). a.gref ≢ b.gref) (m ∷ rest) (i + 1) (j + 1) x y own.distinct (omega arith) (get_behind i x first) (get_behind j y second)) })
+    mapped
+    (gave_up d.front.connected w.under.channels.made w.front.shape.order w.under.pages pages w.back.pages rest b (next rest) w.front.stage serves still o.front_at)
+    (λ made. still_drained w.under.pages pages w.front.ring.cons w.back.ring.cons (other_frame w.under.pages (m.gref / 512) (2 * (m.gref % 512)) flags 2 (omega (arith, among.1)) (omega (arith, among.1))) (o.ring made)))
   where
+    own : AreOwn (m ∷ rest)
+    own = subst AreOwn e o.own
+
+    among : (8 ≤ m.gref) × (m.gref < 24)
+    among = All-head (λ (x : Mapping). (8 ≤ x.gref) × (x.gref < 24)) m rest own.grefs
+
+    get_behind : (i : ℕ) (x : Mapping) → slice_get rest i ≡ Some x → slice_get (m ∷ rest) (i + 1) ≡ Some x
+    get_behind i x at = (let next : i + 1 ≡ suc i = omega arith in ap (slice_get (m ∷ rest)) next) ∙ at
+
+    left : List Held
+    left = without m.number w.under.grants.live
+
+    mapped : AreMapped left rest
+    mapped = mapped_less w.under.grants (m ∷ rest) rest m held (All-head (IsLive w.under.grants) m rest held.live) (record { front = []; rest = rest; without = refl; with_it = refl }) (subst (AreMapped w.under.grants.live) e o.mapped)
+
     flags : ℕ
-    flags = unmapped_entry (entry_word0 w.under.pages 8) 0 0
+    flags = unmapped_entry (entry_word0 w.under.pages m.gref) 0 0
 
     pages : List ℕ
-    pages = with_entry_word0 w.under.pages 8 flags
+    pages = with_entry_word0 w.under.pages m.gref flags
 
-    unmapped : is_mapped (entry_word0 pages 8) ≡ false
-    unmapped = ap is_mapped (written w.under.pages 0 16 flags o.memory (omega arith) (omega arith)) ∙ unread (entry_word0 w.under.pages 8)
+    none_mapped : mappings_of m.gref left ≡ 0
+    none_mapped = mapped.counted (λ x. x.gref == m.gref) ∙ none_left m rest (λ x. x.gref == m.gref) own (λ x apart. grind (arith, nat_tests))
 
-    written_so : unmap_pages w.under.grants w.under.pages w.back.page ≡ pages
+    none_writes : writers_of m.gref left ≡ 0
+    none_writes = mapped.counted (λ x. x.gref == m.gref && is_for_writing x.mode) ∙ none_left m rest (λ x. x.gref == m.gref && is_for_writing x.mode) own (λ x apart. (let other : (x.gref == m.gref) ≡ false = grind (arith, nat_tests) in rw other refl))
+
+    written_so : unmap_pages w.under.grants w.under.pages m ≡ pages
     written_so =
-        ap (λ (left : List Held). with_entry_word0 w.under.pages w.back.page.gref (unmapped_entry (entry_word0 w.under.pages w.back.page.gref) (mappings_of w.back.page.gref left) (writers_of w.back.page.gref left))) (left_none w.under.grants w.back.page held)
-        ∙ ap (λ (gref : ℕ). with_entry_word0 w.under.pages gref (unmapped_entry (entry_word0 w.under.pages gref) 0 0)) o.back_at
+        ap (λ (n : ℕ). with_entry_word0 w.under.pages m.gref (unmapped_entry (entry_word0 w.under.pages m.gref) n (writers_of m.gref left))) none_mapped
+        ∙ ap (λ (n : ℕ). with_entry_word0 w.under.pages m.gref (unmapped_entry (entry_word0 w.under.pages m.gref) 0 n)) none_writes
+
+    cleared : is_mapped (entry_word0 pages m.gref) ≡ false
+    cleared = ap is_mapped (written w.under.pages (m.gref / 512) (2 * (m.gref % 512)) flags o.memory (omega (arith, among.1)) (omega (arith, among.1))) ∙ unread (entry_word0 w.under.pages m.gref)
+
+    still : AreUnmapped w.front.shape.order w.under.pages w.back.pages → AreUnmapped w.front.shape.order pages rest
+    still was page within others = elim (cases_eq m.gref (8 + page)) [
+      | inl same ↦ subst (λ (gref : ℕ). is_mapped (entry_word0 pages gref) ≡ false) same cleared
+      | inr apart ↦
+          let few = few_pages w.front.shape.order o.narrow in
+          let kept = other_entry w.under.pages m.gref (8 + page) flags (omega (arith, among.1)) (omega arith) (λ same. apart (sym same)) in
+          ap is_mapped kept.flags ∙ was page within (subst (All (λ (x : Mapping). x.gref ≢ 8 + page)) (sym e) (All-cons (λ (x : Mapping). x.gref ≢ 8 + page) m rest apart others))
+    ]
+
+unmaps : (config : Options) (w : World) (d : Pipeline) (b : BackStage) (next : List Mapping → BackStage) (ms : List Mapping)
+    → w.back.pages ≡ ms
+    → w.back.told ≡ None
+    → ms ≢ []
+    → (b ≡ back.Halted → ⊥)
+    → ((held : List Mapping) → IsGivingUp held (next held))
+    → AreHeld w.under.grants ms
+    → Over config w d w.front.stage b
+    → (let act : Option BackAct = back_act w.under back_mover.Back (unmap_ask ms) Took in HasGone None IsSame config (unmap_says w act) (unmap_next w (record w.back { pages = other_pages ms; stage = next (other_pages ms) }) act) d)
+unmaps config w d b next [] e told some serves gives held o = absurd (some refl)
+unmaps config w d b next (m ∷ rest) e told some serves gives held o = record {
+  step = None;
+  does = said_back d (moves.Unmap back_mover.Back m.number) w.back.told w.back.halted back_answer.Done told;
+  kept = inr (unmaps_first config w d b next m rest e serves gives held o);
+}
+
+gives_bound : (held : List Mapping) → IsGivingUp held (bound held)
+gives_bound [] = refl
+gives_bound (m ∷ held) = λ none. cc
+
+gives_unbound : (held : List Mapping) → IsGivingUp held (unbound held)
+gives_unbound [] = refl
+gives_unbound (m ∷ held) = λ none. cc
+
+-- and its port
+closed_port : (connected : Bool) (made order : ℕ) (pages : List ℕ) (held : List Mapping) (s : FrontStage) → IsLeaving connected made order pages held back.ClosePort s → IsLeaving connected made order pages held back.Halted s
+closed_port connected made order pages held (front.RingWord k) p = p
+closed_port connected made order pages held front.Initialised p = p
+closed_port connected made order pages held front.Loop p = p
+closed_port connected made order pages held (front.RingRead page) p = (refl, p.1, p.2)
+closed_port connected made order pages held (front.RingEnd page seen) p = (refl, p.1, p.2, p.3)
+closed_port connected made order pages held front.ClosePort p = tt
+closed_port connected made order pages held front.Left p = tt
+closed_port connected made order pages held front.Closed p = tt
+closed_port connected made order pages held s p = absurd p
 
 -- the back's port is closed
 closes_back : (config : Options) (w : World) (d : Pipeline) → w.back.told ≡ None → Over config w d w.front.stage back.ClosePort
@@ -270,7 +390,7 @@ closes_back : (config : Options) (w : World) (d : Pipeline) → w.back.told ≡ 
 closes_back config w d told o = record {
   step = None;
   does = said_back d (moves.ClosePort mover.Back) w.back.told w.back.halted back_answer.Done told;
-  kept = inr (over_at o (refl, refl, refl) o.closed o.memory tt (closed_port d.front.connected w.under.channels.made w.under.pages w.front.stage o.front_at) o.ring);
+  kept = inr (over_at o (refl, refl, refl) o.closed o.memory o.back_at o.own o.mapped (closed_port d.front.connected w.under.channels.made w.front.shape.order w.under.pages w.back.pages w.front.stage o.front_at) o.ring);
 }
 
 -- it has halted, and waits
@@ -285,13 +405,20 @@ back_waits config w d told o = by_pending w.under.channels.back_pending (watch_n
 
 pub back_ends : (config : Options) (w : World) (d : Pipeline) (b : BackStage) → IsSafe w → w.back.stage ≡ b → Over config w d w.front.stage b
     → HasGone None IsSame config (back_says b w (back_turn_at b w)) (back_next b w (back_turn_at b w)) d
-back_ends config w d back.UnmapRing safe e o = unmaps_ring config w d safe.back_told held o
+back_ends config w d back.UnmapRing safe e o = unmaps config w d back.UnmapRing bound w.back.pages refl safe.back_told o.back_at (λ same. cc) gives_bound held o
   where
     at : AreHeld w.under.grants (hands_at back.UnmapRing w.back)
     at = subst (λ (b : BackStage). AreHeld w.under.grants (hands_at b w.back)) e safe.held
 
-    held : AreHeld w.under.grants (w.back.page ∷ [])
-    held = subst (λ (works : List Work). AreHeld w.under.grants (hands_in works ++ w.back.page ∷ [])) o.no_job at
+    held : AreHeld w.under.grants w.back.pages
+    held = subst (λ (works : List Work). AreHeld w.under.grants (hands_in works ++ w.back.pages)) o.no_job at
+back_ends config w d back.UnmapUnbound safe e o = unmaps config w d back.UnmapUnbound unbound w.back.pages refl safe.back_told o.back_at (λ same. cc) gives_unbound held o
+  where
+    at : AreHeld w.under.grants (hands_at back.UnmapUnbound w.back)
+    at = subst (λ (b : BackStage). AreHeld w.under.grants (hands_at b w.back)) e safe.held
+
+    held : AreHeld w.under.grants w.back.pages
+    held = subst (λ (works : List Work). AreHeld w.under.grants (hands_in works ++ w.back.pages)) o.no_job at
 back_ends config w d back.ClosePort safe e o = closes_back config w d safe.back_told o
 back_ends config w d back.Halted safe e o = back_waits config w d safe.back_told (subst (Over config w d w.front.stage) (sym e) o)
 back_ends config w d b safe e o = absurd o.back_at

@@ -1,6 +1,8 @@
 -- Whatever else happens once the back has halted: submissions are refused, and the front is closed once it left.
-use Rattle.std.proofs.Common.{◌≡◌, ℕ, ◌==◌, inr, not, if◌then◌else◌, Bool, true, false, [], ◌∷◌, length, map, refl, ap, sym, ◌∙◌, subst, true≢false}
-use Rattle.std.specs.Prelude.{Some, None, Result, Err}
+use Rattle.std.proofs.Common.{◌≡◌, ℕ, ◌==◌, inr, not, if◌then◌else◌, Bool, true, false, List, [], ◌∷◌, length, map, refl, ap, sym, ◌∙◌, subst, arith, true≢false}
+use Rattle.std.specs.Prelude.{Some, None, Result, Err, nat_le}
+use Rattle.blk_base.specs.declared.parts.Mapping.{Mapping}
+use Rattle.ring_words.specs.Shape.{Shape}
 use Rattle.std.proofs.lemmas.List.{length-map}
 use Rattle.blk_base.specs.Options.{Options}
 use Rattle.blk_base.specs.declared.config.Job.{Job}
@@ -17,7 +19,7 @@ use Rattle.blk_front.specs.declared.state.FrontState.{FrontState}
 use Rattle.blk_front.specs.declared.state.FrontState.TheVariants as states
 use Rattle.blk_front.specs.declared.told.Refusal.{Refusal}
 use Rattle.blk_front.specs.declared.told.Refusal.TheVariants as refusal
-use Rattle.blk_front.specs.State.{is_open, is_made, is_bare, may_enter, in_state}
+use Rattle.blk_front.specs.State.{is_open, is_unmade, is_made, is_bare, may_enter, in_state}
 use Rattle.blk_front.specs.Ask.{is_through}
 use Rattle.blk_front.specs.Submit.{is_ready, wish_of, submit_one}
 use Rattle.blk_front.specs.View.{View}
@@ -27,9 +29,11 @@ use Rattle.blk_back.specs.declared.told.Halt.{Halt}
 use Rattle.split_model.specs.World.{World}
 use Rattle.split_model.specs.Keys.{KeyMove}
 use Rattle.split_model.specs.Shown.{state_lines, refusal_word, halt_lines}
-use Rattle.split_model.specs.Happening.{Negotiates, FrontEnters, BackHalts, Submits, Notifies, submit_line, happens, lines_at}
+use Rattle.split_model.specs.Happening.{Negotiates, FrontEnters, BackAttaches, BackHalts, Submits, Notifies, submit_line, happens, lines_at}
 use Rattle.split_model.proofs.Keys.{negotiated_lines_are}
-use Rattle.split_model.proofs.States.{enters_cases, halts_cases}
+use Rattle.split_model.proofs.States.{enters_cases, is_unbound, halts_cases}
+use Rattle.split_model.proofs.Shapes.{attaches_waiting}
+use Rattle.split_model.proofs.Attaching.{attach_cases}
 use Rattle.machine_pipeline.specs.Allowed.{MayEnter}
 use Rattle.machine_pipeline.specs.Step.{IsSame}
 use Rattle.machine_pipeline.proofs.Turns.{no_move}
@@ -37,7 +41,8 @@ use Rattle.machine_pipeline.proofs.Keyed.{asides_do}
 use Rattle.machine_pipeline.proofs.Connecting.{initialised_is, yet_open}
 use Rattle.line_text.proofs.Both.{both_true}
 use Rattle.machine_pipeline.proofs.OverMoves.{no_halt}
-use Rattle.machine_pipeline.proofs.Over.{IsGivingUp, IsUnmapped, IsLeaving, Over, HasGone, over_at, unclosed}
+use Rattle.machine_pipeline.proofs.Slots.{some_pages}
+use Rattle.machine_pipeline.proofs.Over.{IsGivingUp, AreUnmapped, IsLeaving, Over, HasGone, over_at, unclosed}
 
 -- what an end does with the keys
 pub keys_end : (config : Options) (w : World) (d : Pipeline) (at : End) (move : KeyMove) → Over config w d w.front.stage w.back.stage → HasGone None IsSame config (lines_at w (Negotiates at move)) (happens w (Negotiates at move)) d
@@ -83,18 +88,18 @@ connects_late : (config : Options) (w : World) (d : Pipeline) → Over config w 
 connects_late config w d o = record {
   step = Some Connects;
   does = record { asides = []; aside = refl; shows = refl; asks = refl; allowed = (o.front_at.0, o.closed); disk = λ a b e. e };
-  kept = inr (over_at o (refl, refl, refl) o.closed o.memory o.back_at o.front_at.2 o.ring);
+  kept = inr (over_at o (refl, refl, refl) o.closed o.memory o.back_at o.own o.mapped o.front_at.2 o.ring);
 }
 
--- the back has left: the ring's grant is ended next
-leaves_ring : (config : Options) (w : World) (d : Pipeline) (s : FrontStage) → is_made s ≡ true → w.back.stage ≡ back.Halted → Over config w d s w.back.stage → HasGone None IsSame config [] (staged w front.RingRead) d
+-- the back has left: the grants of the ring's frames are ended next
+leaves_ring : (config : Options) (w : World) (d : Pipeline) (s : FrontStage) → is_made s ≡ true → w.back.stage ≡ back.Halted → Over config w d s w.back.stage → HasGone None IsSame config [] (staged w (front.RingRead 0)) d
 leaves_ring config w d s made halted o = record {
   step = None;
   does = no_move IsSame d (λ a b same. same);
-  kept = inr (over_at o (refl, refl, refl) (o.closed ∙ unclosed is_made refl s made) o.memory o.back_at (halted, by_stage s made (subst (λ (b : BackStage). IsLeaving d.front.connected w.under.channels.made w.under.pages b s) halted o.front_at)) o.ring);
+  kept = inr (over_at o (refl, refl, refl) (o.closed ∙ unclosed is_made refl s made) o.memory o.back_at o.own o.mapped (halted, some_pages w.front.shape.order, by_stage s made (subst (λ (b : BackStage). IsLeaving d.front.connected w.under.channels.made w.front.shape.order w.under.pages w.back.pages b s) halted o.front_at)) o.ring);
 }
   where
-    by_stage : (s : FrontStage) → is_made s ≡ true → IsLeaving d.front.connected w.under.channels.made w.under.pages back.Halted s → IsUnmapped w.under.pages back.Halted
+    by_stage : (s : FrontStage) → is_made s ≡ true → IsLeaving d.front.connected w.under.channels.made w.front.shape.order w.under.pages w.back.pages back.Halted s → AreUnmapped w.front.shape.order w.under.pages w.back.pages
     by_stage front.Initialised t p = p.2
     by_stage front.Loop t p = p
     by_stage s t p = absurd (true≢false (sym t))
@@ -104,8 +109,40 @@ is_closed_now : (config : Options) (w : World) (d : Pipeline) (s : FrontStage) �
 is_closed_now config w d s bare o = record {
   step = Some Closes;
   does = record { asides = []; aside = refl; shows = refl; asks = refl; allowed = (o.closing, o.closed ∙ unclosed is_bare refl s bare, o.finished); disk = λ a b e. e };
-  kept = inr (over_at o (refl, refl, refl) refl o.memory o.back_at tt o.ring);
+  kept = inr (over_at o (refl, refl, refl) refl o.memory o.back_at o.own o.mapped tt o.ring);
 }
+
+-- the order that it wished leaves a front as it is that hasn't begun its ring
+agrees_late : (config : Options) (w : World) (d : Pipeline) (order : ℕ) → order ≡ w.front.shape.order → is_unmade w.front.stage ≡ true → Over config w d w.front.stage w.back.stage
+    → HasGone None IsSame config [] (record { front = in_state (states.Agreed order) w.front; back = w.back; under = w.under }) d
+agrees_late config w d order wished unmade o =
+    subst (λ (n : ℕ). HasGone None IsSame config [] (record { front = in_state (states.Agreed n) w.front; back = w.back; under = w.under }) d) (sym wished)
+    (record {
+      step = None;
+      does = no_move IsSame d (λ a b same. same);
+      kept = inr (record {
+        options = o.options;
+        closing = o.closing;
+        closed = o.closed;
+        finished = o.finished;
+        counted = o.counted;
+        closes = o.closes;
+        no_request = o.no_request;
+        narrow = o.narrow;
+        halted = o.halted;
+        no_job = o.no_job;
+        memory = o.memory;
+        back_at = o.back_at;
+        own = o.own;
+        mapped = o.mapped;
+        front_at = o.front_at;
+        ring = λ made. absurd (unmade_yet w.front.stage unmade o.front_at made);
+      });
+    })
+  where
+    unmade_yet : (s : FrontStage) → is_unmade s ≡ true → IsLeaving d.front.connected w.under.channels.made w.front.shape.order w.under.pages w.back.pages w.back.stage s → w.under.channels.made ≡ 1 → ⊥
+    unmade_yet (front.RingWord k) t p made = let none = p.1 in omega arith
+    unmade_yet s t p made = true≢false (sym t)
 
 -- a state that the front enters; where it may not nothing changes
 pub enters_ends : (config : Options) (w : World) (d : Pipeline) (state : FrontState) → MayEnter w state → Over config w d w.front.stage w.back.stage → HasGone None IsSame config (lines_at w (FrontEnters state)) (happens w (FrontEnters state)) d
@@ -113,15 +150,27 @@ enters_ends config w d state may o = enters_cases (λ v shown. HasGone None IsSa
     (record { step = None; does = no_move IsSame d (λ a b same. same); kept = inr o })
   where
     entered : (s : FrontState) → MayEnter w s → may_enter s w.front ≡ true → HasGone None IsSame config (state_lines s) (record { front = in_state s w.front; back = w.back; under = w.under }) d
+    entered (states.Agreed order) may can = agrees_late config w d order may (both_true (is_unmade w.front.stage) (nat_le order w.front.shape.order) can).0 o
     entered states.Connected may can = connects_late config w d (subst (λ (s : FrontStage). Over config w d s w.back.stage) (initialised_is w.front.stage can) o)
     entered states.Closing may can = absurd (true≢false (sym o.closes ∙ yet_open w.front.closing (is_open w.front.stage) can))
     entered states.Leaving may can = leaves_ring config w d w.front.stage (both_true (is_through w.front) (is_made w.front.stage) can).1 may o
     entered states.Closed may can = is_closed_now config w d w.front.stage (both_true (is_through w.front) (is_bare w.front.stage) can).1 o
     entered (states.Broken word) may can = absurd may
 
+not_unbound : (held : List Mapping) (b : BackStage) → is_unbound b ≡ true → IsGivingUp held b → ⊥
+not_unbound held back.InitWait t p = p
+not_unbound held back.MapRing t p = p
+not_unbound held b t p = true≢false (sym t)
+
+-- nor does it take terms
+pub attaches_late : (config : Options) (w : World) (d : Pipeline) (shape : Shape) (grefs : List ℕ) (port : ℕ) → Over config w d w.front.stage w.back.stage → HasGone None IsSame config (lines_at w (BackAttaches shape grefs port)) (happens w (BackAttaches shape grefs port)) d
+attaches_late config w d shape grefs port o = attach_cases (λ v shown. HasGone None IsSame config shown (record { front = w.front; back = v; under = w.under }) d) w shape grefs port
+    (λ may layout. absurd (subst (IsGivingUp w.back.pages) (attaches_waiting shape grefs w.back may) o.back_at))
+    (record { step = None; does = no_move IsSame d (λ a b same. same); kept = inr o })
+
 -- a back that has halted halts no more
 pub halts_no_more : (config : Options) (w : World) (d : Pipeline) (why : Halt) → Over config w d w.front.stage w.back.stage → HasGone None IsSame config (lines_at w (BackHalts why)) (happens w (BackHalts why)) d
 halts_no_more config w d why o = halts_cases (λ v. HasGone None IsSame config (halt_lines w.back.halted v.halted) (record { front = w.front; back = v; under = w.under }) d) why w.back
-    (λ e. absurd (subst (IsGivingUp w.back.page) e o.back_at))
-    (λ e. absurd (subst (IsGivingUp w.back.page) e o.back_at))
+    (λ e. absurd (not_unbound w.back.pages w.back.stage e o.back_at))
+    (λ e. absurd (subst (IsGivingUp w.back.pages) e o.back_at))
     (record { step = None; does = rw (no_halt w.back.halted) (no_move IsSame d (λ a b same. same)); kept = inr o })

@@ -32,6 +32,7 @@ use Rattle.split_model.specs.Shown.{front_lines}
 use Rattle.std.proofs.lemmas.Bool.{false≢true}
 use Rattle.blk_back.specs.declared.stage.Stage.{Stage as BackStage}
 use Rattle.blk_back.specs.declared.stage.Stage.TheVariants as back
+use Rattle.machine_pipeline.proofs.Slots.{few_pages, index_written}
 
 pub producer_goes : (config : Options) (w : World) (g : Flow) (d : Pipeline) → IsSafe w → Holds config w g d front.Producer w.back.stage → FrontGoes config w d front.Producer
 producer_goes config w g d safe h =
@@ -45,6 +46,7 @@ producer_goes config w g d safe h =
       does = does_step _ (front_lines w.front.told) (rw safe.front_told refl) s;
       holds = record {
         started = h.started;
+        shaped = h.shaped;
         sized = h.sized;
         indices = indices_pushed g w.front.ring w.back.ring w.front.seen w.back.seen w.back.fetched w.front.last w.front.waiting (length w.front.requests) next.waits h.indices;
         queue = queue_pushed g.submitted w.front.requests g.pushed w.front.waiting r next (waiting_few h.indices) h.queue;
@@ -64,10 +66,10 @@ producer_goes config w g d safe h =
           begun = tt;
           requests = λ t. written w.under.pages 2 0 (next_of w.front.ring.prod) h.memory (omega arith) (omega arith) ∙ next_wrapped g.start g.pushed w.front.ring.prod x.pushed;
           responses = λ t. ring_word 2 (omega arith) ∙ y.responses t;
-          named = λ t u. let entry = entry_same 8 (omega arith) in entry.frame ∙ y.named t u;
-          granted = λ t u. let entry = entry_same 8 (omega arith) in entry.flags ∙ y.granted t u;
+          named = λ page lt unmapped. let few = few_pages g.shape.order h.shaped.narrow in let entry = entry_same (8 + page) (omega arith) in entry.frame ∙ y.named page lt unmapped;
+          granted = λ page lt unmapped. let few = few_pages g.shape.order h.shaped.narrow in let entry = entry_same (8 + page) (omega arith) in entry.flags ∙ y.granted page lt unmapped;
         };
-        slots = slots_pushed g.start g.fetched g.pushed g.taken g.replied w.front.ring.prod g.submitted g.replies w.under.pages new w.back.stage (λ z from. ring_word z (omega arith)) h.slots;
+        slots = slots_pushed g.shape g.start g.fetched g.pushed g.taken g.replied w.front.ring.prod g.submitted g.replies w.under.pages new w.back.stage h.shaped.narrow (index_written w.under.pages 0 (next_of w.front.ring.prod) (omega arith)) h.slots;
         frames = frames_pushed g.pushed w.front.ring.prod w.under.pages new w.front.requests next.shaped
             (frames_elsewhere config w g d front.Producer w.back.stage h new (λ f from. elsewhere f (omega arith))) h.frames;
         telling = record { size = h.telling.size; so_far = tt };
@@ -76,7 +78,7 @@ producer_goes config w g d safe h =
             (λ place in_it. unmapped config w g d front.Producer w.back.stage h (length w.front.requests - w.front.waiting) r next.place place in_it none_begun (λ (m : Mapping). m.gref == frame_at r place + 6) (λ m apart. grind (arith, nat_tests)))
             (entries_elsewhere config w g d front.Producer w.back.stage h new entry_same) h.entries;
         mapped = h.mapped;
-        page = h.page;
+        paged = h.paged;
         front_sleep = record {
           arming = λ t. absurd (cc);
           armed = λ t. ring_word 3 (omega arith) ∙ z.armed t;
@@ -103,7 +105,7 @@ producer_goes config w g d safe h =
     next = next_is w.front g.submitted w.front.sectors w.front.last g.pushed None r h.queue h.submitted h.pool h.front_at.1
 
     -- while an entry is being copied it was pushed
-    fetching_more : (b : BackStage) → BackAt g.start g.fetched g.back_seen g.replied g.submitted w.back.jobs.works w.back.entry b → is_fetching b ≡ true → g.fetched < g.pushed
+    fetching_more : (b : BackStage) → BackAt g.shape g.start g.fetched g.back_seen g.replied g.submitted w.back.jobs.works w.back.entry b → is_fetching b ≡ true → g.fetched < g.pushed
     fetching_more (back.Fetch k) at t = let x = h.indices in omega (arith, at.2, x.back_to)
     fetching_more b at t = absurd (false≢true t)
 

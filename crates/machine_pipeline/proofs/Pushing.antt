@@ -5,23 +5,22 @@ use Rattle.std.proofs.lemmas.Bool.{cases_lt}
 use Rattle.std.proofs.lemmas.Option.{none-some, get_or_from_slice_get}
 use Rattle.std.proofs.lemmas.List.Elements.{All-weaker, All-more}
 use Rattle.ring_words.specs.Ring.{Ring, next_of}
-use Rattle.xen_pages.specs.Pages.{word_of}
 use Rattle.grant_table.specs.declared.held.Held.{Held}
 use Rattle.grant_table.specs.Table.{mappings_of}
 use Rattle.blk_front.specs.declared.request.Request.{Request}
 use Rattle.blk_front.specs.Request.{frame_at, grant_flags, IsShaped}
 use Rattle.blk_front.specs.declared.stage.Ending.{Ending}
 use Rattle.blk_front.specs.declared.stage.Stage.TheVariants as front
-use Rattle.blk_front.specs.View.{slot_word}
 use Rattle.blk_front.specs.Step.{entry_of}
 use Rattle.blk_back.specs.declared.stage.Reply.{Reply}
 use Rattle.blk_back.specs.declared.stage.Stage.{Stage as BackStage}
 use Rattle.machine_pipeline.proofs.Flow.{Flow, wrapped, frames_of}
-use Rattle.machine_pipeline.proofs.Holds.{AreIndices, AreQueued, AreSlots, IsFilled, AreEntries, flags_with}
-use Rattle.machine_pipeline.proofs.Kept.{SameGrants, slot_from}
+use Rattle.ring_words.specs.Shape.{Shape, entry_words_of}
+use Rattle.machine_pipeline.proofs.Holds.{AreIndices, AreQueued, AreSlots, IsFilled, AreEntries, flags_with, slot_of}
+use Rattle.machine_pipeline.proofs.Kept.{SameGrants, responded_few}
 use Rattle.machine_pipeline.proofs.Data.{SameData}
 use Rattle.machine_pipeline.proofs.Next.{IsNext}
-use Rattle.machine_pipeline.proofs.Entering.{responded_few}
+use Rattle.machine_pipeline.proofs.Slots.{SameSlots, slot_kept, entry_few, response_fits}
 
 -- one more was pushed
 abbrev pub pushed_flow : Flow → Flow
@@ -37,7 +36,6 @@ indices_pushed g ring back_ring front_seen back_seen number last waiting unfinis
     let saw = h.back_to in
     record {
       front_entries = h.front_entries;
-      back_entries = h.back_entries;
       pushed = rw prod (omega arith);
       taken = h.taken;
       replied = h.replied;
@@ -76,21 +74,25 @@ queue_pushed submitted requests pushed waiting r next few h =
           omega arith;
     }
 
-pub slots_pushed : (start fetched pushed taken replied old_word : ℕ) (submitted : List Request) (replies : List Reply) (old new : List ℕ) (b : BackStage)
-    → ((w : ℕ) → 16 ≤ w → word_of new 2 w ≡ word_of old 2 w)
-    → AreSlots start fetched pushed taken replied submitted replies old front.Producer b
-    → AreSlots start fetched (pushed + 1) taken replied submitted replies new (front.ProducerFence old_word) b
-slots_pushed start fetched pushed taken replied old_word submitted replies old new b same h = record {
-  entries = λ k q from to e i lt. same (slot_word (wrapped start k) i) (slot_from (wrapped start k) i lt) ∙ (elim (cases_lt k pushed) [
+pub slots_pushed : (shape : Shape) (start fetched pushed taken replied old_word : ℕ) (submitted : List Request) (replies : List Reply) (old new : List ℕ) (b : BackStage)
+    → shape.order ≤ 4
+    → SameSlots old new
+    → AreSlots shape start fetched pushed taken replied submitted replies old front.Producer b
+    → AreSlots shape start fetched (pushed + 1) taken replied submitted replies new (front.ProducerFence old_word) b
+slots_pushed shape start fetched pushed taken replied old_word submitted replies old new b narrow same h = record {
+  entries = λ k q from to e i lt. here (wrapped start k) i lt ∙ (elim (cases_lt k pushed) [
     | inl before ↦ h.entries k q from before e i lt
     | inr after ↦
-        let here : k ≡ pushed = omega arith in
-        subst (λ (n : ℕ). slice_get submitted n ≡ Some q → word_of old 2 (slot_word (wrapped start n) i) ≡ slice_index (entry_of q) i) (sym here) (λ at. h.entry q at i lt) e
+        let last : k ≡ pushed = omega arith in
+        subst (λ (n : ℕ). slice_get submitted n ≡ Some q → slot_of old shape (wrapped start n) i ≡ slice_index (entry_of shape.abi q) i) (sym last) (λ at. h.entry q at i lt (let few = entry_few shape.abi in omega arith)) e
   ]);
-  entry = λ q e i lt. absurd (omega arith);
-  responses = λ k rep e i lt. same (slot_word (wrapped start (taken + k)) i) (slot_from (wrapped start (taken + k)) i (omega arith)) ∙ h.responses k rep e i lt;
-  response = λ rep e i lt. same (slot_word (wrapped start replied) i) (slot_from (wrapped start replied) i (let three = responded_few b in omega arith)) ∙ h.response rep e i lt;
+  entry = λ q e i lt few. absurd (omega arith);
+  responses = λ k rep e i lt. here (wrapped start (taken + k)) i (response_fits shape.abi i lt) ∙ h.responses k rep e i lt;
+  response = λ rep e i lt. here (wrapped start replied) i (response_fits shape.abi i (let three = responded_few b in omega arith)) ∙ h.response rep e i lt;
 }
+  where
+    here : (index i : ℕ) → i < entry_words_of shape.abi → slot_of new shape index i ≡ slot_of old shape index i
+    here index i lt = slot_kept shape index i old new narrow lt same
 
 pub frames_pushed : (pushed old_word : ℕ) (old new : List ℕ) (requests : List Request)
     → All IsShaped requests

@@ -1,5 +1,5 @@
 -- Where all is quiet, each request of the pipeline is finished.
-use Rattle.std.proofs.Common.{◌≡◌, ℕ, ◌+◌, ◌-◌, ◌==◌, ◌&&◌, ◌⊎◌, inl, inr, not, if◌then◌else◌, Bool, true, false, List, [], ◌∷◌, length, refl, ap, sym, ◌∙◌, subst, arith, true≢false}
+use Rattle.std.proofs.Common.{◌≡◌, ℕ, ◌+◌, ◌-◌, ◌*◌, ◌^◌, ◌==◌, ◌&&◌, ◌⊎◌, inl, inr, not, if◌then◌else◌, Bool, true, false, List, [], ◌∷◌, length, refl, ap, sym, ◌∙◌, subst, arith, true≢false}
 use Rattle.std.specs.Prelude.{Option, Some, None, slice_get}
 use Rattle.std.proofs.lemmas.Option.{none-some}
 use Rattle.std.proofs.lemmas.Bool.Decides.{nat_tests}
@@ -23,6 +23,7 @@ use Rattle.blk_front.specs.View as front_view
 use Rattle.blk_front.specs.Ask as front_ask
 use Rattle.blk_front.specs.Submit as front_submit
 use Rattle.ring_words.specs.Ring.{responses_of, requests_of}
+use Rattle.ring_words.specs.Shape.{Shape}
 use Rattle.back_jobs.specs.Task.{Work}
 use Rattle.blk_back.specs.declared.stage.Reply.{Reply}
 use Rattle.blk_back.specs.declared.stage.Stage.{Stage as BackStage}
@@ -59,38 +60,38 @@ issue_acts : (r : Request) (way : Transfer) → front_submit.is_wait (front_ask.
 issue_acts r transfer.Read t = true≢false (sym t)
 issue_acts r (transfer.Write tag) t = true≢false (sym t)
 
-front_sleeps : (start pushed taken seen : ℕ) (submitted : List Request) (replies : List Reply) (entry : List ℕ) (v : front_view.View) (s : FrontStage)
+front_sleeps : (shape : Shape) (start pushed taken seen : ℕ) (submitted : List Request) (replies : List Reply) (entry : List ℕ) (v : front_view.View) (s : FrontStage)
     → not (front_submit.is_led s) ≡ true
     → front_submit.is_wait (front_ask.ask_at s v) ≡ true
-    → FrontAt start pushed taken seen submitted replies (next_request v) entry v.ending s
+    → FrontAt shape start pushed taken seen submitted replies (next_request v) entry v.ending s
     → FrontSleeps s v.asleep (next_request v) (length v.requests)
-front_sleeps start pushed taken seen submitted replies entry v front.Loop ready waits at = in_loop (next_request v) v.asleep waits
+front_sleeps shape start pushed taken seen submitted replies entry v front.Loop ready waits at = in_loop (next_request v) v.asleep waits
   where
     in_loop : (next : Option Request) (asleep : Bool) → front_submit.is_wait (front_ask.loop_ask (record v { asleep = asleep }) next) ≡ true → FrontSleeps front.Loop asleep next (length v.requests)
     in_loop (Some r) asleep t = absurd (issue_acts r r.transfer t)
     in_loop None true t = record { looping = refl; sleeps = inl refl; none_next = refl; sends_none = λ p f x. x }
     in_loop None false t = by_through (front_ask.is_through v) refl t
       where
-        by_through : (b : Bool) → front_ask.is_through v ≡ b → front_submit.is_wait (if b then FrontWait else (if responses_of v.ring v.seen == 0 then FrontRead ring_frame 2 else FrontRead (slot_frame v.ring.cons 0) (slot_word v.ring.cons 0))) ≡ true → FrontSleeps front.Loop false None (length v.requests)
+        by_through : (b : Bool) → front_ask.is_through v ≡ b → front_submit.is_wait (if b then FrontWait else (if responses_of v.ring v.seen == 0 then FrontRead ring_frame 2 else FrontRead (slot_frame v.shape v.ring.cons 0) (slot_word v.shape v.ring.cons 0))) ≡ true → FrontSleeps front.Loop false None (length v.requests)
         by_through true through u = let left = through_is v.closing (length v.requests) through in record { looping = refl; sleeps = inr left.none; none_next = refl; sends_none = λ p f x. x }
         by_through false through u = absurd (front_acts (responses_of v.ring v.seen == 0) _ _ refl refl u)
-front_sleeps start pushed taken seen submitted replies entry v (front.Data n) ready waits at =
+front_sleeps shape start pushed taken seen submitted replies entry v (front.Data n) ready waits at =
     absurd (true≢false (sym waits ∙ ap (λ (x : Option Request). front_submit.is_wait (front_ask.data_ask x n)) at.1))
-front_sleeps start pushed taken seen submitted replies entry v (front.GrantFrame place) ready waits at =
+front_sleeps shape start pushed taken seen submitted replies entry v (front.GrantFrame place) ready waits at =
     absurd (true≢false (sym waits ∙ ap (λ (x : Option Request). front_submit.is_wait (front_ask.name_ask x place)) at.1))
-front_sleeps start pushed taken seen submitted replies entry v (front.GrantFlags place) ready waits at =
+front_sleeps shape start pushed taken seen submitted replies entry v (front.GrantFlags place) ready waits at =
     absurd (true≢false (sym waits ∙ ap (λ (x : Option Request). front_submit.is_wait (front_ask.grant_ask x place)) at.1))
-front_sleeps start pushed taken seen submitted replies entry v (front.GrantRead place) ready waits at =
+front_sleeps shape start pushed taken seen submitted replies entry v (front.GrantRead place) ready waits at =
     absurd (true≢false (sym waits ∙ ap (λ (x : Option Ending). front_submit.is_wait (front_ask.revoke_ask x place)) at.1))
-front_sleeps start pushed taken seen submitted replies entry v (front.GrantEnd place before) ready waits at =
+front_sleeps shape start pushed taken seen submitted replies entry v (front.GrantEnd place before) ready waits at =
     absurd (true≢false (sym waits ∙ ap (λ (x : Option Ending). front_submit.is_wait (front_ask.end_ask x place before)) at.1))
-front_sleeps start pushed taken seen submitted replies entry v (front.ReadData n) ready waits at =
+front_sleeps shape start pushed taken seen submitted replies entry v (front.ReadData n) ready waits at =
     absurd (true≢false (sym waits ∙ ap (λ (x : Option Ending). front_submit.is_wait (front_ask.read_ask x n)) at.1))
-front_sleeps start pushed taken seen submitted replies entry v front.Closed ready waits at = absurd at
-front_sleeps start pushed taken seen submitted replies entry v (front.Broken word) ready waits at = absurd at
-front_sleeps start pushed taken seen submitted replies entry v front.Initialised ready waits at = absurd (true≢false (sym ready))
-front_sleeps start pushed taken seen submitted replies entry v front.Left ready waits at = absurd (true≢false (sym ready))
-front_sleeps start pushed taken seen submitted replies entry v s ready waits at = absurd (true≢false (sym waits))
+front_sleeps shape start pushed taken seen submitted replies entry v front.Closed ready waits at = absurd at
+front_sleeps shape start pushed taken seen submitted replies entry v (front.Broken word) ready waits at = absurd at
+front_sleeps shape start pushed taken seen submitted replies entry v front.Initialised ready waits at = absurd (true≢false (sym ready))
+front_sleeps shape start pushed taken seen submitted replies entry v front.Left ready waits at = absurd (true≢false (sym ready))
+front_sleeps shape start pushed taken seen submitted replies entry v s ready waits at = absurd (true≢false (sym waits))
 
 -- a back that waits sleeps in its loop, and replies to nothing
 record BackSleeps (s : BackStage) (asleep : Bool) : Type 0 where
@@ -102,18 +103,22 @@ back_acts : (b : Bool) (x y : BackAsk) → back_ask.is_wait x ≡ false → back
 back_acts true x y e f t = true≢false (sym t ∙ e)
 back_acts false x y e f t = true≢false (sym t ∙ f)
 
-back_sleeps : (start fetched seen replied : ℕ) (submitted : List Request) (works : List Work) (entry : List ℕ) (v : back_view.View) (s : BackStage)
+back_sleeps : (shape : Shape) (start fetched seen replied : ℕ) (submitted : List Request) (works : List Work) (entry : List ℕ) (v : back_view.View) (s : BackStage)
+    → not (back_ask.is_led s) ≡ true
     → back_ask.is_wait (back_ask.ask_at s v) ≡ true
-    → BackAt start fetched seen replied submitted works entry s
+    → BackAt shape start fetched seen replied submitted works entry s
     → BackSleeps s v.asleep
-back_sleeps start fetched seen replied submitted works entry v back.Loop waits at = in_loop (back_ask.next_reply v) v.asleep waits
+back_sleeps shape start fetched seen replied submitted works entry v back.Loop free waits at = in_loop (back_ask.next_reply v) v.asleep waits
   where
     in_loop : (next : Option Reply) (asleep : Bool) → back_ask.is_wait (back_ask.loop_ask (record v { asleep = asleep }) next) ≡ true → BackSleeps back.Loop asleep
     in_loop (Some r) asleep t = absurd (true≢false (sym t))
     in_loop None true t = record { sleeps = refl; no_reply = refl; sends_none = λ p f x. x }
     in_loop None false t = absurd (back_acts (requests_of v.ring v.seen == 0) _ _ refl refl t)
-back_sleeps start fetched seen replied submitted works entry v back.Halted waits at = absurd at
-back_sleeps start fetched seen replied submitted works entry v s waits at = absurd (true≢false (sym waits))
+back_sleeps shape start fetched seen replied submitted works entry v back.InitWait free waits at = absurd (true≢false (sym free))
+back_sleeps shape start fetched seen replied submitted works entry v back.UnmapRing free waits at = absurd at
+back_sleeps shape start fetched seen replied submitted works entry v back.UnmapUnbound free waits at = absurd at
+back_sleeps shape start fetched seen replied submitted works entry v back.Halted free waits at = absurd at
+back_sleeps shape start fetched seen replied submitted works entry v s free waits at = absurd (true≢false (sym waits))
 
 -- what quiet says of each part
 pub record AreQuiet (front_waits back_idle front_pending back_pending : Bool) : Type 0 where
@@ -169,13 +174,16 @@ caught_up_at config w g d quiet stands = record {
     waiting = both_true _ _ parts.front
 
     front_side : FrontSleeps w.front.stage w.front.asleep (next_request w.front) (length w.front.requests)
-    front_side = front_sleeps g.start g.pushed g.taken g.front_seen g.submitted g.replies w.front.entry w.front w.front.stage waiting.0 waiting.1 h.front_at
+    front_side = front_sleeps g.shape g.start g.pushed g.taken g.front_seen g.submitted g.replies w.front.entry w.front w.front.stage waiting.0 waiting.1 h.front_at
 
-    idle : (back_ask.is_wait (back_ask.ask_of w.back) ≡ true) × ((length w.back.jobs.works == 0) ≡ true)
-    idle = both_true _ _ parts.back
+    none_held : ((not (back_ask.is_led w.back.stage) && back_ask.is_wait (back_ask.ask_of w.back)) ≡ true) × ((length w.back.jobs.works == 0) ≡ true)
+    none_held = both_true _ _ parts.back
+
+    idle : (not (back_ask.is_led w.back.stage) ≡ true) × (back_ask.is_wait (back_ask.ask_of w.back) ≡ true)
+    idle = both_true _ _ none_held.0
 
     back_side : BackSleeps w.back.stage w.back.asleep
-    back_side = back_sleeps g.start g.fetched g.back_seen g.replied g.submitted w.back.jobs.works w.back.entry w.back w.back.stage idle.0 h.back_at
+    back_side = back_sleeps g.shape g.start g.fetched g.back_seen g.replied g.submitted w.back.jobs.works w.back.entry w.back w.back.stage idle.0 idle.1 h.back_at
 
     replies_taken : w.front.asleep ≡ true → g.replied ≡ g.taken
     replies_taken sleeps =
@@ -188,7 +196,7 @@ caught_up_at config w g d quiet stands = record {
         caught_up g.pushed g.fetched w.under.channels.back_pending (FrontSends w.front.stage g.pushed g.fetched) (neither _ _ parts.no_back) (front_side.sends_none g.pushed g.fetched) (sleep.woken back_side.sleeps)
 
     no_job : length w.back.jobs.works ≡ 0
-    no_job = let t = idle.1 in grind (arith, nat_tests)
+    no_job = let t = none_held.1 in grind (arith, nat_tests)
 
     all_replied : g.replied ≡ g.fetched
     all_replied =
@@ -241,4 +249,4 @@ settles_goes config w d quiet found safe kept = look_goes config w d quiet lines
 
 -- a dump shows words of the ring, which are nothing to the pipeline
 pub dumps_goes : (config : Options) (w : World) (d : Pipeline) → IsKept config w d → HasGone None IsSame config (lines_at w Dumps) w d
-dumps_goes config w d kept = record { step = None; does = asides_do d (lines_at w Dumps) (dump_lines_are (λ (line : Line). is_aside line ≡ true) w.under.pages 0 1024 (λ frame word value. refl)); kept = kept }
+dumps_goes config w d kept = record { step = None; does = asides_do d (lines_at w Dumps) (dump_lines_are (λ (line : Line). is_aside line ≡ true) w.under.pages 0 (1024 * 2 ^ w.front.shape.order) (λ frame word value. refl)); kept = kept }

@@ -1,5 +1,5 @@
 -- A step of the front while it issues nothing and ends no grant: it looks at the ring, takes up a response, or goes to sleep.
-use Rattle.std.proofs.Common.{◌≡◌, ◌≢◌, ℕ, ◌+◌, ◌<◌, ◌≤◌, ◌⊎◌, inl, inr, Bool, true, false, List, length, refl, sym, ◌∙◌, subst, arith}
+use Rattle.std.proofs.Common.{◌≡◌, ◌≢◌, ℕ, ◌+◌, ◌<◌, ◌≤◌, ◌⊎◌, inl, inr, Bool, true, false, List, length, refl, sym, ◌∙◌, subst, arith, ◌^◌}
 use Rattle.std.specs.Prelude.{◌/◌, All, Option, Some, None, slice_get, slice_index_or}
 use Rattle.grant_table.specs.declared.held.Held.{Held}
 use Rattle.blk_front.specs.Request.{frame_at}
@@ -19,21 +19,23 @@ use Rattle.blk_front.specs.View.{next_request}
 use Rattle.blk_front.specs.Submit.{is_ready, is_connected, ending_of}
 use Rattle.blk_back.specs.declared.stage.Stage.{Stage as BackStage}
 use Rattle.split_model.specs.World.{World}
-use Rattle.machine_pipeline.proofs.Flow.{Flow, wrapped, has_ring, is_ring_named, is_ring_granted, filled, named_frames, granted_frames, entered, ending_at, revoking_at, telling_at, is_bound_back, is_issuing, is_fetching, reply_at}
+use Rattle.machine_pipeline.proofs.Flow.{Flow, wrapped, has_ring, named_pages, granted_pages, filled, named_frames, granted_frames, entered, ending_at, revoking_at, telling_at, is_bound_back, is_issuing, is_fetching, reply_at}
 use Rattle.machine_pipeline.proofs.Holds.{FrontAt, RingBegun, AreRingWords, AreSlots, IsFilled, IsGranted, AreEntries, ArePooled, IsUnused, IsFrontSleep, FrontSends, PortsAt, IsReadSoFar, AreDataWords, AreRevoked, Holds}
 use Rattle.machine_pipeline.proofs.Data.{SameData, pooled_at}
-use Rattle.machine_pipeline.proofs.Kept.{as_connected, SameFrame, SameEntry, SameGrants, data_same, same_entry, slots_kept, frames_kept, entries_kept}
+use Rattle.machine_pipeline.proofs.Kept.{as_connected, SameFrame, SameGrants, data_same, same_entry, slots_kept, frames_kept, entries_kept, SameRing}
 use Rattle.machine_pipeline.proofs.Lists.{all_from}
+use Rattle.ring_words.specs.Shape.{Shape}
 use Rattle.machine_pipeline.proofs.Frames.{is_submitted}
 use Rattle.machine_pipeline.proofs.Stations.{AreStations, saw_more, turned}
 use Rattle.machine_pipeline.proofs.ReadsKept.{stations_elsewhere}
 use Rattle.machine_pipeline.proofs.Indices.{indices_seen}
+use Rattle.machine_pipeline.proofs.Slots.{few_pages, slots_beside}
 
 -- a stage at which the ring is made and no request is issued
 pub record IsResting (s : FrontStage) : Type 0 where
   pub ring : has_ring s ≡ true
-  pub named : is_ring_named s ≡ true
-  pub granted : is_ring_granted s ≡ true
+  pub named : (pages : ℕ) → named_pages s pages ≡ pages
+  pub granted : (pages : ℕ) → granted_pages s pages ≡ pages
   pub begun : (start : ℕ) (pages : List ℕ) → RingBegun start pages s
   pub ready : is_ready s ≡ true
   pub filled_none : filled s ≡ 0
@@ -44,31 +46,31 @@ pub record IsResting (s : FrontStage) : Type 0 where
   pub quiet : (pushed fetched : ℕ) → FrontSends s pushed fetched → ⊥
 
 pub at_loop : IsResting front.Loop
-at_loop = record { ring = refl; named = refl; granted = refl; begun = λ start pages. tt; ready = refl; filled_none = refl; unnamed = refl; ungranted = refl; entered_none = refl; unissued = refl; quiet = λ p f x. x }
+at_loop = record { ring = refl; named = λ pages. refl; granted = λ pages. refl; begun = λ start pages. tt; ready = refl; filled_none = refl; unnamed = refl; ungranted = refl; entered_none = refl; unissued = refl; quiet = λ p f x. x }
 
 pub at_high : (low : ℕ) → IsResting (front.ResponseHigh low)
-at_high low = record { ring = refl; named = refl; granted = refl; begun = λ start pages. tt; ready = refl; filled_none = refl; unnamed = refl; ungranted = refl; entered_none = refl; unissued = refl; quiet = λ p f x. x }
+at_high low = record { ring = refl; named = λ pages. refl; granted = λ pages. refl; begun = λ start pages. tt; ready = refl; filled_none = refl; unnamed = refl; ungranted = refl; entered_none = refl; unissued = refl; quiet = λ p f x. x }
 
 pub at_last : (low high : ℕ) → IsResting (front.ResponseLast low high)
-at_last low high = record { ring = refl; named = refl; granted = refl; begun = λ start pages. tt; ready = refl; filled_none = refl; unnamed = refl; ungranted = refl; entered_none = refl; unissued = refl; quiet = λ p f x. x }
+at_last low high = record { ring = refl; named = λ pages. refl; granted = λ pages. refl; begun = λ start pages. tt; ready = refl; filled_none = refl; unnamed = refl; ungranted = refl; entered_none = refl; unissued = refl; quiet = λ p f x. x }
 
 pub at_read : (place : ℕ) → IsResting (front.GrantRead place)
-at_read place = record { ring = refl; named = refl; granted = refl; begun = λ start pages. tt; ready = refl; filled_none = refl; unnamed = refl; ungranted = refl; entered_none = refl; unissued = refl; quiet = λ p f x. x }
+at_read place = record { ring = refl; named = λ pages. refl; granted = λ pages. refl; begun = λ start pages. tt; ready = refl; filled_none = refl; unnamed = refl; ungranted = refl; entered_none = refl; unissued = refl; quiet = λ p f x. x }
 
 pub at_end : (place before : ℕ) → IsResting (front.GrantEnd place before)
-at_end place before = record { ring = refl; named = refl; granted = refl; begun = λ start pages. tt; ready = refl; filled_none = refl; unnamed = refl; ungranted = refl; entered_none = refl; unissued = refl; quiet = λ p f x. x }
+at_end place before = record { ring = refl; named = λ pages. refl; granted = λ pages. refl; begun = λ start pages. tt; ready = refl; filled_none = refl; unnamed = refl; ungranted = refl; entered_none = refl; unissued = refl; quiet = λ p f x. x }
 
 pub at_data : (n : ℕ) → IsResting (front.ReadData n)
-at_data n = record { ring = refl; named = refl; granted = refl; begun = λ start pages. tt; ready = refl; filled_none = refl; unnamed = refl; ungranted = refl; entered_none = refl; unissued = refl; quiet = λ p f x. x }
+at_data n = record { ring = refl; named = λ pages. refl; granted = λ pages. refl; begun = λ start pages. tt; ready = refl; filled_none = refl; unnamed = refl; ungranted = refl; entered_none = refl; unissued = refl; quiet = λ p f x. x }
 
 pub at_store : IsResting front.StoreEvent
-at_store = record { ring = refl; named = refl; granted = refl; begun = λ start pages. tt; ready = refl; filled_none = refl; unnamed = refl; ungranted = refl; entered_none = refl; unissued = refl; quiet = λ p f x. x }
+at_store = record { ring = refl; named = λ pages. refl; granted = λ pages. refl; begun = λ start pages. tt; ready = refl; filled_none = refl; unnamed = refl; ungranted = refl; entered_none = refl; unissued = refl; quiet = λ p f x. x }
 
 pub at_fence : IsResting front.EventFence
-at_fence = record { ring = refl; named = refl; granted = refl; begun = λ start pages. tt; ready = refl; filled_none = refl; unnamed = refl; ungranted = refl; entered_none = refl; unissued = refl; quiet = λ p f x. x }
+at_fence = record { ring = refl; named = λ pages. refl; granted = λ pages. refl; begun = λ start pages. tt; ready = refl; filled_none = refl; unnamed = refl; ungranted = refl; entered_none = refl; unissued = refl; quiet = λ p f x. x }
 
 pub at_look : IsResting front.LookAgain
-at_look = record { ring = refl; named = refl; granted = refl; begun = λ start pages. tt; ready = refl; filled_none = refl; unnamed = refl; ungranted = refl; entered_none = refl; unissued = refl; quiet = λ p f x. x }
+at_look = record { ring = refl; named = λ pages. refl; granted = λ pages. refl; begun = λ start pages. tt; ready = refl; filled_none = refl; unnamed = refl; ungranted = refl; entered_none = refl; unissued = refl; quiet = λ p f x. x }
 
 -- where no request ends, no grant is ended and no data are told
 pub unending : (s : FrontStage) (ending : Option Ending) → ending_of s ≡ 0 → ending_at s ending ≡ None
@@ -96,19 +98,21 @@ pub data_rests : (old new words : List ℕ) (ending ending' : Option Ending) (s 
 data_rests old new words ending ending' s s' none h = record { size = h.size; so_far = silent new words ending' s' none }
 
 -- the subjects of memory at another such stage
-pub ring_rests : (start pushed replied : ℕ) (pages : List ℕ) (s s' : FrontStage) (b : BackStage) → IsResting s → IsResting s' → AreRingWords start pushed replied pages s b → AreRingWords start pushed replied pages s' b
-ring_rests start pushed replied pages s s' b i i' h = record {
+pub ring_rests : (order start pushed replied : ℕ) (pages : List ℕ) (s s' : FrontStage) (mapped : ℕ) → IsResting s → IsResting s'
+    → AreRingWords order start pushed replied pages s mapped
+    → AreRingWords order start pushed replied pages s' mapped
+ring_rests order start pushed replied pages s s' mapped i i' h = record {
   begun = i'.begun start pages;
   requests = λ t. h.requests i.ring;
   responses = λ t. h.responses i.ring;
-  named = λ t u. h.named i.named u;
-  granted = λ t u. h.granted i.granted u;
+  named = λ page lt unmapped. h.named page (subst (λ (n : ℕ). page < n) (i'.named (2 ^ order) ∙ sym (i.named (2 ^ order))) lt) unmapped;
+  granted = λ page lt unmapped. h.granted page (subst (λ (n : ℕ). page < n) (i'.granted (2 ^ order) ∙ sym (i.granted (2 ^ order))) lt) unmapped;
 }
 
-pub slots_rest : (start fetched pushed taken replied : ℕ) (submitted : List Request) (replies : List Reply) (pages : List ℕ) (s s' : FrontStage) (b : BackStage) → IsResting s' → AreSlots start fetched pushed taken replied submitted replies pages s b → AreSlots start fetched pushed taken replied submitted replies pages s' b
-slots_rest start fetched pushed taken replied submitted replies pages s s' b i' h = record {
+pub slots_rest : (shape : Shape) (start fetched pushed taken replied : ℕ) (submitted : List Request) (replies : List Reply) (pages : List ℕ) (s s' : FrontStage) (b : BackStage) → IsResting s' → AreSlots shape start fetched pushed taken replied submitted replies pages s b → AreSlots shape start fetched pushed taken replied submitted replies pages s' b
+slots_rest shape start fetched pushed taken replied submitted replies pages s s' b i' h = record {
   entries = h.entries;
-  entry = λ r e i lt. let none = i'.entered_none in absurd (omega arith);
+  entry = λ r e i lt few. let none = i'.entered_none in absurd (omega arith);
   responses = h.responses;
   response = h.response;
 }
@@ -148,7 +152,7 @@ pub rest_kept : (config : Options) (w : World) (g : Flow) (d : Pipeline) (s s' :
     → IsResting s → IsResting s'
     → ending_of s ≡ 0 → ending_of s' ≡ 0
     → Holds config w g d s w.back.stage
-    → FrontAt g.start g.pushed g.taken whole g.submitted g.replies (next_request w.front) w.front.entry w.front.ending s'
+    → FrontAt g.shape g.start g.pushed g.taken whole g.submitted g.replies (next_request w.front) w.front.entry w.front.ending s'
     → seen ≡ wrapped g.start whole → g.taken ≤ whole → whole ≤ g.replied
     → length pages ≡ 1114112
     → ((f : ℕ) → f ≢ 2 → SameFrame w.under.pages pages f)
@@ -158,6 +162,7 @@ pub rest_kept : (config : Options) (w : World) (g : Flow) (d : Pipeline) (s s' :
     → Holds config (rested w s' seen asleep pages channels) (record g { front_seen = whole }) d s' w.back.stage
 rest_kept config w g d s s' seen whole asleep pages channels i i' zero zero' h at saw from to sized frames words made ports pending sleep = record {
   started = h.started;
+  shaped = h.shaped;
   sized = h.sized;
   indices = indices_seen g whole w.front.ring w.back.ring w.front.seen seen w.back.seen w.back.fetched w.front.last w.front.waiting (length w.front.requests) (ending_of s) (ending_of s') saw from to (let was = h.indices in let room = was.room in omega arith) h.indices;
   queue = h.queue;
@@ -174,8 +179,8 @@ rest_kept config w g d s s' seen whole asleep pages channels i i' zero zero' h a
   back_at = h.back_at;
   unhalted = h.unhalted;
   memory = sized;
-  ring = ring_rests g.start g.pushed g.replied pages s s' w.back.stage i i' (ring_words h.ring);
-  slots = slots_rest g.start g.fetched g.pushed g.taken g.replied g.submitted g.replies pages s s' w.back.stage i' (slots_kept g.start g.fetched g.pushed g.taken g.replied g.submitted g.replies w.under.pages pages s w.back.stage (λ x from to. words x (omega arith) to) (let few = i.entered_none in omega arith) h.slots);
+  ring = ring_rests g.shape.order g.start g.pushed g.replied pages s s' (length w.back.pages) i i' (ring_words h.ring);
+  slots = slots_rest g.shape g.start g.fetched g.pushed g.taken g.replied g.submitted g.replies pages s s' w.back.stage i' (slots_kept g.shape g.start g.fetched g.pushed g.taken g.replied g.submitted g.replies w.under.pages pages s w.back.stage h.shaped.narrow (slots_beside w.under.pages pages frames (λ x from to. words x (omega arith) to)) h.slots);
   frames = frames_rest g.pushed pages s s' w.front.requests i'
       (frames_kept g.pushed w.under.pages pages s w.front.requests (all_from (SameData w.under.pages pages) w.front.requests same_data) h.frames);
   telling = data_rests w.under.pages pages w.front.words w.front.ending w.front.ending s s' (untelling s' zero') h.telling;
@@ -185,7 +190,7 @@ rest_kept config w g d s s' seen whole asleep pages channels i i' zero zero' h a
       (all_from (SameGrants w.under.pages pages) w.front.requests same_grants)
       (λ e same. absurd (unrevoked s w.front.ending e zero same)) h.entries);
   mapped = h.mapped;
-  page = h.page;
+  paged = h.paged;
   front_sleep = sleep;
   back_sleep = (let was = h.back_sleep in record {
     arming = λ t. words 1 (omega arith) (omega arith) ∙ was.arming t;
@@ -221,13 +226,14 @@ rest_kept config w g d s s' seen whole asleep pages channels i i' zero zero' h a
     by_wake (inr (inl t)) = inr (inl (pending ∙ t))
     by_wake (inr (inr sends)) = absurd (i.quiet g.pushed g.fetched sends)
 
-    ring_words : AreRingWords g.start g.pushed g.replied w.under.pages s w.back.stage → AreRingWords g.start g.pushed g.replied pages s w.back.stage
+    ring_words : AreRingWords g.shape.order g.start g.pushed g.replied w.under.pages s (length w.back.pages) → AreRingWords g.shape.order g.start g.pushed g.replied pages s (length w.back.pages)
     ring_words ring =
-        let entry : SameEntry w.under.pages pages 8 = same_entry w.under.pages pages 8 (omega arith) (frames 0 (omega arith)) (frames 1 (omega arith)) in
+        let few = few_pages g.shape.order h.shaped.narrow in
+        let entry : SameRing w.under.pages pages = λ page lt. same_entry w.under.pages pages (8 + page) (omega arith) (frames 0 (omega arith)) (frames 1 (omega arith)) in
         record {
           begun = i.begun g.start pages;
           requests = λ t. words 0 (omega arith) (omega arith) ∙ ring.requests t;
           responses = λ t. words 2 (omega arith) (omega arith) ∙ ring.responses t;
-          named = λ t u. entry.frame ∙ ring.named t u;
-          granted = λ t u. entry.flags ∙ ring.granted t u;
+          named = λ page lt unmapped. let kept = entry page (let all = i.named (2 ^ g.shape.order) in omega arith) in kept.frame ∙ ring.named page lt unmapped;
+          granted = λ page lt unmapped. let kept = entry page (let all = i.granted (2 ^ g.shape.order) in omega arith) in kept.flags ∙ ring.granted page lt unmapped;
         }

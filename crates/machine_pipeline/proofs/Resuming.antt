@@ -27,11 +27,12 @@ use Rattle.blk_back.specs.Ask.{response_word}
 use Rattle.split_model.specs.World.{World}
 use Rattle.split_model.specs.Shown.{front_lines}
 use Rattle.machine_pipeline.proofs.Flow.{Flow, wrapped}
-use Rattle.machine_pipeline.proofs.Holds.{Holds, IsTaken}
+use Rattle.machine_pipeline.proofs.Holds.{Holds, IsTaken, slot_of}
 use Rattle.machine_pipeline.proofs.Turns.{Goes, FrontGoes, said_nothing}
 use Rattle.machine_pipeline.proofs.Keyed.{watched_goes}
 use Rattle.machine_pipeline.proofs.Lists.{get_within}
 use Rattle.machine_pipeline.proofs.Wrapped.{distance_at}
+use Rattle.ring_words.specs.Shape.{Shape}
 use Rattle.machine_pipeline.proofs.Resting.{at_loop, at_high, at_last, at_store, rested, rest_kept}
 use Rattle.machine_pipeline.proofs.Looking.{looked_goes, at_stage_goes}
 use Rattle.machine_pipeline.proofs.JobMoves.{stays}
@@ -114,13 +115,12 @@ pub response_read : (config : Options) (w : World) (g : Flow) (d : Pipeline) (s 
     → Holds config w g d s w.back.stage
     → slice_get g.replies 0 ≡ Some rep
     → k < 3
-    → word_of w.under.pages (slot_frame w.front.ring.cons k) (slot_word w.front.ring.cons k) ≡ response_word rep k
+    → word_of w.under.pages (slot_frame w.front.shape w.front.ring.cons k) (slot_word w.front.shape w.front.ring.cons k) ≡ response_word rep k
 response_read config w g d s rep k h oldest lt =
     let indices = h.indices in
     let slots = h.slots in
-    let frame : slot_frame w.front.ring.cons k ≡ 2 = omega arith in
     let index : w.front.ring.cons ≡ wrapped g.start (g.taken + 0) = indices.taken ∙ ap (wrapped g.start) (omega arith) in
-    ap (λ (f : ℕ). word_of w.under.pages f (slot_word w.front.ring.cons k)) frame ∙ (ap (λ (n : ℕ). word_of w.under.pages 2 (slot_word n k)) index ∙ slots.responses 0 rep oldest k lt)
+    ap (λ (x : Shape). slot_of w.under.pages x w.front.ring.cons k) h.shaped.known ∙ (ap (λ (n : ℕ). slot_of w.under.pages g.shape n k) index ∙ slots.responses 0 rep oldest k lt)
 
 -- a response is there: its first word is read
 take_up_goes : (config : Options) (w : World) (g : Flow) (d : Pipeline)
@@ -128,13 +128,13 @@ take_up_goes : (config : Options) (w : World) (g : Flow) (d : Pipeline)
     → (responses_of w.front.ring w.front.seen == 0) ≡ false
     → Holds config w g d front.Loop w.back.stage
     → w.front.asleep ≡ false
-    → LoopGoes config w d None (ask.Read (slot_frame w.front.ring.cons 0) (slot_word w.front.ring.cons 0))
-take_up_goes config w g d told some h awake = subst (λ (b : Bool). let x : View = (if b then looked w.front word (record w.front { seen = word; stage = front.StoreEvent }) else at (front.ResponseHigh word) w.front) in Goes config (lines.Move (moves.FrontRead (slot_frame w.front.ring.cons 0) (slot_word w.front.ring.cons 0) word) ∷ front_lines x.told) (record { front = record x { told = None }; back = w.back; under = w.under }) d) (sym some)
-    (at_stage_goes config w g d front.Loop (front.ResponseHigh word) (moves.FrontRead (slot_frame w.front.ring.cons 0) (slot_word w.front.ring.cons 0) word) w.under.pages at_loop (at_high word) refl refl told h (taken_up, response_read config w g d front.Loop rep.0 0 h rep.1 (omega arith)) h.memory (λ f apart x lt. refl) (λ x apart lt. refl)
+    → LoopGoes config w d None (ask.Read (slot_frame w.front.shape w.front.ring.cons 0) (slot_word w.front.shape w.front.ring.cons 0))
+take_up_goes config w g d told some h awake = subst (λ (b : Bool). let x : View = (if b then looked w.front word (record w.front { seen = word; stage = front.StoreEvent }) else at (front.ResponseHigh word) w.front) in Goes config (lines.Move (moves.FrontRead (slot_frame w.front.shape w.front.ring.cons 0) (slot_word w.front.shape w.front.ring.cons 0) word) ∷ front_lines x.told) (record { front = record x { told = None }; back = w.back; under = w.under }) d) (sym some)
+    (at_stage_goes config w g d front.Loop (front.ResponseHigh word) (moves.FrontRead (slot_frame w.front.shape w.front.ring.cons 0) (slot_word w.front.shape w.front.ring.cons 0) word) w.under.pages at_loop (at_high word) refl refl told h (taken_up, response_read config w g d front.Loop rep.0 0 h rep.1 (omega arith)) h.memory (λ f apart x lt. refl) (λ x apart lt. refl)
     (let sleep = h.front_sleep in record { arming = λ t. absurd (true≢false (sym t)); armed = sleep.armed; may = λ t. awake; woken = sleep.woken }))
   where
     word : ℕ
-    word = word_of w.under.pages (slot_frame w.front.ring.cons 0) (slot_word w.front.ring.cons 0)
+    word = word_of w.under.pages (slot_frame w.front.shape w.front.ring.cons 0) (slot_word w.front.shape w.front.ring.cons 0)
 
     seen : g.taken < g.front_seen
     seen =
@@ -155,11 +155,11 @@ pub high_goes : (config : Options) (w : World) (g : Flow) (d : Pipeline) (low : 
     → Holds config w g d (front.ResponseHigh low) w.back.stage
     → FrontGoes config w d (front.ResponseHigh low)
 high_goes config w g d low told h =
-    at_stage_goes config w g d (front.ResponseHigh low) (front.ResponseLast low word) (moves.FrontRead (slot_frame w.front.ring.cons 1) (slot_word w.front.ring.cons 1) word) w.under.pages (at_high low) (at_last low word) refl refl told h (place.0, place.1, response_read config w g d (front.ResponseHigh low) place.0.rep 1 h place.0.oldest (omega arith)) h.memory (λ f apart x lt. refl) (λ x apart lt. refl)
+    at_stage_goes config w g d (front.ResponseHigh low) (front.ResponseLast low word) (moves.FrontRead (slot_frame w.front.shape w.front.ring.cons 1) (slot_word w.front.shape w.front.ring.cons 1) word) w.under.pages (at_high low) (at_last low word) refl refl told h (place.0, place.1, response_read config w g d (front.ResponseHigh low) place.0.rep 1 h place.0.oldest (omega arith)) h.memory (λ f apart x lt. refl) (λ x apart lt. refl)
     (let sleep = h.front_sleep in record { arming = λ t. absurd (true≢false (sym t)); armed = sleep.armed; may = λ t. sleep.may refl; woken = sleep.woken })
   where
     word : ℕ
-    word = word_of w.under.pages (slot_frame w.front.ring.cons 1) (slot_word w.front.ring.cons 1)
+    word = word_of w.under.pages (slot_frame w.front.shape w.front.ring.cons 1) (slot_word w.front.shape w.front.ring.cons 1)
 
     place : (t : IsTaken g.taken g.front_seen g.replies) × (low ≡ response_word t.rep 0)
     place = h.front_at
@@ -179,10 +179,10 @@ pub loop_resumes : (config : Options) (w : World) (g : Flow) (d : Pipeline)
 loop_resumes config w g d told e none h =
     subst (λ (n : Option Request). LoopGoes config w d n (loop_ask w.front n)) (sym none) (by_wait (w.front.asleep || is_through w.front) refl)
   where
-    by_more : w.front.asleep ≡ false → (b : Bool) → (responses_of w.front.ring w.front.seen == 0) ≡ b → LoopGoes config w d None (if b then ask.Read ring_frame 2 else ask.Read (slot_frame w.front.ring.cons 0) (slot_word w.front.ring.cons 0))
+    by_more : w.front.asleep ≡ false → (b : Bool) → (responses_of w.front.ring w.front.seen == 0) ≡ b → LoopGoes config w d None (if b then ask.Read ring_frame 2 else ask.Read (slot_frame w.front.shape w.front.ring.cons 0) (slot_word w.front.shape w.front.ring.cons 0))
     by_more awake true t = look_goes config w g d told awake t h
     by_more awake false t = take_up_goes config w g d told t h awake
 
-    by_wait : (a : Bool) → (w.front.asleep || is_through w.front) ≡ a → LoopGoes config w d None (if a then ask.Wait else (if responses_of w.front.ring w.front.seen == 0 then ask.Read ring_frame 2 else ask.Read (slot_frame w.front.ring.cons 0) (slot_word w.front.ring.cons 0)))
+    by_wait : (a : Bool) → (w.front.asleep || is_through w.front) ≡ a → LoopGoes config w d None (if a then ask.Wait else (if responses_of w.front.ring w.front.seen == 0 then ask.Read ring_frame 2 else ask.Read (slot_frame w.front.shape w.front.ring.cons 0) (slot_word w.front.shape w.front.ring.cons 0)))
     by_wait true t = wait_goes config w g d told e h
     by_wait false t = by_more (neither w.front.asleep (is_through w.front) t) (responses_of w.front.ring w.front.seen == 0) refl

@@ -1,9 +1,8 @@
 -- While the front makes its ring and its port, nothing was submitted and nothing passes through the ring.
-use Rattle.std.proofs.Common.{◌≡◌, ℕ, ◌<◌, ◌≤◌, Bool, true, false, List, length, refl, sym, ◌∙◌, subst, arith, true≢false}
+use Rattle.std.proofs.Common.{◌≡◌, ℕ, Bool, true, false, List, length, refl, sym, ◌∙◌, subst, arith, true≢false}
 use Rattle.std.specs.Prelude.{Some, slice_get}
 use Rattle.std.proofs.lemmas.Option.{slice_get_within}
 use Rattle.blk_base.specs.Options.{Options}
-use Rattle.xen_pages.specs.Pages.{word_of}
 use Rattle.event_channel.specs.Channels.{ChannelState}
 use Rattle.pipeline_laws.specs.Pipeline.{Pipeline}
 use Rattle.blk_front.specs.declared.request.Request.{Request}
@@ -22,6 +21,7 @@ use Rattle.machine_pipeline.proofs.Resting.{rested, unending, untelling, unrevok
 use Rattle.machine_pipeline.proofs.ReadsKept.{stations_kept}
 use Rattle.machine_pipeline.proofs.Stations.{AreStations, turned}
 use Rattle.machine_pipeline.proofs.Indices.{indices_room}
+use Rattle.machine_pipeline.proofs.Slots.{SameSlots}
 
 -- a stage at which no request is in the front's hands
 pub record IsBare (s : FrontStage) : Type 0 where
@@ -35,14 +35,14 @@ pub record IsBare (s : FrontStage) : Type 0 where
 pub bare_word : (k : ℕ) → IsBare (front.RingWord k)
 bare_word k = record { none_ends = refl; filled_none = refl; entered_none = refl; unarmed = refl; unissued = refl; unready = refl }
 
-pub bare_frame : IsBare front.RingFrame
-bare_frame = record { none_ends = refl; filled_none = refl; entered_none = refl; unarmed = refl; unissued = refl; unready = refl }
+pub bare_frame : (page : ℕ) → IsBare (front.RingFrame page)
+bare_frame page = record { none_ends = refl; filled_none = refl; entered_none = refl; unarmed = refl; unissued = refl; unready = refl }
 
-pub bare_fence : IsBare front.RingFence
-bare_fence = record { none_ends = refl; filled_none = refl; entered_none = refl; unarmed = refl; unissued = refl; unready = refl }
+pub bare_fence : (page : ℕ) → IsBare (front.RingFence page)
+bare_fence page = record { none_ends = refl; filled_none = refl; entered_none = refl; unarmed = refl; unissued = refl; unready = refl }
 
-pub bare_flags : IsBare front.RingFlags
-bare_flags = record { none_ends = refl; filled_none = refl; entered_none = refl; unarmed = refl; unissued = refl; unready = refl }
+pub bare_flags : (page : ℕ) → IsBare (front.RingFlags page)
+bare_flags page = record { none_ends = refl; filled_none = refl; entered_none = refl; unarmed = refl; unissued = refl; unready = refl }
 
 pub bare_port : IsBare front.NewPort
 bare_port = record { none_ends = refl; filled_none = refl; entered_none = refl; unarmed = refl; unissued = refl; unready = refl }
@@ -69,6 +69,7 @@ unbound_of true bound made ports e h = absurd (true≢false e)
 
 -- a back that isn't bound doesn't sleep yet
 back_awake : (b : BackStage) → is_bound_back b ≡ false → (is_back_arming b ≡ false) × (may_back_sleep b ≡ false)
+back_awake back.InitWait e = (refl, refl)
 back_awake back.MapRing e = (refl, refl)
 back_awake back.Bind e = (refl, refl)
 back_awake b e = absurd (true≢false e)
@@ -79,14 +80,15 @@ none_yet config w g d s unready h = none_of (is_ready s) g.pushed w.front.last u
 pub starts_on : (config : Options) (w : World) (g : Flow) (d : Pipeline) (s s' : FrontStage) (pages : List ℕ) (channels : ChannelState)
     → is_connected s ≡ false → may_front_sleep s ≡ false → IsBare s → IsBare s'
     → Holds config w g d s w.back.stage
-    → FrontAt g.start g.pushed g.taken g.front_seen g.submitted g.replies (next_request w.front) w.front.entry w.front.ending s'
+    → FrontAt g.shape g.start g.pushed g.taken g.front_seen g.submitted g.replies (next_request w.front) w.front.entry w.front.ending s'
     → length pages ≡ 1114112
-    → ((x : ℕ) → 16 ≤ x → x < 1024 → word_of pages 2 x ≡ word_of w.under.pages 2 x)
-    → AreRingWords g.start g.pushed g.replied pages s' w.back.stage
+    → SameSlots w.under.pages pages
+    → AreRingWords g.shape.order g.start g.pushed g.replied pages s' (length w.back.pages)
     → PortsAt (is_connected s') (is_bound_back w.back.stage) channels.made channels.ports
     → Holds config (rested w s' w.front.seen w.front.asleep pages channels) g d s' w.back.stage
 starts_on config w g d s s' pages channels starting restless i i' h at sized words ring ports = record {
   started = h.started;
+  shaped = h.shaped;
   sized = h.sized;
   indices = indices_room g w.front.ring w.back.ring w.front.seen w.back.seen w.back.fetched w.front.last w.front.waiting (length w.front.requests) (ending_of s) (ending_of s') (let was = h.indices in let room = was.room in let e = i'.none_ends in omega arith) h.indices;
   queue = h.queue;
@@ -103,7 +105,7 @@ starts_on config w g d s s' pages channels starting restless i i' h at sized wor
   unhalted = h.unhalted;
   memory = sized;
   ring = ring;
-  slots = (let was = slots in record { entries = was.entries; entry = λ r e k lt. let zero = i'.entered_none in absurd (omega arith); responses = was.responses; response = was.response });
+  slots = (let was = slots in record { entries = was.entries; entry = λ r e k lt in_it. let zero = i'.entered_none in absurd (omega arith); responses = was.responses; response = was.response });
   frames = all_from (IsFilled g.pushed pages s') w.front.requests (λ j r e. absurd (empty j r e));
   telling = data_rests w.under.pages pages w.front.words w.front.ending w.front.ending s s' (untelling s' i'.none_ends) h.telling;
   entries = record {
@@ -111,7 +113,7 @@ starts_on config w g d s s' pages channels starting restless i i' h at sized wor
     ending = λ e same. absurd (unrevoked s' w.front.ending e i'.none_ends same);
   };
   mapped = h.mapped;
-  page = h.page;
+  paged = h.paged;
   front_sleep = (let was = h.front_sleep in record {
     arming = λ t. absurd (true≢false (sym t ∙ i'.unarmed));
     armed = λ t. absurd (true≢false (sym t ∙ was.may restless));
@@ -154,5 +156,5 @@ starts_on config w g d s s' pages channels starting restless i i' h at sized wor
     awake : (is_back_arming w.back.stage ≡ false) × (may_back_sleep w.back.stage ≡ false)
     awake = back_awake w.back.stage ((unbound_of (is_connected s) (is_bound_back w.back.stage) w.under.channels.made w.under.channels.ports starting h.ports).2)
 
-    slots : AreSlots g.start g.fetched g.pushed g.taken g.replied g.submitted g.replies pages s w.back.stage
-    slots = slots_kept g.start g.fetched g.pushed g.taken g.replied g.submitted g.replies w.under.pages pages s w.back.stage words (let few = i.entered_none in omega arith) h.slots
+    slots : AreSlots g.shape g.start g.fetched g.pushed g.taken g.replied g.submitted g.replies pages s w.back.stage
+    slots = slots_kept g.shape g.start g.fetched g.pushed g.taken g.replied g.submitted g.replies w.under.pages pages s w.back.stage h.shaped.narrow words h.slots

@@ -12,6 +12,7 @@ use Rattle.split_model.specs.World.{start_of}
 use Rattle.split_model.proofs.Safe.{safe_start}
 use Rattle.machine_pipeline.specs.Plain.{IsPlain}
 use Rattle.machine_pipeline.proofs.Flow.{start_flow}
+use Rattle.ring_words.specs.Shape.{Shape}
 use Rattle.machine_pipeline.proofs.Holds.{ArePooled, Stands}
 use Rattle.machine_pipeline.proofs.Stations.{AreStations}
 use Rattle.machine_pipeline.proofs.Indices.{indices_first}
@@ -33,8 +34,12 @@ empty_pooled = record {
   used = none_used 1000;
 }
 
+-- the ring's shape is the option's
+abbrev pub shape_of : Options → Shape
+shape_of config = record { abi = config.abi; order = config.order }
+
 -- nothing was asked of the pipeline
-start_stations : (config : Options) → AreStations config (start_flow config.start) (pipeline_of config) false false false None None None [] [] fresh_pages
+start_stations : (config : Options) → AreStations config (start_flow (shape_of config) config.start) (pipeline_of config) false false false None None None [] [] fresh_pages
 start_stations config = record {
   options = refl;
   front = refl;
@@ -51,11 +56,12 @@ start_stations config = record {
   reads = record { working = λ i t r q at. absurd (none-some t at); after = λ k r q at. absurd (none-some r at) };
 }
 
-pub start_holds : (config : Options) → IsPlain config → Stands config (start_of config) (start_flow config.start) (pipeline_of config)
+pub start_holds : (config : Options) → IsPlain config → Stands config (start_of config) (start_flow (shape_of config) config.start) (pipeline_of config)
 start_holds config plain = record {
   safe = safe_start config;
   holds = record {
     started = record { whole = refl; known = refl; closing = refl };
+    shaped = record { whole = refl; narrow = plain.order; known = refl };
     sized = record { sectors = refl; read_only = refl; writable = λ k r e. absurd (none-some r e) };
     indices = indices_first config plain;
     queue = record {
@@ -80,8 +86,8 @@ start_holds config plain = record {
       begun = λ j lt. absurd (omega arith);
       requests = λ t. absurd (true≢false (sym t));
       responses = λ t. absurd (true≢false (sym t));
-      named = λ t u. absurd (true≢false (sym t));
-      granted = λ t u. absurd (true≢false (sym t));
+      named = λ page lt unmapped. absurd (omega arith);
+      granted = λ page lt unmapped. absurd (omega arith);
     };
     slots = record {
       entries = λ k r from to. absurd (omega arith);
@@ -93,7 +99,15 @@ start_holds config plain = record {
     telling = record { size = length-replicate {A = ℕ} 128 0; so_far = tt };
     entries = record { each = λ k d lt. absurd (omega arith); ending = λ e same. absurd (none-some e same) };
     mapped = record { counted = λ test. refl; framed = λ k d lt. absurd (omega arith) };
-    page = record { gref = λ t. absurd (true≢false (sym t)); mode = λ t. absurd (true≢false (sym t)) };
+    paged = record {
+      shaped = λ t. absurd (true≢false (sym t));
+      entries_are = λ t. absurd (true≢false (sym t));
+      grefs_are = λ t. absurd (true≢false (sym t));
+      port_is = λ t. absurd (true≢false (sym t));
+      mapped = refl;
+      gref = λ page lt. absurd (omega arith);
+      mode = λ page lt. absurd (omega arith);
+    };
     front_sleep = record {
       arming = λ t. absurd (true≢false (sym t));
       armed = λ t. absurd (true≢false (sym t));

@@ -1,6 +1,6 @@
 -- The front makes its ring and its port, move by move.
-use Rattle.std.proofs.Common.{◌≡◌, ◌≢◌, ℕ, ◌+◌, ◌*◌, ◌<◌, ◌≤◌, ◌==◌, if◌then◌else◌, Bool, true, false, List, [], ◌∷◌, ◌++◌, length, refl, ap, sym, ◌∙◌, subst, arith, true≢false, length-set}
-use Rattle.std.specs.Prelude.{None}
+use Rattle.std.proofs.Common.{◌≡◌, ◌≢◌, ℕ, ◌+◌, ◌*◌, ◌<◌, ◌≤◌, ◌==◌, if◌then◌else◌, Bool, true, false, List, [], ◌∷◌, ◌++◌, length, refl, ap, sym, ◌∙◌, subst, arith, true≢false, length-set, ◌^◌, ◌/◌, ◌%◌, inl, inr}
+use Rattle.std.specs.Prelude.{None, nat_lt}
 use Rattle.std.proofs.lemmas.Bool.Decides.{nat_tests}
 use Rattle.blk_base.specs.Options.{Options}
 use Rattle.blk_base.specs.declared.moves.Move.{Move}
@@ -14,7 +14,7 @@ use Rattle.xen_pages.specs.Pages.{word_of, with_word}
 use Rattle.pipeline_laws.specs.Pipeline.{Pipeline}
 use Rattle.blk_front.specs.declared.stage.Stage.{Stage as FrontStage}
 use Rattle.blk_front.specs.declared.stage.Stage.TheVariants as front
-use Rattle.blk_front.specs.View.{View, fresh_word, next_request}
+use Rattle.blk_front.specs.View.{View, fresh_word, next_request, entry_frame, entry_word, ring_page_frame}
 use Rattle.blk_front.specs.Step.{at}
 use Rattle.blk_front.specs.Submit.{is_connected}
 use Rattle.split_model.specs.World.{World}
@@ -22,19 +22,24 @@ use Rattle.split_model.specs.Shown.{front_lines}
 use Rattle.machine_pipeline.specs.Plain.{IsPlain}
 use Rattle.machine_pipeline.proofs.Flow.{Flow, wrapped, may_front_sleep, is_bound_back}
 use Rattle.machine_pipeline.proofs.Holds.{Holds, FrontAt, RingBegun, AreRingWords, PortsAt}
+use Rattle.std.proofs.lemmas.Bool.{cases_eq}
+use Rattle.ring_words.specs.Shape.{Shape}
+use Rattle.grant_table.specs.Table.{entry_word0, entry_word1}
 use Rattle.machine_pipeline.proofs.Turns.{Goes, FrontGoes, said_nothing}
-use Rattle.machine_pipeline.proofs.Kept.{written, other_word, other_frame}
+use Rattle.machine_pipeline.proofs.Kept.{written, other_word, other_frame, other_entry}
 use Rattle.machine_pipeline.proofs.Starting.{IsBare, bare_word, bare_frame, bare_fence, bare_flags, bare_port, bare_initialised, none_yet, unbound_of, starts_on}
+use Rattle.machine_pipeline.proofs.Slots.{SameSlots, index_written, beside_written, few_pages, some_pages}
+use Rattle.machine_pipeline.proofs.Granting.{other_named}
 
 -- a move to a further stage of these, with those words of memory
 makes : (config : Options) (w : World) (g : Flow) (d : Pipeline) (s s' : FrontStage) (m : Move) (pages : List ℕ)
     → w.front.told ≡ None
     → is_connected s ≡ false → is_connected s' ≡ false → may_front_sleep s ≡ false → IsBare s → IsBare s'
     → Holds config w g d s w.back.stage
-    → FrontAt g.start g.pushed g.taken g.front_seen g.submitted g.replies (next_request w.front) w.front.entry w.front.ending s'
+    → FrontAt g.shape g.start g.pushed g.taken g.front_seen g.submitted g.replies (next_request w.front) w.front.entry w.front.ending s'
     → length pages ≡ 1114112
-    → ((x : ℕ) → 16 ≤ x → x < 1024 → word_of pages 2 x ≡ word_of w.under.pages 2 x)
-    → AreRingWords g.start g.pushed g.replied pages s' w.back.stage
+    → SameSlots w.under.pages pages
+    → AreRingWords g.shape.order g.start g.pushed g.replied pages s' (length w.back.pages)
     → (let x : View = at s' w.front in Goes config (lines.Move m ∷ front_lines x.told) (record { front = record x { told = None }; back = w.back; under = record w.under { pages = pages } }) d)
 makes config w g d s s' m pages told starting going restless i i' h place sized words ring = record {
   flow = g;
@@ -73,25 +78,25 @@ word_goes config w g d k plain told h = by_last (k == 15) refl
             let was : RingBegun g.start w.under.pages (front.RingWord k) = ring.begun in
             other_word w.under.pages 2 k (fresh_word w.front.start k) j apart ∙ was j (omega arith)
 
-    goes_to : (s' : FrontStage) → is_connected s' ≡ false → IsBare s' → FrontAt g.start g.pushed g.taken g.front_seen g.submitted g.replies (next_request w.front) w.front.entry w.front.ending s' → AreRingWords g.start g.pushed g.replied pages s' w.back.stage
+    goes_to : (s' : FrontStage) → is_connected s' ≡ false → IsBare s' → FrontAt g.shape g.start g.pushed g.taken g.front_seen g.submitted g.replies (next_request w.front) w.front.entry w.front.ending s' → AreRingWords g.shape.order g.start g.pushed g.replied pages s' (length w.back.pages)
         → (let x : View = at s' w.front in Goes config (lines.Move (moves.FrontWrite 2 k (fresh_word w.front.start k)) ∷ front_lines x.told) (record { front = record x { told = None }; back = w.back; under = record w.under { pages = pages } }) d)
     goes_to s' going i' place ring = makes config w g d (front.RingWord k) s' (moves.FrontWrite 2 k (fresh_word w.front.start k)) pages told refl going refl (bare_word k) i' h place sized
-        (λ x from to. other_word w.under.pages 2 k (fresh_word w.front.start k) x (let few : k < 16 = h.front_at in omega arith)) ring
+        (index_written w.under.pages k (fresh_word w.front.start k) h.front_at) ring
 
     at_start : (n : ℕ) → n ≡ 0 → wrapped g.start n ≡ g.start
     at_start n zero = let started = h.started in let whole = started.whole in let few = plain.start in omega arith
 
-    by_last : (b : Bool) → (k == 15) ≡ b → (let x : View = at (if b then front.RingFrame else front.RingWord (k + 1)) w.front in Goes config (lines.Move (moves.FrontWrite 2 k (fresh_word w.front.start k)) ∷ front_lines x.told) (record { front = record x { told = None }; back = w.back; under = record w.under { pages = pages } }) d)
+    by_last : (b : Bool) → (k == 15) ≡ b → (let x : View = at (if b then front.RingFrame 0 else front.RingWord (k + 1)) w.front in Goes config (lines.Move (moves.FrontWrite 2 k (fresh_word w.front.start k)) ∷ front_lines x.told) (record { front = record x { told = None }; back = w.back; under = record w.under { pages = pages } }) d)
     by_last true t =
         let last : k ≡ 15 = grind (arith, nat_tests) in
         let none = none_yet config w g d (front.RingWord k) refl h in
         let indices = h.indices in
-        goes_to front.RingFrame refl bare_frame tt (record {
+        goes_to (front.RingFrame 0) refl (bare_frame 0) (some_pages g.shape.order) (record {
           begun = tt;
           requests = λ u. fresh 0 (omega arith) ∙ sym (at_start g.pushed none.unpushed);
           responses = λ u. fresh 2 (omega arith) ∙ sym (at_start g.replied (let zero = none.unpushed in let a = indices.replied_fetched in let b = indices.fetched_pushed in omega arith));
-          named = λ u v. absurd (true≢false (sym u));
-          granted = λ u v. absurd (true≢false (sym u));
+          named = λ page lt unmapped. absurd (omega arith);
+          granted = λ page lt unmapped. absurd (omega arith);
         })
     by_last false t =
         let more : k ≢ 15 = grind (arith, nat_tests) in
@@ -99,61 +104,131 @@ word_goes config w g d k plain told h = by_last (k == 15) refl
           begun = fresh;
           requests = λ u. absurd (true≢false (sym u));
           responses = λ u. absurd (true≢false (sym u));
-          named = λ u v. absurd (true≢false (sym u));
-          granted = λ u v. absurd (true≢false (sym u));
+          named = λ page lt unmapped. absurd (omega arith);
+          granted = λ page lt unmapped. absurd (omega arith);
         })
 
--- its grant: the frame, a fence, the flags
-frame_goes : (config : Options) (w : World) (g : Flow) (d : Pipeline)
+-- the grants of its frames: of each the frame, a fence, the flags
+reference_few : (order page : ℕ) → order ≤ 4 → page < 2 ^ order → page < 16
+reference_few order page narrow lt = let few = few_pages order narrow in omega arith
+
+frame_goes : (config : Options) (w : World) (g : Flow) (d : Pipeline) (page : ℕ)
     → w.front.told ≡ None
-    → Holds config w g d front.RingFrame w.back.stage
-    → FrontGoes config w d front.RingFrame
-frame_goes config w g d told h =
-    let pages : List ℕ = with_word w.under.pages 0 17 2 in
-    let ring = h.ring in
-    makes config w g d front.RingFrame front.RingFence (moves.FrontWrite 0 17 2) pages told refl refl refl bare_frame bare_fence h tt
-    (length-set w.under.pages 17 2 ∙ h.memory)
-    (λ x from to. other_frame w.under.pages 0 17 2 2 (omega arith) (omega arith) x to)
+    → Holds config w g d (front.RingFrame page) w.back.stage
+    → FrontGoes config w d (front.RingFrame page)
+frame_goes config w g d page told h =
+    makes config w g d (front.RingFrame page) (front.RingFence page) (moves.FrontWrite (entry_frame (ring_page_frame page)) (entry_word (ring_page_frame page) + 1) (ring_page_frame page)) pages told refl refl refl (bare_frame page) (bare_fence page) h h.front_at
+    (length-set w.under.pages _ (2 + page) ∙ h.memory)
+    (beside_written w.under.pages ((2 + page + 6) / 512) (2 * ((2 + page + 6) % 512) + 1) (2 + page) (omega (arith, few)) (inl (omega (arith, few))))
     (record {
       begun = tt;
-      requests = λ t. other_frame w.under.pages 0 17 2 2 (omega arith) (omega arith) 0 (omega arith) ∙ ring.requests refl;
-      responses = λ t. other_frame w.under.pages 0 17 2 2 (omega arith) (omega arith) 2 (omega arith) ∙ ring.responses refl;
-      named = λ t u. written w.under.pages 0 17 2 h.memory (omega arith) (omega arith);
-      granted = λ t u. absurd (true≢false (sym t));
+      requests = λ t. second 0 (omega arith) ∙ ring.requests refl;
+      responses = λ t. second 2 (omega arith) ∙ ring.responses refl;
+      named = λ p lt unmapped. elim (cases_eq p page) [
+        | inl is ↦ subst (λ (n : ℕ). entry_word1 pages (8 + n) ≡ 2 + n) (sym is) here
+        | inr apart ↦ (let entry = other_named w.under.pages (2 + page + 6) (8 + p) (2 + page) (omega (arith, few)) (omega (arith, few)) (omega arith) in entry.frame ∙ ring.named p (omega arith) unmapped)
+      ];
+      granted = λ p lt unmapped. let entry = other_named w.under.pages (2 + page + 6) (8 + p) (2 + page) (omega (arith, few)) (omega (arith, few)) (omega arith) in entry.flags ∙ ring.granted p lt unmapped;
     })
+  where
+    ring : AreRingWords g.shape.order g.start g.pushed g.replied w.under.pages (front.RingFrame page) (length w.back.pages)
+    ring = h.ring
 
-fence_goes : (config : Options) (w : World) (g : Flow) (d : Pipeline)
+    few : page < 16
+    few = reference_few g.shape.order page h.shaped.narrow h.front_at
+
+    pages : List ℕ
+    pages = with_word w.under.pages ((2 + page + 6) / 512) (2 * ((2 + page + 6) % 512) + 1) (2 + page)
+
+    second : (x : ℕ) → x < 1024 → word_of pages 2 x ≡ word_of w.under.pages 2 x
+    second x lt = other_frame w.under.pages ((2 + page + 6) / 512) (2 * ((2 + page + 6) % 512) + 1) (2 + page) 2 (omega (arith, few)) (omega (arith, few)) x lt
+
+    here : entry_word1 pages (8 + page) ≡ 2 + page
+    here = subst (λ (n : ℕ). entry_word1 pages n ≡ 2 + page) (omega (arith, few)) (written w.under.pages ((2 + page + 6) / 512) (2 * ((2 + page + 6) % 512) + 1) (2 + page) h.memory (omega (arith, few)) (omega (arith, few)))
+
+fence_goes : (config : Options) (w : World) (g : Flow) (d : Pipeline) (page : ℕ)
     → w.front.told ≡ None
-    → Holds config w g d front.RingFence w.back.stage
-    → FrontGoes config w d front.RingFence
-fence_goes config w g d told h =
+    → Holds config w g d (front.RingFence page) w.back.stage
+    → FrontGoes config w d (front.RingFence page)
+fence_goes config w g d page told h =
     let ring = h.ring in
-    makes config w g d front.RingFence front.RingFlags (moves.Fence mover.Front) w.under.pages told refl refl refl bare_fence bare_flags h tt h.memory (λ x from to. refl)
+    makes config w g d (front.RingFence page) (front.RingFlags page) (moves.Fence mover.Front) w.under.pages told refl refl refl (bare_fence page) (bare_flags page) h h.front_at h.memory (λ f x from to within behind. refl)
     (record {
       begun = tt;
       requests = λ t. ring.requests refl;
       responses = λ t. ring.responses refl;
-      named = λ t u. ring.named refl u;
-      granted = λ t u. absurd (true≢false (sym t));
+      named = ring.named;
+      granted = ring.granted;
     })
 
-flags_goes : (config : Options) (w : World) (g : Flow) (d : Pipeline)
+flags_goes : (config : Options) (w : World) (g : Flow) (d : Pipeline) (page : ℕ)
     → w.front.told ≡ None
-    → Holds config w g d front.RingFlags w.back.stage
-    → FrontGoes config w d front.RingFlags
-flags_goes config w g d told h =
-    let pages : List ℕ = with_word w.under.pages 0 16 1 in
-    let ring = h.ring in
-    makes config w g d front.RingFlags front.NewPort (moves.FrontWrite 0 16 1) pages told refl refl refl bare_flags bare_port h tt
-    (length-set w.under.pages 16 1 ∙ h.memory)
-    (λ x from to. other_frame w.under.pages 0 16 1 2 (omega arith) (omega arith) x to)
-    (record {
-      begun = tt;
-      requests = λ t. other_frame w.under.pages 0 16 1 2 (omega arith) (omega arith) 0 (omega arith) ∙ ring.requests refl;
-      responses = λ t. other_frame w.under.pages 0 16 1 2 (omega arith) (omega arith) 2 (omega arith) ∙ ring.responses refl;
-      named = λ t u. other_word w.under.pages 0 16 1 17 (omega arith) ∙ ring.named refl u;
-      granted = λ t u. written w.under.pages 0 16 1 h.memory (omega arith) (omega arith);
-    })
+    → Holds config w g d (front.RingFlags page) w.back.stage
+    → FrontGoes config w d (front.RingFlags page)
+flags_goes config w g d page told h = by_last (nat_lt (page + 1) (2 ^ w.front.shape.order)) refl
+  where
+    ring : AreRingWords g.shape.order g.start g.pushed g.replied w.under.pages (front.RingFlags page) (length w.back.pages)
+    ring = h.ring
+
+    within : page < 2 ^ g.shape.order
+    within = h.front_at
+
+    few : page < 16
+    few = reference_few g.shape.order page h.shaped.narrow within
+
+    known : 2 ^ w.front.shape.order ≡ 2 ^ g.shape.order
+    known = ap (λ (x : Shape). 2 ^ x.order) h.shaped.known
+
+    pages : List ℕ
+    pages = with_word w.under.pages ((2 + page + 6) / 512) (2 * ((2 + page + 6) % 512)) 1
+
+    second : (x : ℕ) → x < 1024 → word_of pages 2 x ≡ word_of w.under.pages 2 x
+    second x lt = other_frame w.under.pages ((2 + page + 6) / 512) (2 * ((2 + page + 6) % 512)) 1 2 (omega (arith, few)) (omega (arith, few)) x lt
+
+    here : entry_word0 pages (8 + page) ≡ 1
+    here = subst (λ (n : ℕ). entry_word0 pages n ≡ 1) (omega (arith, few)) (written w.under.pages ((2 + page + 6) / 512) (2 * ((2 + page + 6) % 512)) 1 h.memory (omega (arith, few)) (omega (arith, few)))
+
+    -- the frame stays in its entry
+    still : entry_word1 pages (8 + page) ≡ entry_word1 w.under.pages (8 + page)
+    still = subst (λ (n : ℕ). entry_word1 pages n ≡ entry_word1 w.under.pages n) (omega arith) (other_word w.under.pages ((2 + page + 6) / 512) (2 * ((2 + page + 6) % 512)) 1 (2 * ((2 + page + 6) % 512) + 1) (omega arith))
+
+    named_now : (p : ℕ) → p < page + 1 → length w.back.pages ≤ p → entry_word1 pages (8 + p) ≡ 2 + p
+    named_now p lt unmapped = elim (cases_eq p page) [
+      | inl is ↦ subst (λ (n : ℕ). entry_word1 pages (8 + n) ≡ entry_word1 w.under.pages (8 + n)) (sym is) still ∙ ring.named p lt unmapped
+      | inr apart ↦ (let entry = other_entry w.under.pages (2 + page + 6) (8 + p) 1 (omega (arith, few)) (omega (arith, few)) (omega arith) in entry.frame ∙ ring.named p lt unmapped)
+    ]
+
+    granted_now : (p : ℕ) → p < page + 1 → length w.back.pages ≤ p → entry_word0 pages (8 + p) ≡ 1
+    granted_now p lt unmapped = elim (cases_eq p page) [
+      | inl is ↦ subst (λ (n : ℕ). entry_word0 pages (8 + n) ≡ 1) (sym is) here
+      | inr apart ↦ (let entry = other_entry w.under.pages (2 + page + 6) (8 + p) 1 (omega (arith, few)) (omega (arith, few)) (omega arith) in entry.flags ∙ ring.granted p (omega arith) unmapped)
+    ]
+
+    goes_to : (s' : FrontStage) → is_connected s' ≡ false → IsBare s' → FrontAt g.shape g.start g.pushed g.taken g.front_seen g.submitted g.replies (next_request w.front) w.front.entry w.front.ending s' → AreRingWords g.shape.order g.start g.pushed g.replied pages s' (length w.back.pages)
+        → (let x : View = at s' w.front in Goes config (lines.Move (moves.FrontWrite (entry_frame (ring_page_frame page)) (entry_word (ring_page_frame page)) 1) ∷ front_lines x.told) (record { front = record x { told = None }; back = w.back; under = record w.under { pages = pages } }) d)
+    goes_to s' going i' place words = makes config w g d (front.RingFlags page) s' (moves.FrontWrite (entry_frame (ring_page_frame page)) (entry_word (ring_page_frame page)) 1) pages told refl going refl (bare_flags page) i' h place
+        (length-set w.under.pages _ 1 ∙ h.memory)
+        (beside_written w.under.pages ((2 + page + 6) / 512) (2 * ((2 + page + 6) % 512)) 1 (omega (arith, few)) (inl (omega (arith, few)))) words
+
+    by_last : (b : Bool) → nat_lt (page + 1) (2 ^ w.front.shape.order) ≡ b → (let x : View = at (if b then front.RingFrame (page + 1) else front.NewPort) w.front in Goes config (lines.Move (moves.FrontWrite (entry_frame (ring_page_frame page)) (entry_word (ring_page_frame page)) 1) ∷ front_lines x.told) (record { front = record x { told = None }; back = w.back; under = record w.under { pages = pages } }) d)
+    by_last true t =
+        let more : page + 1 < 2 ^ w.front.shape.order = grind (arith, nat_tests) in
+        goes_to (front.RingFrame (page + 1)) refl (bare_frame (page + 1)) (omega (arith, known, more)) (record {
+          begun = tt;
+          requests = λ u. second 0 (omega arith) ∙ ring.requests refl;
+          responses = λ u. second 2 (omega arith) ∙ ring.responses refl;
+          named = named_now;
+          granted = granted_now;
+        })
+    by_last false t =
+        let last : 2 ^ w.front.shape.order ≤ page + 1 = grind (arith, nat_tests) in
+        goes_to front.NewPort refl bare_port tt (record {
+          begun = tt;
+          requests = λ u. second 0 (omega arith) ∙ ring.requests refl;
+          responses = λ u. second 2 (omega arith) ∙ ring.responses refl;
+          named = λ p lt unmapped. named_now p (let among : p < 2 ^ g.shape.order = lt in omega (arith, known, last, among)) unmapped;
+          granted = λ p lt unmapped. granted_now p (let among : p < 2 ^ g.shape.order = lt in omega (arith, known, last, among)) unmapped;
+        })
 
 -- a first port, which waits to be bound
 first_port : (bound : Bool) (made : ℕ) (ports : List PortState) → made ≡ 0 → ports ≡ [] → bound ≡ false → PortsAt true bound (made + 1) (ports ++ Unbound ∷ [])
@@ -171,13 +246,13 @@ port_goes config w g d told h =
       flow = g;
       step = None;
       does = said_nothing d (moves.FrontPort (w.under.channels.made + 1)) w.front.told told;
-      holds = starts_on config w g d front.NewPort front.Initialised w.under.pages (with_port w.under.channels) refl refl bare_port bare_initialised h tt h.memory (λ x from to. refl)
+      holds = starts_on config w g d front.NewPort front.Initialised w.under.pages (with_port w.under.channels) refl refl bare_port bare_initialised h tt h.memory (λ f x from to within behind. refl)
           (record {
             begun = tt;
             requests = λ t. ring.requests refl;
             responses = λ t. ring.responses refl;
-            named = λ t u. ring.named refl u;
-            granted = λ t u. ring.granted refl u;
+            named = ring.named;
+            granted = ring.granted;
           })
           (first_port (is_bound_back w.back.stage) w.under.channels.made w.under.channels.ports none.0 none.1 none.2);
     }
@@ -190,8 +265,8 @@ pub start_moves : (config : Options) (w : World) (g : Flow) (d : Pipeline) (s : 
     → Holds config w g d s w.back.stage
     → FrontGoes config w d s
 start_moves config w g d (front.RingWord k) plain told starting h = word_goes config w g d k plain told h
-start_moves config w g d front.RingFrame plain told starting h = frame_goes config w g d told h
-start_moves config w g d front.RingFence plain told starting h = fence_goes config w g d told h
-start_moves config w g d front.RingFlags plain told starting h = flags_goes config w g d told h
+start_moves config w g d (front.RingFrame page) plain told starting h = frame_goes config w g d page told h
+start_moves config w g d (front.RingFence page) plain told starting h = fence_goes config w g d page told h
+start_moves config w g d (front.RingFlags page) plain told starting h = flags_goes config w g d page told h
 start_moves config w g d front.NewPort plain told starting h = port_goes config w g d told h
 start_moves config w g d s plain told starting h = absurd (true≢false starting)

@@ -16,7 +16,7 @@ use Rattle.blk_front.specs.Pool.{taking}
 use Rattle.blk_front.specs.declared.told.Refusal.{Refusal}
 use Rattle.blk_front.specs.declared.told.Refusal.TheVariants as refusal
 use Rattle.blk_front.specs.View.{View, next_request}
-use Rattle.blk_front.specs.Submit.{is_ready, unfinished, request_with, accepted, wish_of, submit_one, submit_of}
+use Rattle.blk_front.specs.Submit.{is_ready, unfinished, request_with, accepted, wish_of, submit_one, submit_of, submit_with}
 use Rattle.split_model.specs.World.{World}
 use Rattle.split_model.specs.Happening.{Submits, submit_line, lines_at, happens}
 use Rattle.machine_pipeline.specs.Allowed.{IsTransfer}
@@ -26,9 +26,10 @@ use Rattle.machine_pipeline.proofs.Turns.{Stepped, does_alone, GoesBy}
 use Rattle.machine_pipeline.proofs.Next.{waiting_few}
 use Rattle.machine_pipeline.proofs.Growing.{longer, submitted_more, disk_more, queue_more, pooled_more}
 use Rattle.machine_pipeline.proofs.Submitting.{submitted_flow, indices_more, next_more, front_at_more, IsIdle, idle_at, slots_more, frames_more, entries_more, works_more, front_at_grown, back_at_grown}
-use Rattle.machine_pipeline.proofs.Refusing.{frames_fit, answer_of, refused_rightly}
+use Rattle.machine_pipeline.proofs.Refusing.{answer_of, refused_rightly}
 use Rattle.machine_pipeline.proofs.Stations.{AreStations}
 use Rattle.machine_pipeline.proofs.StationsFront.{submits}
+use Rattle.ring_words.specs.Shape.{entries_of, Shape}
 use Rattle.machine_pipeline.specs.Step.{IsSame}
 use Rattle.machine_pipeline.specs.Plain.{IsPlain}
 use Rattle.split_model.specs.Shown.{refusal_word}
@@ -40,7 +41,7 @@ accepting w wish taken = record { front = accepted w.front wish taken; back = w.
 
 accepted_on : (config : Options) (w : World) (g : Flow) (d d' : Pipeline) (wish : Wish) (taken : List ℕ × List Bool)
     → Holds config w g d w.front.stage w.back.stage
-    → is_ready w.front.stage ≡ true → w.front.last ≢ 4294967295 → unfinished w.front < 32
+    → is_ready w.front.stage ≡ true → w.front.last ≢ 4294967295 → unfinished w.front < entries_of g.shape.order
     → (is_write wish.transfer && w.front.read_only) ≡ false → wish.sector + wish.count ≤ w.front.sectors → tag_of wish.transfer < 2 ^ 32 → 1 ≤ wish.count → wish.count ≤ 88
     → taking (frames_for wish.count) w.front.pool [] ≡ Some taken
     → AreStations config (submitted_flow g (request_with w.front wish taken.0)) d' (is_ready w.front.stage) (is_issuing w.front.stage) (is_fetching w.back.stage) (ending_at w.front.stage w.front.ending) (telling_at w.front.stage) (reply_at w.back.stage) (w.front.requests ++ request_with w.front wish taken.0 ∷ []) w.back.jobs.works w.under.pages
@@ -48,6 +49,7 @@ accepted_on : (config : Options) (w : World) (g : Flow) (d d' : Pipeline) (wish 
 accepted_on config w g d d' wish taken h ready unspent free may on_disk small some few frames stations =
     record {
       started = h.started;
+      shaped = h.shaped;
       sized = disk_more config w.front.sectors w.front.read_only g.submitted x may h.sized;
       indices = indices_more g x w.front.ring w.back.ring w.front.seen w.back.seen w.back.fetched w.front.last w.front.waiting (length w.front.requests) _ _ (longer w.front.requests x) unspent free h.indices;
       queue = queue_more g.submitted g.pushed w.front.sectors w.front.last w.front.requests w.front.waiting x refl (let i = h.indices in i.all) (waiting_few h.indices) h.submitted h.queue;
@@ -59,19 +61,19 @@ accepted_on config w g d d' wish taken h ready unspent free may on_disk small so
       counted = h.counted;
       info = h.info;
       replies = h.replies;
-      front_at = front_at_more g.start g.pushed g.taken g.front_seen (g.submitted ++ x ∷ []) g.replies (next_request w.front) (next_request (accepted w.front wish taken)) w.front.entry w.front.ending w.front.stage (λ r e. next_more w.front.requests w.front.waiting x r e)
-          (front_at_grown g.start g.pushed g.taken g.front_seen g.submitted g.replies (next_request w.front) w.front.entry w.front.ending x w.front.stage h.front_at);
+      front_at = front_at_more g.shape g.start g.pushed g.taken g.front_seen (g.submitted ++ x ∷ []) g.replies (next_request w.front) (next_request (accepted w.front wish taken)) w.front.entry w.front.ending w.front.stage (λ r e. next_more w.front.requests w.front.waiting x r e)
+          (front_at_grown g.shape g.start g.pushed g.taken g.front_seen g.submitted g.replies (next_request w.front) w.front.entry w.front.ending x w.front.stage h.front_at);
       unused = rw ready tt;
-      back_at = back_at_grown g.start g.fetched g.back_seen g.replied g.submitted w.back.jobs.works w.back.entry x w.back.stage h.back_at;
+      back_at = back_at_grown g.shape g.start g.fetched g.back_seen g.replied g.submitted w.back.jobs.works w.back.entry x w.back.stage h.back_at;
       unhalted = h.unhalted;
       memory = h.memory;
       ring = h.ring;
-      slots = slots_more g.start g.fetched g.pushed g.taken g.replied g.submitted g.replies w.under.pages w.front.stage w.back.stage x (let all = h.submitted in let counted = all.counted in omega arith) (λ same. idle (same ∙ (let all = h.submitted in all.counted))) h.slots;
+      slots = slots_more g.shape g.start g.fetched g.pushed g.taken g.replied g.submitted g.replies w.under.pages w.front.stage w.back.stage x (let all = h.submitted in let counted = all.counted in omega arith) (λ same. idle (same ∙ (let all = h.submitted in all.counted))) h.slots;
       frames = frames_more g.pushed w.front.last w.under.pages w.front.stage w.front.requests x refl pushed_few idle h.frames;
       telling = h.telling;
       entries = entries_more g.pushed w.front.last w.under.pages w.under.grants.live w.front.stage w.front.ending w.front.requests x refl pushed_few idle h.entries;
       mapped = h.mapped;
-      page = h.page;
+      paged = h.paged;
       front_sleep = h.front_sleep;
       back_sleep = h.back_sleep;
       ports = h.ports;
@@ -88,7 +90,7 @@ accepted_on config w g d d' wish taken h ready unspent free may on_disk small so
     pushed_few = let i = h.indices in let all = i.all in omega arith
 
     idle : g.pushed ≡ w.front.last → IsIdle w.front.stage
-    idle same = idle_at g.start g.pushed g.taken g.front_seen g.submitted g.replies (next_request w.front) w.front.entry w.front.ending w.front.stage (none_waits w.front.waiting w.front.requests (let i = h.indices in none_left i.all same)) h.front_at
+    idle same = idle_at g.shape g.start g.pushed g.taken g.front_seen g.submitted g.replies (next_request w.front) w.front.entry w.front.ending w.front.stage (none_waits w.front.waiting w.front.requests (let i = h.indices in none_left i.all same)) h.front_at
       where
         none_left : {last pushed waiting : ℕ} → last ≡ pushed + waiting → pushed ≡ last → waiting ≡ 0
         none_left a b = omega arith
@@ -126,19 +128,8 @@ submit_transfer config w g d sector count way some small h =
     either config w d job (is_write way && w.front.read_only) (Err refusal.ReadOnly, w.front) _ (λ t. refused config w g d job refusal.ReadOnly h) (λ may.
     either config w d job (nat_lt w.front.sectors (sector + count)) (Err refusal.Range, w.front) _ (λ t. refused config w g d job refusal.Range h) (λ on_disk.
     either config w d job (nat_lt 11 (frames_for count)) (Err refusal.Long, w.front) _ (λ t. refused config w g d job refusal.Long h) (λ short.
-    either config w d job (nat_le 32 (unfinished w.front)) (Err refusal.Full, w.front) _ (λ t. refused config w g d job refusal.Full h) (λ free.
-    let fit = frames_fit config w g d count h short free in
-    rw fit.1 (λ same.
-    let s = stepped fit.0 same in
-    record {
-      flow = submitted_flow g (request_with w.front wish fit.0.0);
-      step = Some s.step;
-      does = does_alone s;
-      holds = accepted_on config w g d (next d s.step) wish fit.0 h
-          (is_true (is_ready w.front.stage) ready)
-          (differs w.front.last unspent) (below (unfinished w.front) free) may (above w.front.sectors (sector + count) on_disk) small some (few_sectors count short)
-          fit.1 s.now;
-    })))))))))
+    either config w d job (nat_le (entries_of w.front.shape.order) (unfinished w.front)) (Err refusal.Full, w.front) _ (λ t. refused config w g d job refusal.Full h) (λ free.
+    by_frames (is_true (is_ready w.front.stage) ready) unspent free may on_disk short (taking (frames_for count) w.front.pool []) refl))))))))
   where
     job : Job
     job = job_of way sector count
@@ -158,14 +149,29 @@ submit_transfer config w g d sector count way some small h =
     differs : (n : ℕ) → (n == 4294967295) ≡ false → n ≢ 4294967295
     differs n e = grind (arith, nat_tests)
 
-    below : (n : ℕ) → nat_le 32 n ≡ false → n < 32
-    below n e = grind (arith, nat_tests)
+    below : (size n : ℕ) → nat_le size n ≡ false → n < size
+    below size n e = grind (arith, nat_tests)
 
     above : (n m : ℕ) → nat_lt n m ≡ false → m ≤ n
     above n m e = grind (arith, nat_tests)
 
     few_sectors : (n : ℕ) → nat_lt 11 (frames_for n) ≡ false → n ≤ 88
     few_sectors n short = let few : frames_for n ≤ 11 = grind (arith, nat_tests) in omega arith
+
+    by_frames : is_ready w.front.stage ≡ true → (w.front.last == 4294967295) ≡ false → nat_le (entries_of w.front.shape.order) (unfinished w.front) ≡ false
+        → (is_write way && w.front.read_only) ≡ false → nat_lt w.front.sectors (sector + count) ≡ false → nat_lt 11 (frames_for count) ≡ false
+        → (o : Option (List ℕ × List Bool)) → taking (frames_for count) w.front.pool [] ≡ o → SubmitGoes config w d job (submit_with w.front wish o)
+    by_frames ready unspent free may on_disk short None none = refused config w g d job refusal.Buffers h
+    by_frames ready unspent free may on_disk short (Some taken) some_taken = λ same.
+        let s = stepped taken same in
+        record {
+          flow = submitted_flow g (request_with w.front wish taken.0);
+          step = Some s.step;
+          does = does_alone s;
+          holds = accepted_on config w g d (next d s.step) wish taken h ready (differs w.front.last unspent)
+              (subst (λ (x : Shape). unfinished w.front < entries_of x.order) h.shaped.known (below (entries_of w.front.shape.order) (unfinished w.front) free))
+              may (above w.front.sectors (sector + count) on_disk) small some (few_sectors count short) some_taken s.now;
+        }
 
 pub submit_kept : (config : Options) (w : World) (g : Flow) (d : Pipeline) (job : Job) → IsPlain config → Holds config w g d w.front.stage w.back.stage → IsTransfer job → GoesBy (Some job) IsSame config (lines_at w (Submits job)) (happens w (Submits job)) d
 submit_kept config w g d (Write sector count tag) plain h one = submit_transfer config w g d sector count (transfer.Write tag) one.0 one.1 h (refused_rightly config w g d (Write sector count tag) plain h one)

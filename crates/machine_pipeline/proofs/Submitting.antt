@@ -14,6 +14,7 @@ use Rattle.blk_back.specs.declared.stage.Stage.{Stage as BackStage}
 use Rattle.blk_back.specs.declared.stage.Stage.TheVariants as back
 use Rattle.machine_pipeline.proofs.Flow.{Flow, filled, named_frames, granted_frames, entered}
 use Rattle.machine_pipeline.proofs.Holds.{AreIndices, FrontAt, AreSlots, IsFilled, IsGranted, AreEntries, AreWorks, IsEnding, BackAt}
+use Rattle.ring_words.specs.Shape.{entries_of, Shape}
 use Rattle.machine_pipeline.proofs.Lists.{get_append}
 use Rattle.machine_pipeline.proofs.Growing.{longer, push_was}
 use Rattle.back_jobs.specs.Task.{Work}
@@ -24,7 +25,7 @@ abbrev pub submitted_flow : Flow → Request → Flow
 submitted_flow g x = record g { submitted = g.submitted ++ x ∷ [] }
 
 pub indices_more : (g : Flow) (x : Request) (front_ring back_ring : Ring) (front_seen back_seen number last waiting unfinished unfinished' ending : ℕ)
-    → unfinished' ≡ unfinished + 1 → last ≢ 4294967295 → unfinished + ending < 32
+    → unfinished' ≡ unfinished + 1 → last ≢ 4294967295 → unfinished + ending < entries_of g.shape.order
     → AreIndices g front_ring back_ring front_seen back_seen number last waiting unfinished ending
     → AreIndices (submitted_flow g x) front_ring back_ring front_seen back_seen number (last + 1) (waiting + 1) unfinished' ending
 indices_more g x front_ring back_ring front_seen back_seen number last waiting unfinished unfinished' ending more unspent free h =
@@ -33,7 +34,6 @@ indices_more g x front_ring back_ring front_seen back_seen number last waiting u
     let held = h.held in
     record {
       front_entries = h.front_entries;
-      back_entries = h.back_entries;
       pushed = h.pushed;
       taken = h.taken;
       replied = h.replied;
@@ -68,17 +68,17 @@ next_more requests waiting x r e = by_test (waiting == 0) e
         let place : length (requests ++ x ∷ []) - (waiting + 1) ≡ length requests - waiting = omega arith in
         rw (some, place) (get_append requests (x ∷ []) (length requests - waiting) r f)
 
-pub front_at_more : (start pushed taken front_seen : ℕ) (submitted : List Request) (replies : List Reply) (next next' : Option Request) (entry : List ℕ) (ending : Option Ending) (s : FrontStage)
+pub front_at_more : (shape : Shape) (start pushed taken front_seen : ℕ) (submitted : List Request) (replies : List Reply) (next next' : Option Request) (entry : List ℕ) (ending : Option Ending) (s : FrontStage)
     → ((r : Request) → next ≡ Some r → next' ≡ Some r)
-    → FrontAt start pushed taken front_seen submitted replies next entry ending s
-    → FrontAt start pushed taken front_seen submitted replies next' entry ending s
-front_at_more start pushed taken front_seen submitted replies next next' entry ending (front.Data n) stays h = (h.0, stays h.0 h.1, h.2)
-front_at_more start pushed taken front_seen submitted replies next next' entry ending (front.GrantFrame place) stays h = (h.0, stays h.0 h.1, h.2)
-front_at_more start pushed taken front_seen submitted replies next next' entry ending (front.GrantFence place) stays h = (h.0, stays h.0 h.1, h.2)
-front_at_more start pushed taken front_seen submitted replies next next' entry ending (front.GrantFlags place) stays h = (h.0, stays h.0 h.1, h.2)
-front_at_more start pushed taken front_seen submitted replies next next' entry ending (front.Slot k) stays h = (h.0, (h.1.0, stays h.1.0 h.1.1, h.1.2))
-front_at_more start pushed taken front_seen submitted replies next next' entry ending front.Producer stays h = (h.0, stays h.0 h.1, tt)
-front_at_more start pushed taken front_seen submitted replies next next' entry ending s stays h = h
+    → FrontAt shape start pushed taken front_seen submitted replies next entry ending s
+    → FrontAt shape start pushed taken front_seen submitted replies next' entry ending s
+front_at_more shape start pushed taken front_seen submitted replies next next' entry ending (front.Data n) stays h = (h.0, stays h.0 h.1, h.2)
+front_at_more shape start pushed taken front_seen submitted replies next next' entry ending (front.GrantFrame place) stays h = (h.0, stays h.0 h.1, h.2)
+front_at_more shape start pushed taken front_seen submitted replies next next' entry ending (front.GrantFence place) stays h = (h.0, stays h.0 h.1, h.2)
+front_at_more shape start pushed taken front_seen submitted replies next next' entry ending (front.GrantFlags place) stays h = (h.0, stays h.0 h.1, h.2)
+front_at_more shape start pushed taken front_seen submitted replies next next' entry ending (front.Slot k) stays h = (h.0, (h.1.0, stays h.1.0 h.1.1, h.1.2))
+front_at_more shape start pushed taken front_seen submitted replies next next' entry ending front.Producer stays h = (h.0, stays h.0 h.1, tt)
+front_at_more shape start pushed taken front_seen submitted replies next next' entry ending s stays h = h
 
 -- nothing of a request is begun
 pub record IsIdle (s : FrontStage) : Type 0 where
@@ -88,28 +88,28 @@ pub record IsIdle (s : FrontStage) : Type 0 where
   pub unentered : entered s ≡ 0
 
 -- so it is where none waits
-pub idle_at : (start pushed taken front_seen : ℕ) (submitted : List Request) (replies : List Reply) (next : Option Request) (entry : List ℕ) (ending : Option Ending) (s : FrontStage)
-    → next ≡ None → FrontAt start pushed taken front_seen submitted replies next entry ending s → IsIdle s
-idle_at start pushed taken front_seen submitted replies next entry ending (front.Data n) none h = absurd (none-some h.0 (sym none ∙ h.1))
-idle_at start pushed taken front_seen submitted replies next entry ending (front.GrantFrame place) none h = absurd (none-some h.0 (sym none ∙ h.1))
-idle_at start pushed taken front_seen submitted replies next entry ending (front.GrantFence place) none h = absurd (none-some h.0 (sym none ∙ h.1))
-idle_at start pushed taken front_seen submitted replies next entry ending (front.GrantFlags place) none h = absurd (none-some h.0 (sym none ∙ h.1))
-idle_at start pushed taken front_seen submitted replies next entry ending (front.Slot k) none h = absurd (none-some h.1.0 (sym none ∙ h.1.1))
-idle_at start pushed taken front_seen submitted replies next entry ending front.Producer none h = absurd (none-some h.0 (sym none ∙ h.1))
-idle_at start pushed taken front_seen submitted replies next entry ending s none h =
+pub idle_at : (shape : Shape) (start pushed taken front_seen : ℕ) (submitted : List Request) (replies : List Reply) (next : Option Request) (entry : List ℕ) (ending : Option Ending) (s : FrontStage)
+    → next ≡ None → FrontAt shape start pushed taken front_seen submitted replies next entry ending s → IsIdle s
+idle_at shape start pushed taken front_seen submitted replies next entry ending (front.Data n) none h = absurd (none-some h.0 (sym none ∙ h.1))
+idle_at shape start pushed taken front_seen submitted replies next entry ending (front.GrantFrame place) none h = absurd (none-some h.0 (sym none ∙ h.1))
+idle_at shape start pushed taken front_seen submitted replies next entry ending (front.GrantFence place) none h = absurd (none-some h.0 (sym none ∙ h.1))
+idle_at shape start pushed taken front_seen submitted replies next entry ending (front.GrantFlags place) none h = absurd (none-some h.0 (sym none ∙ h.1))
+idle_at shape start pushed taken front_seen submitted replies next entry ending (front.Slot k) none h = absurd (none-some h.1.0 (sym none ∙ h.1.1))
+idle_at shape start pushed taken front_seen submitted replies next entry ending front.Producer none h = absurd (none-some h.0 (sym none ∙ h.1))
+idle_at shape start pushed taken front_seen submitted replies next entry ending s none h =
     record { unfilled = refl; unnamed = refl; ungranted = refl; unentered = refl }
 
-pub slots_more : (start fetched pushed taken replied : ℕ) (submitted : List Request) (replies : List Reply) (pages : List ℕ) (s : FrontStage) (b : BackStage) (x : Request)
+pub slots_more : (shape : Shape) (start fetched pushed taken replied : ℕ) (submitted : List Request) (replies : List Reply) (pages : List ℕ) (s : FrontStage) (b : BackStage) (x : Request)
     → pushed ≤ length submitted → (pushed ≡ length submitted → IsIdle s)
-    → AreSlots start fetched pushed taken replied submitted replies pages s b
-    → AreSlots start fetched pushed taken replied (submitted ++ x ∷ []) replies pages s b
-slots_more start fetched pushed taken replied submitted replies pages s b x few idle h = record {
+    → AreSlots shape start fetched pushed taken replied submitted replies pages s b
+    → AreSlots shape start fetched pushed taken replied (submitted ++ x ∷ []) replies pages s b
+slots_more shape start fetched pushed taken replied submitted replies pages s b x few idle h = record {
   entries = λ k r from to e i lt. elim (push_was submitted x k r e) [
     | inl was ↦ h.entries k r from to was i lt
     | inr new ↦ absurd (let at = new.0 in omega arith)
   ];
-  entry = λ r e i lt. elim (push_was submitted x pushed r e) [
-    | inl was ↦ h.entry r was i lt
+  entry = λ r e i lt in_it. elim (push_was submitted x pushed r e) [
+    | inl was ↦ h.entry r was i lt in_it
     | inr new ↦ absurd (let rest = idle new.0 in let none = rest.unentered in omega arith)
   ];
   responses = h.responses;
@@ -149,19 +149,19 @@ works_more submitted fetched works x h = record {
 ending_more : (submitted : List Request) (replies : List Reply) (x : Request) (e : Ending) → IsEnding submitted replies e → IsEnding (submitted ++ x ∷ []) replies e
 ending_more submitted replies x e h = record { known = get_append submitted (x ∷ []) (e.request.number - 1) e.request h.known; positive = h.positive; alone = h.alone }
 
-pub front_at_grown : (start pushed taken front_seen : ℕ) (submitted : List Request) (replies : List Reply) (next : Option Request) (entry : List ℕ) (ending : Option Ending) (x : Request) (s : FrontStage)
-    → FrontAt start pushed taken front_seen submitted replies next entry ending s
-    → FrontAt start pushed taken front_seen (submitted ++ x ∷ []) replies next entry ending s
-front_at_grown start pushed taken front_seen submitted replies next entry ending x (front.GrantRead place) h =
+pub front_at_grown : (shape : Shape) (start pushed taken front_seen : ℕ) (submitted : List Request) (replies : List Reply) (next : Option Request) (entry : List ℕ) (ending : Option Ending) (x : Request) (s : FrontStage)
+    → FrontAt shape start pushed taken front_seen submitted replies next entry ending s
+    → FrontAt shape start pushed taken front_seen (submitted ++ x ∷ []) replies next entry ending s
+front_at_grown shape start pushed taken front_seen submitted replies next entry ending x (front.GrantRead place) h =
     (h.0, h.1, ending_more submitted replies x h.0 h.2, h.3)
-front_at_grown start pushed taken front_seen submitted replies next entry ending x (front.GrantEnd place before) h =
+front_at_grown shape start pushed taken front_seen submitted replies next entry ending x (front.GrantEnd place before) h =
     (h.0, h.1, ending_more submitted replies x h.0 h.2, h.3)
-front_at_grown start pushed taken front_seen submitted replies next entry ending x (front.ReadData n) h =
+front_at_grown shape start pushed taken front_seen submitted replies next entry ending x (front.ReadData n) h =
     (h.0, h.1, ending_more submitted replies x h.0 h.2, h.3)
-front_at_grown start pushed taken front_seen submitted replies next entry ending x s h = h
+front_at_grown shape start pushed taken front_seen submitted replies next entry ending x s h = h
 
-pub back_at_grown : (start fetched back_seen replied : ℕ) (submitted : List Request) (works : List Work) (entry : List ℕ) (x : Request) (b : BackStage)
-    → BackAt start fetched back_seen replied submitted works entry b
-    → BackAt start fetched back_seen replied (submitted ++ x ∷ []) works entry b
-back_at_grown start fetched back_seen replied submitted works entry x (back.Fetch k) h = (h.0, h.1, h.2, (h.3.0, get_append submitted (x ∷ []) fetched h.3.0 h.3.1, h.3.2))
-back_at_grown start fetched back_seen replied submitted works entry x b h = h
+pub back_at_grown : (shape : Shape) (start fetched back_seen replied : ℕ) (submitted : List Request) (works : List Work) (entry : List ℕ) (x : Request) (b : BackStage)
+    → BackAt shape start fetched back_seen replied submitted works entry b
+    → BackAt shape start fetched back_seen replied (submitted ++ x ∷ []) works entry b
+back_at_grown shape start fetched back_seen replied submitted works entry x (back.Fetch k) h = (h.0, h.1, h.2, (h.3.0, get_append submitted (x ∷ []) fetched h.3.0 h.3.1, h.3.2))
+back_at_grown shape start fetched back_seen replied submitted works entry x b h = h

@@ -27,7 +27,7 @@ use Rattle.blk_back.specs.Ask.{response_word}
 use Rattle.split_model.specs.World.{World}
 use Rattle.split_model.specs.Shown.{front_lines}
 use Rattle.machine_pipeline.proofs.Flow.{Flow, wrapped, is_fetching, reply_at, worked, frames_of}
-use Rattle.machine_pipeline.proofs.Holds.{Holds, AreQueued, IsReply, IsTaken, IsFilled, IsGranted, IsWork, flags_with, AreIndices}
+use Rattle.machine_pipeline.proofs.Holds.{Holds, AreQueued, IsReply, IsTaken, IsFilled, IsGranted, IsWork, flags_with, AreIndices, slot_of}
 use Rattle.pipeline_laws.specs.Station.{Replied}
 use Rattle.machine_pipeline.proofs.Turns.{Goes, FrontGoes, Stepped, does_step}
 use Rattle.machine_pipeline.proofs.Lists.{all_at, all_from, pair_at}
@@ -59,6 +59,7 @@ taken_holds : (config : Options) (w : World) (g : Flow) (d d' : Pipeline) (low h
     Holds config v (record g { taken = g.taken + 1; replies = drop 1 g.replies }) d' x.stage w.back.stage)
 taken_holds config w g d d' low high rep h oldest seen f stations = record {
   started = h.started;
+  shaped = h.shaped;
   sized = h.sized;
   indices = indices_taken;
   queue = queued_without g.submitted w.front.requests g.pushed w.front.waiting f.place f.r f.here f.early h.queue;
@@ -85,11 +86,11 @@ taken_holds config w g d d' low high rep h oldest seen f stations = record {
   back_at = h.back_at;
   unhalted = h.unhalted;
   memory = h.memory;
-  ring = ring_rests g.start g.pushed g.replied w.under.pages (front.ResponseLast low high) (front.GrantRead 0) w.back.stage (at_last low high) (at_read 0) h.ring;
+  ring = ring_rests g.shape.order g.start g.pushed g.replied w.under.pages (front.ResponseLast low high) (front.GrantRead 0) (length w.back.pages) (at_last low high) (at_read 0) h.ring;
   slots = (let was = h.slots in record {
     entries = was.entries;
-    entry = λ r at i lt. absurd (omega arith);
-    responses = λ k x at i lt. ap (λ (n : ℕ). word_of w.under.pages 2 (slot_word (wrapped g.start n) i)) (omega arith) ∙ was.responses (suc k) x (sym (dropped g.replies k) ∙ at) i lt;
+    entry = λ r at i lt few. absurd (omega arith);
+    responses = λ k x at i lt. ap (λ (n : ℕ). slot_of w.under.pages g.shape (wrapped g.start n) i) (omega arith) ∙ was.responses (suc k) x (sym (dropped g.replies k) ∙ at) i lt;
     response = was.response;
   });
   frames = all_from (IsFilled g.pushed w.under.pages (front.GrantRead 0)) (remove w.front.requests f.place) (λ i x at.
@@ -107,7 +108,7 @@ taken_holds config w g d d' low high rep h oldest seen f stations = record {
         (λ place le lt. unmapped_flags place lt);
   };
   mapped = h.mapped;
-  page = h.page;
+  paged = h.paged;
   front_sleep = (let was = h.front_sleep in record { arming = λ t. absurd (true≢false (sym t)); armed = λ t. absurd (true≢false (sym t ∙ was.may refl)); may = λ t. was.may refl; woken = λ t. absurd (true≢false (sym t ∙ was.may refl)) });
   back_sleep = (let was = h.back_sleep in record { arming = was.arming; armed = was.armed; may = was.may; woken = was.woken });
   ports = h.ports;
@@ -119,7 +120,6 @@ taken_holds config w g d d' low high rep h oldest seen f stations = record {
     indices_taken : (let x : View = taken w.front f.place f.r rep.status in AreIndices (record g { taken = g.taken + 1; replies = drop 1 g.replies }) x.ring w.back.ring x.seen w.back.seen w.back.fetched x.last x.waiting (length x.requests) (ending_of x.stage))
     indices_taken = (let was = h.indices in let less = length-remove w.front.requests f.place within in let room = was.room in let held = was.held in record {
       front_entries = was.front_entries;
-      back_entries = was.back_entries;
       pushed = was.pushed;
       taken = next_wrapped g.start g.taken w.front.ring.cons was.taken;
       replied = was.replied;
@@ -178,11 +178,11 @@ pub last_goes : (config : Options) (w : World) (g : Flow) (d : Pipeline) (low hi
     → Holds config w g d (front.ResponseLast low high) w.back.stage
     → FrontGoes config w d (front.ResponseLast low high)
 last_goes config w g d low high told h =
-    subst (λ (x : View). Goes config (lines.Move (moves.FrontRead (slot_frame w.front.ring.cons 2) (slot_word w.front.ring.cons 2) last) ∷ front_lines x.told) (record { front = record x { told = None }; back = w.back; under = w.under }) d) (sym stepped)
+    subst (λ (x : View). Goes config (lines.Move (moves.FrontRead (slot_frame w.front.shape w.front.ring.cons 2) (slot_word w.front.shape w.front.ring.cons 2) last) ∷ front_lines x.told) (record { front = record x { told = None }; back = w.back; under = w.under }) d) (sym stepped)
     (record {
       flow = record g { taken = g.taken + 1; replies = drop 1 g.replies };
       step = Some s.step;
-      does = does_step (moves.FrontRead (slot_frame w.front.ring.cons 2) (slot_word w.front.ring.cons 2) last) (front_lines w.front.told) (rw told refl) s;
+      does = does_step (moves.FrontRead (slot_frame w.front.shape w.front.ring.cons 2) (slot_word w.front.shape w.front.ring.cons 2) last) (front_lines w.front.told) (rw told refl) s;
       holds = taken_holds config w g d (next d s.step) low high rep h place.0.oldest place.0.seen found s.now;
     })
   where
@@ -193,7 +193,7 @@ last_goes config w g d low high told h =
     rep = place.0.rep
 
     last : ℕ
-    last = word_of w.under.pages (slot_frame w.front.ring.cons 2) (slot_word w.front.ring.cons 2)
+    last = word_of w.under.pages (slot_frame w.front.shape w.front.ring.cons 2) (slot_word w.front.shape w.front.ring.cons 2)
 
     is : IsReply g.fetched rep
     is = let replies = h.replies in all_at (IsReply g.fetched) g.replies 0 rep replies.each place.0.oldest

@@ -146,7 +146,7 @@ told_goes config w g d n untold h =
         })
         (entries_rest g.pushed w.under.pages w.under.grants.live (front.ReadData n) (front.ReadData (n + 1)) w.front.ending w.front.ending w.front.requests
         (at_data (n + 1)) (λ x same. absurd (none-some x same)) h.entries)
-        h.memory (λ f from x lt. refl) (record { flags = refl; frame = refl })
+        h.memory (λ f from x lt. refl) (λ page lt. record { flags = refl; frame = refl })
 
     by_place : (more last : Bool) → nat_lt (n + 1) (words_in e.request) ≡ more → (n % 128 == 127) ≡ last → Becomes (next_at more last)
     by_place true true t u =
@@ -186,7 +186,7 @@ told_goes config w g d n untold h =
               (record { size = sized; so_far = tt })
               (entries_rest g.pushed w.under.pages w.under.grants.live (front.ReadData n) front.Loop w.front.ending None w.front.requests at_loop
               (λ x same. absurd (none-some x same)) h.entries)
-              h.memory (λ f from x lt. refl) (record { flags = refl; frame = refl });
+              h.memory (λ f from x lt. refl) (λ page lt. record { flags = refl; frame = refl });
         }
     by_place false false t u =
         let end : words_in e.request ≤ n + 1 = grind (arith, nat_tests) in

@@ -8,7 +8,7 @@ use Rattle.blk_front.specs.declared.stage.Stage.TheVariants as front
 use Rattle.blk_front.specs.View.{next_request}
 use Rattle.split_model.specs.World.{World, start_of}
 use Rattle.split_model.specs.Safe.{IsSafe}
-use Rattle.split_model.specs.Happening.{Happening, FrontMoves, BackMoves, JobMoves, Negotiates, FrontEnters, BackHalts, Submits, Notifies, Pokes, Dumps, Looks, Settles, happens, lines_at, after as world_after}
+use Rattle.split_model.specs.Happening.{Happening, FrontMoves, BackMoves, JobMoves, Negotiates, FrontEnters, BackAttaches, BackHalts, Submits, Notifies, Pokes, Dumps, Looks, Settles, happens, lines_at, after as world_after}
 use Rattle.split_model.proofs.Safe.{safe_start, safe_happens}
 use Rattle.machine_pipeline.specs.Plain.{IsPlain}
 use Rattle.machine_pipeline.specs.Allowed.{IsServed, AreServed}
@@ -34,9 +34,10 @@ use Rattle.machine_pipeline.proofs.JobTurns.{job_kept}
 use Rattle.machine_pipeline.proofs.Submissions.{submit_kept}
 use Rattle.machine_pipeline.proofs.Notified.{notified_goes}
 use Rattle.machine_pipeline.proofs.Connecting.{waits_goes, enters_goes}
+use Rattle.machine_pipeline.proofs.Attaching.{attaches_goes}
 use Rattle.machine_pipeline.proofs.Leaving.{halts_goes}
 use Rattle.machine_pipeline.proofs.OverMoves.{front_ends, back_ends, job_ends}
-use Rattle.machine_pipeline.proofs.OverRest.{keys_end, notified_ends, submit_ends, enters_ends, halts_no_more}
+use Rattle.machine_pipeline.proofs.OverRest.{keys_end, notified_ends, submit_ends, enters_ends, attaches_late, halts_no_more}
 use Rattle.machine_pipeline.proofs.Keyed.{negotiates_goes}
 use Rattle.machine_pipeline.proofs.Quiet.{dumps_goes, looks_goes, settles_goes}
 use Rattle.pipeline_laws.specs.Pipeline.{Pipeline, pipeline_of}
@@ -53,9 +54,9 @@ loop_goes config w g d safe e h = by_next (next_request w.front) refl
 
 front_goes : (config : Options) (w : World) (g : Flow) (d : Pipeline) (s : FrontStage) → IsPlain config → IsSafe w → w.front.stage ≡ s → Holds config w g d s w.back.stage → FrontGoes config w d s
 front_goes config w g d (front.RingWord k) plain safe e h = start_moves config w g d (front.RingWord k) plain safe.front_told refl h
-front_goes config w g d front.RingFrame plain safe e h = start_moves config w g d front.RingFrame plain safe.front_told refl h
-front_goes config w g d front.RingFence plain safe e h = start_moves config w g d front.RingFence plain safe.front_told refl h
-front_goes config w g d front.RingFlags plain safe e h = start_moves config w g d front.RingFlags plain safe.front_told refl h
+front_goes config w g d (front.RingFrame page) plain safe e h = start_moves config w g d (front.RingFrame page) plain safe.front_told refl h
+front_goes config w g d (front.RingFence page) plain safe e h = start_moves config w g d (front.RingFence page) plain safe.front_told refl h
+front_goes config w g d (front.RingFlags page) plain safe e h = start_moves config w g d (front.RingFlags page) plain safe.front_told refl h
 front_goes config w g d front.NewPort plain safe e h = start_moves config w g d front.NewPort plain safe.front_told refl h
 front_goes config w g d front.Initialised plain safe e h = waits_goes config w g d safe.front_told e h
 front_goes config w g d front.Loop plain safe e h = loop_goes config w g d safe e h
@@ -84,7 +85,8 @@ serving_goes config w g d FrontMoves plain safe holds may = goes_on config _ _ d
 serving_goes config w g d BackMoves plain safe holds may = goes_on config _ _ d (back_moves config w g d plain (may (ap is_some holds.unhalted)) (record { safe = safe; holds = holds }))
 serving_goes config w g d (JobMoves number outcome) plain safe holds may = goes_on config _ _ d (job_kept config w g d number outcome holds safe.held may)
 serving_goes config w g d (Negotiates at move) plain safe holds may = goes_on config _ _ d (negotiates_goes config w g d at move holds)
-serving_goes config w g d (FrontEnters state) plain safe holds may = goes_on config _ _ d (enters_goes config w g d state may holds)
+serving_goes config w g d (FrontEnters state) plain safe holds may = goes_on config _ _ d (enters_goes config w g d state plain may holds)
+serving_goes config w g d (BackAttaches shape grefs port) plain safe holds may = goes_on config _ _ d (attaches_goes config w g d shape grefs port may holds)
 serving_goes config w g d (BackHalts why) plain safe holds may = halts_goes config w g d why holds may
 serving_goes config w g d (Submits job) plain safe holds may = goes_on config _ _ d (submit_kept config w g d job plain holds may)
 serving_goes config w g d (Notifies at) plain safe holds may = goes_on config _ _ d (notified_goes config w g d at (record { safe = safe; holds = holds }))
@@ -100,6 +102,7 @@ ending_goes config w d BackMoves safe over may = back_ends config w d w.back.sta
 ending_goes config w d (JobMoves number outcome) safe over may = job_ends config w d number outcome over
 ending_goes config w d (Negotiates at move) safe over may = keys_end config w d at move over
 ending_goes config w d (FrontEnters state) safe over may = enters_ends config w d state may over
+ending_goes config w d (BackAttaches shape grefs port) safe over may = attaches_late config w d shape grefs port over
 ending_goes config w d (BackHalts why) safe over may = halts_no_more config w d why over
 ending_goes config w d (Submits job) safe over may = submit_ends config w d job over
 ending_goes config w d (Notifies at) safe over may = notified_ends config w d at over
@@ -127,7 +130,7 @@ run_kept config (h ∷ hs) w d plain safe kept may =
 
 -- so all starts
 start_kept : (config : Options) → IsPlain config → IsKept config (start_of config) (pipeline_of config)
-start_kept config plain = let start = start_holds config plain in inl (start_flow config.start, start.holds)
+start_kept config plain = let start = start_holds config plain in inl (start_flow (record { abi = config.abi; order = config.order }) config.start, start.holds)
 
 pub always_stands : (config : Options) (hs : List Happening) → IsPlain config → AreServed hs (start_of config) → IsStanding config (world_after hs (start_of config))
 always_stands config hs plain may = run_kept config hs (start_of config) (pipeline_of config) plain (safe_start config) (start_kept config plain) may

@@ -1,5 +1,6 @@
 -- Histories of a machine whose ends connect before they do anything else, with the submissions that it carries out.
-use Rattle.std.specs.Prelude.{◌≡◌, ◌^◌, ◌<◌, ◌≤◌, ◌==◌, Bool, true, false, List, [], ◌∷◌, is_some}
+use Rattle.std.specs.Prelude.{◌≡◌, ℕ, ◌^◌, ◌<◌, ◌≤◌, ◌==◌, Bool, true, false, List, [], ◌∷◌, All, is_some}
+use Rattle.std.specs.List.{range_with_len}
 use Rattle.line_text.specs.Texts.{is_key_path, is_key_text}
 use Rattle.schedule_text.specs.declared.line.Line.TheVariants.{Halt as HaltLine}
 use Rattle.schedule_text.specs.Range.{IsInRange}
@@ -8,7 +9,9 @@ use Rattle.blk_base.specs.declared.config.Job.TheVariants.{Read, Write}
 use Rattle.blk_front.specs.declared.stage.Stage.{Stage}
 use Rattle.blk_front.specs.declared.stage.Stage.TheVariants.{RingWord}
 use Rattle.blk_front.specs.declared.state.FrontState.{FrontState}
-use Rattle.blk_front.specs.declared.state.FrontState.TheVariants.{Leaving, Closed, Broken}
+use Rattle.blk_front.specs.declared.state.FrontState.TheVariants.{Agreed, Leaving, Closed, Broken}
+use Rattle.ring_words.specs.Shape.{Shape}
+use Rattle.blk_front.specs.View as front
 use Rattle.blk_front.specs.Ask.{is_through}
 use Rattle.blk_front.specs.State.{is_made}
 use Rattle.blk_front.specs.Submit.{is_connected}
@@ -17,7 +20,7 @@ use Rattle.blk_back.specs.declared.told.Halt.{Halt}
 use Rattle.split_model.specs.World.{World, is_quiet}
 use Rattle.split_model.specs.Keys.{KeyMove, Gets, Sets, Watches, TakesWatch}
 use Rattle.split_model.specs.Shown.{halt_line}
-use Rattle.split_model.specs.Happening.{Happening, FrontMoves, BackMoves, JobMoves, Negotiates, FrontEnters, BackHalts, Submits, Pokes, Looks, Settles, is_guest_word, happens}
+use Rattle.split_model.specs.Happening.{Happening, FrontMoves, BackMoves, JobMoves, Negotiates, FrontEnters, BackAttaches, BackHalts, Submits, Pokes, Looks, Settles, is_guest_word, happens}
 use Rattle.pipeline_laws.specs.Allowed.{is_farewell}
 use Rattle.hypervisor.specs.Act.{IsGiven}
 
@@ -39,8 +42,9 @@ abbrev pub is_free : Stage → Bool
 is_free (RingWord k) = k == 0
 is_free s = is_made s
 
--- the front leaves once the back has done all that follows its halt, is closed once the back has halted, and finds no state that breaks it
+-- the order that is agreed is the one that the front wished; the front leaves once the back has done all that follows its halt, is closed once the back has halted, and finds no state that breaks it
 abbrev pub MayEnter : World → FrontState → Type 0
+MayEnter w (Agreed order) = let v : front.View = w.front in order ≡ v.shape.order
 MayEnter w Leaving = w.back.stage ≡ Halted
 MayEnter w Closed = is_some w.back.halted ≡ true
 MayEnter w (Broken word) = ⊥
@@ -50,6 +54,12 @@ MayEnter w state = Unit {0}
 abbrev pub IsSaid : Halt → Type 0
 IsSaid why = IsInRange (HaltLine (halt_line why))
 
+-- the terms are the front's own: its shape, the references of its ring's frames, which count from 8, and its first port
+pub record AreTerms (w : World) (shape : Shape) (grefs : List ℕ) (port : ℕ) : Type 0 where
+  pub shape_is : shape ≡ (let v : front.View = w.front in v.shape)
+  pub grefs_are : grefs ≡ range_with_len 8 (2 ^ shape.order)
+  pub port_is : port ≡ 1
+
 -- a halt that is asked for: the front closes, has no request left, and is at nothing
 pub record IsFarewell (w : World) (why : Halt) : Type 0 where
   pub gone : is_farewell (halt_line why) ≡ true
@@ -57,13 +67,14 @@ pub record IsFarewell (w : World) (why : Halt) : Type 0 where
   pub free : is_free w.front.stage ≡ true
   pub said : IsSaid why
 
--- the back moves only once the front made its ring and its port, or after it halted, and then the front makes none; a sector that the disk gives has 128 words of 32 bits; what is submitted is a read or a write; no hostile hand overwrites a word; paths and texts of keys are of the grammar; and where all is found quiet it is
+-- the terms that the back takes are the front's own; it moves only once the front made its ring and its port, or after it halted, and then the front makes none; a sector that the disk gives has 128 words of 32 bits; what is submitted is a read or a write; no hostile hand overwrites a word; paths and texts of keys are of the grammar; and where all is found quiet it is
 abbrev pub IsServed : World → Happening → Type 0
 IsServed w FrontMoves = is_some w.back.halted ≡ true → is_connected w.front.stage ≡ true
 IsServed w BackMoves = is_some w.back.halted ≡ false → is_connected w.front.stage ≡ true
 IsServed w (JobMoves number outcome) = IsGiven outcome
 IsServed w (Negotiates at move) = IsSpelled move
 IsServed w (FrontEnters state) = MayEnter w state
+IsServed w (BackAttaches shape grefs port) = AreTerms w shape grefs port
 IsServed w (BackHalts why) = IsFarewell w why
 IsServed w (Submits job) = IsTransfer job
 IsServed w (Pokes frame word value) = ⊥
@@ -75,15 +86,21 @@ abbrev pub AreServed : List Happening → World → Type 0
 AreServed [] w = Unit {0}
 AreServed (h ∷ hs) w = IsServed w h × AreServed hs (happens w h)
 
--- a state that breaks the front is a word
-abbrev pub IsStateWord : FrontState → Type 0
-IsStateWord (Broken word) = word < 2 ^ 32
-IsStateWord state = Unit {0}
+-- a state that breaks the front is a word, and an order that is agreed is the one that the front wished
+abbrev pub IsStated : World → FrontState → Type 0
+IsStated w (Agreed order) = let v : front.View = w.front in order ≡ v.shape.order
+IsStated w (Broken word) = word < 2 ^ 32
+IsStated w state = Unit {0}
+
+-- references and a port have 32 bits
+abbrev pub AreSaid : List ℕ → ℕ → Type 0
+AreSaid grefs port = All (λ (gref : ℕ). gref < 2 ^ 32) grefs × (port < 2 ^ 32)
 
 -- what may happen where a word of the guest's memory may be overwritten too
 abbrev pub IsPossible : World → Happening → Type 0
 IsPossible w FrontMoves = Unit {0}
-IsPossible w (FrontEnters state) = IsStateWord state
+IsPossible w (FrontEnters state) = IsStated w state
+IsPossible w (BackAttaches shape grefs port) = AreSaid grefs port
 IsPossible w (BackHalts why) = IsSaid why
 IsPossible w (Pokes frame word value) = (is_guest_word frame word ≡ true) × (value < 2 ^ 32)
 IsPossible w h = IsServed w h

@@ -1,5 +1,5 @@
 -- A dump of the machine shows every word of the ring that isn't 0.
-use Rattle.std.proofs.Common.{◌≡◌, ℕ, zero, suc, ◌+◌, ◌/◌, ◌%◌, ◌≤◌, inl, inr, Bool, true, false, if◌then◌else◌, List, [], ◌∷◌, ◌++◌, refl, sym, ◌∙◌, subst, arith, append_assoc, true≢false}
+use Rattle.std.proofs.Common.{◌≡◌, ℕ, zero, suc, ◌+◌, ◌*◌, ◌/◌, ◌%◌, ◌^◌, ◌≤◌, inl, inr, Bool, true, false, if◌then◌else◌, List, [], ◌∷◌, ◌++◌, refl, sym, ◌∙◌, subst, arith, append_assoc, true≢false}
 use Rattle.std.specs.Prelude.{Option, Some, None, Result, Ok, Err, nat_lt}
 use Rattle.std.specs.List.{AllByRecursion}
 use Rattle.std.proofs.lemmas.Bool.Decides.{nat_tests}
@@ -31,17 +31,20 @@ use Rattle.blk_back.specs.View as back
 use Rattle.blk_back.specs.Step as back_step
 use Rattle.split_model.specs.World.{World, start_of}
 use Rattle.split_model.specs.Shown.{front_lines, back_lines, halt_lines, effect_line}
-use Rattle.split_model.specs.Happening.{Happening, FrontMoves, BackMoves, JobMoves, Negotiates, FrontEnters, BackHalts, Submits, Notifies, Pokes, Dumps, Looks, Settles, word_lines, ring_lines, happens, lines_at, lines_of, front_shows, back_shows, job_shows, front_turn, back_turn, job_turn, submit_line}
+use Rattle.split_model.specs.Happening.{Happening, FrontMoves, BackMoves, JobMoves, Negotiates, FrontEnters, BackAttaches, BackHalts, Submits, Notifies, Pokes, Dumps, Looks, Settles, word_lines, ring_lines, happens, lines_at, lines_of, front_shows, back_shows, job_shows, front_turn, back_turn, job_turn, submit_line}
 use Rattle.split_model.specs.Report.{report_of, ended_report_of}
 use Rattle.split_model.specs.Safe.{IsSafe}
 use Rattle.split_model.proofs.Safe.{safe_start, safe_happens}
+use Rattle.blk_front.proofs.Shapes.{few_pages}
+use Rattle.split_model.proofs.Attaching.{attach_lines_are}
 use Rattle.split_model.proofs.Overwriting.{poke_lines_are}
 use Rattle.split_model.proofs.Keys.{negotiated_lines_are}
 use Rattle.split_model.proofs.States.{enter_lines_are, state_lines_are}
 use Rattle.move_laws.specs.Tells.{Tells}
 use Rattle.move_laws.specs.Permitted.{ArePermitted}
-use Rattle.move_laws.specs.Dumped.{place_in_ring, dump_after, dumped_to, AreZero, MayEnd, GoesOn, ComesTo, IsDumpedAt, AreWholeDumps}
+use Rattle.move_laws.specs.Dumped.{place_in_ring, dump_after, dumped_to, AreZero, MayEnd, GoesOn, ComesTo, IsDumpedAt, AreWholeDumps, AreWished}
 use Rattle.move_laws.proofs.Always.{always_within}
+use Rattle.move_laws.proofs.Wished.{HasOrder, order_happens}
 use Rattle.move_laws.proofs.Still.{still, tells_still}
 use Rattle.move_laws.proofs.Runs.{FollowsTo, follows_happens, follows_begin}
 
@@ -137,10 +140,12 @@ walk size pages table place (suc count) all small before w =
         subst (λ (ls : List Line). AreDumped size ls) (append_assoc before (line ∷ []) (ring_lines pages (place + 1) count))
         (on (before ++ line ∷ []) (shows_word size pages table before place (suc value) w))
 
-dump_shows : (w : World) (before : List Line) → FollowsTo before w → AreDumped 1024 before → AreDumped 1024 (before ++ lines_at w Dumps)
-dump_shows w before follows d =
-    walk 1024 w.under.pages w.under.grants 0 1024 refl (omega arith) before
-    (record { tells = follows.tells; obeys = d.obeys; comes = inr (record { ended = d.over; first = λ p low below. absurd (omega arith) }) })
+dump_shows : (order : ℕ) (w : World) (before : List Line) → order ≤ 4 → HasOrder order w → FollowsTo before w → AreDumped (1024 * 2 ^ order) before → AreDumped (1024 * 2 ^ order) (before ++ lines_at w Dumps)
+dump_shows order w before narrow is follows d =
+    let few = few_pages order narrow in
+    subst (λ (n : ℕ). AreDumped (1024 * 2 ^ order) (before ++ ring_lines w.under.pages 0 (1024 * 2 ^ n))) (sym is)
+    (walk (1024 * 2 ^ order) w.under.pages w.under.grants 0 (1024 * 2 ^ order) (omega arith) (omega arith) before
+    (record { tells = follows.tells; obeys = d.obeys; comes = inr (record { ended = d.over; first = λ p low below. absurd (omega arith) }) }))
 
 -- all other lines show no word of a dump
 both_none : (a b : List Line) → AllByRecursion IsNoWord a → AllByRecursion IsNoWord b → AllByRecursion IsNoWord (a ++ b)
@@ -190,39 +195,40 @@ one_none : (b : Bool) (x y : Line) → IsNoWord x → IsNoWord y → IsNoWord (i
 one_none true x y p q = p
 one_none false x y p q = q
 
-dumped_happens : (w : World) (h : Happening) (before : List Line) → FollowsTo before w → AreDumped 1024 before → AreDumped 1024 (before ++ lines_at w h)
-dumped_happens w FrontMoves before f d = others 1024 _ before (front_shows_none w (front_turn w)) d
-dumped_happens w BackMoves before f d = others 1024 _ before (back_shows_none w (back_turn w Took)) d
-dumped_happens w (JobMoves number outcome) before f d = others 1024 _ before (job_shows_none w number (job_turn w number outcome)) d
-dumped_happens w (Negotiates at move) before f d =
-    others 1024 _ before (negotiated_lines_are IsNoWord w.back.stage at move w.under.keys (λ path. refl) (λ path text. refl) (λ path. refl) (λ path. refl)) d
-dumped_happens w (FrontEnters state) before f d =
-    others 1024 _ before (enter_lines_are IsNoWord state w.front (λ may. state_lines_are IsNoWord state refl refl refl (λ word. refl))) d
-dumped_happens w (BackHalts why) before f d = others 1024 _ before (halt_none w.back.halted (let b : back.View = back_step.halts why w.back in b.halted)) d
-dumped_happens w (Submits job) before f d = others 1024 _ before (submit_none job (front_submit.submit_of w.front job).0, tt) d
-dumped_happens w (Notifies at) before f d = others 1024 [] before tt d
-dumped_happens w (Pokes frame word value) before f d = others 1024 _ before (poke_lines_are IsNoWord frame word value refl) d
-dumped_happens w Dumps before f d = dump_shows w before f d
-dumped_happens w (Looks quiet) before f d = others 1024 _ before (one_none quiet lines.Quiet lines.Busy refl refl, tt) d
-dumped_happens w (Settles quiet) before f d = others 1024 _ before (one_none quiet lines.Quiet lines.Unsettled refl refl, tt) d
+dumped_happens : (order : ℕ) (w : World) (h : Happening) (before : List Line) → order ≤ 4 → HasOrder order w → FollowsTo before w → AreDumped (1024 * 2 ^ order) before → AreDumped (1024 * 2 ^ order) (before ++ lines_at w h)
+dumped_happens order w FrontMoves before narrow is f d = others (1024 * 2 ^ order) _ before (front_shows_none w (front_turn w)) d
+dumped_happens order w BackMoves before narrow is f d = others (1024 * 2 ^ order) _ before (back_shows_none w (back_turn w Took)) d
+dumped_happens order w (JobMoves number outcome) before narrow is f d = others (1024 * 2 ^ order) _ before (job_shows_none w number (job_turn w number outcome)) d
+dumped_happens order w (Negotiates at move) before narrow is f d =
+    others (1024 * 2 ^ order) _ before (negotiated_lines_are IsNoWord w.back.stage at move w.under.keys (λ path. refl) (λ path text. refl) (λ path. refl) (λ path. refl)) d
+dumped_happens order w (FrontEnters state) before narrow is f d =
+    others (1024 * 2 ^ order) _ before (enter_lines_are IsNoWord state w.front (λ may. state_lines_are IsNoWord state refl refl refl (λ word. refl))) d
+dumped_happens order w (BackAttaches shape grefs port) before narrow is f d = others (1024 * 2 ^ order) _ before (attach_lines_are IsNoWord w shape grefs refl) d
+dumped_happens order w (BackHalts why) before narrow is f d = others (1024 * 2 ^ order) _ before (halt_none w.back.halted (let b : back.View = back_step.halts why w.back in b.halted)) d
+dumped_happens order w (Submits job) before narrow is f d = others (1024 * 2 ^ order) _ before (submit_none job (front_submit.submit_of w.front job).0, tt) d
+dumped_happens order w (Notifies at) before narrow is f d = others (1024 * 2 ^ order) [] before tt d
+dumped_happens order w (Pokes frame word value) before narrow is f d = others (1024 * 2 ^ order) _ before (poke_lines_are IsNoWord frame word value refl) d
+dumped_happens order w Dumps before narrow is f d = dump_shows order w before narrow is f d
+dumped_happens order w (Looks quiet) before narrow is f d = others (1024 * 2 ^ order) _ before (one_none quiet lines.Quiet lines.Busy refl refl, tt) d
+dumped_happens order w (Settles quiet) before narrow is f d = others (1024 * 2 ^ order) _ before (one_none quiet lines.Quiet lines.Unsettled refl refl, tt) d
 
-dumped_after : (hs : List Happening) (w : World) (before : List Line) → IsSafe w → ArePermitted hs w → FollowsTo before w → AreDumped 1024 before → AreDumped 1024 (before ++ lines_of hs w)
-dumped_after [] w before safe within f d = others 1024 [] before tt d
-dumped_after (h ∷ hs) w before safe within f d =
-    subst (λ (ls : List Line). AreDumped 1024 ls) (append_assoc before (lines_at w h) (lines_of hs (happens w h)))
-    (dumped_after hs (happens w h) (before ++ lines_at w h) (safe_happens w h safe) within.1 (follows_happens w h before safe within.0 f) (dumped_happens w h before f d))
+dumped_after : (order : ℕ) (hs : List Happening) (w : World) (before : List Line) → order ≤ 4 → AreWished order hs → HasOrder order w → IsSafe w → ArePermitted hs w → FollowsTo before w → AreDumped (1024 * 2 ^ order) before
+    → AreDumped (1024 * 2 ^ order) (before ++ lines_of hs w)
+dumped_after order [] w before narrow wished is safe within f d = others (1024 * 2 ^ order) [] before tt d
+dumped_after order (h ∷ hs) w before narrow wished is safe within f d =
+    subst (λ (ls : List Line). AreDumped (1024 * 2 ^ order) ls) (append_assoc before (lines_at w h) (lines_of hs (happens w h)))
+    (dumped_after order hs (happens w h) (before ++ lines_at w h) narrow wished.1 (order_happens order w h wished.0 is) (safe_happens w h safe) within.1 (follows_happens w h before safe within.0 f)
+    (dumped_happens order w h before narrow is f d))
 
-report_dumps : (config : Options) (detail : Detail) (history : List Happening) → AreDumped 1024 (report_of config detail history)
-report_dumps config detail history =
+report_dumps : (config : Options) (detail : Detail) (history : List Happening) → config.order ≤ 4 → AreWished config.order history → AreDumped (1024 * 2 ^ config.order) (report_of config detail history)
+report_dumps config detail history narrow wished =
     let first = lines.Begin config detail in
-    dumped_after history (start_of config) (first ∷ []) (safe_start config) (always_within config history) (follows_begin config detail)
-    (others 1024 (first ∷ []) [] (refl, tt) (record { obeys = obeys_none (IsDumpedAt 1024); over = tt }))
+    let size = 1024 * 2 ^ config.order in
+    dumped_after config.order history (start_of config) (first ∷ []) narrow wished refl (safe_start config) (always_within config history narrow) (follows_begin config detail)
+    (others size (first ∷ []) [] (refl, tt) (record { obeys = obeys_none (IsDumpedAt size); over = tt }))
 
-one_page : (config : Options) (report : List Line) → config.order ≡ 0 → Obeys (IsDumpedAt 1024) report → AreWholeDumps config.order report
-one_page config report plain obeys = rw plain obeys
+pub report_dumped : (config : Options) (detail : Detail) (history : List Happening) → config.order ≤ 4 → AreWished config.order history → AreWholeDumps config.order (report_of config detail history)
+report_dumped config detail history narrow wished = (report_dumps config detail history narrow wished).obeys
 
-pub report_dumped : (config : Options) (detail : Detail) (history : List Happening) → config.order ≡ 0 → AreWholeDumps config.order (report_of config detail history)
-report_dumped config detail history plain = one_page config _ plain (report_dumps config detail history).obeys
-
-pub ended_dumped : (config : Options) (detail : Detail) (history : List Happening) → config.order ≡ 0 → AreWholeDumps config.order (ended_report_of config detail history)
-ended_dumped config detail history plain = one_page config _ plain (others 1024 (lines.End ∷ []) (report_of config detail history) (refl, tt) (report_dumps config detail history)).obeys
+pub ended_dumped : (config : Options) (detail : Detail) (history : List Happening) → config.order ≤ 4 → AreWished config.order history → AreWholeDumps config.order (ended_report_of config detail history)
+ended_dumped config detail history narrow wished = (others (1024 * 2 ^ config.order) (lines.End ∷ []) (report_of config detail history) (refl, tt) (report_dumps config detail history narrow wished)).obeys

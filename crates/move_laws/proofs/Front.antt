@@ -1,19 +1,21 @@
 -- The front keeps to the frames that both ends share, whatever it is told.
-use Rattle.std.proofs.Common.{◌≡◌, ℕ, zero, suc, ◌+◌, ◌-◌, ◌*◌, ◌/◌, ◌%◌, ◌^◌, ◌<◌, ◌&&◌, ◌||◌, Bool, true, false, not, if◌then◌else◌, List, [], ◌∷◌, ◌++◌, length, take, refl, ◌∙◌, subst, arith, length-set}
+use Rattle.std.proofs.Common.{◌≡◌, ℕ, zero, suc, ◌+◌, ◌-◌, ◌*◌, ◌/◌, ◌%◌, ◌^◌, ◌<◌, ◌≤◌, ◌&&◌, ◌||◌, Bool, true, false, not, if◌then◌else◌, List, [], ◌∷◌, ◌++◌, length, take, refl, ◌∙◌, subst, arith, length-set}
 use Rattle.std.specs.Prelude.{All, Option, Some, None, option_map, option_and_then, Result, Ok, Err, slice_get, slice_set, position, nat_lt, nat_le, ◌==◌}
 use Rattle.std.proofs.lemmas.Option.{none-some, same_Some, slice_get_within, get_or_from_slice_get}
 use Rattle.std.proofs.lemmas.List.Elements.{All-nil, All-push, All-append, All-take, All-drop, All-get_or}
 use Rattle.std.proofs.lemmas.List.Quantifiers.{position-Some}
 use Rattle.std.proofs.lemmas.List.{length-replicate, get_or_past}
+use Rattle.std.proofs.lemmas.Nat.{pow_pos}
 use Rattle.std.proofs.lemmas.Bool.Decides.{nat_tests}
 use Rattle.blk_base.specs.Distance.{distance_of}
 use Rattle.blk_base.specs.Options.{Options}
+use Rattle.blk_base.specs.declared.operation.Abi.{Abi}
 use Rattle.blk_base.specs.declared.config.Job.{Job}
 use Rattle.blk_base.specs.declared.ask.FrontAsk.TheVariants as ask
 use Rattle.blk_base.specs.declared.ask.FrontAnswer.{FrontAnswer}
 use Rattle.blk_base.specs.declared.ask.FrontAnswer.TheVariants as answer
 use Rattle.ring_words.specs.Ring.{responses_of, notifies}
-use Rattle.ring_words.specs.Shape.{entries_of}
+use Rattle.ring_words.specs.Shape.{Shape, entries_of, entry_words_of, slot_word_of}
 use Rattle.blk_layout.specs.declared.response.Response.{Response}
 use Rattle.blk_layout.specs.Response.{response_of}
 use Rattle.blk_front.specs.declared.stage.Stage.{Stage}
@@ -29,18 +31,26 @@ use Rattle.blk_front.specs.declared.told.Refusal.TheVariants as refusal
 use Rattle.blk_front.specs.declared.request.Wish.{Wish}
 use Rattle.blk_front.specs.Pool.{lowest_of, with_taken, with_free, with_all_free, taking}
 use Rattle.blk_front.specs.Request.{is_write, has_data, frame_at, frames_for, words_in}
-use Rattle.blk_front.specs.View.{View, next_request, shape, start_of, slot_frame, slot_word, ring_frame, entry_frame, entry_word}
+use Rattle.blk_front.specs.View.{View, next_request, start_of, slot_frame, slot_word, ring_frame, ring_page_frame, entry_frame, entry_word}
 use Rattle.blk_front.specs.Ask.{ask_at, ask_of, data_ask, name_ask, grant_ask, revoke_ask, end_ask, read_ask, issue_ask, is_through, loop_ask, StaysInMemory}
-use Rattle.blk_front.specs.Step.{at, broken, looked, issue_stage, data_stage, granted, loop_step, found_at, issued, response_at, is_mapped, finished, ended, revoked, sector_told, data_step, step_at, step_of}
-use Rattle.blk_front.specs.State.{in_state, enters}
+use Rattle.blk_front.specs.Step.{at, broken, looked, issue_stage, data_stage, granted, ring_granted, ring_left, loop_step, found_at, issued, response_at, is_mapped, finished, ended, revoked, sector_told, data_step, step_at, step_of}
+use Rattle.blk_front.specs.State.{is_unmade, may_enter, in_state, enters}
 use Rattle.blk_front.specs.Submit.{is_ready, unfinished, wish_of, submit_with, submit_one, submit_of}
+use Rattle.blk_front.proofs.Shapes.{few_pages, wide_entries}
+use Rattle.blk_back.proofs.Slots.{slot_within}
 use Rattle.split_model.proofs.States.{enters_cases}
+use Rattle.split_model.proofs.Shapes.{entered_order}
 
--- a stage is at one of the words that it goes through
-abbrev pub IsPlaced : Stage → Type 0
-IsPlaced (stage.RingWord k) = k < 16
-IsPlaced (stage.Slot k) = k < 28
-IsPlaced s = Unit {0}
+-- a stage is at one of the words or the pages that it goes through
+abbrev pub IsPlaced : Stage → Shape → Type 0
+IsPlaced (stage.RingWord k) shape = k < 16
+IsPlaced (stage.RingFrame page) shape = page < 2 ^ shape.order
+IsPlaced (stage.RingFence page) shape = page < 2 ^ shape.order
+IsPlaced (stage.RingFlags page) shape = page < 2 ^ shape.order
+IsPlaced (stage.Slot k) shape = k < entry_words_of shape.abi
+IsPlaced (stage.RingRead page) shape = page < 2 ^ shape.order
+IsPlaced (stage.RingEnd page seen) shape = page < 2 ^ shape.order
+IsPlaced s shape = Unit {0}
 
 -- a request's frames are some that both ends share
 abbrev Shared : Request → Type 0
@@ -50,9 +60,10 @@ abbrev SharedEnding : Option Ending → Type 0
 SharedEnding None = Unit {0}
 SharedEnding (Some e) = Shared e.request
 
--- so it is with each request, and the pool has frames 18 to 1017
+-- so it is with each request, the ring has at most 16 pages, and the pool has frames 18 to 1017
 pub record IsFront (v : View) : Type 0 where
-  pub placed : IsPlaced v.stage
+  pub order : v.shape.order ≤ 4
+  pub placed : IsPlaced v.stage v.shape
   pub shared : All Shared v.requests
   pub ending : SharedEnding v.ending
   pub pool : length v.pool ≡ 1000
@@ -65,8 +76,15 @@ shared_frame r place all = by_place (nat_lt place (length r.frames.items)) refl
     by_place true t = all place 18 (grind (arith, nat_tests))
     by_place false t = rw (get_or_past r.frames.items place 18 (grind (arith, nat_tests))) (omega arith)
 
-in_slot : (index k : ℕ) → k < 28 → (slot_frame index k < 1018) × (slot_word index k < 1024)
-in_slot index k within = (omega arith, omega arith)
+-- the ring's pages are frames 2 to 17
+in_page : (s : Shape) (page : ℕ) → s.order ≤ 4 → page < 2 ^ s.order → ring_page_frame page < 1018
+in_page s page narrow below = let few = few_pages s.order narrow in omega arith
+
+in_slot : (s : Shape) (index k : ℕ) → s.order ≤ 4 → k < entry_words_of s.abi → (slot_frame s index k < 1018) × (slot_word s index k < 1024)
+in_slot s index k narrow within = (in_page s (slot_word_of s index k).0 narrow (slot_within s index k within), omega arith)
+
+response_in : (v : View) (k : ℕ) → v.shape.order ≤ 4 → k < 3 → (slot_frame v.shape v.ring.cons k < 1018) × (slot_word v.shape v.ring.cons k < 1024)
+response_in v k narrow few = let wide = wide_entries v.shape.abi in in_slot v.shape v.ring.cons k narrow (omega arith)
 
 loop_within : (rests new : Bool) (frame word : ℕ) → (frame < 1018) × (word < 1024) → StaysInMemory (if rests then ask.Wait else (if new then ask.Read ring_frame 2 else ask.Read frame word))
 loop_within true new frame word p = tt
@@ -126,70 +144,74 @@ read_within : (n : ℕ) (e : Option Ending) → SharedEnding e → StaysInMemory
 read_within n None shared = tt
 read_within n (Some e) shared = (shared_frame e.request (n / 1024) shared, omega arith)
 
-loop_ask_within : (v : View) (r : Option Request) → All Shared v.requests → next_request v ≡ r → StaysInMemory (loop_ask v r)
-loop_ask_within v (Some r) all e = issue_within r r.transfer (next_shared v r all e)
-loop_ask_within v None all e = loop_within (v.asleep || is_through v) (responses_of v.ring v.seen == 0) (slot_frame v.ring.cons 0) (slot_word v.ring.cons 0) (in_slot v.ring.cons 0 (omega arith))
+loop_ask_within : (v : View) (r : Option Request) → v.shape.order ≤ 4 → All Shared v.requests → next_request v ≡ r → StaysInMemory (loop_ask v r)
+loop_ask_within v (Some r) narrow all e = issue_within r r.transfer (next_shared v r all e)
+loop_ask_within v None narrow all e =
+    loop_within (v.asleep || is_through v) (responses_of v.ring v.seen == 0) (slot_frame v.shape v.ring.cons 0) (slot_word v.shape v.ring.cons 0) (response_in v 0 narrow (omega arith))
 
-within_at : (s : Stage) (v : View) → IsPlaced s → All Shared v.requests → SharedEnding v.ending → StaysInMemory (ask_at s v)
-within_at (stage.RingWord k) v p all last = (omega arith, omega arith)
-within_at stage.RingFrame v p all last = (omega arith, omega arith)
-within_at stage.RingFlags v p all last = (omega arith, omega arith)
-within_at stage.Loop v p all last = loop_ask_within v (next_request v) all refl
-within_at (stage.Data n) v p all last = next_data_within v n (next_request v) all refl
-within_at (stage.GrantFrame place) v p all last = next_name_within v place (next_request v) all refl
-within_at (stage.GrantFlags place) v p all last = next_grant_within v place (next_request v) all refl
-within_at (stage.Slot k) v p all last = in_slot v.ring.prod k p
-within_at stage.Producer v p all last = (omega arith, omega arith)
-within_at (stage.RequestEvent old) v p all last = (omega arith, omega arith)
-within_at (stage.ResponseHigh low) v p all last = in_slot v.ring.cons 1 (omega arith)
-within_at (stage.ResponseLast low high) v p all last = in_slot v.ring.cons 2 (omega arith)
-within_at (stage.GrantRead place) v p all last = revoke_within place v.ending last
-within_at (stage.GrantEnd place seen) v p all last = end_within place seen v.ending last
-within_at (stage.ReadData n) v p all last = read_within n v.ending last
-within_at stage.StoreEvent v p all last = (omega arith, omega arith)
-within_at stage.LookAgain v p all last = (omega arith, omega arith)
-within_at stage.RingRead v p all last = (omega arith, omega arith)
-within_at (stage.RingEnd seen) v p all last = (omega arith, omega arith)
-within_at s v p all last = tt
+-- the entry of a page's grant
+page_name : (v : View) (page : ℕ) → v.shape.order ≤ 4 → page < 2 ^ v.shape.order → (entry_frame (ring_page_frame page) < 1018) × (entry_word (ring_page_frame page) + 1 < 1024)
+page_name v page narrow below = entry_within (ring_page_frame page) (in_page v.shape page narrow below)
+
+page_flags : (v : View) (page : ℕ) → v.shape.order ≤ 4 → page < 2 ^ v.shape.order → (entry_frame (ring_page_frame page) < 1018) × (entry_word (ring_page_frame page) < 1024)
+page_flags v page narrow below = let entry = page_name v page narrow below in (entry.0, omega (arith, entry.1))
+
+within_at : (s : Stage) (v : View) → IsPlaced s v.shape → IsFront v → StaysInMemory (ask_at s v)
+within_at (stage.RingWord k) v p f = (omega arith, omega arith)
+within_at (stage.RingFrame page) v p f = page_name v page f.order p
+within_at (stage.RingFlags page) v p f = page_flags v page f.order p
+within_at stage.Loop v p f = loop_ask_within v (next_request v) f.order f.shared refl
+within_at (stage.Data n) v p f = next_data_within v n (next_request v) f.shared refl
+within_at (stage.GrantFrame place) v p f = next_name_within v place (next_request v) f.shared refl
+within_at (stage.GrantFlags place) v p f = next_grant_within v place (next_request v) f.shared refl
+within_at (stage.Slot k) v p f = in_slot v.shape v.ring.prod k f.order p
+within_at stage.Producer v p f = (omega arith, omega arith)
+within_at (stage.RequestEvent old) v p f = (omega arith, omega arith)
+within_at (stage.ResponseHigh low) v p f = response_in v 1 f.order (omega arith)
+within_at (stage.ResponseLast low high) v p f = response_in v 2 f.order (omega arith)
+within_at (stage.GrantRead place) v p f = revoke_within place v.ending f.ending
+within_at (stage.GrantEnd place seen) v p f = end_within place seen v.ending f.ending
+within_at (stage.ReadData n) v p f = read_within n v.ending f.ending
+within_at stage.StoreEvent v p f = (omega arith, omega arith)
+within_at stage.LookAgain v p f = (omega arith, omega arith)
+within_at (stage.RingRead page) v p f = page_flags v page f.order p
+within_at (stage.RingEnd page seen) v p f = page_flags v page f.order p
+within_at s v p f = tt
 
 -- each word that the front asks for is one of those frames
 pub front_within : (v : View) → IsFront v → StaysInMemory (ask_of v)
-front_within v f = within_at v.stage v f.placed f.shared f.ending
+front_within v f = within_at v.stage v f.placed f
 
-pub front_start : (o : Options) → IsFront (start_of o)
-front_start o = record { placed = omega arith; shared = All-nil Shared; ending = tt; pool = length-replicate 1000 false }
+pub front_start : (o : Options) → o.order ≤ 4 → IsFront (start_of o)
+front_start o narrow = record { order = narrow; placed = omega arith; shared = All-nil Shared; ending = tt; pool = length-replicate 1000 false }
 
 either : (b : Bool) (x y : View) → IsFront x → IsFront y → IsFront (if b then x else y)
 either true x y p q = p
 either false x y p q = q
 
-either_when : (b : Bool) (x y : View) → IsFront x → (b ≡ false → IsFront y) → IsFront (if b then x else y)
-either_when true x y p q = p
-either_when false x y p q = q refl
-
-either_stage : (b : Bool) (x y : Stage) → (b ≡ true → IsPlaced x) → (b ≡ false → IsPlaced y) → IsPlaced (if b then x else y)
-either_stage true x y p q = p refl
-either_stage false x y p q = q refl
+either_stage : (b : Bool) (x y : Stage) (shape : Shape) → (b ≡ true → IsPlaced x shape) → (b ≡ false → IsPlaced y shape) → IsPlaced (if b then x else y) shape
+either_stage true x y shape p q = p refl
+either_stage false x y shape p q = q refl
 
 -- the same requests and frames at a stage
-at_stage : (s : Stage) (v : View) → IsPlaced s → IsFront v → IsFront (at s v)
-at_stage s v p f = record { placed = p; shared = f.shared; ending = f.ending; pool = f.pool }
+at_stage : (s : Stage) (v : View) → IsPlaced s v.shape → IsFront v → IsFront (at s v)
+at_stage s v p f = record { order = f.order; placed = p; shared = f.shared; ending = f.ending; pool = f.pool }
 
 looked_kept : (v : View) (word : ℕ) (otherwise : View) → IsFront v → IsFront otherwise → IsFront (looked v word otherwise)
 looked_kept v word otherwise f h =
-    either (nat_lt (distance_of v.ring.cons v.ring.prod) (distance_of v.ring.cons word)) (broken word v) (if word == v.ring.cons then otherwise else record v { seen = word; stage = stage.Loop }) (record { placed = tt; shared = f.shared; ending = f.ending; pool = f.pool })
-    (either (word == v.ring.cons) otherwise (record v { seen = word; stage = stage.Loop }) h (record { placed = tt; shared = f.shared; ending = f.ending; pool = f.pool }))
+    either (nat_lt (distance_of v.ring.cons v.ring.prod) (distance_of v.ring.cons word)) (broken word v) (if word == v.ring.cons then otherwise else record v { seen = word; stage = stage.Loop }) (record { order = f.order; placed = tt; shared = f.shared; ending = f.ending; pool = f.pool })
+    (either (word == v.ring.cons) otherwise (record v { seen = word; stage = stage.Loop }) h (record { order = f.order; placed = tt; shared = f.shared; ending = f.ending; pool = f.pool }))
 
-issue_placed : (way : Transfer) → IsPlaced (issue_stage way)
-issue_placed transfer.Read = tt
-issue_placed (transfer.Write tag) = tt
+issue_placed : (way : Transfer) (shape : Shape) → IsPlaced (issue_stage way) shape
+issue_placed transfer.Read shape = tt
+issue_placed (transfer.Write tag) shape = tt
 
 loop_kept : (v : View) (r : Option Request) (x : FrontAnswer) → IsFront v → next_request v ≡ r → IsFront (loop_step v r x)
-loop_kept v (Some r) x f e = at_stage (issue_stage r.transfer) v (issue_placed r.transfer) f
+loop_kept v (Some r) x f e = at_stage (issue_stage r.transfer) v (issue_placed r.transfer v.shape) f
 loop_kept v None (answer.Word word) f e =
     either (responses_of v.ring v.seen == 0) (looked v word (record v { seen = word; stage = stage.StoreEvent })) (at (stage.ResponseHigh word) v)
-    (looked_kept v word (record v { seen = word; stage = stage.StoreEvent }) f (record { placed = tt; shared = f.shared; ending = f.ending; pool = f.pool })) (at_stage (stage.ResponseHigh word) v tt f)
-loop_kept v None answer.Event f e = record { placed = f.placed; shared = f.shared; ending = f.ending; pool = f.pool }
+    (looked_kept v word (record v { seen = word; stage = stage.StoreEvent }) f (record { order = f.order; placed = tt; shared = f.shared; ending = f.ending; pool = f.pool })) (at_stage (stage.ResponseHigh word) v tt f)
+loop_kept v None answer.Event f e = record { order = f.order; placed = f.placed; shared = f.shared; ending = f.ending; pool = f.pool }
 loop_kept v None x f e = f
 
 -- a request that is found is one of them
@@ -206,9 +228,9 @@ found_shared requests None all = tt
 found_shared requests (Some place) all = found_in requests place (slice_get requests place) all refl
 
 response_kept : (v : View) (response : Result Response ℕ) (low : ℕ) (found : Option (ℕ × Request)) → IsFront v → FoundShared found → IsFront (response_at v response low found)
-response_kept v response low None f h = record { placed = tt; shared = f.shared; ending = f.ending; pool = f.pool }
-response_kept v (Err word) low (Some found) f h = record { placed = tt; shared = f.shared; ending = f.ending; pool = f.pool }
-response_kept v (Ok response) low (Some found) f h = record { placed = tt; shared = All-append Shared _ _ (All-take Shared found.0 v.requests f.shared) (All-drop Shared (suc found.0) v.requests f.shared); ending = h; pool = f.pool }
+response_kept v response low None f h = record { order = f.order; placed = tt; shared = f.shared; ending = f.ending; pool = f.pool }
+response_kept v (Err word) low (Some found) f h = record { order = f.order; placed = tt; shared = f.shared; ending = f.ending; pool = f.pool }
+response_kept v (Ok response) low (Some found) f h = record { order = f.order; placed = tt; shared = All-append Shared _ _ (All-take Shared found.0 v.requests f.shared) (All-drop Shared (suc found.0) v.requests f.shared); ending = h; pool = f.pool }
 
 -- frames that are given back leave the pool as long as it is
 freed_long : (pool : List Bool) (frames : List ℕ) → length (with_all_free pool frames) ≡ length pool
@@ -216,19 +238,19 @@ freed_long pool [] = refl
 freed_long pool (frame ∷ frames) = freed_long (with_free pool frame) frames ∙ length-set pool (frame - 18) false
 
 finished_kept : (v : View) (e : Ending) → IsFront v → IsFront (finished e v)
-finished_kept v e f = record { placed = tt; shared = f.shared; ending = tt; pool = freed_long v.pool e.request.frames.items ∙ f.pool }
+finished_kept v e f = record { order = f.order; placed = tt; shared = f.shared; ending = tt; pool = freed_long v.pool e.request.frames.items ∙ f.pool }
 
 ended_kept : (v : View) (e : Ending) → IsFront v → IsFront (ended e v)
 ended_kept v e f =
     let y = finished_kept v e f in
-    either (has_data e.request.transfer e.status) _ _ (record { placed = tt; shared = f.shared; ending = f.ending; pool = f.pool }) (record { placed = tt; shared = y.shared; ending = tt; pool = y.pool })
+    either (has_data e.request.transfer e.status) _ _ (record { order = f.order; placed = tt; shared = f.shared; ending = f.ending; pool = f.pool }) (record { order = f.order; placed = tt; shared = y.shared; ending = tt; pool = y.pool })
 
 revoked_kept : (v : View) (e : Option Ending) (place : ℕ) → IsFront v → IsFront (revoked e place v)
 revoked_kept v None place f = f
 revoked_kept v (Some e) place f = either (nat_lt (place + 1) (length e.request.frames.items)) _ _ (at_stage (stage.GrantRead (place + 1)) v tt f) (ended_kept v e f)
 
 told_kept : (v : View) (e : Ending) (n : ℕ) (words : List ℕ) → IsFront v → IsFront (sector_told e n words v)
-told_kept v e n words f = either (n % 128 == 127) _ _ (record { placed = f.placed; shared = f.shared; ending = f.ending; pool = f.pool }) (record { placed = f.placed; shared = f.shared; ending = f.ending; pool = f.pool })
+told_kept v e n words f = either (n % 128 == 127) _ _ (record { order = f.order; placed = f.placed; shared = f.shared; ending = f.ending; pool = f.pool }) (record { order = f.order; placed = f.placed; shared = f.shared; ending = f.ending; pool = f.pool })
 
 data_kept : (v : View) (e : Option Ending) (n word : ℕ) → IsFront v → IsFront (data_step e n word v)
 data_kept v None n word f = f
@@ -236,62 +258,92 @@ data_kept v (Some e) n word f =
     let y = told_kept v e n (slice_set v.words (n % 128) word) f in
     either (nat_lt (n + 1) (words_in e.request)) _ _ (at_stage (stage.ReadData (n + 1)) _ tt y) (finished_kept _ e y)
 
-data_placed : (r : Option Request) (n : ℕ) → IsPlaced (data_stage r n)
-data_placed None n = tt
-data_placed (Some r) n = either_stage (nat_lt (n + 1) (words_in r)) (stage.Data (n + 1)) (stage.GrantFrame 0) (λ t. tt) (λ t. tt)
+data_placed : (r : Option Request) (n : ℕ) (shape : Shape) → IsPlaced (data_stage r n) shape
+data_placed None n shape = tt
+data_placed (Some r) n shape = either_stage (nat_lt (n + 1) (words_in r)) (stage.Data (n + 1)) (stage.GrantFrame 0) shape (λ t. tt) (λ t. tt)
+
+some_words : (abi : Abi) → 0 < entry_words_of abi
+some_words abi = let wide = wide_entries abi in omega arith
 
 granted_kept : (v : View) (r : Option Request) (place : ℕ) → IsFront v → IsFront (granted r place v)
 granted_kept v None place f = f
-granted_kept v (Some r) place f = either (nat_lt (place + 1) (length r.frames.items)) _ _ (at_stage (stage.GrantFrame (place + 1)) v tt f) (record { placed = omega arith; shared = f.shared; ending = f.ending; pool = f.pool })
+granted_kept v (Some r) place f = either (nat_lt (place + 1) (length r.frames.items)) _ _ (at_stage (stage.GrantFrame (place + 1)) v tt f) (record { order = f.order; placed = some_words v.shape.abi; shared = f.shared; ending = f.ending; pool = f.pool })
 
-step_kept : (s : Stage) (v : View) (x : FrontAnswer) → IsPlaced s → IsFront v → IsFront (step_at s v x)
-step_kept (stage.RingWord k) v x p f = at_stage _ v (either_stage (k == 15) stage.RingFrame (stage.RingWord (k + 1)) (λ t. tt) (λ t. grind (arith, nat_tests))) f
-step_kept stage.RingFrame v x p f = at_stage _ v tt f
-step_kept stage.RingFence v x p f = at_stage _ v tt f
-step_kept stage.RingFlags v x p f = at_stage _ v tt f
-step_kept stage.NewPort v x p f = record { placed = tt; shared = f.shared; ending = f.ending; pool = f.pool }
+-- the next page of the ring is granted, or its grant ended
+page_granted : (v : View) (page : ℕ) → IsPlaced (ring_granted v page) v.shape
+page_granted v page = either_stage (nat_lt (page + 1) (2 ^ v.shape.order)) (stage.RingFrame (page + 1)) stage.NewPort v.shape (λ t. grind (arith, nat_tests)) (λ t. tt)
+
+page_left : (v : View) (page : ℕ) → IsPlaced (ring_left v page) v.shape
+page_left v page = either_stage (nat_lt (page + 1) (2 ^ v.shape.order)) (stage.RingRead (page + 1)) stage.ClosePort v.shape (λ t. grind (arith, nat_tests)) (λ t. tt)
+
+step_kept : (s : Stage) (v : View) (x : FrontAnswer) → IsPlaced s v.shape → IsFront v → IsFront (step_at s v x)
+step_kept (stage.RingWord k) v x p f = at_stage _ v (either_stage (k == 15) (stage.RingFrame 0) (stage.RingWord (k + 1)) v.shape (λ t. pow_pos v.shape.order) (λ t. grind (arith, nat_tests))) f
+step_kept (stage.RingFrame page) v x p f = at_stage _ v p f
+step_kept (stage.RingFence page) v x p f = at_stage _ v p f
+step_kept (stage.RingFlags page) v x p f = at_stage _ v (page_granted v page) f
+step_kept stage.NewPort v x p f = at_stage _ v tt f
 step_kept stage.Loop v x p f = loop_kept v (next_request v) x f refl
-step_kept (stage.Data n) v x p f = at_stage _ v (data_placed (next_request v) n) f
+step_kept (stage.Data n) v x p f = at_stage _ v (data_placed (next_request v) n v.shape) f
 step_kept (stage.GrantFrame place) v x p f = at_stage _ v tt f
 step_kept (stage.GrantFence place) v x p f = at_stage _ v tt f
 step_kept (stage.GrantFlags place) v x p f = granted_kept v (next_request v) place f
-step_kept (stage.Slot k) v x p f = at_stage _ v (either_stage (k == 27) stage.Producer (stage.Slot (k + 1)) (λ t. tt) (λ t. grind (arith, nat_tests))) f
-step_kept stage.Producer v x p f = record { placed = tt; shared = f.shared; ending = f.ending; pool = f.pool }
+step_kept (stage.Slot k) v x p f = at_stage _ v (either_stage (k + 1 == entry_words_of v.shape.abi) stage.Producer (stage.Slot (k + 1)) v.shape (λ t. tt) (further k (entry_words_of v.shape.abi) p)) f
+  where
+    further : (n words : ℕ) → n < words → (n + 1 == words) ≡ false → n + 1 < words
+    further n words lt other = grind (arith, nat_tests)
+step_kept stage.Producer v x p f = record { order = f.order; placed = tt; shared = f.shared; ending = f.ending; pool = f.pool }
 step_kept (stage.ProducerFence old) v x p f = at_stage _ v tt f
-step_kept (stage.RequestEvent old) v (answer.Word event) p f = at_stage _ v (either_stage (notifies old v.ring.prod event) stage.Send stage.Loop (λ t. tt) (λ t. tt)) f
+step_kept (stage.RequestEvent old) v (answer.Word event) p f = at_stage _ v (either_stage (notifies old v.ring.prod event) stage.Send stage.Loop v.shape (λ t. tt) (λ t. tt)) f
 step_kept stage.Send v x p f = at_stage _ v tt f
 step_kept (stage.ResponseHigh low) v (answer.Word high) p f = at_stage _ v tt f
 step_kept (stage.ResponseLast low high) v (answer.Word last) p f =
     response_kept v (response_of (low ∷ high ∷ last ∷ [])) low (issued v (low + high * 2 ^ 32)) f
     (found_shared v.requests (position (λ (r : Request). r.number == low + high * 2 ^ 32) (take (length v.requests - v.waiting) v.requests)) f.shared)
-step_kept (stage.GrantRead place) v (answer.Word word) p f = either (is_mapped word) (broken word v) (at (stage.GrantEnd place word) v) (record { placed = tt; shared = f.shared; ending = f.ending; pool = f.pool }) (at_stage (stage.GrantEnd place word) v tt f)
+step_kept (stage.GrantRead place) v (answer.Word word) p f = either (is_mapped word) (broken word v) (at (stage.GrantEnd place word) v) (record { order = f.order; placed = tt; shared = f.shared; ending = f.ending; pool = f.pool }) (at_stage (stage.GrantEnd place word) v tt f)
 step_kept (stage.GrantEnd place before) v (answer.Word word) p f =
-    either (word == before) (revoked v.ending place v) (broken word v) (revoked_kept v v.ending place f) (record { placed = tt; shared = f.shared; ending = f.ending; pool = f.pool })
+    either (word == before) (revoked v.ending place v) (broken word v) (revoked_kept v v.ending place f) (record { order = f.order; placed = tt; shared = f.shared; ending = f.ending; pool = f.pool })
 step_kept (stage.ReadData n) v (answer.Word word) p f = data_kept v v.ending n word f
 step_kept stage.StoreEvent v x p f = at_stage _ v tt f
 step_kept stage.EventFence v x p f = at_stage _ v tt f
-step_kept stage.LookAgain v (answer.Word word) p f = looked_kept v word (record v { seen = word; stage = stage.Loop; asleep = true }) f (record { placed = tt; shared = f.shared; ending = f.ending; pool = f.pool })
-step_kept stage.RingRead v (answer.Word word) p f = either (is_mapped word) (broken word v) (at (stage.RingEnd word) v) (record { placed = tt; shared = f.shared; ending = f.ending; pool = f.pool }) (at_stage (stage.RingEnd word) v tt f)
-step_kept (stage.RingEnd before) v (answer.Word word) p f =
-    either (word == before) (at stage.ClosePort v) (broken word v) (at_stage stage.ClosePort v tt f) (record { placed = tt; shared = f.shared; ending = f.ending; pool = f.pool })
+step_kept stage.LookAgain v (answer.Word word) p f = looked_kept v word (record v { seen = word; stage = stage.Loop; asleep = true }) f (record { order = f.order; placed = tt; shared = f.shared; ending = f.ending; pool = f.pool })
+step_kept (stage.RingRead page) v (answer.Word word) p f =
+    either (is_mapped word) (broken word v) (at (stage.RingEnd page word) v) (record { order = f.order; placed = tt; shared = f.shared; ending = f.ending; pool = f.pool }) (at_stage (stage.RingEnd page word) v p f)
+step_kept (stage.RingEnd page before) v (answer.Word word) p f =
+    either (word == before) (at (ring_left v page) v) (broken word v) (at_stage _ v (page_left v page) f) (record { order = f.order; placed = tt; shared = f.shared; ending = f.ending; pool = f.pool })
 step_kept stage.ClosePort v x p f = at_stage _ v tt f
 step_kept s v x p f = f
 
 pub front_step : (v : View) (x : FrontAnswer) → IsFront v → IsFront (record (step_of v x) { told = None })
 front_step v x f =
     let y : IsFront (step_of v x) = step_kept v.stage v x f.placed f in
-    record { placed = y.placed; shared = y.shared; ending = y.ending; pool = y.pool }
+    record { order = y.order; placed = y.placed; shared = y.shared; ending = y.ending; pool = y.pool }
+
+-- where the ring isn't begun the shape doesn't matter
+unmade_placed : (s : Stage) (before now : Shape) → is_unmade s ≡ true → IsPlaced s before → IsPlaced s now
+unmade_placed (stage.RingWord k) before now unmade p = p
+unmade_placed s before now unmade p = absurd (cc)
+
+first_of : (a b : Bool) → (a && b) ≡ true → a ≡ true
+first_of true b both = refl
+first_of false b both = both
 
 -- whatever state it enters
-in_state_kept : (s : FrontState) (v : View) → IsFront v → IsFront (in_state s v)
-in_state_kept state.Connected v f = at_stage _ v tt f
-in_state_kept state.Closing v f = record { placed = f.placed; shared = f.shared; ending = f.ending; pool = f.pool }
-in_state_kept state.Leaving v f = at_stage _ v tt f
-in_state_kept state.Closed v f = at_stage _ v tt f
-in_state_kept (state.Broken word) v f = at_stage _ v tt f
+in_state_kept : (s : FrontState) (v : View) → may_enter s v ≡ true → IsFront v → IsFront (in_state s v)
+in_state_kept (state.Agreed order) v may f = record {
+  order = let narrower = entered_order (state.Agreed order) v may in let narrow = f.order in omega arith;
+  placed = unmade_placed v.stage v.shape (record v.shape { order = order }) (first_of (is_unmade v.stage) (nat_le order v.shape.order) may) f.placed;
+  shared = f.shared;
+  ending = f.ending;
+  pool = f.pool;
+}
+in_state_kept state.Connected v may f = at_stage _ v tt f
+in_state_kept state.Closing v may f = record { order = f.order; placed = f.placed; shared = f.shared; ending = f.ending; pool = f.pool }
+in_state_kept state.Leaving v may f = at_stage _ v (pow_pos v.shape.order) f
+in_state_kept state.Closed v may f = at_stage _ v tt f
+in_state_kept (state.Broken word) v may f = at_stage _ v tt f
 
 pub front_entered : (s : FrontState) (v : View) → IsFront v → IsFront (enters s v)
-front_entered s v f = enters_cases (λ x shown. IsFront x) s v (λ may. in_state_kept s v f) f
+front_entered s v f = enters_cases (λ x shown. IsFront x) s v (λ may. in_state_kept s v may f) f
 
 either_submit : (b : Bool) (x y : Result ℕ Refusal × View) → IsFront x.1 → IsFront y.1 → IsFront (if b then x else y).1
 either_submit true x y p q = p
@@ -323,18 +375,18 @@ submit_frames : (v : View) (wish : Wish) (n : ℕ) (taken : Option (List ℕ × 
 submit_frames v wish n None e f = f
 submit_frames v wish n (Some taken) e f =
     let is = taken_in n v.pool [] taken f.pool (All-nil (λ (frame : ℕ). frame < 1018)) e in
-    record { placed = f.placed; shared = All-push Shared v.requests _ f.shared is.0; ending = f.ending; pool = is.1 }
+    record { order = f.order; placed = f.placed; shared = All-push Shared v.requests _ f.shared is.0; ending = f.ending; pool = is.1 }
 
 submit_wish : (v : View) (wish : Option Wish) → IsFront v → IsFront (submit_one v wish).1
 submit_wish v None f = f
 submit_wish v (Some wish) f =
     let frames = taking (frames_for wish.count) v.pool [] in
-    let unless_full = if nat_le (entries_of shape.order) (unfinished v) then (Err refusal.Full, v) else submit_with v wish frames in
+    let unless_full = if nat_le (entries_of v.shape.order) (unfinished v) then (Err refusal.Full, v) else submit_with v wish frames in
     let unless_long = if nat_lt 11 (frames_for wish.count) then (Err refusal.Long, v) else unless_full in
     either_submit (is_write wish.transfer && v.read_only) (Err refusal.ReadOnly, v) (if nat_lt v.sectors (wish.sector + wish.count) then (Err refusal.Range, v) else unless_long) f
     (either_submit (nat_lt v.sectors (wish.sector + wish.count)) (Err refusal.Range, v) unless_long f
     (either_submit (nat_lt 11 (frames_for wish.count)) (Err refusal.Long, v) unless_full f
-    (either_submit (nat_le (entries_of shape.order) (unfinished v)) (Err refusal.Full, v) (submit_with v wish frames) f (submit_frames v wish (frames_for wish.count) frames refl f))))
+    (either_submit (nat_le (entries_of v.shape.order) (unfinished v)) (Err refusal.Full, v) (submit_with v wish frames) f (submit_frames v wish (frames_for wish.count) frames refl f))))
 
 pub front_submit : (v : View) (job : Job) → IsFront v → IsFront (submit_of v job).1
 front_submit v job f =

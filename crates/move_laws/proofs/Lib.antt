@@ -11,5 +11,6 @@ pub mod Back
 pub mod Always
 pub mod Runs
 pub mod Recorded
+pub mod Wished
 pub mod Dumped
 pub mod ReadOnly

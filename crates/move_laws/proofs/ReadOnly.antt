@@ -6,12 +6,12 @@ use Rattle.std.proofs.lemmas.List.Elements.{All-nil, All-tail, All-set, All-push
 use Rattle.std.proofs.lemmas.Bool.Decides.{nat_tests}
 use Rattle.blk_base.specs.Options.{Options}
 use Rattle.blk_base.specs.declared.operation.Status.TheVariants.{Error}
-use Rattle.blk_base.specs.declared.operation.Abi.TheVariants.{X64}
 use Rattle.blk_base.specs.declared.parts.Mapping.{Mapping}
 use Rattle.blk_base.specs.declared.ask.BackAsk.TheVariants as ask
 use Rattle.blk_base.specs.declared.ask.BackAnswer.{BackAnswer}
 use Rattle.blk_base.specs.declared.ask.BackAnswer.TheVariants as answer
 use Rattle.ring_words.specs.Ring.{requests_of, overruns}
+use Rattle.ring_words.specs.Shape.{entry_words_of}
 use Rattle.blk_io.specs.Disk.{DiskSeen}
 use Rattle.blk_layout.specs.declared.segment.Segment.{Segment}
 use Rattle.blk_layout.specs.declared.request.RawRequest.{RawRequest}
@@ -35,11 +35,12 @@ use Rattle.blk_back.specs.Step.{halts, overrun, looked, loop_step, fetched, next
 use Rattle.hypervisor.specs.Act.{FrontAct, BackAct, Outcome, Gave, Took, Failed}
 use Rattle.hypervisor.specs.Disk.{DiskDoes, NoCall}
 use Rattle.split_model.specs.World.{World, start_of}
-use Rattle.split_model.specs.Happening.{Happening, FrontMoves, BackMoves, JobMoves, BackHalts, happens, back_after, job_after, front_after, front_turn, back_turn, job_turn, DiskGoes, DiskRuns}
+use Rattle.split_model.specs.Happening.{Happening, FrontMoves, BackMoves, JobMoves, BackAttaches, BackHalts, happens, back_after, job_after, front_after, front_turn, back_turn, job_turn, DiskGoes, DiskRuns}
 use Rattle.split_model.proofs.States.{halts_cases}
+use Rattle.split_model.proofs.Attaching.{attach_cases}
 use Rattle.move_laws.proofs.Jobs.{IsJob, IsPlaced}
-use Rattle.move_laws.proofs.Back.{IsBack}
-use Rattle.move_laws.proofs.Always.{IsOrderly, orderly_start, orderly_happens}
+use Rattle.move_laws.proofs.Back.{IsBack, back_start}
+use Rattle.move_laws.proofs.Always.{back_happens}
 
 -- a job whose words go from the disk to the guest
 abbrev Reads : Work → Type 0
@@ -156,8 +157,8 @@ step_stays stage.Bind v answer.Done o = o
 step_stays stage.Bind v answer.BindRefused o = o
 step_stays stage.Loop v given o = loop_stays v (next_reply v) given o
 step_stays (stage.Fetch k) v (answer.Word word) o =
-    either (k == 27) (fetched v (v.entry ++ word ∷ [])) (record v { entry = v.entry ++ word ∷ []; stage = stage.Fetch (k + 1) })
-    (started v.jobs (next_number v) (request_of X64 (v.entry ++ word ∷ [])) o) o
+    either (k + 1 == entry_words_of v.shape.abi) (fetched v (v.entry ++ word ∷ [])) (record v { entry = v.entry ++ word ∷ []; stage = stage.Fetch (k + 1) })
+    (started v.jobs (next_number v) (request_of v.shape.abi (v.entry ++ word ∷ [])) o) o
 step_stays stage.LookAgain v (answer.Word word) o = looked_stays v word (record v { seen = word; stage = stage.Loop; asleep = true }) o o
 step_stays (stage.ResponseEvent old) v (answer.Word event) o = o
 step_stays (stage.GiveUp m) v given o = (o.0, behind_reads v.jobs.works o.1)
@@ -186,6 +187,7 @@ world_stays : (w : World) (h : Happening) → Stays w.back → (let x : World = 
 world_stays w FrontMoves o = front_stays w o
 world_stays w BackMoves o = back_stays w (back_turn w Took) o
 world_stays w (JobMoves number outcome) o = job_stays w number (job_turn w number outcome) o
+world_stays w (BackAttaches shape grefs port) o = attach_cases (λ v shown. Stays v) w shape grefs port (λ may named. o) o
 world_stays w (BackHalts why) o = halt_stays why w.back o
 world_stays w h o = o
 
@@ -224,10 +226,10 @@ called : (w : World) (h : Happening) (a b : DiskSeen) → Stays w.back → IsBac
 called w (JobMoves number outcome) a b o back goes = job_called (is_some w.back.halted) w.back.jobs number outcome a b o back.jobs goes
 called w h a b o back goes = ap (λ (d : DiskSeen). d.content) goes
 
-kept_from : (hs : List Happening) (w : World) (a b : DiskSeen) → Stays w.back → IsOrderly w → DiskRuns hs w a b → b.content ≡ a.content
+kept_from : (hs : List Happening) (w : World) (a b : DiskSeen) → Stays w.back → IsBack w.back → DiskRuns hs w a b → b.content ≡ a.content
 kept_from [] w a b o is runs = ap (λ (d : DiskSeen). d.content) runs
 kept_from (h ∷ hs) w a b o is runs =
-    kept_from hs (happens w h) runs.0 b (world_stays w h o) (orderly_happens w h is) runs.2 ∙ called w h a runs.0 o is.back runs.1
+    kept_from hs (happens w h) runs.0 b (world_stays w h o) (back_happens w h is) runs.2 ∙ called w h a runs.0 o is runs.1
 
 pub content_kept : (config : Options) (history : List Happening) (before now : DiskSeen) → config.read_only ≡ true → DiskRuns history (start_of config) before now → now.content ≡ before.content
-content_kept config history before now fixed runs = kept_from history (start_of config) before now (fixed, All-nil Reads) (orderly_start config) runs
+content_kept config history before now fixed runs = kept_from history (start_of config) before now (fixed, All-nil Reads) (back_start config) runs

@@ -1,7 +1,7 @@
 -- A recorder that shows moves keeps every line of what happened.
 use Rattle.xen_pages.specs.Pages.{word_of}
 use Rattle.std.proofs.Common.{◌≡◌, ℕ, zero, suc, ◌+◌, List, [], ◌∷◌, ◌++◌, Bool, true, false, if◌then◌else◌, refl, ap, ◌∙◌}
-use Rattle.std.specs.Prelude.{◌/◌, ◌%◌, Option, Some, None, Result, Ok, Err}
+use Rattle.std.specs.Prelude.{◌*◌, ◌/◌, ◌%◌, ◌^◌, Option, Some, None, Result, Ok, Err}
 use Rattle.blk_base.specs.Options.{Options}
 use Rattle.blk_base.specs.declared.config.Job.{Job}
 use Rattle.blk_base.specs.declared.ask.BackAnswer.{BackAnswer}
@@ -26,10 +26,11 @@ use Rattle.blk_back.specs.View as back
 use Rattle.blk_back.specs.Step as back_step
 use Rattle.split_model.specs.World.{World, start_of}
 use Rattle.split_model.specs.Shown.{front_lines, back_lines, halt_lines, state_lines, effect_line}
-use Rattle.split_model.specs.Happening.{Happening, FrontMoves, BackMoves, JobMoves, Negotiates, FrontEnters, BackHalts, Submits, Notifies, Pokes, Dumps, Looks, Settles, is_guest_word, word_lines, ring_lines, happens, lines_at, lines_of, front_shows, back_shows, job_shows, front_turn, back_turn, job_turn, submit_line}
+use Rattle.split_model.specs.Happening.{Happening, FrontMoves, BackMoves, JobMoves, Negotiates, FrontEnters, BackAttaches, BackHalts, Submits, Notifies, Pokes, Dumps, Looks, Settles, is_guest_word, word_lines, ring_lines, happens, lines_at, lines_of, front_shows, back_shows, job_shows, front_turn, back_turn, job_turn, submit_line}
 use Rattle.schedule_text.specs.Recorder.{kept_of}
 use Rattle.split_model.proofs.Keys.{key_cases, negotiated_cases}
 use Rattle.split_model.proofs.States.{enters_cases}
+use Rattle.split_model.proofs.Attaching.{attach_cases}
 use Rattle.split_model.proofs.Running.{kept_of-append}
 use Rattle.split_model.specs.Report.{report_of, ended_report_of}
 
@@ -74,6 +75,7 @@ halt_lines_kept (Some g) now = refl
 state_lines_kept : (s : FrontState) → AreKept (state_lines s)
 state_lines_kept state.Connected = refl
 state_lines_kept state.Closing = refl
+state_lines_kept (state.Agreed order) = refl
 state_lines_kept state.Leaving = refl
 state_lines_kept state.Closed = refl
 state_lines_kept (state.Broken word) = refl
@@ -130,11 +132,12 @@ lines_at_kept w (Negotiates at move) =
     negotiated_cases (λ keys shown. AreKept shown) w.back.stage at move w.under.keys
     (λ may. key_cases (λ keys shown. AreKept shown) at move w.under.keys (λ path same. refl) (λ path text same may_set. refl) (λ path same. refl) (λ path first. refl) refl) refl
 lines_at_kept w (FrontEnters state) = enters_cases (λ v shown. AreKept shown) state w.front (λ may. state_lines_kept state) refl
+lines_at_kept w (BackAttaches shape grefs port) = attach_cases (λ v shown. AreKept shown) w shape grefs port (λ may named. refl) refl
 lines_at_kept w (BackHalts why) = halt_lines_kept w.back.halted (let b : back.View = back_step.halts why w.back in b.halted)
 lines_at_kept w (Submits job) = submit_kept job (front_submit.submit_of w.front job).0
 lines_at_kept w (Notifies at) = refl
 lines_at_kept w (Pokes frame word value) = poke_kept (is_guest_word frame word) frame word value
-lines_at_kept w Dumps = dump_kept w.under.pages 0 1024
+lines_at_kept w Dumps = dump_kept w.under.pages 0 (1024 * 2 ^ w.front.shape.order)
 lines_at_kept w (Looks quiet) = look_kept quiet
 lines_at_kept w (Settles quiet) = settle_kept quiet
 

@@ -1,11 +1,12 @@
 -- Whatever happens, the lines obey the rules on memory and mappings, and tell what is there.
-use Rattle.std.proofs.Common.{◌≡◌, ℕ, ◌<◌, arith, List, [], ◌∷◌, ◌++◌, Bool, true, false, if◌then◌else◌, refl, sym, subst, append_assoc}
+use Rattle.std.proofs.Common.{◌≡◌, ℕ, zero, suc, ◌+◌, ◌*◌, ◌/◌, ◌%◌, ◌^◌, ◌<◌, ◌≤◌, arith, List, [], ◌∷◌, ◌++◌, Bool, true, false, if◌then◌else◌, refl, sym, subst, append_assoc}
 use Rattle.std.specs.Prelude.{Option, Some, None}
 use Rattle.std.specs.List.{AllByRecursion}
 use Rattle.std.proofs.lemmas.List.{append-nil}
 use Rattle.std.proofs.lemmas.List.Elements.{All-nil}
 use Rattle.blk_base.specs.Options.{Options}
 use Rattle.blk_base.specs.declared.moves.BackMover.TheVariants as back_mover
+use Rattle.blk_base.specs.declared.moves.Mover.TheVariants as mover
 use Rattle.blk_base.specs.declared.moves.Move.{Move}
 use Rattle.blk_base.specs.declared.parts.End.{End}
 use Rattle.xen_pages.specs.Pages.{fresh_pages, word_of, with_word}
@@ -29,14 +30,15 @@ use Rattle.blk_back.specs.Step as back_step
 use Rattle.blk_back.specs.Hands.{hands_of}
 use Rattle.blk_back.specs.View as back
 use Rattle.split_model.specs.World.{World, start_of}
-use Rattle.split_model.specs.Happening.{Happening, FrontMoves, BackMoves, JobMoves, Negotiates, FrontEnters, BackHalts, Submits, Notifies, Pokes, Dumps, Looks, Settles, happens, lines_at, after, lines_of, front_after, front_shows, back_after, back_shows, job_after, job_shows, front_turn, back_turn, job_turn}
+use Rattle.split_model.specs.Happening.{Happening, FrontMoves, BackMoves, JobMoves, Negotiates, FrontEnters, BackAttaches, BackHalts, Submits, Notifies, Pokes, Dumps, Looks, Settles, happens, word_lines, ring_lines, layout_read, lines_at, after, lines_of, front_after, front_shows, back_after, back_shows, job_after, job_shows, front_turn, back_turn, job_turn}
 use Rattle.split_model.specs.Safe.{IsSafe}
 use Rattle.split_model.specs.Shown.{back_lines, halt_lines}
 use Rattle.split_model.specs.Keys.{KeyMove, mover_at}
 use Rattle.split_model.proofs.Keys.{negotiated_lines_are}
 use Rattle.split_model.proofs.States.{enter_lines_are}
 use Rattle.split_model.proofs.Safe.{safe_start, safe_happens}
-use Rattle.split_model.proofs.Overwriting.{poke_cases, ring_lines_are}
+use Rattle.split_model.proofs.Attaching.{attach_lines_are}
+use Rattle.split_model.proofs.Overwriting.{poke_cases}
 use Rattle.move_laws.specs.Permitted.{IsPermitted, ArePermitted}
 use Rattle.move_laws.specs.Grantable.{AreGrantable}
 use Rattle.move_laws.proofs.Always.{always_within}
@@ -50,7 +52,7 @@ use Rattle.move_laws.proofs.Acts.{IsKept, tells_write, front_kept, back_kept}
 abbrev pub FollowsTo : List Line → World → Type 0
 FollowsTo before w = Follows before w.under.pages w.under.grants
 
--- a move's own line, and those behind it
+-- a move's own line, and those after it
 follow_move : (before more : List Line) (shown : Move) (pages pages' : List ℕ) (table table' : GrantTable) → Follows before pages table → IsKept before shown pages' table' → ArePlain more → Follows (before ++ lines.Move shown ∷ more) pages' table'
 follow_move before more shown pages pages' table table' follows kept plain =
     let one : Follows (before ++ lines.Move shown ∷ []) pages' table' = follow_one before (lines.Move shown) pages pages' table table' follows kept.allowed kept.tells in
@@ -112,16 +114,27 @@ follow_shown pages table (line ∷ more) before all follows =
     subst (λ (ls : List Line). Follows ls pages table) (append_assoc before (line ∷ []) more) (follow_shown pages table more (before ++ line ∷ []) all.1 one)
 
 -- each word that a dump shows has the value that the lines before tell
-word_shown : (pages : List ℕ) (table : GrantTable) (word : ℕ) → word < 1024 → IsShown pages table (lines.Word 2 word (word_of pages 2 word))
-word_shown pages table word within = record {
-  is_still = still (lines.Word 2 word (word_of pages 2 word)) refl (λ f w v b. refl) (λ n. refl) refl;
-  allowed = λ before tells. record { coherent = sym (tells.values 2 word (omega arith) within); answered = tt; numbered = tt; touched = tt; grantable = tt };
+word_shown : (pages : List ℕ) (table : GrantTable) (frame word : ℕ) → frame < 1088 → word < 1024 → IsShown pages table (lines.Word frame word (word_of pages frame word))
+word_shown pages table frame word framed worded = record {
+  is_still = still (lines.Word frame word (word_of pages frame word)) refl (λ f w v b. refl) (λ n. refl) refl;
+  allowed = λ before tells. record { coherent = sym (tells.values frame word framed worded); answered = tt; numbered = tt; touched = tt; grantable = tt };
 }
 
-dump_follows : (w : World) (before : List Line) → FollowsTo before w → FollowsTo (before ++ lines_at w Dumps) w
-dump_follows w before follows =
+-- what holds of each word of 16 pages holds of each line of a dump of them
+pub dump_words_are : (P : Line → Type 0) (pages : List ℕ) (place count : ℕ) → place + count ≤ 16384
+    → ((frame word : ℕ) → frame < 18 → word < 1024 → P (lines.Word frame word (word_of pages frame word))) → AllByRecursion P (ring_lines pages place count)
+dump_words_are P pages place zero within each = tt
+dump_words_are P pages place (suc count) within each =
+    by_value (word_of pages (2 + place / 1024) (place % 1024)) (each (2 + place / 1024) (place % 1024) (omega arith) (omega arith)) (dump_words_are P pages (place + 1) count (omega arith) each)
+  where
+    by_value : (value : ℕ) → P (lines.Word (2 + place / 1024) (place % 1024) value) → AllByRecursion P (ring_lines pages (place + 1) count) → AllByRecursion P (word_lines place value ++ ring_lines pages (place + 1) count)
+    by_value zero shown rest = rest
+    by_value (suc value) shown rest = (shown, rest)
+
+dump_follows : (w : World) (before : List Line) → IsPermitted w Dumps → FollowsTo before w → FollowsTo (before ++ lines_at w Dumps) w
+dump_follows w before few follows =
     follow_shown w.under.pages w.under.grants (lines_at w Dumps) before
-    (ring_lines_are (IsShown w.under.pages w.under.grants) w.under.pages 0 1024 (omega arith) (λ word within. word_shown w.under.pages w.under.grants word within)) follows
+    (dump_words_are (IsShown w.under.pages w.under.grants) w.under.pages 0 (1024 * 2 ^ w.front.shape.order) (omega (arith, few)) (λ frame word framed worded. word_shown w.under.pages w.under.grants frame word (omega arith) worded)) follows
 
 -- what an end does with the keys
 keys_plain : (w : World) (at : End) (move : KeyMove) → ArePlain (lines_at w (Negotiates at move))
@@ -134,11 +147,12 @@ follows_happens w BackMoves before safe within follows = back_follows w before T
 follows_happens w (JobMoves number outcome) before safe within follows = job_follows w before number outcome (job_turn w number outcome) safe within follows refl
 follows_happens w (Negotiates at move) before safe within follows = follow_plain (lines_at w (Negotiates at move)) before w.under.pages w.under.grants (keys_plain w at move) follows
 follows_happens w (FrontEnters state) before safe within follows = follow_plain (lines_at w (FrontEnters state)) before w.under.pages w.under.grants (enter_lines_are IsPlain state w.front (λ may. plain_state state)) follows
+follows_happens w (BackAttaches shape grefs port) before safe within follows = follow_plain (lines_at w (BackAttaches shape grefs port)) before w.under.pages w.under.grants (attach_lines_are IsPlain w shape grefs (plain_key mover.Back (layout_read w) refl)) follows
 follows_happens w (BackHalts why) before safe within follows = follow_plain (lines_at w (BackHalts why)) before w.under.pages w.under.grants (plain_halt w.back.halted _) follows
 follows_happens w (Submits job) before safe within follows = follow_plain (lines_at w (Submits job)) before w.under.pages w.under.grants (plain_submit job (front_submit.submit_of w.front job).0, tt) follows
 follows_happens w (Notifies at) before safe within follows = no_lines before w follows
 follows_happens w (Pokes frame word value) before safe within follows = poke_follows w before frame word value follows
-follows_happens w Dumps before safe within follows = dump_follows w before follows
+follows_happens w Dumps before safe within follows = dump_follows w before within follows
 follows_happens w (Looks quiet) before safe within follows = follow_plain (lines_at w (Looks quiet)) before w.under.pages w.under.grants (one_plain quiet lines.Quiet lines.Busy plain_quiet plain_busy, tt) follows
 follows_happens w (Settles quiet) before safe within follows = follow_plain (lines_at w (Settles quiet)) before w.under.pages w.under.grants (one_plain quiet lines.Quiet lines.Unsettled plain_quiet plain_unsettled, tt) follows
 
@@ -178,17 +192,17 @@ numbers_of ls obeys before rest line e = (obeys before rest line e).numbered
 pub touches_of : (ls : List Line) → Obeys IsAllowed ls → AreTouches ls
 touches_of ls obeys before rest line e = (obeys before rest line e).touched
 
-pub lines_obey : (config : Options) (history : List Happening) → Obeys IsAllowed (lines_of history (start_of config))
-lines_obey config history = (follows_after history (start_of config) [] (safe_start config) (always_within config history) follows_start).obeys
+pub lines_obey : (config : Options) (history : List Happening) → config.order ≤ 4 → Obeys IsAllowed (lines_of history (start_of config))
+lines_obey config history narrow = (follows_after history (start_of config) [] (safe_start config) (always_within config history narrow) follows_start).obeys
 
-pub report_follows : (config : Options) (detail : Detail) (history : List Happening) → FollowsTo (report_of config detail history) (after history (start_of config))
-report_follows config detail history = follows_after history (start_of config) (lines.Begin config detail ∷ []) (safe_start config) (always_within config history) (follows_begin config detail)
+pub report_follows : (config : Options) (detail : Detail) (history : List Happening) → config.order ≤ 4 → FollowsTo (report_of config detail history) (after history (start_of config))
+report_follows config detail history narrow = follows_after history (start_of config) (lines.Begin config detail ∷ []) (safe_start config) (always_within config history narrow) (follows_begin config detail)
 
-pub report_obeys : (config : Options) (detail : Detail) (history : List Happening) → Obeys IsAllowed (report_of config detail history)
-report_obeys config detail history = (report_follows config detail history).obeys
+pub report_obeys : (config : Options) (detail : Detail) (history : List Happening) → config.order ≤ 4 → Obeys IsAllowed (report_of config detail history)
+report_obeys config detail history narrow = (report_follows config detail history narrow).obeys
 
-pub ended_obeys : (config : Options) (detail : Detail) (history : List Happening) → Obeys IsAllowed (ended_report_of config detail history)
-ended_obeys config detail history = (ended (report_of config detail history) (after history (start_of config)) (report_follows config detail history)).obeys
+pub ended_obeys : (config : Options) (detail : Detail) (history : List Happening) → config.order ≤ 4 → Obeys IsAllowed (ended_report_of config detail history)
+ended_obeys config detail history narrow = (ended (report_of config detail history) (after history (start_of config)) (report_follows config detail history narrow)).obeys
   where
     ended : (before : List Line) (w : World) → FollowsTo before w → FollowsTo (before ++ lines.End ∷ []) w
     ended before w follows = follows_end before w.under.pages w.under.grants follows

@@ -1,9 +1,12 @@
 -- A dump shows each word of the ring that isn't 0, from the first to the last (`io/ring.h`; the ring's first page is frame 2).
+use Rattle.std.specs.List.{AllByRecursion}
 use Rattle.std.specs.Prelude.{◌≡◌, ◌⊎◌, ℕ, ◌+◌, ◌-◌, ◌*◌, ◌/◌, ◌%◌, ◌^◌, ◌<◌, ◌≤◌, List, fold, Option, Some, None}
 use Rattle.schedule_text.specs.declared.line.Line.{Line}
 use Rattle.schedule_text.specs.declared.line.Line.TheVariants as lines
 use Rattle.report_rules.specs.Obeys.{Obeys}
 use Rattle.report_rules.specs.Value.{value_before}
+use Rattle.blk_front.specs.declared.state.FrontState.TheVariants.{Agreed}
+use Rattle.split_model.specs.Happening.{Happening, FrontEnters}
 
 -- the place of a word among those of the ring
 abbrev pub place_in_ring : (frame word : ℕ) → ℕ
@@ -47,3 +50,11 @@ IsDumpedAt size before line = MayEnd size before (dumped_to before)
 -- each dump of a ring of `2^order` pages shows all of its words that aren't 0, ascending, and whatever line comes after it
 abbrev pub AreWholeDumps : (order : ℕ) → List Line → Type 0
 AreWholeDumps order report = Obeys (IsDumpedAt (1024 * 2 ^ order)) report
+
+-- the front's ring has the order that it wished, where another one isn't agreed
+abbrev pub IsWished : (order : ℕ) → Happening → Type 0
+IsWished order (FrontEnters (Agreed agreed)) = agreed ≡ order
+IsWished order h = Unit {0}
+
+abbrev pub AreWished : (order : ℕ) → List Happening → Type 0
+AreWished order history = AllByRecursion (IsWished order) history

@@ -3,3 +3,4 @@ pub mod Grantable
 pub mod Dumped
 pub mod Numbers
 pub mod Tells
+pub mod Reports

@@ -93,7 +93,7 @@ abbrev pub requests_in : Option Disk → List Request
 requests_in None = []
 requests_in (Some d) = d.requests
 
--- the refusal of a submission behind these lines, none where it is accepted
+-- the refusal of a submission after these lines, none where it is accepted
 abbrev pub refusal_of : List Line → Job → Option Refusal
 refusal_of before job =
     let s = fold seen nothing_seen before in

@@ -38,7 +38,7 @@ pub struct Noted {
     pub words: SectorWords,
 }
 
-/// What sectors hold from a moment on: each of `count`, the first one `from` sectors behind
+/// What sectors hold from a moment on: each of `count`, the first one `from` sectors after
 /// `sector`, has these words, or words that nobody knows.
 #[derive(Clone, Copy, Debug, PartialEq, Eq)]
 pub struct Written {

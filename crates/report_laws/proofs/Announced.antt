@@ -16,7 +16,7 @@ use Rattle.blk_front.specs.State.{in_state}
 use Rattle.blk_front.specs.Submit.{submit_of}
 use Rattle.split_model.specs.World.{World}
 use Rattle.split_model.specs.Shown.{front_lines, state_lines}
-use Rattle.split_model.specs.Happening.{Happening, FrontMoves, BackMoves, JobMoves, Negotiates, FrontEnters, BackHalts, Submits, Notifies, Pokes, Dumps, Looks, Settles, happens, lines_at, after, lines_of, front_after, front_shows, back_after, job_after, front_turn, back_turn, job_turn}
+use Rattle.split_model.specs.Happening.{Happening, FrontMoves, BackMoves, JobMoves, Negotiates, FrontEnters, BackAttaches, BackHalts, Submits, Notifies, Pokes, Dumps, Looks, Settles, happens, lines_at, after, lines_of, front_after, front_shows, back_after, job_after, front_turn, back_turn, job_turn}
 use Rattle.split_model.proofs.States.{enters_cases}
 
 -- a line that says this stands there
@@ -74,6 +74,7 @@ module _ (so : View → Bool) (says : Line → Bool) (announced : IsAnnounced so
   one_said w before (JobMoves number outcome) was = same_said w (job_after w number (job_turn w number outcome)) before _ (job_same w number (job_turn w number outcome)) was
   one_said w before (Negotiates at move) was = same_said w (happens w (Negotiates at move)) before _ refl was
   one_said w before (FrontEnters state) was = enters_said w before state was
+  one_said w before (BackAttaches shape grefs port) was = same_said w (happens w (BackAttaches shape grefs port)) before _ refl was
   one_said w before (BackHalts why) was = same_said w (happens w (BackHalts why)) before _ refl was
   one_said w before (Submits job) was = λ t. has_first says before _ (was (announced.submit w.front job t))
   one_said w before (Notifies at) was = same_said w (happens w (Notifies at)) before _ refl was

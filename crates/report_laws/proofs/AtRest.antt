@@ -8,13 +8,13 @@ use Rattle.schedule_text.specs.declared.line.Line.TheVariants as lines
 use Rattle.hypervisor.specs.Act.{Took}
 use Rattle.blk_front.specs.Submit as front_submit
 use Rattle.split_model.specs.World.{World, start_of, is_quiet}
-use Rattle.split_model.specs.Happening.{Happening, FrontMoves, BackMoves, JobMoves, Negotiates, FrontEnters, BackHalts, Submits, Notifies, Pokes, Dumps, Looks, Settles, lines_at, after, front_shows, back_shows, job_shows, front_turn, back_turn, job_turn, submit_line}
+use Rattle.split_model.specs.Happening.{Happening, FrontMoves, BackMoves, JobMoves, Negotiates, FrontEnters, BackAttaches, BackHalts, Submits, Notifies, Pokes, Dumps, Looks, Settles, lines_at, after, front_shows, back_shows, job_shows, front_turn, back_turn, job_turn, submit_line}
 use Rattle.machine_pipeline.specs.Plain.{IsPlain}
 use Rattle.machine_pipeline.specs.Allowed.{IsServed, AreServed}
 use Rattle.machine_pipeline.proofs.Together.{IsStanding, always_stands}
 use Rattle.machine_pipeline.proofs.AtRest.{IsIdleRing, quiet_rests}
 use Rattle.report_laws.specs.AtRest.{IsReadRing, IsAtRest}
-use Rattle.report_laws.proofs.Lines.{says_quiet, is_usual, AreUsual, AreUnquiet, usual_unquiet, front_usual, back_usual, job_usual, keys_usual, states_unquiet, halt_usual, submit_usual, dump_usual}
+use Rattle.report_laws.proofs.Lines.{says_quiet, is_usual, AreUsual, AreUnquiet, usual_unquiet, front_usual, back_usual, job_usual, keys_usual, attach_usual, states_unquiet, halt_usual, submit_usual, dump_usual}
 
 pub rest_of : (config : Options) (w : World) → is_quiet w ≡ true → IsStanding config w → IsAtRest w
 rest_of config w quiet stands = record { ring = read; no_job = rest.no_job; no_request = rest.no_request }
@@ -45,10 +45,11 @@ shown_quiet w BackMoves may has = absurd (none_usual (back_shows w (back_turn w 
 shown_quiet w (JobMoves number outcome) may has = absurd (none_usual (job_shows w number (job_turn w number outcome)) (job_usual w number (job_turn w number outcome)) has)
 shown_quiet w (Negotiates at move) may has = absurd (none_usual _ (keys_usual w at move) has)
 shown_quiet w (FrontEnters state) may has = absurd (none_quiet _ (states_unquiet state w.front) has)
+shown_quiet w (BackAttaches shape grefs port) may has = absurd (none_usual _ (attach_usual w shape grefs port) has)
 shown_quiet w (BackHalts why) may has = absurd (none_usual _ (halt_usual w.back.halted _) has)
 shown_quiet w (Submits job) may has = absurd (none_usual (submit_line job (front_submit.submit_of w.front job).0 ∷ []) (submit_usual job (front_submit.submit_of w.front job).0) has)
 shown_quiet w (Notifies at) may has = absurd (none_usual [] tt has)
 shown_quiet w (Pokes frame word value) may has = absurd may
-shown_quiet w Dumps may has = absurd (none_usual _ (dump_usual w.under.pages) has)
+shown_quiet w Dumps may has = absurd (none_usual _ (dump_usual w) has)
 shown_quiet w (Looks quiet) may has = may (look_quiet quiet lines.Busy refl has)
 shown_quiet w (Settles quiet) may has = may (look_quiet quiet lines.Unsettled refl has)

@@ -1,5 +1,5 @@
 -- What the back and its jobs ask has the widths of the grammar.
-use Rattle.std.proofs.Common.{◌≡◌, ℕ, ◌^◌, ◌<◌, ◌≤◌, ◌==◌, ◌⊎◌, inl, inr, Bool, true, false, if◌then◌else◌, List, [], ◌∷◌, refl, sym, subst, arith}
+use Rattle.std.proofs.Common.{◌≡◌, ℕ, ◌^◌, ◌<◌, ◌≤◌, ◌==◌, ◌⊎◌, inl, inr, Bool, true, false, if◌then◌else◌, List, [], ◌∷◌, length, refl, sym, subst, arith}
 use Rattle.std.specs.Prelude.{Option, Some, None, is_some, nat_lt}
 use Rattle.std.specs.List.{AllByRecursion}
 use Rattle.std.proofs.lemmas.Bool.Decides.{nat_tests}
@@ -20,9 +20,10 @@ use Rattle.back_jobs.specs.Jobs.{place_of, work_at, asked, ask_job}
 use Rattle.blk_back.specs.declared.stage.Reply.{Reply}
 use Rattle.blk_back.specs.declared.stage.Stage.{Stage}
 use Rattle.blk_back.specs.declared.stage.Stage.TheVariants as stage
-use Rattle.blk_back.specs.View.{View, slot_word}
-use Rattle.blk_back.specs.Ask.{ask_at, ask_of, loop_ask, next_reply, response_word}
+use Rattle.blk_back.specs.View.{View, page_of, slot_page, slot_word}
+use Rattle.blk_back.specs.Ask.{ask_at, ask_of, loop_ask, unmap_ask, next_reply, response_word}
 use Rattle.blk_back.specs.Step.{job_ask_of}
+use Rattle.machine_pipeline.specs.Allowed.{AreSaid}
 use Rattle.machine_pipeline.proofs.Lists.{all_at, found_at}
 use Rattle.report_laws.proofs.Words.{each_fits, index_fits}
 use Rattle.report_laws.proofs.Acts.{IsMover, BackFits}
@@ -37,27 +38,33 @@ response_words id op Unsupported long small = (omega arith, (omega arith, (omega
 reply_fits : (r : Reply) (i : ℕ) → IsReply r → response_word r i < 2 ^ 32
 reply_fits r i is = each_fits (response_words_of (record { id = r.id; op = r.op; status = r.status })) (response_words r.id r.op r.status is.0 is.1) i
 
-unvalued : (a b : Bool) (m : Mapping) (word word' : ℕ) → BackFits Back (if a then ask.Wait else (if b then ask.Read m word else ask.Read m word'))
-unvalued true b m word word' = tt
-unvalued false true m word word' = tt
-unvalued false false m word word' = tt
+unvalued : (a b : Bool) (m m' : Mapping) (word word' : ℕ) → BackFits Back (if a then ask.Wait else (if b then ask.Read m word else ask.Read m' word'))
+unvalued true b m m' word word' = tt
+unvalued false true m m' word word' = tt
+unvalued false false m m' word word' = tt
+
+unmap_fits : (pages : List Mapping) → BackFits Back (unmap_ask pages)
+unmap_fits [] = tt
+unmap_fits (page ∷ pages) = tt
 
 loop_fits : (v : View) (next : Option Reply) → IsNext next → BackFits Back (loop_ask v next)
 loop_fits v (Some r) is = reply_fits r 0 is
-loop_fits v None is = unvalued v.asleep (requests_of v.ring v.seen == 0) v.page 0 (slot_word v.ring.cons 0)
+loop_fits v None is = unvalued v.asleep (requests_of v.ring v.seen == 0) (page_of v 0) (slot_page v v.ring.cons 0) 0 (slot_word v.shape v.ring.cons 0)
 
-back_at : (s : Stage) (v : View) → HasWords s → IsNext (next_reply v) → BackFits Back (ask_at s v)
-back_at stage.MapRing v words next = omega arith
-back_at stage.Bind v words next = omega arith
-back_at stage.Loop v words next = loop_fits v (next_reply v) next
-back_at (stage.ReplyHigh r) v words next = reply_fits r 1 words
-back_at (stage.ReplyLast r) v words next = reply_fits r 2 words
-back_at (stage.Producer r) v words next = omega arith
-back_at stage.StoreEvent v words next = omega arith
-back_at s v words next = tt
+back_at : (s : Stage) (v : View) → HasWords s → AreSaid v.grefs v.port → IsNext (next_reply v) → BackFits Back (ask_at s v)
+back_at stage.MapRing v words said next = index_fits v.grefs (length v.pages) said.0
+back_at stage.Bind v words said next = said.1
+back_at stage.Loop v words said next = loop_fits v (next_reply v) next
+back_at (stage.ReplyHigh r) v words said next = reply_fits r 1 words
+back_at (stage.ReplyLast r) v words said next = reply_fits r 2 words
+back_at (stage.Producer r) v words said next = omega arith
+back_at stage.StoreEvent v words said next = omega arith
+back_at stage.UnmapRing v words said next = unmap_fits v.pages
+back_at stage.UnmapUnbound v words said next = unmap_fits v.pages
+back_at s v words said next = tt
 
 pub back_asks : (most : ℕ) (v : View) → IsFit most v → BackFits Back (ask_of v)
-back_asks most v f = back_at v.stage v f.1 (next_fits most v f)
+back_asks most v f = back_at v.stage v f.1 f.0.said (next_fits most v f)
 
 -- a job of a number that asks with the widths of the grammar; one that isn't held waits
 pub record JobAsks (number : ℕ) (x : BackAsk) : Type 0 where

@@ -1,18 +1,20 @@
 -- The numbers that the back and its jobs keep have the widths of the grammar, and so has what they tell, whatever words they read.
 use Rattle.std.proofs.Common.{◌≡◌, ℕ, zero, suc, ◌+◌, ◌-◌, ◌%◌, ◌^◌, ◌<◌, ◌≤◌, Bool, true, false, cond, if◌then◌else◌, List, [], ◌∷◌, ◌++◌, length, take, replicate, refl, arith}
-use Rattle.std.specs.Prelude.{All, Option, Some, None, is_some, option_and_then, nat_le, ◌==◌, slice_get, slice_set, slice_index, position}
+use Rattle.std.specs.Prelude.{All, Option, Some, None, is_some, option_and_then, nat_lt, nat_le, ◌==◌, slice_get, slice_set, slice_index, position}
 use Rattle.std.specs.List.{AllByRecursion}
 use Rattle.std.proofs.lemmas.Bool.Decides.{nat_tests}
 use Rattle.std.proofs.lemmas.List.{length-take}
 use Rattle.std.proofs.lemmas.List.Sums.{sum_by-cons}
 use Rattle.std.proofs.lemmas.List.Elements.{All-nil, All-tail, All-push, All-append, All-take, All-drop, All-set, All-replicate, recursion_from_All, All-from_recursion}
 use Rattle.blk_base.specs.Options.{Options}
-use Rattle.blk_base.specs.declared.operation.Abi.TheVariants.{X64}
+use Rattle.blk_base.specs.declared.operation.Abi.{Abi}
 use Rattle.blk_base.specs.declared.operation.Status.TheVariants.{Error}
 use Rattle.blk_base.specs.declared.parts.Mapping.{Mapping}
 use Rattle.blk_base.specs.declared.ask.BackAnswer.{BackAnswer}
 use Rattle.blk_base.specs.declared.ask.BackAnswer.TheVariants as answer
 use Rattle.ring_words.specs.Ring.{requests_of, overruns, notifies}
+use Rattle.ring_words.specs.Shape.{Shape, entry_words_of}
+use Rattle.blk_layout.specs.Places.{places_of}
 use Rattle.blk_layout.specs.Entry.{double_at, segments_at, request_of}
 use Rattle.blk_layout.specs.declared.segment.Segment.{Segment}
 use Rattle.blk_layout.specs.declared.request.RawRequest.{RawRequest}
@@ -38,12 +40,12 @@ use Rattle.blk_back.specs.declared.told.BackTold.TheVariants as told
 use Rattle.blk_back.specs.declared.told.Halt.{Halt}
 use Rattle.blk_back.specs.declared.told.Halt.TheVariants as halt
 use Rattle.blk_back.specs.View.{View, start_of}
-use Rattle.blk_back.specs.Ask.{reply_of, next_reply}
-use Rattle.blk_back.specs.Step.{giving_up, give_up, halts, overrun, looked, loop_step, next_number, fetched, fetch_step, step_at, step_of, told_effect, job_step}
+use Rattle.blk_back.specs.Ask.{reply_of, next_reply, next_gref}
+use Rattle.blk_back.specs.Step.{giving_up, give_up, unbound, bound, other_pages, attached, halts, overrun, looked, loop_step, next_number, fetched, fetch_step, step_at, step_of, told_effect, job_step}
 use Rattle.split_model.specs.Shown.{back_lines, halt_line, halt_lines}
 use Rattle.move_laws.proofs.Jobs.{direct_served}
 use Rattle.split_model.proofs.States.{halts_cases}
-use Rattle.machine_pipeline.specs.Allowed.{IsSaid}
+use Rattle.machine_pipeline.specs.Allowed.{IsSaid, AreSaid}
 use Rattle.machine_pipeline.proofs.Lists.{all_at}
 use Rattle.report_laws.proofs.Told.{AreGood, good}
 use Rattle.report_laws.proofs.Words.{AreWords, index_fits}
@@ -170,11 +172,12 @@ either_read true b x y z p q r = p
 either_read false true x y z p q r = q
 either_read false false x y z p q r = r
 
-request_read : (words : List ℕ) → AreWords words → IsRead (request_of X64 words)
+request_read : (abi : Abi) (words : List ℕ) → AreWords words → IsRead (request_of abi words)
 unfolding request_of
-request_read words all =
-    either_read (slice_index words 0 % 2 ^ 8 == 5) (slice_index words 0 % 2 ^ 8 == 6) _ _ _ (double_fits words 2 all) (omega arith, double_fits words 2 all)
-    (omega arith, double_fits words 2 all, some_segments words 6, All-from_recursion HasGref (segments_at words 6 11) (grefs_fit words 6 11 all))
+request_read abi words all =
+    let at = places_of abi in
+    either_read (slice_index words 0 % 2 ^ 8 == 5) (slice_index words 0 % 2 ^ 8 == 6) _ _ _ (double_fits words at.id all) (omega arith, double_fits words at.id all)
+    (omega arith, double_fits words at.id all, some_segments words at.segments, All-from_recursion HasGref (segments_at words at.segments 11) (grefs_fit words at.segments 11 all))
 
 named_read : (request : RawRequest) → IsRead request → (id_of request < 2 ^ 64) × (response_op request < 2 ^ 8)
 named_read (Direct op count device id sector segments) h = (h.1, h.0)
@@ -258,39 +261,40 @@ abbrev pub HaltsWith : Option Halt → Type 0
 HaltsWith None = Unit {0}
 HaltsWith (Some why) = IsSaid why
 
--- no more requests than `most` were fetched
-pub record AreNumbers (most count prod : ℕ) (works : List Work) (info : DiskInfo) (entry : List ℕ) (halted : Option Halt) : Type 0 where
+-- no more requests than `most` were fetched, and the terms of the front are of the grammar
+pub record AreNumbers (most count prod : ℕ) (works : List Work) (info : DiskInfo) (entry grefs : List ℕ) (port : ℕ) (halted : Option Halt) : Type 0 where
   pub few : count ≤ most
   pub produced : prod < 2 ^ 32
   pub jobs : All IsWork works
   pub sized : info.sectors ≤ 2 ^ 64
   pub copied : AreWords entry
+  pub said : AreSaid grefs port
   pub why : HaltsWith halted
 
 abbrev pub IsFit : ℕ → View → Type 0
-IsFit most v = AreNumbers most v.fetched v.ring.prod v.jobs.works v.jobs.info v.entry v.halted × HasWords v.stage × TellsWords v.told
+IsFit most v = AreNumbers most v.fetched v.ring.prod v.jobs.works v.jobs.info v.entry v.grefs v.port v.halted × HasWords v.stage × TellsWords v.told
 
 pub back_start : (config : Options) → AreOptions config → IsFit 0 (start_of config)
 back_start config options = (
-  record { few = omega arith; produced = options.3; jobs = All-nil IsWork; sized = (let sectors = options.4 in omega arith); copied = All-nil (λ (v : ℕ). v < 2 ^ 32); why = tt },
+  record { few = omega arith; produced = options.3; jobs = All-nil IsWork; sized = (let sectors = options.4 in omega arith); copied = All-nil (λ (v : ℕ). v < 2 ^ 32); said = (All-nil (λ (v : ℕ). v < 2 ^ 32), omega arith); why = tt },
   tt,
   tt,
 )
 
 pub later : (most more : ℕ) (v : View) → most ≤ more → IsFit most v → IsFit more v
-later most more v less f = let k = f.0 in (record { few = (let few = k.few in omega arith); produced = k.produced; jobs = k.jobs; sized = k.sized; copied = k.copied; why = k.why }, f.1, f.2)
+later most more v less f = let k = f.0 in (record { few = (let few = k.few in omega arith); produced = k.produced; jobs = k.jobs; sized = k.sized; copied = k.copied; said = k.said; why = k.why }, f.1, f.2)
 
 either : (most : ℕ) (b : Bool) (x y : View) → IsFit most x → IsFit most y → IsFit most (if b then x else y)
 either most true x y p q = p
 either most false x y p q = q
 
-jobs_now : {most count prod : ℕ} {works : List Work} {info : DiskInfo} {entry : List ℕ} {halted : Option Halt} (now : List Work) (why : Option Halt) → All IsWork now → HaltsWith why
-    → AreNumbers most count prod works info entry halted → AreNumbers most count prod now info entry why
-jobs_now now why jobs halts k = record { few = k.few; produced = k.produced; jobs = jobs; sized = k.sized; copied = k.copied; why = halts }
+jobs_now : {most count prod : ℕ} {works : List Work} {info : DiskInfo} {entry grefs : List ℕ} {port : ℕ} {halted : Option Halt} (now : List Work) (why : Option Halt) → All IsWork now → HaltsWith why
+    → AreNumbers most count prod works info entry grefs port halted → AreNumbers most count prod now info entry grefs port why
+jobs_now now why jobs halts k = record { few = k.few; produced = k.produced; jobs = jobs; sized = k.sized; copied = k.copied; said = k.said; why = halts }
 
-entry_now : {most count prod : ℕ} {works : List Work} {info : DiskInfo} {entry : List ℕ} {halted : Option Halt} (now : List ℕ) → AreWords now
-    → AreNumbers most count prod works info entry halted → AreNumbers most count prod works info now halted
-entry_now now copied k = record { few = k.few; produced = k.produced; jobs = k.jobs; sized = k.sized; copied = copied; why = k.why }
+entry_now : {most count prod : ℕ} {works : List Work} {info : DiskInfo} {entry grefs : List ℕ} {port : ℕ} {halted : Option Halt} (now : List ℕ) → AreWords now
+    → AreNumbers most count prod works info entry grefs port halted → AreNumbers most count prod works info now grefs port halted
+entry_now now copied k = record { few = k.few; produced = k.produced; jobs = k.jobs; sized = k.sized; copied = copied; said = k.said; why = k.why }
 
 giving_words : (m : Option Mapping) → HasWords (giving_up m)
 giving_words None = tt
@@ -331,13 +335,14 @@ loop_fits most v None a is f small = f
 -- a request more is fetched
 fetch_fits : (most : ℕ) (v : View) (k word : ℕ) → v.fetched + 1 ≤ most → most < 2 ^ 64 → word < 2 ^ 32 → IsFit most v → IsFit most (fetch_step v k word)
 fetch_fits most v k word more low small f =
-    either most (k == 27) (fetched v words) (record v { entry = words; stage = stage.Fetch (k + 1) }) (
+    either most (k + 1 == entry_words_of v.shape.abi) (fetched v words) (record v { entry = words; stage = stage.Fetch (k + 1) }) (
       record {
         few = omega arith;
         produced = f.0.produced;
-        jobs = All-push IsWork v.jobs.works _ f.0.jobs (begun_fits (next_number v) (request_of X64 words) v.jobs.info (verdict_of (request_of X64 words) v.jobs.info) refl f.0.sized (omega arith) (omega arith) (request_read words copied));
+        jobs = All-push IsWork v.jobs.works _ f.0.jobs (begun_fits (next_number v) (request_of v.shape.abi words) v.jobs.info (verdict_of (request_of v.shape.abi words) v.jobs.info) refl f.0.sized (omega arith) (omega arith) (request_read v.shape.abi words copied));
         sized = f.0.sized;
         copied = copied;
+        said = f.0.said;
         why = f.0.why;
       },
       tt,
@@ -350,18 +355,34 @@ fetch_fits most v k word more low small f =
     copied : AreWords words
     copied = All-push (λ (n : ℕ). n < 2 ^ 32) v.entry word f.0.copied small
 
+-- where the pages go one by one
+unbound_words : (pages : List Mapping) → HasWords (unbound pages)
+unbound_words [] = tt
+unbound_words (page ∷ pages) = tt
+
+bound_words : (pages : List Mapping) → HasWords (bound pages)
+bound_words [] = tt
+bound_words (page ∷ pages) = tt
+
 -- an answer of the back's ask
 step_fits : (most : ℕ) (s : Stage) (v : View) (a : BackAnswer) → v.fetched + 1 ≤ most → most < 2 ^ 64 → HasWords s → IsFit most v → BackTells a → IsFit most (step_at s v a)
-step_fits most stage.MapRing v (answer.Mapped m) more low h f small = (f.0, tt, f.2)
-step_fits most stage.MapRing v (answer.MapRefused status) more low h f small = (jobs_now v.jobs.works (Some (halt.MapRefused 8 status)) f.0.jobs (good (lines.Halt (halt_line (halt.MapRefused 8 status))) (omega arith, small) refl) f.0, tt, f.2)
+step_fits most stage.MapRing v (answer.Mapped m) more low h f small = (f.0, on (nat_lt (length v.pages + 1) (length v.grefs)), f.2)
+  where
+    on : (b : Bool) → HasWords (if b then stage.MapRing else stage.Bind)
+    on true = tt
+    on false = tt
+step_fits most stage.MapRing v (answer.MapRefused status) more low h f small =
+    let why = halt.MapRefused (next_gref v) status in
+    (jobs_now v.jobs.works (Some why) f.0.jobs (good (lines.Halt (halt_line why)) (index_fits v.grefs (length v.pages) f.0.said.0, small) refl) f.0, unbound_words v.pages, f.2)
 step_fits most stage.Bind v answer.Done more low h f small = (f.0, tt, f.2)
-step_fits most stage.Bind v answer.BindRefused more low h f small = (jobs_now v.jobs.works (Some (halt.BadPort 1)) f.0.jobs (good (lines.Halt (halt_line (halt.BadPort 1))) (omega arith) refl) f.0, tt, f.2)
+step_fits most stage.Bind v answer.BindRefused more low h f small =
+    (jobs_now v.jobs.works (Some (halt.BadPort v.port)) f.0.jobs (good (lines.Halt (halt_line (halt.BadPort v.port))) f.0.said.1 refl) f.0, unbound_words v.pages, f.2)
 step_fits most stage.Loop v a more low h f small = loop_fits most v (next_reply v) a (next_fits most v f) f small
 step_fits most (stage.Fetch k) v (answer.Word word) more low h f small = fetch_fits most v k word more low small f
 step_fits most (stage.ReplyHigh r) v a more low h f small = (f.0, h, f.2)
 step_fits most (stage.ReplyLast r) v a more low h f small = (f.0, h, f.2)
 step_fits most (stage.Producer r) v a more low h f small =
-    let k = f.0 in (record { few = k.few; produced = omega arith; jobs = k.jobs; sized = k.sized; copied = k.copied; why = k.why }, tt, h.0)
+    let k = f.0 in (record { few = k.few; produced = omega arith; jobs = k.jobs; sized = k.sized; copied = k.copied; said = k.said; why = k.why }, tt, h.0)
 step_fits most (stage.ProducerFence old) v a more low h f small = (f.0, tt, f.2)
 step_fits most (stage.ResponseEvent old) v (answer.Word event) more low h f small = (f.0, sent (notifies old v.ring.prod event), f.2)
   where
@@ -373,17 +394,21 @@ step_fits most stage.StoreEvent v a more low h f small = (f.0, tt, f.2)
 step_fits most stage.EventFence v a more low h f small = (f.0, tt, f.2)
 step_fits most stage.LookAgain v (answer.Word word) more low h f small = looked_fits most v word (record v { seen = word; stage = stage.Loop; asleep = true }) small f (f.0, tt, f.2)
 step_fits most (stage.GiveUp m) v a more low h f small = give_up_fits most v v.halted f.0.why f
-step_fits most stage.UnmapRing v a more low h f small = (f.0, tt, f.2)
+step_fits most stage.UnmapRing v a more low h f small = (f.0, bound_words (other_pages v.pages), f.2)
 step_fits most stage.ClosePort v a more low h f small = (f.0, tt, f.2)
-step_fits most stage.UnmapUnbound v a more low h f small = (f.0, tt, f.2)
+step_fits most stage.UnmapUnbound v a more low h f small = (f.0, unbound_words (other_pages v.pages), f.2)
 step_fits most s v a more low h f small = f
 
-pub back_fits : (most : ℕ) (v : View) (a : BackAnswer) → most + 1 < 2 ^ 64 → IsFit most v → BackTells a → IsFit (most + 1) (step_of v a)
-back_fits most v a low f small = let few = f.0.few in step_fits (most + 1) v.stage v a (omega arith) low f.1 (later most (most + 1) v (omega arith) f) small
+pub back_fits : (most : ℕ) (v : View) (a : BackAnswer) → v.fetched + 1 ≤ most → most < 2 ^ 64 → IsFit most v → BackTells a → IsFit most (step_of v a)
+back_fits most v a more low f small = step_fits most v.stage v a more low f.1 f small
+
+-- it takes the terms of its front
+pub attached_fits : (most : ℕ) (shape : Shape) (grefs : List ℕ) (port : ℕ) (v : View) → AreSaid grefs port → IsFit most v → IsFit most (attached shape grefs port v)
+attached_fits most shape grefs port v said f = let k = f.0 in (record { few = k.few; produced = k.produced; jobs = k.jobs; sized = k.sized; copied = k.copied; said = said; why = k.why }, tt, f.2)
 
 -- its negotiation has it halt
 pub halts_fits : (most : ℕ) (why : Halt) (v : View) → IsSaid why → IsFit most v → IsFit most (halts why v)
-halts_fits most why v said f = halts_cases (IsFit most) why v (λ here. (jobs_now v.jobs.works (Some why) f.0.jobs said f.0, tt, f.2)) (λ here. give_up_fits most v (Some why) said f) f
+halts_fits most why v said f = halts_cases (IsFit most) why v (λ here. (jobs_now v.jobs.works (Some why) f.0.jobs said f.0, unbound_words v.pages, f.2)) (λ here. give_up_fits most v (Some why) said f) f
 
 -- an answer of a job's ask
 effect_told : (s : JobStage) (t : Work) (a : BackAnswer) → IsWork t → TellsWords (told_effect (effect_at s t a))

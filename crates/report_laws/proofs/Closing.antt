@@ -21,8 +21,8 @@ use Rattle.blk_front.specs.declared.told.Refusal.TheVariants as refusal
 use Rattle.blk_front.specs.declared.told.Told.TheVariants as told
 use Rattle.blk_front.specs.Pool.{taking}
 use Rattle.blk_front.specs.Request.{is_write, has_data, words_in, frames_for}
-use Rattle.blk_front.specs.View.{View, next_request, shape}
-use Rattle.blk_front.specs.Step.{at, broken, looked, granted, loop_step, issued, response_at, is_mapped, ended, revoked, sector_told, data_step, step_at}
+use Rattle.blk_front.specs.View.{View, next_request}
+use Rattle.blk_front.specs.Step.{at, broken, looked, granted, loop_step, issued, response_at, is_mapped, ring_left, ended, revoked, sector_told, data_step, step_at}
 use Rattle.blk_front.specs.State.{in_state}
 use Rattle.blk_front.specs.Submit.{is_ready, unfinished, wish_of, submit_with, submit_one, submit_of}
 use Rattle.split_model.specs.Shown.{state_lines}
@@ -83,8 +83,8 @@ step_keeps (stage.GrantRead place) v (answer.Word word) = either (is_mapped word
 step_keeps (stage.GrantEnd place before) v (answer.Word word) = either (word == before) v (revoked v.ending place v) (broken word v) (revoked_keeps v v.ending place) refl
 step_keeps (stage.ReadData n) v (answer.Word word) = data_keeps v v.ending n word
 step_keeps stage.LookAgain v (answer.Word word) = looked_keeps v word (record v { seen = word; stage = stage.Loop; asleep = true }) refl
-step_keeps stage.RingRead v (answer.Word word) = either (is_mapped word) v (broken word v) (at (stage.RingEnd word) v) refl refl
-step_keeps (stage.RingEnd before) v (answer.Word word) = either (word == before) v (at stage.ClosePort v) (broken word v) refl refl
+step_keeps (stage.RingRead page) v (answer.Word word) = either (is_mapped word) v (broken word v) (at (stage.RingEnd page word) v) refl refl
+step_keeps (stage.RingEnd page before) v (answer.Word word) = either (word == before) v (at (ring_left v page) v) (broken word v) refl refl
 step_keeps (stage.RequestEvent old) v (answer.Word event) = refl
 step_keeps (stage.ResponseHigh low) v (answer.Word high) = refl
 step_keeps s v a = refl
@@ -102,12 +102,12 @@ wish_keeps : (v : View) (wish : Option Wish) → Keeps v (submit_one v wish).1
 wish_keeps v None = refl
 wish_keeps v (Some wish) =
     let frames = taking (frames_for wish.count) v.pool [] in
-    let unless_full = if nat_le (entries_of shape.order) (unfinished v) then (Err refusal.Full, v) else submit_with v wish frames in
+    let unless_full = if nat_le (entries_of v.shape.order) (unfinished v) then (Err refusal.Full, v) else submit_with v wish frames in
     let unless_long = if nat_lt 11 (frames_for wish.count) then (Err refusal.Long, v) else unless_full in
     either_submit (is_write wish.transfer && v.read_only) v (Err refusal.ReadOnly, v) (if nat_lt v.sectors (wish.sector + wish.count) then (Err refusal.Range, v) else unless_long) refl
     (either_submit (nat_lt v.sectors (wish.sector + wish.count)) v (Err refusal.Range, v) unless_long refl
     (either_submit (nat_lt 11 (frames_for wish.count)) v (Err refusal.Long, v) unless_full refl
-    (either_submit (nat_le (entries_of shape.order) (unfinished v)) v (Err refusal.Full, v) (submit_with v wish frames) refl (with_keeps v wish frames))))
+    (either_submit (nat_le (entries_of v.shape.order) (unfinished v)) v (Err refusal.Full, v) (submit_with v wish frames) refl (with_keeps v wish frames))))
 
 submit_keeps : (v : View) (job : Job) → Keeps v (submit_of v job).1
 submit_keeps v job =
@@ -120,6 +120,7 @@ submit_keeps v job =
 entered_closing : (s : FrontState) (v : View) → (let x : View = in_state s v in x.closing) ≡ true → v.closing ≡ true ⊎ Has says_closing (state_lines s)
 entered_closing state.Closing v t = inr refl
 entered_closing state.Connected v t = inl t
+entered_closing (state.Agreed order) v t = inl t
 entered_closing state.Leaving v t = inl t
 entered_closing state.Closed v t = inl t
 entered_closing (state.Broken word) v t = inl t

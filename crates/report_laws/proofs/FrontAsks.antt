@@ -67,12 +67,12 @@ issue_fits h r (transfer.Write tag) within = filling_fits r.transfer 0
 
 loop_fits : (h : Hypervisor) (v : View) (next : Option Request) → StaysInMemory (loop_ask v next) → FrontFits h (loop_ask v next)
 loop_fits h v (Some r) within = issue_fits h r r.transfer within
-loop_fits h v None within = unvalued h (v.asleep || is_through v) (responses_of v.ring v.seen == 0) ring_frame 2 (slot_frame v.ring.cons 0) (slot_word v.ring.cons 0)
+loop_fits h v None within = unvalued h (v.asleep || is_through v) (responses_of v.ring v.seen == 0) ring_frame 2 (slot_frame v.shape v.ring.cons 0) (slot_word v.shape v.ring.cons 0)
 
 asks_at : (h : Hypervisor) (s : Stage) (v : View) → IsPorted s h.channels → StaysInMemory (ask_at s v) → HasWords s → IsFit v → FrontFits h (ask_at s v)
 asks_at h (stage.RingWord k) v ported within words f = fresh_fits v.start k f.0.begins
-asks_at h stage.RingFrame v ported within words f = omega arith
-asks_at h stage.RingFlags v ported within words f = omega arith
+asks_at h (stage.RingFrame page) v ported within words f = let framed = within.0 in omega arith
+asks_at h (stage.RingFlags page) v ported within words f = omega arith
 asks_at h stage.NewPort v ported within words f = omega (arith, ported.0)
 asks_at h stage.Loop v ported within words f = loop_fits h v (next_request v) within
 asks_at h (stage.Data n) v ported within words f = data_fits h (next_request v) n
@@ -84,7 +84,7 @@ asks_at h (stage.GrantRead place) v ported within words f = revoke_fits h v.endi
 asks_at h (stage.GrantEnd place before) v ported within words f = end_fits h v.ending place before words
 asks_at h (stage.ReadData n) v ported within words f = read_fits h v.ending n
 asks_at h stage.StoreEvent v ported within words f = omega arith
-asks_at h (stage.RingEnd seen) v ported within words f = (words, omega arith)
+asks_at h (stage.RingEnd page seen) v ported within words f = (words, omega arith)
 asks_at h s v ported within words f = tt
 
 pub front_asks : (h : Hypervisor) (v : View) → IsPorted v.stage h.channels → StaysInMemory (ask_of v) → IsFit v → FrontFits h (ask_of v)

@@ -1,21 +1,23 @@
 -- The numbers that the front keeps have the widths of the grammar, and so has what it tells and answers, whatever word it reads.
-use Rattle.std.proofs.Common.{◌≡◌, ℕ, suc, ◌≤◌, ◌+◌, ◌-◌, ◌*◌, ◌/◌, ◌%◌, ◌^◌, ◌<◌, Bool, true, false, not, if◌then◌else◌, List, [], ◌∷◌, length, take, refl, arith, length-set}
+use Rattle.std.proofs.Common.{◌≡◌, ℕ, suc, ◌≤◌, ◌+◌, ◌-◌, ◌*◌, ◌/◌, ◌%◌, ◌^◌, ◌<◌, Bool, true, false, not, if◌then◌else◌, List, [], ◌∷◌, length, take, map, refl, arith, length-set}
 use Rattle.std.specs.Prelude.{◌&&◌, All, Option, Some, None, Result, Ok, Err, nat_lt, nat_le, ◌==◌, slice_get, slice_set, slice_index, position}
 use Rattle.std.specs.Option.{option_map}
-use Rattle.std.specs.List.{AllByRecursion}
+use Rattle.std.specs.List.{AllByRecursion, range_with_len}
 use Rattle.std.proofs.lemmas.Bool.Decides.{nat_tests}
 use Rattle.std.proofs.lemmas.Option.{none-some}
 use Rattle.std.proofs.lemmas.List.{length-replicate}
 use Rattle.std.proofs.lemmas.List.Elements.{All-nil, All-push, All-append, All-take, All-drop, All-set, All-replicate}
 use Rattle.blk_base.specs.Options.{Options}
 use Rattle.blk_base.specs.Distance.{distance_of}
+use Rattle.blk_base.specs.declared.operation.Abi.{Abi}
+use Rattle.blk_base.specs.declared.operation.Abi.TheVariants.{X64, X32}
 use Rattle.blk_base.specs.declared.config.Job.{Job}
 use Rattle.blk_base.specs.declared.config.Job.TheVariants as jobs
 use Rattle.blk_base.specs.declared.operation.Status.{Status}
 use Rattle.blk_base.specs.declared.ask.FrontAnswer.{FrontAnswer}
 use Rattle.blk_base.specs.declared.ask.FrontAnswer.TheVariants as answer
 use Rattle.ring_words.specs.Ring.{responses_of, notifies}
-use Rattle.ring_words.specs.Shape.{entries_of}
+use Rattle.ring_words.specs.Shape.{entries_of, entry_words_of}
 use Rattle.line_text.specs.Sector.{IsSector}
 use Rattle.blk_layout.specs.Entry.{words_of}
 use Rattle.blk_layout.specs.Response.{status_of, response_with, response_of}
@@ -36,16 +38,17 @@ use Rattle.blk_front.specs.declared.told.Refusal.{Refusal}
 use Rattle.blk_front.specs.declared.told.Refusal.TheVariants as refusal
 use Rattle.blk_front.specs.Pool.{taking}
 use Rattle.blk_front.specs.Request.{operation_of, is_write, grant_flags, has_data, frames_for, words_in, segment_in, segment_at}
-use Rattle.blk_front.specs.View.{View, next_request, shape, start_of}
-use Rattle.blk_front.specs.Step.{at, broken, looked, entry_of, issue_stage, data_stage, granted, loop_step, found_at, issued, response_at, is_mapped, finished, ended, revoked, sector_told, data_step, step_at, step_of}
+use Rattle.blk_front.specs.View.{View, next_request, start_of}
+use Rattle.blk_front.specs.Step.{at, broken, looked, entry_of, issue_stage, data_stage, granted, loop_step, found_at, issued, response_at, is_mapped, ring_left, finished, ended, revoked, sector_told, data_step, step_at, step_of}
 use Rattle.blk_front.specs.Submit.{is_ready, unfinished, wish_of, request_with, submit_with, submit_one, submit_of}
 use Rattle.blk_front.specs.declared.state.FrontState.{FrontState}
 use Rattle.blk_front.specs.declared.state.FrontState.TheVariants as state
 use Rattle.blk_front.specs.State.{in_state, enters}
+use Rattle.split_model.specs.World.{World}
 use Rattle.split_model.specs.Shown.{front_lines, state_lines, refusal_word}
 use Rattle.split_model.specs.Happening.{enter_lines, submit_line}
 use Rattle.split_model.proofs.States.{enters_cases}
-use Rattle.machine_pipeline.specs.Allowed.{IsTransfer, IsStateWord}
+use Rattle.machine_pipeline.specs.Allowed.{IsTransfer, IsStated}
 use Rattle.machine_pipeline.proofs.Lists.{all_at}
 use Rattle.report_laws.proofs.Told.{AreGood, good}
 use Rattle.report_laws.proofs.Acts.{FrontTells}
@@ -79,85 +82,22 @@ operation_fits : (way : Transfer) (frames : ℕ) → frames ≤ 11 → operation
 operation_fits transfer.Read frames few = omega arith
 operation_fits (transfer.Write tag) frames few = omega arith
 
--- the first six words, and two for each of eleven segments
-entry_words : (r : Request) → r.number < 2 ^ 64 → r.sector < 2 ^ 64 → r.count ≤ 88 → All (λ (frame : ℕ). frame < 1018) r.frames.items → AllByRecursion (λ (v : ℕ). v < 2 ^ 32) (entry_of r)
+-- two words for each segment
+abbrev segment_words : List Segment → List ℕ
+segment_words [] = []
+segment_words (s ∷ segments) = (s.gref * 1 + 0) ∷ (s.first * 1 + (s.last * 256 + 0)) ∷ segment_words segments
+
+segments_fit : (r : Request) (places : List ℕ) → All (λ (frame : ℕ). frame < 1018) r.frames.items → AllByRecursion (λ (v : ℕ). v < 2 ^ 32) (segment_words (map (segment_at r) places))
+segments_fit r [] all = tt
+segments_fit r (place ∷ places) all = (gref_fits r place all, (ends_fit r place all, segments_fit r places all))
+
+-- under each layout: the first word, one that is 0 where 64-bit fields need it, the id, the sector and eleven segments
+entry_words : (abi : Abi) (r : Request) → r.number < 2 ^ 64 → r.sector < 2 ^ 64 → r.count ≤ 88 → All (λ (frame : ℕ). frame < 1018) r.frames.items → AllByRecursion (λ (v : ℕ). v < 2 ^ 32) (entry_of abi r)
 unfolding words_of
-entry_words r number sector count all = (
-  operation_fits r.transfer (frames_for r.count) (omega arith),
-  (
-    none_fits,
-    (
-      low_half r.number,
-      (
-        high_half r.number number,
-        (
-          low_half r.sector,
-          (
-            high_half r.sector sector,
-            (
-              gref_fits r 0 all,
-              (
-                ends_fit r 0 all,
-                (
-                  gref_fits r 1 all,
-                  (
-                    ends_fit r 1 all,
-                    (
-                      gref_fits r 2 all,
-                      (
-                        ends_fit r 2 all,
-                        (
-                          gref_fits r 3 all,
-                          (
-                            ends_fit r 3 all,
-                            (
-                              gref_fits r 4 all,
-                              (
-                                ends_fit r 4 all,
-                                (
-                                  gref_fits r 5 all,
-                                  (
-                                    ends_fit r 5 all,
-                                    (
-                                      gref_fits r 6 all,
-                                      (
-                                        ends_fit r 6 all,
-                                        (
-                                          gref_fits r 7 all,
-                                          (
-                                            ends_fit r 7 all,
-                                            (
-                                              gref_fits r 8 all,
-                                              (
-                                                ends_fit r 8 all,
-                                                (
-                                                  gref_fits r 9 all,
-                                                  (ends_fit r 9 all, (gref_fits r 10 all, (ends_fit r 10 all, tt))),
-                                                ),
-                                              ),
-                                            ),
-                                          ),
-                                        ),
-                                      ),
-                                    ),
-                                  ),
-                                ),
-                              ),
-                            ),
-                          ),
-                        ),
-                      ),
-                    ),
-                  ),
-                ),
-              ),
-            ),
-          ),
-        ),
-      ),
-    ),
-  ),
-)
+entry_words X64 r number sector count all =
+    (operation_fits r.transfer (frames_for r.count) (omega arith), (none_fits, (low_half r.number, (high_half r.number number, (low_half r.sector, (high_half r.sector sector, segments_fit r (range_with_len 0 11) all))))))
+entry_words X32 r number sector count all =
+    (operation_fits r.transfer (frames_for r.count) (omega arith), (low_half r.number, (high_half r.number number, (low_half r.sector, (high_half r.sector sector, segments_fit r (range_with_len 0 11) all)))))
 
 -- a request: one entry names its sectors, and its numbers have the widths of their fields
 pub record IsAsked (r : Request) : Type 0 where
@@ -187,7 +127,7 @@ abbrev pub HasWords : Stage → Type 0
 HasWords (stage.ResponseHigh low) = low < 2 ^ 32
 HasWords (stage.ResponseLast low high) = low < 2 ^ 32
 HasWords (stage.GrantEnd place before) = before < 2 ^ 32
-HasWords (stage.RingEnd seen) = seen < 2 ^ 32
+HasWords (stage.RingEnd page seen) = seen < 2 ^ 32
 HasWords (stage.ReadData n) = n < 11264
 HasWords s = Unit {0}
 
@@ -248,17 +188,17 @@ next_holds P v r all e = by_waiting (v.waiting == 0) e
     by_waiting true e = absurd (none-some r e)
     by_waiting false e = all_at P v.requests (length v.requests - v.waiting) r all e
 
-issued_entry : (v : View) (r : Request) → All IsAsked v.requests → AreShared v.requests → next_request v ≡ Some r → AllByRecursion (λ (n : ℕ). n < 2 ^ 32) (entry_of r)
+issued_entry : (v : View) (r : Request) → All IsAsked v.requests → AreShared v.requests → next_request v ≡ Some r → AllByRecursion (λ (n : ℕ). n < 2 ^ 32) (entry_of v.shape.abi r)
 issued_entry v r asked shared e =
     let is = next_holds IsAsked v r asked e in
     let number = is.number in
-    entry_words r (omega arith) is.sector is.few (next_holds (λ (x : Request). All (λ (frame : ℕ). frame < 1018) x.frames.items) v r shared e)
+    entry_words v.shape.abi r (omega arith) is.sector is.few (next_holds (λ (x : Request). All (λ (frame : ℕ). frame < 1018) x.frames.items) v r shared e)
 
-granted_fits : (v : View) (r : Option Request) (place : ℕ) → ((x : Request) → r ≡ Some x → AllByRecursion (λ (n : ℕ). n < 2 ^ 32) (entry_of x)) → IsFit v → IsFit (granted r place v)
+granted_fits : (v : View) (r : Option Request) (place : ℕ) → ((x : Request) → r ≡ Some x → AllByRecursion (λ (n : ℕ). n < 2 ^ 32) (entry_of v.shape.abi x)) → IsFit v → IsFit (granted r place v)
 granted_fits v None place entry f = f
 granted_fits v (Some r) place entry f =
     let k = f.0 in
-    either (nat_lt (place + 1) (length r.frames.items)) (at (stage.GrantFrame (place + 1)) v) (record v { stage = stage.Slot 0; entry = entry_of r }) (λ t. (f.0, tt, f.2))
+    either (nat_lt (place + 1) (length r.frames.items)) (at (stage.GrantFrame (place + 1)) v) (record v { stage = stage.Slot 0; entry = entry_of v.shape.abi r }) (λ t. (f.0, tt, f.2))
     (λ t. (record { begins = k.begins; sized = k.sized; given = k.given; asked = k.asked; ends = k.ends; written = entry r refl; read = k.read }, tt, f.2))
 
 loop_fits : (v : View) (r : Option Request) (x : FrontAnswer) → IsFit v → FrontTells x → IsFit (loop_step v r x)
@@ -335,17 +275,17 @@ data_fits v (Some e) n word below small is f =
 
 -- an answer of the front's ask
 step_fits : (s : Stage) (v : View) (x : FrontAnswer) → AreShared v.requests → HasWords s → IsFit v → FrontTells x → IsFit (step_at s v x)
-step_fits (stage.RingWord k) v x shared h f small = (f.0, either_stage (k == 15) stage.RingFrame (stage.RingWord (k + 1)) tt tt, f.2)
-step_fits stage.RingFrame v x shared h f small = (f.0, tt, f.2)
-step_fits stage.RingFence v x shared h f small = (f.0, tt, f.2)
-step_fits stage.RingFlags v x shared h f small = (f.0, tt, f.2)
+step_fits (stage.RingWord k) v x shared h f small = (f.0, either_stage (k == 15) (stage.RingFrame 0) (stage.RingWord (k + 1)) tt tt, f.2)
+step_fits (stage.RingFrame page) v x shared h f small = (f.0, tt, f.2)
+step_fits (stage.RingFence page) v x shared h f small = (f.0, tt, f.2)
+step_fits (stage.RingFlags page) v x shared h f small = (f.0, either_stage (nat_lt (page + 1) (2 ^ v.shape.order)) (stage.RingFrame (page + 1)) stage.NewPort tt tt, f.2)
 step_fits stage.NewPort v x shared h f small = (f.0, tt, f.2)
 step_fits stage.Loop v x shared h f small = loop_fits v (next_request v) x f small
 step_fits (stage.Data n) v x shared h f small = (f.0, data_words (next_request v) n, f.2)
 step_fits (stage.GrantFrame place) v x shared h f small = (f.0, tt, f.2)
 step_fits (stage.GrantFence place) v x shared h f small = (f.0, tt, f.2)
 step_fits (stage.GrantFlags place) v x shared h f small = granted_fits v (next_request v) place (λ r e. issued_entry v r f.0.asked shared e) f
-step_fits (stage.Slot k) v x shared h f small = (f.0, either_stage (k == 27) stage.Producer (stage.Slot (k + 1)) tt tt, f.2)
+step_fits (stage.Slot k) v x shared h f small = (f.0, either_stage (k + 1 == entry_words_of v.shape.abi) stage.Producer (stage.Slot (k + 1)) tt tt, f.2)
 step_fits stage.Producer v x shared h f small = (f.0, tt, f.2)
 step_fits (stage.ProducerFence old) v x shared h f small = (f.0, tt, f.2)
 step_fits (stage.RequestEvent old) v (answer.Word event) shared h f small = (f.0, either_stage (notifies old v.ring.prod event) stage.Send stage.Loop tt tt, f.2)
@@ -361,8 +301,9 @@ step_fits (stage.ReadData n) v (answer.Word word) shared h f small = data_fits v
 step_fits stage.StoreEvent v x shared h f small = (f.0, tt, f.2)
 step_fits stage.EventFence v x shared h f small = (f.0, tt, f.2)
 step_fits stage.LookAgain v (answer.Word word) shared h f small = looked_fits v word (record v { seen = word; stage = stage.Loop; asleep = true }) small f (f.0, tt, f.2)
-step_fits stage.RingRead v (answer.Word word) shared h f small = either (is_mapped word) (broken word v) (at (stage.RingEnd word) v) (λ t. (f.0, tt, small)) (λ t. (f.0, small, f.2))
-step_fits (stage.RingEnd before) v (answer.Word word) shared h f small = either (word == before) (at stage.ClosePort v) (broken word v) (λ t. (f.0, tt, f.2)) (λ t. (f.0, tt, small))
+step_fits (stage.RingRead page) v (answer.Word word) shared h f small = either (is_mapped word) (broken word v) (at (stage.RingEnd page word) v) (λ t. (f.0, tt, small)) (λ t. (f.0, small, f.2))
+step_fits (stage.RingEnd page before) v (answer.Word word) shared h f small =
+    either (word == before) (at (ring_left v page) v) (broken word v) (λ t. (f.0, either_stage (nat_lt (page + 1) (2 ^ v.shape.order)) (stage.RingRead (page + 1)) stage.ClosePort tt tt, f.2)) (λ t. (f.0, tt, small))
 step_fits stage.ClosePort v x shared h f small = (f.0, tt, f.2)
 step_fits s v x shared h f small = f
 
@@ -370,10 +311,11 @@ pub front_fits : (v : View) (x : FrontAnswer) → AreShared v.requests → IsFit
 front_fits v x shared f small = step_fits v.stage v x shared f.1 f small
 
 -- a state that it enters, and its line
-pub enters_fits : (s : FrontState) (v : View) → IsStateWord s → IsFit v → IsFit (enters s v) × AreGood (enter_lines s v)
-enters_fits s v small f = enters_cases (λ x shown. IsFit x × AreGood shown) s v (λ may. entered s small) (f, tt)
+pub enters_fits : (w : World) (s : FrontState) (v : View) → IsStated w s → IsFit v → IsFit (enters s v) × AreGood (enter_lines s v)
+enters_fits w s v small f = enters_cases (λ x shown. IsFit x × AreGood shown) s v (λ may. entered s small) (f, tt)
   where
-    entered : (s : FrontState) → IsStateWord s → IsFit (in_state s v) × AreGood (state_lines s)
+    entered : (s : FrontState) → IsStated w s → IsFit (in_state s v) × AreGood (state_lines s)
+    entered (state.Agreed order) small = (f, tt)
     entered state.Connected small = ((f.0, tt, f.2), (good lines.Ready tt refl, tt))
     entered state.Closing small = (f, (good lines.Closing tt refl, tt))
     entered state.Leaving small = ((f.0, tt, f.2), tt)
@@ -422,13 +364,13 @@ wish_fits : (v : View) (job : Job) (wish : Wish) → 1 ≤ wish.count → (wish.
 wish_fits v job wish some widths last f =
     let sized = f.0.sized in
     let frames = taking (frames_for wish.count) v.pool [] in
-    let unless_full = if nat_le (entries_of shape.order) (unfinished v) then (Err refusal.Full, v) else submit_with v wish frames in
+    let unless_full = if nat_le (entries_of v.shape.order) (unfinished v) then (Err refusal.Full, v) else submit_with v wish frames in
     let unless_long = if nat_lt 11 (frames_for wish.count) then (Err refusal.Long, v) else unless_full in
     let unless_past = if nat_lt v.sectors (wish.sector + wish.count) then (Err refusal.Range, v) else unless_long in
     either_submit job (is_write wish.transfer && v.read_only) (Err refusal.ReadOnly, v) unless_past (λ t. refused v job refusal.ReadOnly f)
     (λ free. either_submit job (nat_lt v.sectors (wish.sector + wish.count)) (Err refusal.Range, v) unless_long (λ t. refused v job refusal.Range f)
     (λ range. either_submit job (nat_lt 11 (frames_for wish.count)) (Err refusal.Long, v) unless_full (λ t. refused v job refusal.Long f)
-    (λ long. either_submit job (nat_le (entries_of shape.order) (unfinished v)) (Err refusal.Full, v) (submit_with v wish frames) (λ t. refused v job refusal.Full f)
+    (λ long. either_submit job (nat_le (entries_of v.shape.order) (unfinished v)) (Err refusal.Full, v) (submit_with v wish frames) (λ t. refused v job refusal.Full f)
     (λ t. accepted_fits v job wish frames last (low range sized) (short long) (widths (low range sized) (short long)) f))))
   where
     low : nat_lt v.sectors (wish.sector + wish.count) ≡ false → v.sectors ≤ 2 ^ 64 → wish.sector < 2 ^ 64

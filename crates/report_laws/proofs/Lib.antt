@@ -21,5 +21,6 @@ pub mod FrontNumbers
 pub mod FrontAsks
 pub mod BackNumbers
 pub mod BackAsks
+pub mod Numbers
 pub mod Grammar
 pub mod Refused

@@ -1,5 +1,5 @@
 -- Which lines a happening shows: no `begin`, `quiet` only where it looks, and `ready` only where the front is connected.
-use Rattle.std.proofs.Common.{◌≡◌, ℕ, Bool, true, false, if◌then◌else◌, List, [], ◌∷◌, ◌++◌, refl, sym, true≢false}
+use Rattle.std.proofs.Common.{◌≡◌, ℕ, ◌*◌, ◌^◌, Bool, true, false, if◌then◌else◌, List, [], ◌∷◌, ◌++◌, refl, sym, true≢false}
 use Rattle.std.specs.Prelude.{Option, Some, None, Result, Ok, Err}
 use Rattle.std.specs.List.{AllByRecursion}
 use Rattle.blk_base.specs.declared.config.Job.{Job}
@@ -8,6 +8,7 @@ use Rattle.blk_base.specs.declared.ask.BackAnswer.TheVariants as answers
 use Rattle.blk_base.specs.declared.moves.Move.{Move}
 use Rattle.blk_base.specs.declared.parts.End.{End}
 use Rattle.blk_base.specs.declared.operation.Status.{Status}
+use Rattle.ring_words.specs.Shape.{Shape}
 use Rattle.schedule_text.specs.declared.line.Halt.{Halt as HaltLine}
 use Rattle.schedule_text.specs.declared.line.Line.{Line}
 use Rattle.schedule_text.specs.declared.line.Line.TheVariants as lines
@@ -29,8 +30,9 @@ use Rattle.split_model.specs.Shown.{front_lines, back_lines, halt_line, halt_lin
 use Rattle.split_model.specs.Keys.{KeyMove}
 use Rattle.split_model.proofs.Keys.{negotiated_lines_are}
 use Rattle.split_model.proofs.States.{enter_lines_are, state_lines_are}
+use Rattle.split_model.proofs.Attaching.{attach_lines_are}
 use Rattle.split_model.proofs.Overwriting.{poke_lines_are, dump_lines_are}
-use Rattle.split_model.specs.Happening.{Happening, FrontMoves, BackMoves, JobMoves, Negotiates, FrontEnters, BackHalts, Submits, Notifies, Pokes, Dumps, Looks, Settles, poke_lines, ring_lines, enter_lines, happens, lines_at, lines_of, front_shows, back_shows, job_shows, front_turn, back_turn, job_turn, submit_line}
+use Rattle.split_model.specs.Happening.{Happening, FrontMoves, BackMoves, JobMoves, Negotiates, FrontEnters, BackAttaches, BackHalts, Submits, Notifies, Pokes, Dumps, Looks, Settles, poke_lines, enter_lines, happens, lines_at, lines_of, front_shows, back_shows, job_shows, front_turn, back_turn, job_turn, submit_line}
 use Rattle.report_laws.specs.Begun.{is_begin}
 use Rattle.report_laws.specs.Ready.{says_ready}
 
@@ -129,6 +131,10 @@ job_usual w number act = job_all _ back_is_usual w number act
 pub keys_usual : (w : World) (at : End) (move : KeyMove) → AreUsual (lines_at w (Negotiates at move))
 keys_usual w at move = negotiated_lines_are (λ (line : Line). is_usual line ≡ true) w.back.stage at move w.under.keys (λ path. refl) (λ path text. refl) (λ path. refl) (λ path. refl)
 
+-- the terms that the back takes
+pub attach_usual : (w : World) (shape : Shape) (grefs : List ℕ) (port : ℕ) → AreUsual (lines_at w (BackAttaches shape grefs port))
+attach_usual w shape grefs port = attach_lines_are (λ (line : Line). is_usual line ≡ true) w shape grefs refl
+
 -- a state that the front enters, and a halt of the back
 pub states_unquiet : (s : FrontState) (v : front.View) → AreUnquiet (enter_lines s v)
 states_unquiet s v = enter_lines_are (λ (line : Line). says_quiet line ≡ false) s v (λ may. state_lines_are (λ (line : Line). says_quiet line ≡ false) s refl refl refl (λ word. refl))
@@ -144,8 +150,8 @@ submit_usual job (Err r) = (refl, tt)
 pub poke_usual : (frame word value : ℕ) → AreUsual (poke_lines frame word value)
 poke_usual frame word value = poke_lines_are (λ (line : Line). is_usual line ≡ true) frame word value refl
 
-pub dump_usual : (pages : List ℕ) → AreUsual (ring_lines pages 0 1024)
-dump_usual pages = dump_lines_are (λ (line : Line). is_usual line ≡ true) pages 0 1024 (λ frame word value. refl)
+pub dump_usual : (w : World) → AreUsual (lines_at w Dumps)
+dump_usual w = dump_lines_are (λ (line : Line). is_usual line ≡ true) w.under.pages 0 (1024 * 2 ^ w.front.shape.order) (λ frame word value. refl)
 
 -- no line begins a report
 abbrev pub AreLater : List Line → Type 0
@@ -168,11 +174,12 @@ one_later w BackMoves = usual_later (back_shows w (back_turn w Took)) (back_usua
 one_later w (JobMoves number outcome) = usual_later (job_shows w number (job_turn w number outcome)) (job_usual w number (job_turn w number outcome))
 one_later w (Negotiates at move) = usual_later (lines_at w (Negotiates at move)) (keys_usual w at move)
 one_later w (FrontEnters state) = enter_lines_are (λ (line : Line). is_begin line ≡ false) state w.front (λ may. state_lines_are (λ (line : Line). is_begin line ≡ false) state refl refl refl (λ word. refl))
+one_later w (BackAttaches shape grefs port) = usual_later _ (attach_usual w shape grefs port)
 one_later w (BackHalts why) = usual_later _ (halt_usual w.back.halted _)
 one_later w (Submits job) = usual_later (submit_line job (front_submit.submit_of w.front job).0 ∷ []) (submit_usual job (front_submit.submit_of w.front job).0)
 one_later w (Notifies at) = tt
 one_later w (Pokes frame word value) = usual_later _ (poke_usual frame word value)
-one_later w Dumps = usual_later _ (dump_usual w.under.pages)
+one_later w Dumps = usual_later _ (dump_usual w)
 one_later w (Looks quiet) = look_later quiet lines.Busy refl
 one_later w (Settles quiet) = look_later quiet lines.Unsettled refl
 

@@ -29,7 +29,7 @@ use Rattle.blk_back.specs.Step.{job_ask_of}
 use Rattle.split_model.specs.World.{World, start_of}
 use Rattle.split_model.specs.Safe.{IsSafe}
 use Rattle.split_model.specs.Shown.{state_lines}
-use Rattle.split_model.specs.Happening.{Happening, FrontMoves, BackMoves, JobMoves, Negotiates, FrontEnters, BackHalts, Submits, Notifies, Pokes, Dumps, Looks, Settles, other_end, happens, lines_at, after, lines_of, front_after, front_shows, back_after, back_shows, job_after, job_shows, front_turn, back_turn, job_turn, submit_line}
+use Rattle.split_model.specs.Happening.{Happening, FrontMoves, BackMoves, JobMoves, Negotiates, FrontEnters, BackAttaches, BackHalts, Submits, Notifies, Pokes, Dumps, Looks, Settles, other_end, happens, lines_at, after, lines_of, front_after, front_shows, back_after, back_shows, job_after, job_shows, front_turn, back_turn, job_turn, submit_line}
 use Rattle.split_model.specs.Report.{report_of}
 use Rattle.split_model.proofs.SafeActs.{of_front, front_wait}
 use Rattle.split_model.proofs.SafeAnswers.{IsFronts, fronts_at}
@@ -40,7 +40,7 @@ use Rattle.machine_pipeline.specs.Allowed.{IsServed, AreServed}
 use Rattle.machine_pipeline.proofs.Together.{IsStanding, always_stands, run_kept}
 use Rattle.machine_pipeline.proofs.AtRest.{port_made}
 use Rattle.report_laws.specs.Ready.{says_ready}
-use Rattle.report_laws.proofs.Lines.{AreUsual, usual_ready, front_usual, back_usual, job_usual, keys_usual, halt_usual, submit_usual, dump_usual}
+use Rattle.report_laws.proofs.Lines.{AreUsual, usual_ready, front_usual, back_usual, job_usual, keys_usual, attach_usual, halt_usual, submit_usual, dump_usual}
 
 -- a front that made its port makes no other
 abbrev HasOne : FrontAct → Type 0
@@ -108,6 +108,7 @@ initialised s e = absurd (cc)
 entered_port : (config : Options) (w : World) (before : List Line) (s : FrontState) → IsStanding config w → HasPort before w → may_enter s w.front ≡ true → list_any says_ready (before ++ state_lines s) ≡ true → w.under.channels.made ≡ 1
 entered_port config w before state.Connected stands has may t = port_made config w (initialised w.front.stage may) stands
 entered_port config w before state.Closing stands has may t = has (earlier before (lines.Closing ∷ []) refl t)
+entered_port config w before (state.Agreed order) stands has may t = has (earlier before [] refl t)
 entered_port config w before state.Leaving stands has may t = has (earlier before [] refl t)
 entered_port config w before state.Closed stands has may t = has (earlier before (lines.Closed ∷ []) refl t)
 entered_port config w before (state.Broken word) stands has may t = has (earlier before (lines.Broken word ∷ []) refl t)
@@ -120,11 +121,12 @@ one_port config w before (JobMoves number o) may stands has =
 one_port config w before (Negotiates at move) may stands has = usual_kept before _ w (happens w (Negotiates at move)) (keys_usual w at move) (λ one. one) has
 one_port config w before (FrontEnters s) may stands has =
     enters_cases (λ v shown. list_any says_ready (before ++ shown) ≡ true → w.under.channels.made ≡ 1) s w.front (entered_port config w before s stands has) (λ t. has (earlier before [] refl t))
+one_port config w before (BackAttaches shape grefs port) may stands has = usual_kept before _ w (happens w (BackAttaches shape grefs port)) (attach_usual w shape grefs port) (λ one. one) has
 one_port config w before (BackHalts why) may stands has = usual_kept before _ w (happens w (BackHalts why)) (halt_usual w.back.halted _) (λ one. one) has
 one_port config w before (Submits job) may stands has = usual_kept before (submit_line job (front_submit.submit_of w.front job).0 ∷ []) w (happens w (Submits job)) (submit_usual job (front_submit.submit_of w.front job).0) (λ one. one) has
 one_port config w before (Notifies at) may stands has = kept before [] w (happens w (Notifies at)) refl (λ one. sent_ports w.under.channels at ∙ one) has
 one_port config w before (Pokes frame word value) may stands has = absurd may
-one_port config w before Dumps may stands has = usual_kept before _ w w (dump_usual w.under.pages) (λ one. one) has
+one_port config w before Dumps may stands has = usual_kept before _ w w (dump_usual w) (λ one. one) has
 one_port config w before (Looks quiet) may stands has = kept before _ w w (look_unready quiet lines.Busy refl) (λ one. one) has
 one_port config w before (Settles quiet) may stands has = kept before _ w w (look_unready quiet lines.Unsettled refl) (λ one. one) has
 

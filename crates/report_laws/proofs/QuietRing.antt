@@ -47,9 +47,9 @@ report_start : (config : Options) (detail : Detail) (history : List Happening) �
 report_start config detail history = same_start config.start (lines_of history (world.start_of config)) (all_later history (world.start_of config))
 
 -- a front in its loop, or closed, took as many responses as it told answers
-taken_at : (start n cons : ℕ) (s : Stage) → (s ≡ stage.Loop) ⊎ (s ≡ stage.Closed) → CountsAt start n cons s → cons ≡ wrapped start n
-taken_at start n cons s (inl looping) h = subst (CountsAt start n cons) looping h
-taken_at start n cons s (inr closed) h = subst (CountsAt start n cons) closed h
+taken_at : (start n begins cons : ℕ) (s : Stage) → (s ≡ stage.Loop) ⊎ (s ≡ stage.Closed) → CountsAt start n begins cons s → cons ≡ wrapped start n
+taken_at start n begins cons s (inl looping) h = subst (CountsAt start n begins cons) looping h
+taken_at start n begins cons s (inr closed) h = subst (CountsAt start n begins cons) closed h
 
 served_where_quiet : (config : Options) (history : List Happening) → IsPlain config → AreServed history (world.start_of config) → is_quiet (after history (world.start_of config)) ≡ true → IsQuietRingAt (report_of config Moves history) lines.Quiet
 served_where_quiet config history plain may quiet ready = record {
@@ -64,7 +64,7 @@ served_where_quiet config history plain may quiet ready = record {
     report = report_of config Moves history
 
     tells : Tells report w.under.pages w.under.grants
-    tells = (report_follows config Moves history).tells
+    tells = (report_follows config Moves history plain.order).tells
 
     requests : value_before report 2 0 ≡ word_of w.under.pages 2 0
     requests = tells.values 2 0 (omega arith) (omega arith)
@@ -79,7 +79,7 @@ served_where_quiet config history plain may quiet ready = record {
     rest = idle.ring (report_port config Moves history plain may ready)
 
     taken : w.front.ring.cons ≡ wrapped config.start (answers_told report)
-    taken = taken_at config.start (answers_told report) w.front.ring.cons w.front.stage idle.front_at (report_counts config Moves history plain)
+    taken = taken_at config.start (answers_told report) w.front.start w.front.ring.cons w.front.stage idle.front_at (report_counts config Moves history plain)
 
 quiet_free : SpeaksOfQuiet IsQuietRingAt
 quiet_free before lines.Quiet e = absurd (true≢false e)
@@ -91,11 +91,11 @@ quiet_where_quiet config history plain may first rest e quiet =
 
 report_quiet_moves : (config : Options) (history : List Happening) → IsPlain config → AreServed history (world.start_of config) → IsQuietRing (kept_of Moves (report_of config Moves history))
 report_quiet_moves config history plain may =
-    subst IsQuietRing (sym (report_kept config history)) (reports_obey IsQuietRingAt quiet_free config Moves history (served_possible history (world.start_of config) may) (quiet_where_quiet config history plain may))
+    subst IsQuietRing (sym (report_kept config history)) (reports_obey IsQuietRingAt quiet_free config Moves history (served_possible history (world.start_of config) plain.order may) (quiet_where_quiet config history plain may))
 
 ended_quiet_moves : (config : Options) (history : List Happening) → IsPlain config → AreServed history (world.start_of config) → IsQuietRing (kept_of Moves (ended_report_of config Moves history))
 ended_quiet_moves config history plain may =
-    subst IsQuietRing (sym (ended_kept config history)) (ended_obey IsQuietRingAt quiet_free config Moves history (served_possible history (world.start_of config) may) (quiet_where_quiet config history plain may))
+    subst IsQuietRing (sym (ended_kept config history)) (ended_obey IsQuietRingAt quiet_free config Moves history (served_possible history (world.start_of config) plain.order may) (quiet_where_quiet config history plain may))
 
 -- of each report that shows the moves
 pub report_quiet : (config : Options) (detail : Detail) (history : List Happening) → IsPlain config → AreServed history (world.start_of config) → detail ≡ Moves → IsQuietRing (kept_of detail (report_of config detail history))

@@ -1,5 +1,6 @@
 -- A front that is idle is connected, closed or broken, and its report has the line of it.
-use Rattle.std.proofs.Common.{◌≡◌, ◌⊎◌, inl, inr, ◌+◌, ◌==◌, ◌||◌, Bool, true, false, not, ◌&&◌, if◌then◌else◌, List, [], ◌∷◌, ◌++◌, refl, ap, sym, ◌∙◌, true≢false}
+use Rattle.std.proofs.Common.{◌≡◌, ◌⊎◌, inl, inr, ◌+◌, ◌^◌, ◌==◌, ◌||◌, Bool, true, false, not, ◌&&◌, if◌then◌else◌, List, [], ◌∷◌, ◌++◌, refl, ap, sym, ◌∙◌, true≢false}
+use Rattle.std.specs.Prelude.{nat_lt}
 use Rattle.std.specs.List.{list_any}
 use Rattle.blk_base.specs.Options.{Options}
 use Rattle.blk_base.specs.declared.ask.FrontAnswer.{FrontAnswer}
@@ -14,7 +15,7 @@ use Rattle.blk_front.specs.declared.state.FrontState.{FrontState}
 use Rattle.blk_front.specs.declared.state.FrontState.TheVariants as state
 use Rattle.blk_front.specs.View.{View}
 use Rattle.blk_front.specs.Ask as ask
-use Rattle.blk_front.specs.Step.{at, broken, is_mapped, step_at}
+use Rattle.blk_front.specs.Step.{at, broken, is_mapped, ring_granted, ring_left, step_at}
 use Rattle.blk_front.specs.State.{in_state}
 use Rattle.blk_front.specs.Submit.{is_ready, is_led, is_wait}
 use Rattle.split_model.specs.World.{World, start_of, is_quiet}
@@ -53,17 +54,19 @@ either_unsettled true s s' e f = e
 either_unsettled false s s' e f = f
 
 step_settles : (s : Stage) (v : View) (a : FrontAnswer) → v.stage ≡ s → IsSettling s (step_at s v a)
-step_settles (stage.RingWord k) v a here = unsettled (stage.RingWord k) (at (if k == 15 then stage.RingFrame else stage.RingWord (k + 1)) v) (either_unsettled (k == 15) stage.RingFrame (stage.RingWord (k + 1)) refl refl)
-step_settles stage.RingFrame v a here = unsettled stage.RingFrame (at stage.RingFence v) refl
-step_settles stage.RingFence v a here = unsettled stage.RingFence (at stage.RingFlags v) refl
-step_settles stage.RingFlags v a here = unsettled stage.RingFlags (at stage.NewPort v) refl
+step_settles (stage.RingWord k) v a here = unsettled (stage.RingWord k) (at (if k == 15 then stage.RingFrame 0 else stage.RingWord (k + 1)) v) (either_unsettled (k == 15) (stage.RingFrame 0) (stage.RingWord (k + 1)) refl refl)
+step_settles (stage.RingFrame page) v a here = unsettled (stage.RingFrame page) (at (stage.RingFence page) v) refl
+step_settles (stage.RingFence page) v a here = unsettled (stage.RingFence page) (at (stage.RingFlags page) v) refl
+step_settles (stage.RingFlags page) v a here = unsettled (stage.RingFlags page) (at (ring_granted v page) v) (either_unsettled (nat_lt (page + 1) (2 ^ v.shape.order)) (stage.RingFrame (page + 1)) stage.NewPort refl refl)
 step_settles stage.NewPort v a here = unsettled stage.NewPort (at stage.Initialised v) refl
 step_settles stage.Initialised v a here = unsettled stage.Initialised v (ap is_settled here)
-step_settles stage.RingRead v (answer.Word word) here = either_settles stage.RingRead (is_mapped word) (broken word v) (at (stage.RingEnd word) v) (λ t. inr refl) (unsettled stage.RingRead (at (stage.RingEnd word) v) refl)
-step_settles stage.RingRead v a here = unsettled stage.RingRead v (ap is_settled here)
-step_settles (stage.RingEnd before) v (answer.Word word) here =
-    either_settles (stage.RingEnd before) (word == before) (at stage.ClosePort v) (broken word v) (unsettled (stage.RingEnd before) (at stage.ClosePort v) refl) (λ t. inr refl)
-step_settles (stage.RingEnd before) v a here = unsettled (stage.RingEnd before) v (ap is_settled here)
+step_settles (stage.RingRead page) v (answer.Word word) here =
+    either_settles (stage.RingRead page) (is_mapped word) (broken word v) (at (stage.RingEnd page word) v) (λ t. inr refl) (unsettled (stage.RingRead page) (at (stage.RingEnd page word) v) refl)
+step_settles (stage.RingRead page) v a here = unsettled (stage.RingRead page) v (ap is_settled here)
+step_settles (stage.RingEnd page before) v (answer.Word word) here =
+    either_settles (stage.RingEnd page before) (word == before) (at (ring_left v page) v) (broken word v)
+    (unsettled (stage.RingEnd page before) (at (ring_left v page) v) (either_unsettled (nat_lt (page + 1) (2 ^ v.shape.order)) (stage.RingRead (page + 1)) stage.ClosePort refl refl)) (λ t. inr refl)
+step_settles (stage.RingEnd page before) v a here = unsettled (stage.RingEnd page before) v (ap is_settled here)
 step_settles stage.ClosePort v a here = unsettled stage.ClosePort (at stage.Left v) refl
 step_settles stage.Left v a here = unsettled stage.Left v (ap is_settled here)
 step_settles s v a here = λ t. inl refl
@@ -72,6 +75,7 @@ step_settles s v a here = λ t. inl refl
 entered_outcome : (s : FrontState) (v : View) → (let x : View = in_state s v in is_settled x.stage) ≡ true → is_settled v.stage ≡ true ⊎ HasOutcome (state_lines s)
 entered_outcome state.Connected v t = inr refl
 entered_outcome state.Closing v t = inl t
+entered_outcome (state.Agreed order) v t = inl t
 entered_outcome state.Leaving v t = absurd (true≢false (sym t))
 entered_outcome state.Closed v t = inr refl
 entered_outcome (state.Broken word) v t = inr refl
@@ -87,13 +91,13 @@ outcome_announced = record {
 -- a front that is idle is settled
 idle_settled : (s : Stage) (v : View) → (not (is_led s) && is_wait (ask.ask_at s v)) ≡ true → is_settled s ≡ true
 idle_settled (stage.RingWord k) v t = absurd (true≢false (sym t))
-idle_settled stage.RingFrame v t = absurd (true≢false (sym t))
-idle_settled stage.RingFence v t = absurd (true≢false (sym t))
-idle_settled stage.RingFlags v t = absurd (true≢false (sym t))
+idle_settled (stage.RingFrame page) v t = absurd (true≢false (sym t))
+idle_settled (stage.RingFence page) v t = absurd (true≢false (sym t))
+idle_settled (stage.RingFlags page) v t = absurd (true≢false (sym t))
 idle_settled stage.NewPort v t = absurd (true≢false (sym t))
 idle_settled stage.Initialised v t = absurd (true≢false (sym t))
-idle_settled stage.RingRead v t = absurd (true≢false (sym t))
-idle_settled (stage.RingEnd seen) v t = absurd (true≢false (sym t))
+idle_settled (stage.RingRead page) v t = absurd (true≢false (sym t))
+idle_settled (stage.RingEnd page seen) v t = absurd (true≢false (sym t))
 idle_settled stage.ClosePort v t = absurd (true≢false (sym t))
 idle_settled stage.Left v t = absurd (true≢false (sym t))
 idle_settled s v t = refl

@@ -15,13 +15,13 @@ use Rattle.blk_base.specs.declared.parts.End.TheVariants as end
 use Rattle.blk_base.specs.declared.moves.Move.{Move}
 use Rattle.blk_base.specs.declared.moves.Move.TheVariants as moves
 use Rattle.schedule_text.specs.declared.line.Line.TheVariants as lines
-use Rattle.schedule_text.specs.Range.{MoveHasWidths, MoverHasWidths, is_mover_allowed, is_move_allowed}
+use Rattle.schedule_text.specs.Range.{IsInRange, MoveHasWidths, MoverHasWidths, is_mover_allowed, is_move_allowed}
 use Rattle.key_directory.specs.Paths.{is_at_or_under}
 use Rattle.key_directory.specs.Watches.{Watches, same_path, with_watch, fired, first_of, next_watch, taken, taken_from}
 use Rattle.key_directory.specs.Directory.{Directory, key_of, with_key, written, watches_of, with_watches, fresh_directory}
 use Rattle.split_model.specs.World.{World}
-use Rattle.split_model.specs.Keys.{KeyMove, Gets, Sets, Watches as WatchesPath, mover_at, may_set, negotiated, negotiated_lines}
-use Rattle.split_model.specs.Happening.{Happening, happens}
+use Rattle.split_model.specs.Keys.{KeyMove, Gets, Sets, Watches as WatchesPath, mover_at, may_set, layout_path, negotiated, negotiated_lines}
+use Rattle.split_model.specs.Happening.{Happening, layout_text, layout_read, happens}
 use Rattle.split_model.proofs.Keys.{key_cases, negotiated_cases, keys_happen}
 use Rattle.machine_pipeline.specs.Allowed.{IsSpelled, IsPossible}
 use Rattle.report_laws.proofs.Told.{AreGood, good}
@@ -168,6 +168,15 @@ negotiates w at move spelled all =
 
 pub keys_good : (w : World) (at : End) (move : KeyMove) → IsSpelled move → AreSpelled w.under.keys → AreGood (negotiated_lines w.back.stage at move w.under.keys)
 keys_good w at move spelled all = (negotiates w at move spelled all).1
+
+-- and so is that of the key for the layout, as the back reads it
+layout_named : IsPath layout_path
+unfolding is_key_path
+layout_named = refl
+
+pub layout_good : (w : World) → AreSpelled w.under.keys → IsInRange (lines.Move (layout_read w))
+layout_good w all =
+    good (lines.Move (layout_read w)) tt (got_allowed end.Back layout_path (layout_text w) layout_named (λ text. text_found w.under.keys.keys layout_path text all.keys))
 
 -- whatever happens
 pub spelled_happens : (w : World) (h : Happening) → IsPossible w h → AreSpelled w.under.keys → (let v : World = happens w h in AreSpelled v.under.keys)

@@ -1,5 +1,5 @@
 -- Each key has the text that the lines of a report set last, so where all is found quiet the lines say what the directory says.
-use Rattle.std.proofs.Common.{◌≡◌, ◌≢◌, ℕ, Bool, true, false, true≢false, if◌then◌else◌, List, [], ◌∷◌, ◌++◌, inl, inr, refl, sym, ap, ◌∙◌, subst}
+use Rattle.std.proofs.Common.{◌≡◌, ◌≢◌, ℕ, ◌*◌, ◌^◌, Bool, true, false, true≢false, if◌then◌else◌, List, [], ◌∷◌, ◌++◌, inl, inr, refl, sym, ap, ◌∙◌, subst}
 use Rattle.std.specs.Prelude.{Option, Some, None, Result, Ok, Err, codes}
 use Rattle.std.specs.List.{AllByRecursion}
 use Rattle.std.specs.Str.{bytes_eq}
@@ -51,10 +51,11 @@ use Rattle.blk_back.specs.Step as back_step
 use Rattle.split_model.specs.World.{World, start_of}
 use Rattle.split_model.specs.Shown.{front_lines, back_lines, halt_lines, effect_line}
 use Rattle.split_model.specs.Keys.{KeyMove}
-use Rattle.split_model.specs.Happening.{Happening, FrontMoves, BackMoves, JobMoves, Negotiates, FrontEnters, BackHalts, Submits, Notifies, Pokes, Dumps, Looks, Settles, enter_lines, submit_line, happens, after, lines_at, lines_of, front_shows, back_shows, job_shows, front_turn, back_turn, job_turn}
+use Rattle.split_model.specs.Happening.{Happening, FrontMoves, BackMoves, JobMoves, Negotiates, FrontEnters, BackAttaches, BackHalts, Submits, Notifies, Pokes, Dumps, Looks, Settles, enter_lines, submit_line, happens, after, lines_at, lines_of, front_shows, back_shows, job_shows, front_turn, back_turn, job_turn}
 use Rattle.split_model.specs.Report.{report_of, ended_report_of}
 use Rattle.split_model.proofs.Keys.{key_cases, negotiated_cases, keys_happen, backs_no_key, jobs_no_key}
 use Rattle.split_model.proofs.States.{enter_lines_are, state_lines_are}
+use Rattle.split_model.proofs.Attaching.{attach_lines_are}
 use Rattle.split_model.proofs.Overwriting.{poke_lines_are, dump_lines_are}
 use Rattle.split_model.proofs.SafeActs.{of_front, of_back, AsksBackKey, front_wait, back_wait}
 use Rattle.split_model.proofs.SafeAnswers.{AsksNoKey, fronts_no_key, backs_of, jobs_of}
@@ -240,11 +241,12 @@ one_told path text w BackMoves has = other_told path text w BackMoves refl (back
 one_told path text w (JobMoves number outcome) has = other_told path text w (JobMoves number outcome) refl (job_turn_silent w number outcome (job_turn w number outcome) refl) has
 one_told path text w (Negotiates at move) has = keys_told path text w at move has
 one_told path text w (FrontEnters state) has = other_told path text w (FrontEnters state) refl (state_silent state w.front) has
+one_told path text w (BackAttaches shape grefs port) has = other_told path text w (BackAttaches shape grefs port) refl (attach_lines_are IsSilent w shape grefs refl) has
 one_told path text w (BackHalts why) has = other_told path text w (BackHalts why) refl (halt_silent w.back.halted _) has
 one_told path text w (Submits job) has = other_told path text w (Submits job) refl (submit_silent job (front_submit.submit_of w.front job).0) has
 one_told path text w (Notifies at) has = other_told path text w (Notifies at) refl tt has
 one_told path text w (Pokes frame word value) has = other_told path text w (Pokes frame word value) refl (poke_lines_are IsSilent frame word value refl) has
-one_told path text w Dumps has = other_told path text w Dumps refl (dump_lines_are IsSilent w.under.pages 0 1024 (λ frame word value. refl)) has
+one_told path text w Dumps has = other_told path text w Dumps refl (dump_lines_are IsSilent w.under.pages 0 (1024 * 2 ^ w.front.shape.order) (λ frame word value. refl)) has
 one_told path text w (Looks quiet) has = other_told path text w (Looks quiet) refl (look_silent quiet lines.Busy refl) has
 one_told path text w (Settles quiet) has = other_told path text w (Settles quiet) refl (look_silent quiet lines.Unsettled refl) has
 

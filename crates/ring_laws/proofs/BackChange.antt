@@ -1,8 +1,10 @@
 -- What a move of the back makes of the jobs, and what it shows.
-use Rattle.std.proofs.Common.{◌≡◌, ℕ, ◌+◌, ◌≤◌, ◌==◌, Bool, true, false, if◌then◌else◌, [], ◌∷◌, ◌++◌, length, refl, arith}
+use Rattle.std.proofs.Common.{◌≡◌, ℕ, ◌+◌, ◌≤◌, ◌==◌, Bool, true, false, if◌then◌else◌, List, [], ◌∷◌, ◌++◌, length, refl, sym, ◌∙◌, arith}
 use Rattle.std.specs.Prelude.{Option, Some, None, is_some, position, Result, Ok, Err}
-use Rattle.blk_base.specs.declared.operation.Abi.TheVariants.{X64}
+use Rattle.blk_base.specs.declared.operation.Abi.{Abi}
+use Rattle.blk_base.specs.declared.parts.Mapping.{Mapping}
 use Rattle.blk_base.specs.declared.parts.Mode.{Mode}
+use Rattle.blk_base.specs.declared.parts.Mode.TheVariants.{ReadWrite}
 use Rattle.blk_base.specs.declared.ask.FrontAsk.{FrontAsk}
 use Rattle.blk_base.specs.declared.ask.FrontAsk.TheVariants as front_ask
 use Rattle.blk_base.specs.declared.ask.BackAsk.{BackAsk}
@@ -18,7 +20,9 @@ use Rattle.event_channel.specs.Channels.{state_of}
 use Rattle.hypervisor.specs.Hypervisor.{Hypervisor}
 use Rattle.hypervisor.specs.Act.{FrontAct, BackAct, Outcome, front_act, back_act, map_act, bind_act}
 use Rattle.ring_words.specs.Ring.{requests_of, overruns, notifies}
+use Rattle.ring_words.specs.Shape.{entry_words_of}
 use Rattle.schedule_text.specs.declared.line.Line.{Line}
+use Rattle.report_rules.specs.Ring.{ring_shape}
 use Rattle.schedule_text.specs.declared.line.Line.TheVariants as lines
 use Rattle.blk_layout.specs.Entry.{request_of}
 use Rattle.back_jobs.specs.Task.{Work}
@@ -32,21 +36,24 @@ use Rattle.blk_back.specs.declared.stage.Reply.{Reply}
 use Rattle.blk_back.specs.declared.stage.Stage.{Stage}
 use Rattle.blk_back.specs.declared.stage.Stage.TheVariants as stage
 use Rattle.blk_back.specs.View.{View}
-use Rattle.blk_back.specs.Ask.{next_reply}
-use Rattle.blk_back.specs.Step.{at, overrun, looked, loop_step, fetched, fetch_step, next_number, replied, step_at}
+use Rattle.blk_back.specs.Ask.{ask_at, loop_ask, unmap_ask, next_gref, next_reply}
+use Rattle.blk_back.specs.Step.{at, mapped, unmapped_bound, unmapped_unbound, overrun, looked, loop_step, fetched, fetch_step, next_number, replied, step_at}
 use Rattle.split_model.specs.Shown.{front_lines, back_lines, halt_lines}
 use Rattle.split_model.proofs.SafeActs.{of_front, of_back, front_wait, back_wait}
 use Rattle.split_model.proofs.SafeAnswers.{IsBacks, AsksNoKey}
-use Rattle.ring_laws.proofs.Shows.{Sight}
+use Rattle.ring_laws.proofs.Shows.{Sight, Shows, other_on_pages, untouched_value, shows_map}
 use Rattle.ring_laws.proofs.Knows.{Serves, KnowsAt}
 use Rattle.ring_laws.proofs.Bystanders.{IsBystander, AreBystanders}
+use Rattle.ring_laws.proofs.Sight.{is_other, other_touch}
+use Rattle.ring_laws.proofs.Entry.{shape_is}
+use Rattle.ring_laws.proofs.Fetched.{Reads, shaped, blind, values_still}
 
 -- the back's jobs and how many it fetched, before and after a move; so many words of entries were read before
 pub data Change (words : ℕ) (old new : View) : Type 0 where
   kept : new.jobs.works ≡ old.jobs.works → new.fetched ≡ old.fetched → Change words old new
   replies : new.jobs.works ≡ removed_at old.jobs.works (position (λ (t : Work). is_done t) old.jobs.works) → new.fetched ≡ old.fetched → Change words old new
   halts : is_some new.halted ≡ true → new.fetched ≡ old.fetched → Change words old new
-  fetches : (let h = start_job old.jobs (next_number old) (request_of X64 new.entry) in new.jobs.works ≡ h.works) → new.fetched ≡ next_number old → new.stage ≡ stage.Loop → 1 ≤ words → Change words old new
+  fetches : (let h = start_job old.jobs (next_number old) (request_of old.shape.abi new.entry) in new.jobs.works ≡ h.works) → new.fetched ≡ next_number old → new.stage ≡ stage.Loop → 1 ≤ words → Change words old new
 
 -- the back tells of replies alone
 abbrev pub IsBackTold : Option BackTold → Type 0
@@ -87,15 +94,15 @@ loop_change words v None a t = changed words v v refl refl refl t (λ r. r)
 
 fetch_change : (words : ℕ) (v : View) (k word : ℕ) → 1 ≤ words → IsBackTold v.told → Changed words v (fetch_step v k word)
 fetch_change words v k word some t =
-    either words v (k == 27) (fetched v (v.entry ++ word ∷ [])) (record v { entry = v.entry ++ word ∷ []; stage = stage.Fetch (k + 1) })
+    either words v (k + 1 == entry_words_of v.shape.abi) (fetched v (v.entry ++ word ∷ [])) (record v { entry = v.entry ++ word ∷ []; stage = stage.Fetch (k + 1) })
     (record { change = fetches refl refl refl some; info = refl; tells = t; running = λ r. r })
     (changed words v (record v { entry = v.entry ++ word ∷ []; stage = stage.Fetch (k + 1) }) refl refl refl t (λ r. r))
 
-begun_words : (k : ℕ) (x : Sight) (v : View) → 1 ≤ k → Serves k x v.ring v.page v.seen v.halted v.entry v.fetched → 1 ≤ length x.values
+begun_words : (k : ℕ) (x : Sight) (v : View) → 1 ≤ k → Serves k x v → 1 ≤ length x.values
 begun_words k x v some s = let long = s.long in let words = s.words in omega arith
 
-pub change_at : (s : Stage) (v : View) (x : Sight) (a : BackAnswer) → KnowsAt s x v.ring v.page v.seen v.halted v.entry v.fetched → IsBackTold v.told → Changed (length x.values) v (step_at s v a)
-change_at stage.MapRing v x (answers.Mapped m) k t = changed (length x.values) v (record v { page = m; stage = stage.Bind }) refl refl refl t (λ r. r)
+pub change_at : (s : Stage) (v : View) (x : Sight) (a : BackAnswer) → KnowsAt s x v → IsBackTold v.told → Changed (length x.values) v (step_at s v a)
+change_at stage.MapRing v x (answers.Mapped m) k t = changed (length x.values) v (mapped m v) refl refl refl t (λ r. r)
 change_at stage.MapRing v x (answers.MapRefused status) k t = changed (length x.values) v _ refl refl refl t (λ r. absurd (cc))
 change_at stage.Bind v x answers.Done k t = changed (length x.values) v (at stage.Loop v) refl refl refl t (λ r. r)
 change_at stage.Bind v x answers.BindRefused k t = changed (length x.values) v _ refl refl refl t (λ r. absurd (cc))
@@ -111,9 +118,9 @@ change_at stage.StoreEvent v x a k t = changed (length x.values) v (at stage.Eve
 change_at stage.EventFence v x a k t = changed (length x.values) v (at stage.LookAgain v) refl refl refl t (λ r. r)
 change_at stage.LookAgain v x (answers.Word word) k t = looked_change (length x.values) v word (record v { seen = word; stage = stage.Loop; asleep = true }) t (changed (length x.values) v (record v { seen = word; stage = stage.Loop; asleep = true }) refl refl refl t (λ r. r))
 change_at (stage.GiveUp m) v x a k t = record { change = halts k.over refl; info = refl; tells = t; running = λ r. r }
-change_at stage.UnmapRing v x a k t = changed (length x.values) v (at stage.ClosePort v) refl refl refl t (λ r. r)
+change_at stage.UnmapRing v x a k t = changed (length x.values) v (unmapped_bound v) refl refl refl t (λ r. r)
 change_at stage.ClosePort v x a k t = changed (length x.values) v (at stage.Halted v) refl refl refl t (λ r. r)
-change_at stage.UnmapUnbound v x a k t = changed (length x.values) v (at stage.Halted v) refl refl refl t (λ r. r)
+change_at stage.UnmapUnbound v x a k t = changed (length x.values) v (unmapped_unbound v) refl refl refl t (λ r. r)
 change_at s v x a k t = changed (length x.values) v v refl refl refl t (λ r. r)
 
 -- the lines of the back and of the front are no job's
@@ -182,3 +189,42 @@ front_told_by None = tt
 front_told_by (Some (front_told.Answer id status)) = (record { plain = refl; unstepped = refl }, tt)
 front_told_by (Some (front_told.Sector id index words)) = (record { plain = refl; unstepped = refl }, tt)
 front_told_by (Some (front_told.Broken word)) = (record { plain = refl; unstepped = refl }, tt)
+
+-- a line of the back's reads words of entries of its layout, or none
+abbrev Looks : List Line → View → BackAct → Type 0
+Looks before v a = Reads before v.shape.abi (lines.Move a.shown)
+
+blindly : (before : List Line) (abi : Abi) (line : Line) → is_other line ≡ true → Reads before abi line
+blindly before abi line other = blind (other_touch line other) (values_still before line (other_on_pages line other) (untouched_value before line (other_touch line other)))
+
+map_reads : (before : List Line) (h : Hypervisor) (v : View) (x : Sight) (gref : ℕ) (mode : Mode) (verdict : Result ℕ MapRefusal) → x.touched ≡ false → Shows before x → Looks before v (map_act h back.Back gref mode verdict)
+map_reads before h v x gref mode (Ok frame) none shows = let now = shows_map before gref (h.grants.made + 1) frame mode x none shows in blind refl (now.values ∙ sym shows.values)
+map_reads before h v x gref mode (Err refusal) none shows = blindly before v.shape.abi _ refl
+
+unmap_reads : (before : List Line) (h : Hypervisor) (v : View) (o : Outcome) (a : BackAct) (pages : List Mapping) → back_act h back.Back (unmap_ask pages) o ≡ Some a → Looks before v a
+unmap_reads before h v o a [] e = back_wait (Looks before v) h back.Back a (blindly before v.shape.abi _ refl) (λ path. blindly before v.shape.abi _ refl) e
+unmap_reads before h v o a (page ∷ pages) e = of_back (Looks before v) _ a (blindly before v.shape.abi _ refl) e
+
+bind_reads : (before : List Line) (h : Hypervisor) (v : View) (p : ℕ) (state : PortState) → Looks before v (bind_act h p state)
+bind_reads before h v p port.Unbound = blindly before v.shape.abi _ refl
+bind_reads before h v p port.Closed = blindly before v.shape.abi _ refl
+bind_reads before h v p port.Bound = blindly before v.shape.abi _ refl
+
+loop_reads : (before : List Line) (h : Hypervisor) (v : View) (o : Outcome) (a : BackAct) (r : Option Reply) (asleep none : Bool) → v.asleep ≡ asleep → (requests_of v.ring v.seen == 0) ≡ none → ring_shape before ≡ Some v.shape → back_act h back.Back (loop_ask v r) o ≡ Some a → Looks before v a
+loop_reads before h v o a (Some r) asleep none p q shape e = of_back (Looks before v) _ a (shaped v.shape shape refl refl) e
+loop_reads before h v o a None true none p q shape e = back_wait (Looks before v) h back.Back a (blindly before v.shape.abi _ refl) (λ path. blindly before v.shape.abi _ refl) (rw p at e)
+loop_reads before h v o a None false true p q shape e = of_back (Looks before v) _ a (shaped v.shape shape refl refl) (rw (p, q) at e)
+loop_reads before h v o a None false false p q shape e = of_back (Looks before v) _ a (shaped v.shape shape refl refl) (rw (p, q) at e)
+
+pub back_reads : (before : List Line) (h : Hypervisor) (s : Stage) (v : View) (o : Outcome) (a : BackAct) (x : Sight) → KnowsAt s x v → Shows before x → back_act h back.Back (ask_at s v) o ≡ Some a → Looks before v a
+back_reads before h stage.InitWait v o a x k shows e = back_wait (Looks before v) h back.Back a (blindly before v.shape.abi _ refl) (λ path. blindly before v.shape.abi _ refl) e
+back_reads before h stage.MapRing v o a x k shows e = of_back (Looks before v) _ a (map_reads before h v x (next_gref v) ReadWrite (verdict_at h.pages (next_gref v) ReadWrite) k.waits.untouched shows) e
+back_reads before h stage.Bind v o a x k shows e = of_back (Looks before v) _ a (bind_reads before h v v.port (state_of h.channels v.port)) e
+back_reads before h stage.Loop v o a x k shows e = loop_reads before h v o a (next_reply v) v.asleep (requests_of v.ring v.seen == 0) refl refl (shape_is before 0 x v shows k) e
+back_reads before h (stage.Fetch n) v o a x k shows e = of_back (Looks before v) _ a (shaped v.shape (shape_is before n x v shows k.1) refl refl) e
+back_reads before h (stage.GiveUp m) v o a x k shows e = of_back (Looks before v) _ a (blindly before v.shape.abi _ refl) e
+back_reads before h stage.UnmapRing v o a x k shows e = unmap_reads before h v o a v.pages e
+back_reads before h stage.ClosePort v o a x k shows e = of_back (Looks before v) _ a (blindly before v.shape.abi _ refl) e
+back_reads before h stage.UnmapUnbound v o a x k shows e = unmap_reads before h v o a v.pages e
+back_reads before h stage.Halted v o a x k shows e = unmap_reads before h v o a [] e
+back_reads before h s v o a x k shows e = of_back (Looks before v) _ a (shaped v.shape (shape_is before 0 x v shows k) refl refl) e

@@ -1,12 +1,14 @@
 -- A job, where its entry was fetched; and one that begins.
-use Rattle.std.proofs.Common.{◌≡◌, ℕ, zero, suc, ◌*◌, ◌≤◌, ◌==◌, Bool, true, false, if◌then◌else◌, List, [], ◌∷◌, length, take, refl, ap, sym, ◌∙◌, subst, arith}
+use Rattle.std.proofs.Common.{◌≡◌, ℕ, zero, suc, ◌+◌, ◌-◌, ◌*◌, ◌≤◌, ◌==◌, Bool, true, false, if◌then◌else◌, List, [], ◌∷◌, length, take, refl, ap, sym, ◌∙◌, subst, arith}
 use Rattle.std.specs.Prelude.{nat_le, Option, Some}
 use Rattle.std.specs.List.{AllByRecursion, list_any}
 use Rattle.std.proofs.lemmas.Bool.Decides.{nat_tests}
 use Rattle.std.proofs.lemmas.List.Sums.{sum_by-cons}
 use Rattle.std.proofs.lemmas.List.Elements.{recursion_from_All}
 use Rattle.blk_base.specs.Options.{Options}
-use Rattle.blk_base.specs.declared.operation.Abi.TheVariants.{X64}
+use Rattle.blk_base.specs.declared.operation.Abi.{Abi}
+use Rattle.blk_base.specs.declared.operation.Abi.TheVariants.{X64, X32}
+use Rattle.ring_words.specs.Shape.{entry_words_of}
 use Rattle.blk_base.specs.declared.operation.Status.{Status}
 use Rattle.blk_base.specs.declared.operation.Status.TheVariants.{Okay, Error}
 use Rattle.schedule_text.specs.declared.line.Line.{Line}
@@ -48,17 +50,36 @@ pub data HasCome (served : Status) (work : List Task) (k : ℕ) (epoch : List Li
   serves : served ≡ Okay → IsAt work k epoch s t → HasCome served work k epoch s t
   over : s ≡ stage.Done served → ending work k epoch served ≡ Some served → HasCome served work k epoch s t
 
--- the entry of a number, among these words
-abbrev pub request_at : List ℕ → ℕ → RawRequest
-request_at values k = request_of X64 (words_of_job values 28 k)
+-- the options of the machine, and the layout of the entries that it serves
+pub record Terms : Type 0 where
+  pub config : Options
+  pub abi : Abi
 
-pub record IsJobOf (config : Options) (values : List ℕ) (epoch : List Line) (t : Work) : Type 0 where
+-- the entry of a number, among these words
+abbrev pub request_at : Abi → List ℕ → ℕ → RawRequest
+request_at abi values k = request_of abi (words_of_job values (entry_words_of abi) k)
+
+-- entries follow one upon another
+pub entry_ends : (abi : Abi) (k : ℕ) → 1 ≤ k → (k - 1) * entry_words_of abi + entry_words_of abi ≡ entry_words_of abi * k
+entry_ends X64 k first = omega arith
+entry_ends X32 k first = omega arith
+
+-- where no word was read none was
+pub none_read : (abi : Abi) (k : ℕ) (values : List ℕ) → values ≡ [] → 1 ≤ k → entry_words_of abi * k ≤ length values → ⊥
+none_read X64 k values none first read = let long : length values ≡ 0 = ap (λ (vs : List ℕ). length vs) none in omega arith
+none_read X32 k values none first read = let long : length values ≡ 0 = ap (λ (vs : List ℕ). length vs) none in omega arith
+
+pub entry_begins : (abi : Abi) (k : ℕ) → entry_words_of abi * (k - 1) ≡ (k - 1) * entry_words_of abi
+entry_begins X64 k = omega arith
+entry_begins X32 k = omega arith
+
+pub record IsJobOf (terms : Terms) (values : List ℕ) (epoch : List Line) (t : Work) : Type 0 where
   pub work : List Task
   pub served : Status
   pub first : 1 ≤ t.number
-  pub read : 28 * t.number ≤ length values
-  pub id : id_of (request_at values t.number) ≡ t.id
-  pub plan : IsPlan (request_at values t.number) (back_info config) work served t.id t.op
+  pub read : entry_words_of terms.abi * t.number ≤ length values
+  pub id : id_of (request_at terms.abi values t.number) ≡ t.id
+  pub plan : IsPlan (request_at terms.abi values t.number) (back_info terms.config) work served t.id t.op
   pub at : HasCome served work t.number epoch t.stage t
 
 same_id : (r : RawRequest) → id_of r ≡ job_id r
@@ -90,10 +111,10 @@ begins k epoch segments disk writes none sound few = record {
   whole = failed_skip k epoch none;
 }
 
-pub record IsFresh (k : ℕ) (request : RawRequest) (values : List ℕ) (epoch : List Line) : Type 0 where
+pub record IsFresh (abi : Abi) (k : ℕ) (request : RawRequest) (values : List ℕ) (epoch : List Line) : Type 0 where
   pub first : 1 ≤ k
-  pub read : 28 * k ≤ length values
-  pub is : request ≡ request_at values k
+  pub read : entry_words_of abi * k ≤ length values
+  pub is : request ≡ request_at abi values k
   pub none : list_any (is_of k) epoch ≡ false
 
 abbrev IsRefused : Verdict → Type 0
@@ -139,22 +160,22 @@ nothing_done k epoch served none =
     ap (λ (failed : Bool). end_of failed 0 served (walk_of false [] k epoch)) (failed_skip k epoch none)
     ∙ ap (λ (s : Option Spot). end_of false 0 served s) (walk_aside [] k [] epoch none)
 
-idle : (config : Options) (k size : ℕ) (request : RawRequest) (values : List ℕ) (epoch : List Line) (v : Verdict) → IsFresh k request values epoch → IsRefused v → verdict_of request (back_info config) ≡ v → IsJobOf config values epoch (ended k request size (stage.Done (status_by v)))
-idle config k size request values epoch v fresh refused e = record {
+idle : (terms : Terms) (k size : ℕ) (request : RawRequest) (values : List ℕ) (epoch : List Line) (v : Verdict) → IsFresh terms.abi k request values epoch → IsRefused v → verdict_of request (back_info terms.config) ≡ v → IsJobOf terms values epoch (ended k request size (stage.Done (status_by v)))
+idle terms k size request values epoch v fresh refused e = record {
   work = [];
   served = status_by v;
   first = fresh.first;
   read = fresh.read;
   id = ap id_of (sym fresh.is) ∙ same_id request;
-  plan = subst (λ (r : RawRequest). IsPlan r (back_info config) [] (status_by v) (job_id request) (response_op request)) fresh.is (refused_plan request (back_info config) v refused e);
+  plan = subst (λ (r : RawRequest). IsPlan r (back_info terms.config) [] (status_by v) (job_id request) (response_op request)) fresh.is (refused_plan request (back_info terms.config) v refused e);
   at = over refl (nothing_done k epoch (status_by v) fresh.none);
 }
 
 -- a read, and a write
-reads : (config : Options) (k size count device id sector : ℕ) (segments : List Segment) (values : List ℕ) (epoch : List Line) (plan : Plan) → IsFresh k (Direct 0 count device id sector segments) values epoch → verdict_of (Direct 0 count device id sector segments) (back_info config) ≡ verdict.Serve plan
-    → IsJobOf config values epoch (moving k (Direct 0 count device id sector segments) size false sector (take count segments))
-reads config k size count device id sector segments values epoch plan fresh e =
-    let t : IsTransfer kind.Read count sector segments (back_info config) plan = transfer_served kind.Read count sector segments (back_info config) plan e in
+reads : (terms : Terms) (k size count device id sector : ℕ) (segments : List Segment) (values : List ℕ) (epoch : List Line) (plan : Plan) → IsFresh terms.abi k (Direct 0 count device id sector segments) values epoch → verdict_of (Direct 0 count device id sector segments) (back_info terms.config) ≡ verdict.Serve plan
+    → IsJobOf terms values epoch (moving k (Direct 0 count device id sector segments) size false sector (take count segments))
+reads terms k size count device id sector segments values epoch plan fresh e =
+    let t : IsTransfer kind.Read count sector segments (back_info terms.config) plan = transfer_served kind.Read count sector segments (back_info terms.config) plan e in
     let sound = recursion_from_All IsSound (take count segments) t.on_disk.sound in
     let few = few_sectors count segments sound in
     let small = t.few in
@@ -166,16 +187,16 @@ reads config k size count device id sector segments values epoch plan fresh e =
       id = ap id_of (sym fresh.is);
       plan = record {
         names = λ status. ap (λ (r : RawRequest). work_response r status) (sym fresh.is);
-        tasks = λ indirect. ap (λ (r : RawRequest). work_tasks r (back_info config) false indirect) (sym fresh.is) ∙ (ap (λ (v : Verdict). served_tasks false v (take count segments)) e ∙ ap (λ (p : Plan). planned_tasks false p p.kind (take count segments)) t.plan_is);
-        verdict = λ indirect. ap (λ (r : RawRequest). status_by (work_verdict r (back_info config) indirect)) (sym fresh.is) ∙ ap status_by e;
+        tasks = λ indirect. ap (λ (r : RawRequest). work_tasks r (back_info terms.config) false indirect) (sym fresh.is) ∙ (ap (λ (v : Verdict). served_tasks false v (take count segments)) e ∙ ap (λ (p : Plan). planned_tasks false p p.kind (take count segments)) t.plan_is);
+        verdict = λ indirect. ap (λ (r : RawRequest). status_by (work_verdict r (back_info terms.config) indirect)) (sym fresh.is) ∙ ap status_by e;
       };
       at = serves refl (begins k epoch (take count segments) sector false fresh.none sound (omega arith), refl);
     }
 
-stores : (config : Options) (k size count device id sector : ℕ) (segments : List Segment) (values : List ℕ) (epoch : List Line) (plan : Plan) → IsFresh k (Direct 1 count device id sector segments) values epoch → verdict_of (Direct 1 count device id sector segments) (back_info config) ≡ verdict.Serve plan
-    → IsJobOf config values epoch (moving k (Direct 1 count device id sector segments) size true sector (take count segments))
-stores config k size count device id sector segments values epoch plan fresh e =
-    let t : IsTransfer kind.Write count sector segments (back_info config) plan = transfer_served kind.Write count sector segments (back_info config) plan e in
+stores : (terms : Terms) (k size count device id sector : ℕ) (segments : List Segment) (values : List ℕ) (epoch : List Line) (plan : Plan) → IsFresh terms.abi k (Direct 1 count device id sector segments) values epoch → verdict_of (Direct 1 count device id sector segments) (back_info terms.config) ≡ verdict.Serve plan
+    → IsJobOf terms values epoch (moving k (Direct 1 count device id sector segments) size true sector (take count segments))
+stores terms k size count device id sector segments values epoch plan fresh e =
+    let t : IsTransfer kind.Write count sector segments (back_info terms.config) plan = transfer_served kind.Write count sector segments (back_info terms.config) plan e in
     let sound = recursion_from_All IsSound (take count segments) t.on_disk.sound in
     let few = few_sectors count segments sound in
     let small = t.few in
@@ -187,8 +208,8 @@ stores config k size count device id sector segments values epoch plan fresh e =
       id = ap id_of (sym fresh.is);
       plan = record {
         names = λ status. ap (λ (r : RawRequest). work_response r status) (sym fresh.is);
-        tasks = λ indirect. ap (λ (r : RawRequest). work_tasks r (back_info config) false indirect) (sym fresh.is) ∙ (ap (λ (v : Verdict). served_tasks false v (take count segments)) e ∙ ap (λ (p : Plan). planned_tasks false p p.kind (take count segments)) t.plan_is);
-        verdict = λ indirect. ap (λ (r : RawRequest). status_by (work_verdict r (back_info config) indirect)) (sym fresh.is) ∙ ap status_by e;
+        tasks = λ indirect. ap (λ (r : RawRequest). work_tasks r (back_info terms.config) false indirect) (sym fresh.is) ∙ (ap (λ (v : Verdict). served_tasks false v (take count segments)) e ∙ ap (λ (p : Plan). planned_tasks false p p.kind (take count segments)) t.plan_is);
+        verdict = λ indirect. ap (λ (r : RawRequest). status_by (work_verdict r (back_info terms.config) indirect)) (sym fresh.is) ∙ ap status_by e;
       };
       at = serves refl (begins k epoch (take count segments) sector true fresh.none sound (omega arith), refl);
     }
@@ -197,14 +218,14 @@ stores config k size count device id sector segments values epoch plan fresh e =
 unsupported : {plan : Plan} → verdict.Unsupported ≡ verdict.Serve plan → ⊥
 unsupported e = cc
 
-no_other : (config : Options) (op count device id sector : ℕ) (segments : List Segment) (plan : Plan) → nat_le op 1 ≡ false → verdict_of (Direct op count device id sector segments) (back_info config) ≡ verdict.Serve plan → ⊥
-no_other config op count device id sector segments plan high e = by_tests (op == 0) (op == 1) (op == 2) (op == 3) (grind (arith, nat_tests)) (grind (arith, nat_tests)) e
+no_other : (terms : Terms) (op count device id sector : ℕ) (segments : List Segment) (plan : Plan) → nat_le op 1 ≡ false → verdict_of (Direct op count device id sector segments) (back_info terms.config) ≡ verdict.Serve plan → ⊥
+no_other terms op count device id sector segments plan high e = by_tests (op == 0) (op == 1) (op == 2) (op == 3) (grind (arith, nat_tests)) (grind (arith, nat_tests)) e
   where
     by_tests : (a b c d : Bool) → a ≡ false → b ≡ false
-        → (if a then transfer_verdict kind.Read count sector segments (back_info config)
-        else (if b then transfer_verdict kind.Write count sector segments (back_info config)
-        else (if c then transfer_verdict kind.Barrier count sector segments (back_info config)
-        else (if d then flush_verdict count sector (back_info config)
+        → (if a then transfer_verdict kind.Read count sector segments (back_info terms.config)
+        else (if b then transfer_verdict kind.Write count sector segments (back_info terms.config)
+        else (if c then transfer_verdict kind.Barrier count sector segments (back_info terms.config)
+        else (if d then flush_verdict count sector (back_info terms.config)
         else verdict.Error why.Op)))) ≡ verdict.Serve plan → ⊥
     by_tests true b c d p q h = absurd (cc)
     by_tests false true c d p q h = absurd (cc)
@@ -215,26 +236,26 @@ no_other config op count device id sector segments plan high e = by_tests (op ==
         no_error : {w : Why} → verdict.Error w ≡ verdict.Serve plan → ⊥
         no_error f = cc
 
-direct : (config : Options) (k op size count device id sector : ℕ) (segments : List Segment) (values : List ℕ) (epoch : List Line) (plan : Plan) (few : Bool) → nat_le op 1 ≡ few → IsFresh k (Direct op count device id sector segments) values epoch → verdict_of (Direct op count device id sector segments) (back_info config) ≡ verdict.Serve plan
-    → IsJobOf config values epoch (if few then moving k (Direct op count device id sector segments) size (op == 1) sector (take count segments) else ended k (Direct op count device id sector segments) size (stage.Done Error))
-direct config k op size count device id sector segments values epoch plan true few fresh e = by_op op few fresh e
+direct : (terms : Terms) (k op size count device id sector : ℕ) (segments : List Segment) (values : List ℕ) (epoch : List Line) (plan : Plan) (few : Bool) → nat_le op 1 ≡ few → IsFresh terms.abi k (Direct op count device id sector segments) values epoch → verdict_of (Direct op count device id sector segments) (back_info terms.config) ≡ verdict.Serve plan
+    → IsJobOf terms values epoch (if few then moving k (Direct op count device id sector segments) size (op == 1) sector (take count segments) else ended k (Direct op count device id sector segments) size (stage.Done Error))
+direct terms k op size count device id sector segments values epoch plan true few fresh e = by_op op few fresh e
   where
-    by_op : (n : ℕ) → nat_le n 1 ≡ true → IsFresh k (Direct n count device id sector segments) values epoch → verdict_of (Direct n count device id sector segments) (back_info config) ≡ verdict.Serve plan
-        → IsJobOf config values epoch (moving k (Direct n count device id sector segments) size (n == 1) sector (take count segments))
-    by_op zero few fresh e = reads config k size count device id sector segments values epoch plan fresh e
-    by_op (suc zero) few fresh e = stores config k size count device id sector segments values epoch plan fresh e
+    by_op : (n : ℕ) → nat_le n 1 ≡ true → IsFresh terms.abi k (Direct n count device id sector segments) values epoch → verdict_of (Direct n count device id sector segments) (back_info terms.config) ≡ verdict.Serve plan
+        → IsJobOf terms values epoch (moving k (Direct n count device id sector segments) size (n == 1) sector (take count segments))
+    by_op zero few fresh e = reads terms k size count device id sector segments values epoch plan fresh e
+    by_op (suc zero) few fresh e = stores terms k size count device id sector segments values epoch plan fresh e
     by_op (suc (suc n)) few fresh e = absurd (too_many n few)
       where
         too_many : (m : ℕ) → nat_le (suc (suc m)) 1 ≡ true → ⊥
         too_many m h = grind (arith, nat_tests)
-direct config k op size count device id sector segments values epoch plan false few fresh e = absurd (no_other config op count device id sector segments plan few e)
+direct terms k op size count device id sector segments values epoch plan false few fresh e = absurd (no_other terms op count device id sector segments plan few e)
 
-served_job : (config : Options) (k size : ℕ) (request : RawRequest) (values : List ℕ) (epoch : List Line) (plan : Plan) → IsFresh k request values epoch → verdict_of request (back_info config) ≡ verdict.Serve plan → IsJobOf config values epoch (served k request size)
-served_job config k size (Direct op count device id sector segments) values epoch plan fresh e = direct config k op size count device id sector segments values epoch plan (nat_le op 1) refl fresh e
-served_job config k size (Discard flag device id sector count) values epoch plan fresh e = absurd (unsupported e)
-served_job config k size (Indirect op count device id sector pages) values epoch plan fresh e = absurd (unsupported e)
+served_job : (terms : Terms) (k size : ℕ) (request : RawRequest) (values : List ℕ) (epoch : List Line) (plan : Plan) → IsFresh terms.abi k request values epoch → verdict_of request (back_info terms.config) ≡ verdict.Serve plan → IsJobOf terms values epoch (served k request size)
+served_job terms k size (Direct op count device id sector segments) values epoch plan fresh e = direct terms k op size count device id sector segments values epoch plan (nat_le op 1) refl fresh e
+served_job terms k size (Discard flag device id sector count) values epoch plan fresh e = absurd (unsupported e)
+served_job terms k size (Indirect op count device id sector pages) values epoch plan fresh e = absurd (unsupported e)
 
-pub begun_job : (config : Options) (k size : ℕ) (request : RawRequest) (values : List ℕ) (epoch : List Line) (v : Verdict) → IsFresh k request values epoch → verdict_of request (back_info config) ≡ v → IsJobOf config values epoch (begun k request size v)
-begun_job config k size request values epoch (verdict.Serve plan) fresh e = served_job config k size request values epoch plan fresh e
-begun_job config k size request values epoch (verdict.Error why) fresh e = idle config k size request values epoch (verdict.Error why) fresh tt e
-begun_job config k size request values epoch verdict.Unsupported fresh e = idle config k size request values epoch verdict.Unsupported fresh tt e
+pub begun_job : (terms : Terms) (k size : ℕ) (request : RawRequest) (values : List ℕ) (epoch : List Line) (v : Verdict) → IsFresh terms.abi k request values epoch → verdict_of request (back_info terms.config) ≡ v → IsJobOf terms values epoch (begun k request size v)
+begun_job terms k size request values epoch (verdict.Serve plan) fresh e = served_job terms k size request values epoch plan fresh e
+begun_job terms k size request values epoch (verdict.Error why) fresh e = idle terms k size request values epoch (verdict.Error why) fresh tt e
+begun_job terms k size request values epoch verdict.Unsupported fresh e = idle terms k size request values epoch verdict.Unsupported fresh tt e

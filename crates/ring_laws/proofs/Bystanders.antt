@@ -25,7 +25,6 @@ use Rattle.report_rules.specs.Effect.{disk_move_of, disk_move_shown, outcome_of,
 use Rattle.report_rules.proofs.Obeys.{obeys_more}
 use Rattle.blk_back.specs.View.{info_of as back_info}
 use Rattle.split_model.specs.Keys.{names_feature, is_zero_text}
-use Rattle.ring_laws.proofs.Sight.{keeps_layout}
 use Rattle.ring_laws.proofs.Shows.{epoch_longer}
 use Rattle.ring_laws.proofs.JobLines.{is_of, IsAside}
 
@@ -97,7 +96,7 @@ zero_no_offer text e = ap is_offer ((bytes_eq-Decides text (codes "0")).0 e)
 zero_not_one : (text : List ℕ) → is_zero_text text ≡ true → is_one text ≡ false
 zero_not_one text e = ap is_one ((bytes_eq-Decides text (codes "0")).0 e)
 
--- a line that says nothing of epochs, options or effects, and in which the back neither offers anything nor reads of another layout
+-- a line that says nothing of epochs, options or effects, and in which the back offers nothing
 abbrev pub is_plain : Line → Bool
 is_plain (lines.Begin config detail) = false
 is_plain lines.Epoch = false
@@ -106,7 +105,6 @@ is_plain (lines.EffectRead id index words) = false
 is_plain (lines.Flushed id) = false
 is_plain (lines.Trimmed id) = false
 is_plain (lines.Fault id index) = false
-is_plain (lines.Move (moves.GetKey mover.Back path text)) = keeps_layout path text
 is_plain (lines.Move (moves.SetKey mover.Back path text)) = offers_none path text
 is_plain line = true
 
@@ -185,7 +183,7 @@ still_disk (lines.Move (moves.DiskFlush k)) e = absurd (cc)
 still_disk (lines.Move (moves.DiskTrim k sector count)) e = absurd (cc)
 still_disk line e = refl
 
--- behind no move of the disk, a line that tells of none
+-- after no move of the disk, a line that tells of none
 pub no_effect : (before : List Line) (line : Line) → disk_move_shown before ≡ None → outcome_of line ≡ None → IsEffectAt before line
 no_effect before line quiet none = record { told = if_none _ quiet; only = λ some. absurd (some none) }
 

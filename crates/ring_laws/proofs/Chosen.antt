@@ -13,7 +13,7 @@ use Rattle.report_rules.specs.Reply.{response_due, is_one_of, most_jobs, lines_b
 use Rattle.blk_back.specs.declared.stage.Reply.{Reply}
 use Rattle.blk_back.specs.declared.stage.Stage.{Stage}
 use Rattle.blk_back.specs.declared.stage.Stage.TheVariants as stage
-use Rattle.ring_laws.proofs.Works.{all_both, all_more}
+use Rattle.ring_laws.proofs.Lists.{all_both, all_more}
 use Rattle.ring_laws.proofs.JobLines.{IsAside}
 use Rattle.ring_laws.proofs.Bystanders.{if_some}
 use Rattle.ring_laws.proofs.Over.{left_aside}

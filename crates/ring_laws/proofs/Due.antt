@@ -1,7 +1,7 @@
 -- What a job answers once its work is over, by its own lines; and the replies that the back wrote.
 use Rattle.std.proofs.Common.{◌≡◌, ℕ, ◌*◌, ◌≤◌, List, [], ◌∷◌, ◌++◌, length, map}
 use Rattle.std.specs.Prelude.{Option, Some, None, false}
-use Rattle.blk_base.specs.Options.{Options}
+use Rattle.ring_words.specs.Shape.{entry_words_of}
 use Rattle.blk_base.specs.declared.operation.Status.{Status}
 use Rattle.blk_layout.specs.declared.response.Response.{Response}
 use Rattle.blk_layout.specs.Response.{response_words_of}
@@ -20,21 +20,21 @@ use Rattle.report_rules.specs.Walk.{walk_of}
 use Rattle.report_rules.specs.Steps.{failed_in}
 use Rattle.report_rules.specs.Made.{left_to}
 use Rattle.report_rules.specs.Reply.{end_of, response_due, values_written, reply_pushed, lines_before, is_one_of, most_jobs, answered_in, IsReplyAt}
-use Rattle.ring_laws.proofs.Began.{request_at}
+use Rattle.ring_laws.proofs.Began.{Terms, request_at}
 
 -- by these words of entries and these lines of the epoch the work of job k is over, and this is its response
-pub record IsWorkOver (config : Options) (values : List ℕ) (epoch : List Line) (k : ℕ) (r : Response) : Type 0 where
+pub record IsWorkOver (terms : Terms) (values : List ℕ) (epoch : List Line) (k : ℕ) (r : Response) : Type 0 where
   pub work : List Task
   pub served : Status
   pub first : 1 ≤ k
-  pub read : 28 * k ≤ length values
-  pub names : work_response (request_at values k) r.status ≡ r
-  pub tasks : (indirect : List ℕ) → work_tasks (request_at values k) (back_info config) false indirect ≡ work
-  pub verdict : (indirect : List ℕ) → status_by (work_verdict (request_at values k) (back_info config) indirect) ≡ served
+  pub read : entry_words_of terms.abi * k ≤ length values
+  pub names : work_response (request_at terms.abi values k) r.status ≡ r
+  pub tasks : (indirect : List ℕ) → work_tasks (request_at terms.abi values k) (back_info terms.config) false indirect ≡ work
+  pub verdict : (indirect : List ℕ) → status_by (work_verdict (request_at terms.abi values k) (back_info terms.config) indirect) ≡ served
   pub ended : end_of (failed_in k epoch) (length work) served (walk_of false work k epoch) ≡ Some r.status
   pub left : left_to k epoch ≡ []
 
--- a reply that was pushed: the job that it answers, its response, and the producer behind it
+-- a reply that was pushed: the job that it answers, its response, and the producer after it
 pub record Answered : Type 0 where
   pub job : ℕ
   pub response : Response
@@ -83,7 +83,7 @@ row_at (stage.ReplyLast r) = Some r
 row_at (stage.Producer r) = Some r
 row_at s = None
 
--- the replies behind a move: one more where the producer is raised, to job k
+-- the replies after a move: one more where the producer is raised, to job k
 abbrev pub answered_then : Stage → List Answered → ℕ → ℕ → List Answered
 answered_then (stage.Producer r) answered k prod = answered ++ record { job = k; response = response_in r; producer = next_of prod } ∷ []
 answered_then s answered k prod = answered

@@ -5,6 +5,7 @@ use Rattle.std.specs.List.{AllByRecursion}
 use Rattle.std.proofs.lemmas.Option.{none-some}
 use Rattle.std.proofs.lemmas.List.{append-nil}
 use Rattle.blk_base.specs.declared.config.Job.{Job}
+use Rattle.blk_base.specs.declared.operation.Abi.{Abi}
 use Rattle.blk_base.specs.declared.parts.Mode.{Mode}
 use Rattle.blk_base.specs.declared.ask.FrontAsk.{FrontAsk}
 use Rattle.blk_base.specs.declared.ask.FrontAsk.TheVariants as front_ask
@@ -21,6 +22,7 @@ use Rattle.hypervisor.specs.Hypervisor.{Hypervisor}
 use Rattle.hypervisor.specs.Act.{FrontAct, BackAct, Outcome, Gave, Took, Failed, front_act, back_act, map_act, read_act, disk_act}
 use Rattle.schedule_text.specs.declared.line.Line.{Line}
 use Rattle.schedule_text.specs.declared.line.Line.TheVariants as lines
+use Rattle.report_rules.specs.Ring.{abi_after}
 use Rattle.report_rules.specs.Overrun.{is_service}
 use Rattle.report_rules.specs.Stretch.{IsStretchAt}
 use Rattle.report_rules.specs.Reply.{is_of_back}
@@ -29,15 +31,17 @@ use Rattle.blk_front.specs.declared.told.Told.TheVariants as front_told
 use Rattle.blk_front.specs.declared.told.Refusal.{Refusal}
 use Rattle.blk_back.specs.declared.told.BackTold.{BackTold}
 use Rattle.blk_back.specs.declared.told.BackTold.TheVariants as back_told
+use Rattle.blk_back.specs.declared.told.Halt.{Halt}
 use Rattle.blk_back.specs.View.{View}
 use Rattle.split_model.specs.Shown.{front_lines, back_lines, effect_line}
 use Rattle.split_model.specs.Happening.{submit_line}
 use Rattle.split_model.proofs.SafeActs.{of_front, of_back, front_wait}
 use Rattle.split_model.proofs.SafeAnswers.{IsJobs, AsksNoKey}
-use Rattle.ring_laws.proofs.Sight.{is_other, other_epoch, other_touch, untouched_produced, untouched_word}
-use Rattle.ring_laws.proofs.Shows.{shows_other}
-use Rattle.ring_laws.proofs.ObeysRing.{is_overrun, ring_more, shows_none, foreign_stretch}
-use Rattle.ring_laws.proofs.Knows.{Follows}
+use Rattle.ring_laws.specs.Layout.{reads_protocol, IsNamedFirstAt}
+use Rattle.ring_laws.proofs.Sight.{is_other, other_epoch, other_touch, same_abi, foreign_abi, untouched_produced, untouched_word}
+use Rattle.ring_laws.proofs.Shows.{Sight, shows_named}
+use Rattle.ring_laws.proofs.ObeysRing.{ObeysRing, is_overrun, ring_more, shows_none, unnamed_first, foreign_stretch}
+use Rattle.ring_laws.proofs.Knows.{Knows, Follows}
 
 -- a line that no rule of the ring stops, where the back has halted or not
 pub record IsFree (over : Bool) (line : Line) : Type 0 where
@@ -49,21 +53,30 @@ pub record IsFree (over : Bool) (line : Line) : Type 0 where
 abbrev pub AreFree : Bool → List Line → Type 0
 AreFree over ls = AllByRecursion (IsFree over) ls
 
--- a line that the rules of the ring pass over, where the rule on stretches allows it
-pub follow_other : (start : ℕ) (values : List ℕ) (before : List Line) (line : Line) (v : View) → is_other line ≡ true → (is_some v.halted ≡ true → is_service line ≡ false) → is_overrun line ≡ false → IsStretchAt before line → Follows start values before v → Follows start values (before ++ line ∷ []) v
-follow_other start values before line v other idle plain stretch f = record {
-  sight = f.sight;
-  begun = f.begun;
-  more = f.more;
-  grown = f.grown;
-  shows = shows_other before line f.sight other f.shows;
-  knows = f.knows;
-  stands = ring_more before line f.sight.start (is_some v.halted) f.stands (other_epoch line other) (shows_none before line (untouched_produced before line (other_touch line other))) idle plain (λ small. stretch);
-}
+-- a line that the rules of the ring pass over, where the rule on stretches allows it, and the back knows the layout that it may name
+pub follow_named : (start : ℕ) (values : List ℕ) (before : List Line) (line : Line) (v new : View) (abi : Option Abi) (f : Follows start values before v) → is_other line ≡ true → (let x : Sight = f.sight in abi_after x.abi line ≡ abi) → (is_some v.halted ≡ true → is_service line ≡ false) → is_overrun line ≡ false
+    → IsNamedFirstAt before line → IsStretchAt before line → new.halted ≡ v.halted → (let x : Sight = f.sight in Knows (record x { abi = abi }) new) → Follows start values (before ++ line ∷ []) new
+follow_named start values before line v new abi f other named idle plain first stretch same knows =
+    let x : Sight = f.sight in
+    record {
+      sight = record x { abi = abi };
+      begun = f.begun;
+      more = f.more;
+      grown = f.grown;
+      shows = shows_named before line f.sight abi other named f.shows;
+      knows = knows;
+      stands = subst (λ (halted : Option Halt). ObeysRing (before ++ line ∷ []) x.start (is_some halted)) (sym same)
+          (ring_more before line x.start (is_some v.halted) f.stands (other_epoch line other) (shows_none before line (untouched_produced before line (other_touch line other))) idle plain first (λ small. stretch));
+    }
+
+pub follow_other : (start : ℕ) (values : List ℕ) (before : List Line) (line : Line) (v : View) → is_other line ≡ true → reads_protocol line ≡ false → (is_some v.halted ≡ true → is_service line ≡ false) → is_overrun line ≡ false → IsStretchAt before line → Follows start values before v → Follows start values (before ++ line ∷ []) v
+follow_other start values before line v other unnamed idle plain stretch f =
+    let x : Sight = f.sight in
+    follow_named start values before line v v x.abi f other (same_abi x.abi line unnamed) idle plain (unnamed_first before line unnamed) stretch refl f.knows
 
 pub follow_free : (start : ℕ) (values : List ℕ) (before : List Line) (line : Line) (v : View) → IsFree (is_some v.halted) line → Follows start values before v → Follows start values (before ++ line ∷ []) v
 follow_free start values before line v free f =
-    follow_other start values before line v free.other free.idle free.plain (foreign_stretch before line free.foreign (untouched_word before line (other_touch line free.other))) f
+    follow_other start values before line v free.other (foreign_abi line free.foreign) free.idle free.plain (foreign_stretch before line free.foreign (untouched_word before line (other_touch line free.other))) f
 
 pub follow_all : (start : ℕ) (values : List ℕ) (more before : List Line) (v : View) → AreFree (is_some v.halted) more → Follows start values before v → Follows start values (before ++ more) v
 follow_all start values [] before v free f = subst (λ (ls : List Line). Follows start values ls v) (sym (append-nil before)) f

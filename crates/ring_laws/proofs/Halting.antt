@@ -1,5 +1,5 @@
 -- A halt that the negotiation asks for: nothing comes of it, or the back, which was at nothing, halts and gives up what it holds.
-use Rattle.std.proofs.Common.{◌≡◌, ℕ, ◌*◌, true, false, [], refl, ap, subst}
+use Rattle.std.proofs.Common.{◌≡◌, true, false, [], refl, ap, subst}
 use Rattle.std.specs.Prelude.{Some, None, is_some}
 use Rattle.schedule_text.specs.declared.line.Line.TheVariants as lines
 use Rattle.back_jobs.specs.Jobs.{first_mapping}
@@ -8,16 +8,17 @@ use Rattle.blk_back.specs.declared.stage.Stage.TheVariants as stage
 use Rattle.blk_back.specs.declared.told.Halt.{Halt}
 use Rattle.blk_back.specs.declared.told.Halt.TheVariants as halt
 use Rattle.blk_back.specs.View.{View}
-use Rattle.blk_back.specs.Step.{give_up, may_halt, halts}
+use Rattle.blk_back.specs.Step.{unbound, give_up, may_halt, halts}
 use Rattle.split_model.specs.Keys.{is_between}
 use Rattle.split_model.specs.Shown.{halt_line}
-use Rattle.split_model.proofs.States.{halts_for_cases}
+use Rattle.split_model.proofs.States.{is_unbound, halts_for_cases}
 use Rattle.ring_laws.proofs.Shows.{Sight}
-use Rattle.ring_laws.proofs.ObeysRing.{is_overrun}
-use Rattle.ring_laws.proofs.Knows.{whole, Waits, Serves, KnowsAt, Knows}
+use Rattle.ring_laws.proofs.ObeysRing.{IsWhole, is_overrun}
+use Rattle.ring_laws.proofs.Knows.{Serves, served_whole, KnowsAt, Knows, whole_words}
 use Rattle.ring_laws.proofs.Looking.{giving_knows}
+use Rattle.ring_laws.proofs.Back.{unbound_knows}
 use Rattle.ring_laws.proofs.Due.{under_way}
-use Rattle.ring_laws.proofs.WrittenBack.{giving_nothing}
+use Rattle.ring_laws.proofs.WrittenBack.{unbound_nothing, giving_nothing}
 
 -- the back halts between two entries and two replies, and knows no less
 pub record Stops (x : Sight) (why : Halt) (old new : View) : Type 0 where
@@ -31,8 +32,8 @@ pub record Stops (x : Sight) (why : Halt) (old new : View) : Type 0 where
   pub fetched : new.fetched ≡ old.fetched
   pub info : new.jobs.info ≡ old.jobs.info
   pub told : new.told ≡ old.told
-  pub count : ℕ
-  pub words : x.words ≡ 28 * count
+  pub shape : new.shape ≡ old.shape
+  pub whole : IsWhole x
   pub knows : Knows x new
 
 -- the negotiation finds no overrun
@@ -43,44 +44,43 @@ may_plain why may = refl
 pub stops_cases : (P : View → Type 0) (why : Halt) (v : View) (x : Sight) → Knows x v → ((new : View) → Stops x why v new → P new) → P v → P (halts why v)
 stops_cases P why v x knows stops none = halts_for_cases P why v unmapped looping none
   where
-    knows_at : (s : Stage) → v.stage ≡ s → KnowsAt s x v.ring v.page v.seen v.halted v.entry v.fetched
-    knows_at s at = subst (λ (t : Stage). KnowsAt t x v.ring v.page v.seen v.halted v.entry v.fetched) at knows
+    at_rest : (new : View) → is_between v.stage ≡ true → under_way v.stage ≡ [] → under_way new.stage ≡ [] → v.halted ≡ None → new.halted ≡ Some why → new.fetched ≡ v.fetched → new.jobs.info ≡ v.jobs.info → new.told ≡ v.told → new.shape ≡ v.shape → may_halt why ≡ true → Knows x new → P new
+    at_rest new between still ceased running halted fetched info told shape may over = stops new (record {
+      running = running;
+      halted = halted;
+      over = ap is_some halted;
+      plain = may_plain why may;
+      between = between;
+      still = still;
+      ceased = ceased;
+      fetched = fetched;
+      info = info;
+      told = told;
+      shape = shape;
+      whole = whole_words v.stage x v between knows;
+      knows = over;
+    })
 
-    unmapped : may_halt why ≡ true → v.stage ≡ stage.MapRing → P (record v { halted = Some why; stage = stage.Halted })
+    waits_at : (s : Stage) → is_unbound s ≡ true → KnowsAt s x v → v.halted ≡ None
+    waits_at stage.InitWait is k = k.waits.running
+    waits_at stage.MapRing is k = k.waits.running
+    waits_at s is k = absurd (cc)
+
+    between_at : (s : Stage) → is_unbound s ≡ true → (is_between s ≡ true) × (under_way s ≡ [])
+    between_at stage.InitWait is = (refl, refl)
+    between_at stage.MapRing is = (refl, refl)
+    between_at s is = absurd (cc)
+
+    unmapped : may_halt why ≡ true → is_unbound v.stage ≡ true → P (record v { halted = Some why; stage = unbound v.pages })
     unmapped may at =
-        let w : Waits x v.ring v.seen v.halted v.fetched = knows_at stage.MapRing at in
-        stops (record v { halted = Some why; stage = stage.Halted }) (record {
-          running = w.running;
-          halted = refl;
-          over = refl;
-          plain = may_plain why may;
-          between = ap is_between at;
-          still = ap under_way at;
-          ceased = refl;
-          fetched = refl;
-          info = refl;
-          told = refl;
-          count = 0;
-          words = w.words;
-          knows = record { over = refl; count = 0; words = w.words };
-        })
+        let new : View = record v { halted = Some why; stage = unbound v.pages } in
+        let both = between_at v.stage at in
+        at_rest new both.0 both.1 (unbound_nothing v.pages) (waits_at v.stage at knows) refl refl refl refl refl may
+        (unbound_knows v.pages x new (record { over = refl; whole = whole_words v.stage x v both.0 knows }))
 
     looping : may_halt why ≡ true → v.stage ≡ stage.Loop → P (give_up (record v { halted = Some why }))
     looping may at =
-        let s : Serves 0 x v.ring v.page v.seen v.halted v.entry v.fetched = knows_at stage.Loop at in
-        let read : x.words ≡ 28 * s.count = whole x.words s.count s.words in
-        stops (give_up (record v { halted = Some why })) (record {
-          running = s.running;
-          halted = refl;
-          over = refl;
-          plain = may_plain why may;
-          between = ap is_between at;
-          still = ap under_way at;
-          ceased = giving_nothing (first_mapping v.jobs.works);
-          fetched = refl;
-          info = refl;
-          told = refl;
-          count = s.count;
-          words = read;
-          knows = giving_knows (first_mapping v.jobs.works) x v.ring v.page v.seen (Some why) v.entry v.fetched (record { over = refl; count = s.count; words = read });
-        })
+        let new : View = give_up (record v { halted = Some why }) in
+        let s : Serves 0 x v = subst (λ (t : Stage). KnowsAt t x v) at knows in
+        at_rest new (ap is_between at) (ap under_way at) (giving_nothing (first_mapping v.jobs.works)) s.running refl refl refl refl refl may
+        (giving_knows (first_mapping v.jobs.works) x new (record { over = refl; whole = served_whole x v s }))

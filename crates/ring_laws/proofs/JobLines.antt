@@ -1,4 +1,4 @@
--- What the rules make of a job by the lines so far, behind some lines more: others' lines change none of it.
+-- What the rules make of a job by the lines so far, after some lines more: others' lines change none of it.
 use Rattle.std.proofs.Common.{◌≡◌, ℕ, ◌+◌, ◌&&◌, ◌||◌, Bool, true, false, cond, if◌then◌else◌, List, [], ◌∷◌, ◌++◌, count_by, refl, ap, ◌∙◌, arith}
 use Rattle.std.specs.Prelude.{fold, Option, Some, None, option_and_then}
 use Rattle.std.specs.List.{list_any}

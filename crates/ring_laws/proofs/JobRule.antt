@@ -3,7 +3,6 @@ use Rattle.std.proofs.Common.{◌≡◌, ℕ, ◌+◌, ◌==◌, ◌||◌, Bool,
 use Rattle.std.specs.Prelude.{Option, Some, None, IfSome, IsSomeAnd, option_and_then, slice_get}
 use Rattle.std.proofs.lemmas.Bool.Decides.{nat_tests}
 use Rattle.std.proofs.lemmas.Option.{same_Some}
-use Rattle.blk_base.specs.Options.{Options}
 use Rattle.blk_base.specs.declared.moves.BackMover.TheVariants as back
 use Rattle.blk_base.specs.declared.moves.Move.{Move}
 use Rattle.blk_base.specs.declared.moves.Move.TheVariants as moves
@@ -27,7 +26,7 @@ use Rattle.report_rules.proofs.Walked.{step_of_next}
 use Rattle.ring_laws.proofs.JobLines.{is_disk_of}
 use Rattle.ring_laws.proofs.Places.{IsStepOn}
 use Rattle.ring_laws.proofs.JobSteps.{IsDataBy, Steps}
-use Rattle.ring_laws.proofs.Began.{request_at}
+use Rattle.ring_laws.proofs.Began.{Terms, request_at}
 use Rattle.ring_laws.proofs.Bystanders.{IsRule, KeepsNone, is_plain, if_some, some_and, no_effect}
 use Rattle.ring_laws.proofs.Fetched.{fetched_in}
 
@@ -76,15 +75,15 @@ through_hand before task s shown step hand = record {
         let here : is_step_at (step_at task 0) shown ≡ true = ap (λ (n : ℕ). is_step_at (step_at task n) shown) (sym zero_place) ∙ is in
         cc
 
-step_rule : (config : Options) (before : List Line) (values : List ℕ) (k : ℕ) (shown : Move) (work : List Task) → fetched_of before k ≡ Some (fetched_in config values k) → ((indirect : List ℕ) → work_tasks (request_at values k) (back_info config) false indirect ≡ work)
+step_rule : (terms : Terms) (before : List Line) (values : List ℕ) (k : ℕ) (shown : Move) (work : List Task) → fetched_of before k ≡ Some (fetched_in terms values k) → ((indirect : List ℕ) → work_tasks (request_at terms.abi values k) (back_info terms.config) false indirect ≡ work)
     → stepper (lines.Move shown) ≡ Some k → Steps work k (this_epoch before) shown → IsStepAt before (lines.Move shown)
-step_rule config before values k shown work asked plan own s =
+step_rule terms before values k shown work asked plan own s =
     let on : IsStepOn work k (this_epoch before) shown = s.on in
     let takes : IsTaking work on.here shown = taking work on.here on.after shown (sym (ap (λ (o : Option Spot). option_and_then (advanced false work shown) o) on.came) ∙ on.taken) in
-    let same : work_of before k (fetched_in config values k) ≡ work = plan (values_read before k) in
-    let at : spot_of before k (fetched_in config values k) ≡ Some on.here = ap (λ (w : List Task). walk_of false w k (this_epoch before)) same ∙ on.came in
+    let same : work_of before k (fetched_in terms values k) ≡ work = plan (values_read before k) in
+    let at : spot_of before k (fetched_in terms values k) ≡ Some on.here = ap (λ (w : List Task). walk_of false w k (this_epoch before)) same ∙ on.came in
     let next : IsNextStep before false on.here shown takes.task = record { unrefused = takes.unrefused; step = ap (λ (b : Bool). b || is_unmapped_step false takes.task (let h : Spot = on.here in h.place) shown) takes.step; through = through_hand before takes.task on.here shown takes.step on.hand } in
-    let of_request : IsStepOf before k shown (fetched_in config values k) = step_of_next before k shown (fetched_in config values k) (some_and _ at (some_and _ (ap (λ (w : List Task). slice_get w (let h : Spot = on.here in h.done)) same ∙ takes.found) next)) on.whole in
+    let of_request : IsStepOf before k shown (fetched_in terms values k) = step_of_next before k shown (fetched_in terms values k) (some_and _ at (some_and _ (ap (λ (w : List Task). slice_get w (let h : Spot = on.here in h.done)) same ∙ takes.found) next)) on.whole in
     if_some _ own (some_and _ asked of_request)
 
 data_rule : (before : List Line) (k : ℕ) (shown : Move) → stepper (lines.Move shown) ≡ Some k → IsDataBy k (this_epoch before) shown → IsDataAt before (lines.Move shown)
@@ -92,10 +91,10 @@ data_rule before k (moves.Write (back.Job j) number frame word value) own moved 
 data_rule before k shown own moved = tt
 
 -- a step of a job
-pub own_rule : (config : Options) (before : List Line) (values : List ℕ) (k : ℕ) (shown : Move) (work : List Task) → disk_move_shown before ≡ None → fetched_of before k ≡ Some (fetched_in config values k) → ((indirect : List ℕ) → work_tasks (request_at values k) (back_info config) false indirect ≡ work)
+pub own_rule : (terms : Terms) (before : List Line) (values : List ℕ) (k : ℕ) (shown : Move) (work : List Task) → disk_move_shown before ≡ None → fetched_of before k ≡ Some (fetched_in terms values k) → ((indirect : List ℕ) → work_tasks (request_at terms.abi values k) (back_info terms.config) false indirect ≡ work)
     → is_plain (lines.Move shown) ≡ true → stepper (lines.Move shown) ≡ Some k → Steps work k (this_epoch before) shown → IsRule before (lines.Move shown)
-own_rule config before values k shown work quiet asked plan plain own s = record {
-  step = step_rule config before values k shown work asked plan own s;
+own_rule terms before values k shown work quiet asked plan plain own s = record {
+  step = step_rule terms before values k shown work asked plan own s;
   moved = data_rule before k shown own s.moved;
   effect = no_effect before (lines.Move shown) quiet refl;
 }
@@ -112,7 +111,7 @@ pub record IsTold (shown : Move) (k id index : ℕ) (line : Line) : Type 0 where
   pub moved : (before : List Line) → IsDataAt before line
   pub effect : (before : List Line) → disk_move_shown before ≡ disk_move_of (lines.Move shown) → IsSomeAnd (fetched_of before k) (λ (f : Fetched). id_of f.request ≡ id) → index + 1 ≡ disk_moves_of before k → IsEffectAt before line
 
--- the lines behind a job's own: one for a move of the disk, and none else
+-- the lines after a job's own: one for a move of the disk, and none else
 pub data ToldBy (epoch : List Line) (shown : Move) (k id index : ℕ) (told : List Line) : Type 0 where
   nothing : disk_move_of (lines.Move shown) ≡ None → told ≡ [] → ToldBy epoch shown k id index told
   one : (line : Line) → told ≡ line ∷ [] → IsTold shown k id index line → is_disk_of k (lines.Move shown) ≡ true → count_by (is_disk_of k) epoch ≡ index → ToldBy epoch shown k id index told

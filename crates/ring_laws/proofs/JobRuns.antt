@@ -1,7 +1,6 @@
 -- Whatever happens from the start, the lines keep the rules on jobs.
-use Rattle.std.proofs.Common.{◌≡◌, ℕ, ◌<◌, ◌^◌, Bool, true, false, if◌then◌else◌, ◌*◌, ◌&&◌, List, [], ◌∷◌, ◌++◌, length, refl, ap, sym, ◌∙◌, subst, append-nil, arith}
-use Rattle.std.specs.Prelude.{Option, Some, None, is_some, nat_lt, nat_le, Result, Ok, Err}
-use Rattle.std.proofs.lemmas.Bool.Decides.{nat_tests}
+use Rattle.std.proofs.Common.{◌≡◌, ℕ, ◌<◌, ◌^◌, Bool, true, false, if◌then◌else◌, ◌*◌, List, [], ◌∷◌, ◌++◌, length, refl, ap, sym, ◌∙◌, subst, append-nil}
+use Rattle.std.specs.Prelude.{Option, Some, None, is_some, Result, Ok, Err}
 use Rattle.blk_base.specs.Options.{Options}
 use Rattle.blk_base.specs.declared.config.Job.{Job}
 use Rattle.schedule_text.specs.declared.line.Line.{Line}
@@ -9,12 +8,12 @@ use Rattle.schedule_text.specs.declared.line.Line.TheVariants as lines
 use Rattle.schedule_text.specs.declared.line.Detail.{Detail}
 use Rattle.blk_base.specs.declared.ask.BackAsk.TheVariants as ask
 use Rattle.blk_base.specs.declared.moves.BackMover.TheVariants as mover
-use Rattle.hypervisor.specs.Act.{FrontAct, BackAct, Outcome, Took, back_act}
+use Rattle.hypervisor.specs.Act.{FrontAct, BackAct, Outcome, Took, back_act, with_pages}
 use Rattle.report_rules.specs.Obeys.{Obeys}
 use Rattle.report_rules.specs.Steps.{AreSteps}
 use Rattle.report_rules.specs.Data.{AreData}
 use Rattle.report_rules.specs.Effect.{AreEffects}
-use Rattle.report_rules.specs.Job.{entry_values, is_fetched}
+use Rattle.report_rules.specs.Job.{entry_values}
 use Rattle.report_rules.proofs.Obeys.{obeys_none, obeys_more}
 use Rattle.back_jobs.specs.Jobs.{ask_job, place_of, work_of}
 use Rattle.blk_front.specs.declared.told.Refusal.{Refusal}
@@ -23,34 +22,45 @@ use Rattle.blk_front.specs.Step as front_step
 use Rattle.blk_front.specs.Submit as front_submit
 use Rattle.blk_front.specs.View as front
 use Rattle.blk_back.specs.declared.told.Halt.{Halt}
+use Rattle.blk_back.specs.declared.told.BackTold.{BackTold}
+use Rattle.blk_back.specs.Step.{may_attach, attached}
+use Rattle.blk_base.specs.declared.ask.BackAnswer.{BackAnswer}
+use Rattle.ring_words.specs.Shape.{Shape}
+use Rattle.grant_table.specs.Table.{GrantTable}
+use Rattle.xen_pages.specs.Pages.{with_word}
+use Rattle.hypervisor.specs.Hypervisor.{Hypervisor}
 use Rattle.blk_back.specs.Ask.{ask_of}
 use Rattle.blk_back.specs.View as back
 use Rattle.blk_back.specs.Step as back_step
 use Rattle.split_model.specs.World.{World, start_of}
-use Rattle.split_model.specs.Happening.{Happening, FrontMoves, BackMoves, JobMoves, Negotiates, FrontEnters, BackHalts, Submits, Notifies, Pokes, Dumps, Looks, Settles, poke_lines, ring_lines, happens, lines_at, after, front_after, front_shows, back_after, back_shows, job_after, job_shows, front_turn, back_turn, job_turn, submit_line}
+use Rattle.split_model.specs.Happening.{Happening, FrontMoves, BackMoves, JobMoves, Negotiates, FrontEnters, BackAttaches, BackHalts, Submits, Notifies, Pokes, Dumps, Looks, Settles, is_guest_word, poke_lines, layout_text, layout_read, happens, lines_at, after, front_after, front_shows, back_after, back_shows, job_after, job_shows, front_turn, back_turn, job_turn, submit_line}
 use Rattle.split_model.specs.Safe.{IsSafe}
 use Rattle.split_model.proofs.Safe.{safe_start, safe_happens}
 use Rattle.split_model.specs.Shown.{back_lines, halt_lines}
 use Rattle.split_model.proofs.SafeAnswers.{backs_of, jobs_of, fronts_no_key}
-use Rattle.split_model.specs.Keys.{is_between}
+use Rattle.split_model.specs.Keys.{is_layout}
+use Rattle.split_model.proofs.SafeActs.{made_front}
+use Rattle.split_model.proofs.Shapes.{back_shape}
+use Rattle.split_model.proofs.Attaching.{attach_cases}
 use Rattle.split_model.specs.Report.{report_of, ended_report_of}
-use Rattle.split_model.proofs.Keys.{NamesNoOther, named_start, named_happens}
-use Rattle.move_laws.specs.Permitted.{IsPermitted}
-use Rattle.move_laws.proofs.Always.{always_within}
-use Rattle.move_laws.proofs.Runs as memory
+use Rattle.ring_laws.proofs.BackReads.{reads_of}
+use Rattle.ring_laws.proofs.Sight.{is_other}
 use Rattle.ring_laws.proofs.Shows.{Sight, Shows}
 use Rattle.ring_laws.proofs.Knows.{Follows}
-use Rattle.ring_laws.proofs.Stages.{back_goes}
-use Rattle.ring_laws.proofs.Outsiders.{AreOutsiders, keys_outsiders, state_outsiders, poke_outsiders, dump_outsiders, outsiders_other, outsiders_by}
+use Rattle.ring_laws.proofs.Outsiders.{AreOutsiders, keys_outsiders, state_outsiders, poke_outsiders, dump_outsiders, outsiders_other, outsiders_by, outsiders_calm}
 use Rattle.ring_laws.proofs.Free.{IsFree, AreFree, front_free, job_free, job_running, free_front, free_told, free_submit, free_look, free_settle}
-use Rattle.ring_laws.proofs.Runs.{FollowsTo, follows_happens, follows_begin}
-use Rattle.ring_laws.proofs.Works.{no_jobs}
+use Rattle.ring_laws.proofs.Runs.{FollowsTo, earlier_pages, unread, follows_happens, follows_begin}
+use Rattle.ring_laws.proofs.Works.{no_jobs, jobs_anew}
+use Rattle.ring_laws.proofs.Began.{Terms}
+use Rattle.ring_laws.proofs.Lists.{all_both}
+use Rattle.ring_laws.proofs.Standings.{Stands, stands_aside, turn_stands}
+use Rattle.ring_laws.proofs.MakerLines.{AreCalm, calm_quiet, front_lines_calm, back_calm, halt_calm, told_calm, submit_calm, look_calm, settle_calm}
 use Rattle.ring_laws.proofs.Bystanders.{IsRule, IsBystander, AreBystanders, Aside, bystanders_go, no_effect}
-use Rattle.ring_laws.proofs.Fetched.{AreFetched, AreOther, fetched_in, values_aside, others_fetched, back_fetched}
-use Rattle.ring_laws.proofs.BackChange.{back_by, front_by, front_told_by, halt_by}
+use Rattle.ring_laws.proofs.Fetched.{AreFetched, AreOther, none_fetched, fetched_anew, values_aside, others_fetched, back_fetched}
+use Rattle.ring_laws.proofs.BackChange.{back_by, back_reads, front_by, front_told_by, halt_by}
 use Rattle.ring_laws.proofs.Halting.{Stops, stops_cases}
-use Rattle.ring_laws.proofs.Tells.{Tells, tells_aside, shows_free}
-use Rattle.ring_laws.proofs.BackTells.{lines_of_back, back_tells}
+use Rattle.ring_laws.proofs.Tells.{Tells, terms_of, tells_aside, shows_free}
+use Rattle.ring_laws.proofs.BackTells.{back_tells}
 use Rattle.ring_laws.proofs.JobTells.{JobTells, job_tells}
 use Rattle.ring_laws.proofs.JobTurn.{After}
 use Rattle.ring_laws.proofs.After.{kept_after}
@@ -58,11 +68,10 @@ use Rattle.ring_laws.proofs.After.{kept_after}
 -- all that the lines so far tell, side by side with the machine
 pub record Stand (config : Options) (before : List Line) (w : World) : Type 0 where
   pub ring : FollowsTo config.start before w
-  pub memory : memory.FollowsTo before w
+  pub standing : Stands before w.under.grants
   pub safe : IsSafe w
-  pub named : NamesNoOther w.under.keys
   pub tells : Tells config before w.back
-  pub fetched : AreFetched config before
+  pub fetched : AreFetched (terms_of config w.back) before
 
 pub same_values : (over : Bool) (before ys : List Line) (x : Sight) → AreFree over ys → Shows before x → entry_values (before ++ ys) ≡ entry_values before
 same_values over before ys x free shows = let longer : Shows (before ++ ys) x = shows_free over ys before x free shows in longer.values ∙ sym shows.values
@@ -86,9 +95,9 @@ front_after_tells : (config : Options) (w : World) (before : List Line) (act : O
 front_after_tells config w before None t = t
 front_after_tells config w before (Some a) t = t
 
-back_goes_on : (config : Options) (w : World) (before : List Line) (o : Outcome) (act : Option BackAct) → FollowsTo config.start before w → Tells config before w.back → back_turn w o ≡ act → length (before ++ back_shows w act) < 2 ^ 64 → (let n : World = back_after w act in Tells config (before ++ back_shows w act) n.back)
-back_goes_on config w before o None f t e few = no_lines config before w.back t
-back_goes_on config w before o (Some a) f t e few = retold config (before ++ back_shows w (Some a)) (back_step.step_of w.back a.answer) (back_tells config config.start before w.under w.back o a f.follows f.told t e few)
+back_goes_on : (config : Options) (w : World) (before : List Line) (o : Outcome) (act : Option BackAct) → IsSafe w → FollowsTo config.start before w → Tells config before w.back → back_turn w o ≡ act → reads_of (before ++ back_shows w act) < 2 ^ 64 → (let n : World = back_after w act in Tells config (before ++ back_shows w act) n.back)
+back_goes_on config w before o None safe f t e few = no_lines config before w.back t
+back_goes_on config w before o (Some a) safe f t e few = retold config (before ++ back_shows w (Some a)) (back_step.step_of w.back a.answer) (back_tells config config.start before w.under w.back o a f.follows f.told t (earlier_pages w safe) e few)
 
 job_goes_on : (config : Options) (w : World) (before : List Line) (k : ℕ) (o : Outcome) (act : Option BackAct) → Stand config before w → job_turn w k o ≡ act → (let n : World = job_after w k act in Tells config (before ++ job_shows w k act) n.back)
 job_goes_on config w before k o None s e = no_lines config before w.back s.tells
@@ -114,8 +123,12 @@ settle_by true = record { plain = refl; unstepped = refl }
 settle_by false = record { plain = refl; unstepped = refl }
 
 -- lines between all others
-outside : (config : Options) (own : Bool) (w : World) (before ys : List Line) → AreOutsiders own ys → Stand config before w → Tells config (before ++ ys) w.back
-outside config own w before ys all s = tells_aside config before ys w.back (outsiders_by own ys all) (values_aside ys before (outsiders_other own ys all)) s.tells
+outside : (config : Options) (w : World) (before ys : List Line) → AreOutsiders w.back.stage ys → Stand config before w → Tells config (before ++ ys) w.back
+outside config w before ys all s = tells_aside config before ys w.back (outsiders_by w.back.stage ys all) (values_aside ys before (outsiders_other w.back.stage ys all)) s.tells
+
+others_of : (over : Bool) (ys : List Line) → AreFree over ys → AreOther ys
+others_of over [] free = tt
+others_of over (y ∷ ys) free = let f : IsFree over y = free.0 in (f.other, others_of over ys free.1)
 
 halts_other : (before now : Option Halt) → AreOther (halt_lines before now)
 halts_other None None = tt
@@ -142,83 +155,179 @@ halted_tells config w before why s = stops_cases (λ (new : back.View). Tells co
         let over : is_some new.halted ≡ true = p.over in
         record { tale = t.tale; quiet = t.quiet; info = p.info ∙ t.info; jobs = λ running. absurd (cc); unseen = λ k above. t.unseen k (subst (λ (n : ℕ). n < k) p.fetched above) }
 
-tells_happens : (config : Options) (w : World) (h : Happening) (before : List Line) → Stand config before w → length (before ++ lines_at w h) < 2 ^ 64 → (let n : World = happens w h in Tells config (before ++ lines_at w h) n.back)
+-- the line of the key that names the layout
+pub layout_by : (w : World) → AreBystanders (lines.Move (layout_read w) ∷ [])
+layout_by w = (record { plain = refl; unstepped = refl }, tt)
+
+-- a back that takes terms holds no job yet
+attached_tells : (config : Options) (w : World) (before : List Line) (shape : Shape) (grefs : List ℕ) (port : ℕ) → Stand config before w → (let n : World = happens w (BackAttaches shape grefs port) in Tells config (before ++ lines_at w (BackAttaches shape grefs port)) n.back)
+attached_tells config w before shape grefs port s = attach_cases (λ (new : back.View) (shown : List Line). Tells config (before ++ shown) new) w shape grefs port takes (no_lines config before w.back s.tells)
+  where
+    takes : may_attach shape grefs w.back ≡ true → is_layout shape.abi (layout_text w) ≡ true → Tells config (before ++ lines.Move (layout_read w) ∷ []) (attached shape grefs port w.back)
+    takes may layout =
+        let same = values_aside (lines.Move (layout_read w) ∷ []) before (refl, tt) in
+        let t : Tells config (before ++ lines.Move (layout_read w) ∷ []) w.back = tells_aside config before (lines.Move (layout_read w) ∷ []) w.back (layout_by w) same s.tells in
+        record { tale = t.tale; quiet = t.quiet; info = t.info; jobs = λ runs. jobs_anew (terms_of config w.back) _ _ _ w.back.fetched w.back.jobs.works (same ∙ unread config.start w before shape grefs s.ring may) (t.jobs runs); unseen = t.unseen }
+
+tells_happens : (config : Options) (w : World) (h : Happening) (before : List Line) → Stand config before w → reads_of (before ++ lines_at w h) < 2 ^ 64 → (let n : World = happens w h in Tells config (before ++ lines_at w h) n.back)
 tells_happens config w FrontMoves before s few = front_after_tells config w (before ++ front_shows w (front_turn w)) (front_turn w) (front_tells config w before (front_turn w) s.ring s.tells refl)
-tells_happens config w BackMoves before s few = back_goes_on config w before Took (back_turn w Took) s.ring s.tells refl few
+tells_happens config w BackMoves before s few = back_goes_on config w before Took (back_turn w Took) s.safe s.ring s.tells refl few
 tells_happens config w (JobMoves number outcome) before s few = job_goes_on config w before number outcome (job_turn w number outcome) s refl
-tells_happens config w (Negotiates at move) before s few = outside config (is_between w.back.stage) w before (lines_at w (Negotiates at move)) (keys_outsiders w.back.stage at move w.under.keys s.named) s
-tells_happens config w (FrontEnters state) before s few = outside config true w before (lines_at w (FrontEnters state)) (state_outsiders true state w.front) s
+tells_happens config w (Negotiates at move) before s few = outside config w before (lines_at w (Negotiates at move)) (keys_outsiders w.back.stage at move w.under.keys) s
+tells_happens config w (FrontEnters state) before s few = outside config w before (lines_at w (FrontEnters state)) (state_outsiders w.back.stage state w.front) s
+tells_happens config w (BackAttaches shape grefs port) before s few = attached_tells config w before shape grefs port s
 tells_happens config w (BackHalts why) before s few = halted_tells config w before why s
 tells_happens config w (Submits job) before s few = aside config config.start before (lines_at w (Submits job)) w.back s.ring.follows (free_submit (is_some w.back.halted) job (front_submit.submit_of w.front job).0, tt) (submit_by job (front_submit.submit_of w.front job).0, tt) s.tells
 tells_happens config w (Notifies at) before s few = no_lines config before w.back s.tells
-tells_happens config w (Pokes frame word value) before s few = outside config true w before (poke_lines frame word value) (poke_outsiders true frame word value) s
-tells_happens config w Dumps before s few = outside config true w before (ring_lines w.under.pages 0 1024) (dump_outsiders true w.under.pages) s
+tells_happens config w (Pokes frame word value) before s few = outside config w before (poke_lines frame word value) (poke_outsiders w.back.stage frame word value) s
+tells_happens config w Dumps before s few = outside config w before (lines_at w Dumps) (dump_outsiders w.back.stage w.under.pages (1024 * 2 ^ w.front.shape.order)) s
 tells_happens config w (Looks quiet) before s few = aside config config.start before (lines_at w (Looks quiet)) w.back s.ring.follows (free_look (is_some w.back.halted) quiet, tt) (look_by quiet, tt) s.tells
 tells_happens config w (Settles quiet) before s few = aside config config.start before (lines_at w (Settles quiet)) w.back s.ring.follows (free_settle (is_some w.back.halted) quiet, tt) (settle_by quiet, tt) s.tells
 
 -- the lines of each mover tell what was fetched
-others_of : (over : Bool) (ys : List Line) → AreFree over ys → AreOther ys
-others_of over [] free = tt
-others_of over (y ∷ ys) free = let f : IsFree over y = free.0 in (f.other, others_of over ys free.1)
+no_fetch : (terms : Terms) (before : List Line) → AreFetched terms before → AreFetched terms (before ++ [])
+no_fetch terms before are = subst (λ (ls : List Line). AreFetched terms ls) (sym (append-nil before)) are
 
-both_other : (xs ys : List Line) → AreOther xs → AreOther ys → AreOther (xs ++ ys)
-both_other [] ys p q = q
-both_other (x ∷ xs) ys p q = (p.0, both_other xs ys p.1 q)
-
-no_fetch : (config : Options) (before : List Line) → AreFetched config before → AreFetched config (before ++ [])
-no_fetch config before are = subst (λ (ls : List Line). AreFetched config ls) (sym (append-nil before)) are
-
-front_fetches : (config : Options) (w : World) (before : List Line) (act : Option FrontAct) → front_turn w ≡ act → AreFetched config before → AreFetched config (before ++ front_shows w act)
-front_fetches config w before None e are = no_fetch config before are
-front_fetches config w before (Some a) e are =
+front_fetches : (terms : Terms) (w : World) (before : List Line) (act : Option FrontAct) → front_turn w ≡ act → AreFetched terms before → AreFetched terms (before ++ front_shows w act)
+front_fetches terms w before None e are = no_fetch terms before are
+front_fetches terms w before (Some a) e are =
     let g : front.View = front_step.step_of w.front a.answer in
     let over : Bool = is_some w.back.halted in
-    others_fetched config before (front_shows w (Some a)) (others_of over (front_shows w (Some a)) (front_free over w.under (front_ask.ask_of w.front) a (fronts_no_key w.front) e, free_front over g.told)) are
+    others_fetched terms before (front_shows w (Some a)) (others_of over (front_shows w (Some a)) (front_free over w.under (front_ask.ask_of w.front) a (fronts_no_key w.front) e, free_front over g.told)) are
 
-back_fetches : (config : Options) (w : World) (before : List Line) (act : Option BackAct) → back_turn w Took ≡ act → Stand config before w → AreFetched config (before ++ back_shows w act)
-back_fetches config w before None e s = no_fetch config before s.fetched
+-- the lines that stand after a move of the back
+back_other : (v : back.View) (t : Option BackTold) (answer : BackAnswer) (new : Option Halt) → AreOther (back_lines t answer ++ halt_lines v.halted new)
+back_other v t answer new = all_both (λ (line : Line). is_other line ≡ true) (back_lines t answer) (halt_lines v.halted new) (others_of false (back_lines t answer) (free_told false t answer refl)) (halts_other v.halted new)
+
+back_fetches : (config : Options) (w : World) (before : List Line) (act : Option BackAct) → back_turn w Took ≡ act → Stand config before w → (let n : World = back_after w act in AreFetched (terms_of config n.back) (before ++ back_shows w act))
+back_fetches config w before None e s = no_fetch (terms_of config w.back) before s.fetched
 back_fetches config w before (Some a) e s =
     let v : back.View = w.back in
     let new : back.View = back_step.step_of w.back a.answer in
     let f : Follows config.start [] before w.back = s.ring.follows in
     let t : Tells config before w.back = s.tells in
-    let gone : Follows f.sight.start f.sight.values (before ++ lines_of_back w.back a) (back_step.step_of w.back a.answer) = back_goes before w.under v.stage w.back Took a f.sight f.knows f.knows f.shows f.stands s.ring.told e in
     let b : IsBystander (lines.Move a.shown) = back_by w.under (ask_of w.back) Took a (backs_of w.back) e in
     let one : Aside config before (lines.Move a.shown ∷ []) = bystanders_go config (lines.Move a.shown ∷ []) before (b, tt) t.tale t.quiet in
-    back_fetched config before (back_lines new.told a.answer ++ halt_lines v.halted new.halted) (lines.Move a.shown) f.sight gone.sight b
-    (both_other (back_lines new.told a.answer) (halt_lines v.halted new.halted) (others_of false (back_lines new.told a.answer) (free_told false new.told a.answer refl)) (halts_other v.halted new.halted))
-    f.shows gone.shows one.tale s.fetched
+    subst (λ (s : Shape). AreFetched (record { config = config; abi = s.abi }) (before ++ back_shows w (Some a))) (sym (back_shape w.back a.answer))
+    (back_fetched (terms_of config w.back) before (back_lines new.told a.answer ++ halt_lines v.halted new.halted) (lines.Move a.shown) b (back_other w.back new.told a.answer new.halted)
+    (back_reads before w.under v.stage w.back Took a f.sight f.knows f.shows e) one.tale s.fetched)
 
-job_fetches : (config : Options) (w : World) (before : List Line) (k : ℕ) (o : Outcome) (act : Option BackAct) → job_turn w k o ≡ act → AreFetched config before → AreFetched config (before ++ job_shows w k act)
-job_fetches config w before k o None e are = no_fetch config before are
-job_fetches config w before k o (Some a) e are =
+job_fetches : (terms : Terms) (w : World) (before : List Line) (k : ℕ) (o : Outcome) (act : Option BackAct) → job_turn w k o ≡ act → AreFetched terms before → AreFetched terms (before ++ job_shows w k act)
+job_fetches terms w before k o None e are = no_fetch terms before are
+job_fetches terms w before k o (Some a) e are =
     let over : Bool = is_some w.back.halted in
     let running : is_some w.back.halted ≡ false = job_running (is_some w.back.halted) w.under k (ask_job w.back.jobs k) o a e in
-    others_fetched config before (job_shows w k (Some a)) (others_of over (job_shows w k (Some a)) (job_free over w.under k (back_step.job_ask_of w.back k) o a running (jobs_of w.back k) e, free_told over _ a.answer running)) are
+    others_fetched terms before (job_shows w k (Some a)) (others_of over (job_shows w k (Some a)) (job_free over w.under k (back_step.job_ask_of w.back k) o a running (jobs_of w.back k) e, free_told over _ a.answer running)) are
 
-outside_fetched : (config : Options) (own : Bool) (before ys : List Line) → AreOutsiders own ys → AreFetched config before → AreFetched config (before ++ ys)
-outside_fetched config own before ys all are = others_fetched config before ys (outsiders_other own ys all) are
+-- the back serves on the same terms
+front_terms : (config : Options) (w : World) (ls : List Line) (act : Option FrontAct) → AreFetched (terms_of config w.back) ls → (let n : World = front_after w act in AreFetched (terms_of config n.back) ls)
+front_terms config w ls None are = are
+front_terms config w ls (Some a) are = are
 
-fetched_happens : (config : Options) (w : World) (h : Happening) (before : List Line) → Stand config before w → AreFetched config (before ++ lines_at w h)
-fetched_happens config w FrontMoves before s = front_fetches config w before (front_turn w) refl s.fetched
+job_terms : (config : Options) (w : World) (ls : List Line) (k : ℕ) (act : Option BackAct) → AreFetched (terms_of config w.back) ls → (let n : World = job_after w k act in AreFetched (terms_of config n.back) ls)
+job_terms config w ls k None are = are
+job_terms config w ls k (Some a) are = are
+
+halted_fetches : (config : Options) (w : World) (before : List Line) (why : Halt) → Stand config before w → (let n : World = happens w (BackHalts why) in AreFetched (terms_of config n.back) (before ++ lines_at w (BackHalts why)))
+halted_fetches config w before why s = stops_cases (λ (new : back.View). AreFetched (terms_of config new) (before ++ halt_lines w.back.halted new.halted)) why w.back f.sight f.knows stops (same w.back.halted)
+  where
+    f : Follows config.start [] before w.back
+    f = s.ring.follows
+
+    same : (now : Option Halt) → AreFetched (terms_of config w.back) (before ++ halt_lines w.back.halted now)
+    same now = others_fetched (terms_of config w.back) before (halt_lines w.back.halted now) (halts_other w.back.halted now) s.fetched
+
+    stops : (new : back.View) → Stops f.sight why w.back new → AreFetched (terms_of config new) (before ++ halt_lines w.back.halted new.halted)
+    stops new p = subst (λ (q : Shape). AreFetched (record { config = config; abi = q.abi }) (before ++ halt_lines w.back.halted new.halted)) (sym p.shape) (same new.halted)
+
+attached_fetches : (config : Options) (w : World) (before : List Line) (shape : Shape) (grefs : List ℕ) (port : ℕ) → Stand config before w
+    → (let n : World = happens w (BackAttaches shape grefs port) in AreFetched (terms_of config n.back) (before ++ lines_at w (BackAttaches shape grefs port)))
+attached_fetches config w before shape grefs port s =
+    attach_cases (λ (new : back.View) (shown : List Line). AreFetched (terms_of config new) (before ++ shown)) w shape grefs port
+    (λ may layout. fetched_anew (terms_of config w.back) (terms_of config (attached shape grefs port w.back)) (before ++ lines.Move (layout_read w) ∷ []) (values_aside (lines.Move (layout_read w) ∷ []) before (refl, tt) ∙ unread config.start w before shape grefs s.ring may) (others_fetched (terms_of config w.back) before (lines.Move (layout_read w) ∷ []) (refl, tt) s.fetched))
+    (no_fetch (terms_of config w.back) before s.fetched)
+
+outside_fetched : (config : Options) (w : World) (before ys : List Line) → AreOutsiders w.back.stage ys → Stand config before w → AreFetched (terms_of config w.back) (before ++ ys)
+outside_fetched config w before ys all s = others_fetched (terms_of config w.back) before ys (outsiders_other w.back.stage ys all) s.fetched
+
+free_fetched : (config : Options) (w : World) (before ys : List Line) → AreFree (is_some w.back.halted) ys → Stand config before w → AreFetched (terms_of config w.back) (before ++ ys)
+free_fetched config w before ys free s = others_fetched (terms_of config w.back) before ys (others_of (is_some w.back.halted) ys free) s.fetched
+
+fetched_happens : (config : Options) (w : World) (h : Happening) (before : List Line) → Stand config before w → (let n : World = happens w h in AreFetched (terms_of config n.back) (before ++ lines_at w h))
+fetched_happens config w FrontMoves before s = front_terms config w (before ++ front_shows w (front_turn w)) (front_turn w) (front_fetches (terms_of config w.back) w before (front_turn w) refl s.fetched)
 fetched_happens config w BackMoves before s = back_fetches config w before (back_turn w Took) refl s
-fetched_happens config w (JobMoves number outcome) before s = job_fetches config w before number outcome (job_turn w number outcome) refl s.fetched
-fetched_happens config w (Negotiates at move) before s = outside_fetched config (is_between w.back.stage) before (lines_at w (Negotiates at move)) (keys_outsiders w.back.stage at move w.under.keys s.named) s.fetched
-fetched_happens config w (FrontEnters state) before s = outside_fetched config true before (lines_at w (FrontEnters state)) (state_outsiders true state w.front) s.fetched
-fetched_happens config w (BackHalts why) before s = others_fetched config before (lines_at w (BackHalts why)) (halts_other w.back.halted _) s.fetched
-fetched_happens config w (Submits job) before s = let over : Bool = is_some w.back.halted in others_fetched config before (lines_at w (Submits job)) (others_of over (lines_at w (Submits job)) (free_submit over job (front_submit.submit_of w.front job).0, tt)) s.fetched
-fetched_happens config w (Notifies at) before s = no_fetch config before s.fetched
-fetched_happens config w (Pokes frame word value) before s = outside_fetched config true before (poke_lines frame word value) (poke_outsiders true frame word value) s.fetched
-fetched_happens config w Dumps before s = outside_fetched config true before (ring_lines w.under.pages 0 1024) (dump_outsiders true w.under.pages) s.fetched
-fetched_happens config w (Looks quiet) before s = let over : Bool = is_some w.back.halted in others_fetched config before (lines_at w (Looks quiet)) (others_of over (lines_at w (Looks quiet)) (free_look over quiet, tt)) s.fetched
-fetched_happens config w (Settles quiet) before s = let over : Bool = is_some w.back.halted in others_fetched config before (lines_at w (Settles quiet)) (others_of over (lines_at w (Settles quiet)) (free_settle over quiet, tt)) s.fetched
+fetched_happens config w (JobMoves number outcome) before s =
+    job_terms config w (before ++ job_shows w number (job_turn w number outcome)) number (job_turn w number outcome) (job_fetches (terms_of config w.back) w before number outcome (job_turn w number outcome) refl s.fetched)
+fetched_happens config w (Negotiates at move) before s = outside_fetched config w before (lines_at w (Negotiates at move)) (keys_outsiders w.back.stage at move w.under.keys) s
+fetched_happens config w (FrontEnters state) before s = outside_fetched config w before (lines_at w (FrontEnters state)) (state_outsiders w.back.stage state w.front) s
+fetched_happens config w (BackAttaches shape grefs port) before s = attached_fetches config w before shape grefs port s
+fetched_happens config w (BackHalts why) before s = halted_fetches config w before why s
+fetched_happens config w (Submits job) before s = free_fetched config w before (lines_at w (Submits job)) (free_submit (is_some w.back.halted) job (front_submit.submit_of w.front job).0, tt) s
+fetched_happens config w (Notifies at) before s = no_fetch (terms_of config w.back) before s.fetched
+fetched_happens config w (Pokes frame word value) before s = outside_fetched config w before (poke_lines frame word value) (poke_outsiders w.back.stage frame word value) s
+fetched_happens config w Dumps before s = outside_fetched config w before (lines_at w Dumps) (dump_outsiders w.back.stage w.under.pages (1024 * 2 ^ w.front.shape.order)) s
+fetched_happens config w (Looks quiet) before s = free_fetched config w before (lines_at w (Looks quiet)) (free_look (is_some w.back.halted) quiet, tt) s
+fetched_happens config w (Settles quiet) before s = free_fetched config w before (lines_at w (Settles quiet)) (free_settle (is_some w.back.halted) quiet, tt) s
 
-pub stand_happens : (config : Options) (w : World) (h : Happening) (before : List Line) → IsPermitted w h → Stand config before w → length (before ++ lines_at w h) < 2 ^ 64 → Stand config (before ++ lines_at w h) (happens w h)
-stand_happens config w h before within s few = record {
-  ring = follows_happens config.start w h before s.named s.ring;
-  memory = memory.follows_happens w h before s.safe within s.memory;
+-- the mappings that stand are those that live
+none_stands : (before : List Line) (table : GrantTable) → Stands before table → Stands (before ++ []) table
+none_stands before table s = subst (λ (ls : List Line). Stands ls table) (sym (append-nil before)) s
+
+front_stands : (w : World) (before : List Line) (act : Option FrontAct) → front_turn w ≡ act → Stands before w.under.grants → (let n : World = front_after w act in Stands (before ++ front_shows w act) n.under.grants)
+front_stands w before None e s = none_stands before w.under.grants s
+front_stands w before (Some a) e s =
+    let g : front.View = front_step.step_of w.front a.answer in
+    subst (Stands (before ++ front_shows w (Some a))) (sym (made_front w.under (front_ask.ask_of w.front) a e))
+    (stands_aside before (front_shows w (Some a)) w.under.grants (calm_quiet (front_shows w (Some a)) (front_lines_calm w.under (front_ask.ask_of w.front) a g.told e))
+    (others_of false (front_shows w (Some a)) (front_free false w.under (front_ask.ask_of w.front) a (fronts_no_key w.front) e, free_front false g.told)) s)
+
+back_stands : (w : World) (before : List Line) (o : Outcome) (act : Option BackAct) → back_turn w o ≡ act → Stands before w.under.grants → (let n : World = back_after w act in Stands (before ++ back_shows w act) n.under.grants)
+back_stands w before o None e s = none_stands before w.under.grants s
+back_stands w before o (Some a) e s =
+    let new : back.View = back_step.step_of w.back a.answer in
+    turn_stands before (back_lines new.told a.answer ++ halt_lines w.back.halted new.halted) w.under mover.Back (ask_of w.back) o a (calm_quiet _ (told_calm new.told a.answer w.back.halted new.halted)) (back_other w.back new.told a.answer new.halted) s e
+
+job_stands : (w : World) (before : List Line) (k : ℕ) (o : Outcome) (act : Option BackAct) → job_turn w k o ≡ act → Stands before w.under.grants → (let n : World = job_after w k act in Stands (before ++ job_shows w k act) n.under.grants)
+job_stands w before k o None e s = none_stands before w.under.grants s
+job_stands w before k o (Some a) e s =
+    let new : back.View = back_step.job_step w.back k a.answer in
+    turn_stands before (back_lines new.told a.answer) w.under (mover.Job k) (back_step.job_ask_of w.back k) o a (calm_quiet _ (back_calm new.told a.answer)) (others_of false (back_lines new.told a.answer) (free_told false new.told a.answer refl)) s e
+
+outside_stands : (config : Options) (w : World) (before ys : List Line) → AreOutsiders w.back.stage ys → Stand config before w → Stands (before ++ ys) w.under.grants
+outside_stands config w before ys all s = stands_aside before ys w.under.grants (calm_quiet ys (outsiders_calm w.back.stage ys all)) (outsiders_other w.back.stage ys all) s.standing
+
+free_stands : (config : Options) (w : World) (before ys : List Line) → AreCalm ys → AreFree false ys → Stand config before w → Stands (before ++ ys) w.under.grants
+free_stands config w before ys calm free s = stands_aside before ys w.under.grants (calm_quiet ys calm) (others_of false ys free) s.standing
+
+poked_stands : (w : World) (frame word value : ℕ) (ls : List Line) → Stands ls w.under.grants → (let n : World = happens w (Pokes frame word value) in Stands ls n.under.grants)
+poked_stands w frame word value ls s = by_word (is_guest_word frame word)
+  where
+    by_word : (b : Bool) → (let h : Hypervisor = if b then with_pages w.under (with_word w.under.pages frame word value) else w.under in Stands ls h.grants)
+    by_word true = s
+    by_word false = s
+
+stands_happen : (config : Options) (w : World) (h : Happening) (before : List Line) → Stand config before w → (let n : World = happens w h in Stands (before ++ lines_at w h) n.under.grants)
+stands_happen config w FrontMoves before s = front_stands w before (front_turn w) refl s.standing
+stands_happen config w BackMoves before s = back_stands w before Took (back_turn w Took) refl s.standing
+stands_happen config w (JobMoves number outcome) before s = job_stands w before number outcome (job_turn w number outcome) refl s.standing
+stands_happen config w (Negotiates at move) before s = outside_stands config w before (lines_at w (Negotiates at move)) (keys_outsiders w.back.stage at move w.under.keys) s
+stands_happen config w (FrontEnters state) before s = outside_stands config w before (lines_at w (FrontEnters state)) (state_outsiders w.back.stage state w.front) s
+stands_happen config w (BackAttaches shape grefs port) before s =
+    attach_cases (λ (new : back.View) (shown : List Line). Stands (before ++ shown) w.under.grants) w shape grefs port
+    (λ may layout. stands_aside before (lines.Move (layout_read w) ∷ []) w.under.grants (record { same_epoch = refl; none_gone = λ n. refl; none_made = λ k. refl }, tt) (refl, tt) s.standing) (none_stands before w.under.grants s.standing)
+stands_happen config w (BackHalts why) before s = stands_aside before (lines_at w (BackHalts why)) w.under.grants (calm_quiet _ (halt_calm w.back.halted _)) (halts_other w.back.halted _) s.standing
+stands_happen config w (Submits job) before s = free_stands config w before (lines_at w (Submits job)) (submit_calm job (front_submit.submit_of w.front job).0, tt) (free_submit false job (front_submit.submit_of w.front job).0, tt) s
+stands_happen config w (Notifies at) before s = none_stands before w.under.grants s.standing
+stands_happen config w (Pokes frame word value) before s = poked_stands w frame word value (before ++ poke_lines frame word value) (outside_stands config w before (poke_lines frame word value) (poke_outsiders w.back.stage frame word value) s)
+stands_happen config w Dumps before s = outside_stands config w before (lines_at w Dumps) (dump_outsiders w.back.stage w.under.pages (1024 * 2 ^ w.front.shape.order)) s
+stands_happen config w (Looks quiet) before s = free_stands config w before (lines_at w (Looks quiet)) (look_calm quiet, tt) (free_look false quiet, tt) s
+stands_happen config w (Settles quiet) before s = free_stands config w before (lines_at w (Settles quiet)) (settle_calm quiet, tt) (free_settle false quiet, tt) s
+
+pub stand_happens : (config : Options) (w : World) (h : Happening) (before : List Line) → Stand config before w → reads_of (before ++ lines_at w h) < 2 ^ 64 → Stand config (before ++ lines_at w h) (happens w h)
+stand_happens config w h before s few = record {
+  ring = follows_happens config.start w h before s.safe s.ring;
+  standing = stands_happen config w h before s;
   safe = safe_happens w h s.safe;
-  named = named_happens w h s.named;
   tells = tells_happens config w h before s few;
   fetched = fetched_happens config w h before s;
 }
@@ -229,32 +338,25 @@ begin_rule config detail = record { step = tt; moved = tt; effect = no_effect []
 pub stand_start : (config : Options) (detail : Detail) → Stand config (lines.Begin config detail ∷ []) (start_of config)
 stand_start config detail = record {
   ring = record { follows = follows_begin config detail; told = refl };
-  memory = memory.follows_begin config detail;
+  standing = refl;
   safe = safe_start config;
-  named = named_start;
   tells = record {
     tale = record { obeys = obeys_more IsRule [] (lines.Begin config detail) (obeys_none IsRule) (begin_rule config detail); keeping = refl; serves = refl; told = refl };
     quiet = refl;
     info = refl;
-    jobs = λ running. no_jobs config [] (lines.Begin config detail ∷ []) 0;
+    jobs = λ running. no_jobs (terms_of config (back.start_of config)) [] (lines.Begin config detail ∷ []) 0;
     unseen = λ k above. refl;
   };
-  fetched = λ k. sym (ap (λ (b : Bool). if b then Some (fetched_in config [] k) else None) (no_words k));
+  fetched = λ k. sym (none_fetched (terms_of config (back.start_of config)) [] k refl);
 }
-  where
-    none_whole : (k : ℕ) → (nat_lt 0 k && nat_le (k * 28) 0) ≡ false
-    none_whole k = grind (arith, nat_tests)
 
-    no_words : (k : ℕ) → is_fetched [] 28 k ≡ false
-    no_words k = none_whole k
+report_stands : (config : Options) (detail : Detail) (history : List Happening) → reads_of (report_of config detail history) < 2 ^ 64 → Stand config (report_of config detail history) (after history (start_of config))
+report_stands config detail history few = kept_after (Stand config) (stand_happens config) history (start_of config) (lines.Begin config detail ∷ []) (stand_start config detail) few
 
-report_stands : (config : Options) (detail : Detail) (history : List Happening) → length (report_of config detail history) < 2 ^ 64 → Stand config (report_of config detail history) (after history (start_of config))
-report_stands config detail history few = kept_after (Stand config) (stand_happens config) history (start_of config) (lines.Begin config detail ∷ []) (always_within config history) (stand_start config detail) few
-
-pub report_rules : (config : Options) (detail : Detail) (history : List Happening) → length (report_of config detail history) < 2 ^ 64 → Obeys IsRule (report_of config detail history)
+pub report_rules : (config : Options) (detail : Detail) (history : List Happening) → reads_of (report_of config detail history) < 2 ^ 64 → Obeys IsRule (report_of config detail history)
 report_rules config detail history few = (report_stands config detail history few).tells.tale.obeys
 
-pub ended_rules : (config : Options) (detail : Detail) (history : List Happening) → length (report_of config detail history) < 2 ^ 64 → Obeys IsRule (ended_report_of config detail history)
+pub ended_rules : (config : Options) (detail : Detail) (history : List Happening) → reads_of (report_of config detail history) < 2 ^ 64 → Obeys IsRule (ended_report_of config detail history)
 ended_rules config detail history few =
     let t : Tells config (report_of config detail history) (let w : World = after history (start_of config) in w.back) = (report_stands config detail history few).tells in
     obeys_more IsRule (report_of config detail history) lines.End t.tale.obeys (record { step = tt; moved = tt; effect = no_effect (report_of config detail history) lines.End t.quiet refl })

@@ -37,7 +37,7 @@ pub data StepsBy (work : List Task) (k : ℕ) (epoch : List Line) (shown : Move)
   takes : stepper (lines.Move shown) ≡ Some k → Steps work k epoch shown → StepsBy work k epoch shown
   rests : stepper (lines.Move shown) ≡ None → StepsBy work k epoch shown
 
--- the move, with the lines behind it, and the job after it
+-- the move, with the lines after it, and the job after it
 pub record JobGoes (work : List Task) (k : ℕ) (epoch : List Line) (shown : Move) (told : List Line) (new : Work) : Type 0 where
   pub steps : StepsBy work k epoch shown
   pub at : IsAt work k (epoch ++ lines.Move shown ∷ told) new.stage new

@@ -33,6 +33,7 @@ use Rattle.back_jobs.specs.declared.stage.Stage.TheVariants as stage
 use Rattle.back_jobs.specs.Task.{Work, IsDoneStage, ask_at, step_at, map_ask, mode_of, last_of, rest_of, next_sector, next_segment, counted, sector_stage}
 use Rattle.back_jobs.specs.Jobs.{asked, told_at as told_works}
 use Rattle.split_model.proofs.SafeActs.{of_back}
+use Rattle.ring_words.specs.Shape.{entry_words_of}
 use Rattle.ring_laws.proofs.Shows.{Sight, epoch_longer}
 use Rattle.ring_laws.proofs.Sight.{is_other, other_touch, untouched_word}
 use Rattle.ring_laws.proofs.JobLines.{is_of, is_disk_of, IsAside, moves_own}
@@ -40,13 +41,13 @@ use Rattle.ring_laws.proofs.Places.{Within, IsAt}
 use Rattle.ring_laws.proofs.JobMoves.{itself}
 use Rattle.ring_laws.proofs.JobSteps.{StepsBy, takes, rests, JobGoes, told_at}
 use Rattle.ring_laws.proofs.JobStages.{job_goes}
-use Rattle.ring_laws.proofs.Began.{IsPlan, HasCome, serves, over, IsJobOf, request_at}
+use Rattle.ring_laws.proofs.Began.{Terms, IsPlan, HasCome, serves, over, IsJobOf, request_at}
 use Rattle.ring_laws.proofs.Works.{AreJobs, jobs_told, job_found}
 use Rattle.ring_laws.proofs.Bystanders.{IsRule, Tale, shown_last, tale_more, is_plain, plain_keeps, plain_serves, plain_tells, bystander_rule, some_and}
 use Rattle.ring_laws.proofs.Fetched.{AreFetched, fetched_in, fetched_still, fetched_is}
 use Rattle.ring_laws.proofs.JobRule.{own_rule, ToldBy, nothing, one, effect_done, effect_given, write_failed, read_failed}
 
--- what a job's move shows, and the lines behind it
+-- what a job's move shows, and the lines after it
 pub record IsSpoken (epoch : List Line) (k : ℕ) (s : Stage) (t : Work) (a : BackAct) : Type 0 where
   pub plain : is_plain (lines.Move a.shown) ≡ true
   pub told : ToldBy epoch a.shown k t.id t.moved (told_at s t a.answer)
@@ -81,7 +82,7 @@ job_tells work epoch h k (stage.Unmap m) t o a at e = of_back (IsSpoken epoch k 
 job_tells work epoch h k (stage.GiveUp m) t o a at e = of_back (IsSpoken epoch k (stage.GiveUp m) t) _ a (record { plain = refl; told = nothing refl refl }) e
 job_tells work epoch h k (stage.Done status) t o a at e = absurd (none-some a e)
 
--- the lines behind a job's own
+-- the lines after a job's own
 pub record After (config : Options) (before ys : List Line) : Type 0 where
   pub tale : Tale config (before ++ ys)
   pub quiet : disk_move_shown (before ++ ys) ≡ None
@@ -120,10 +121,10 @@ mover_aside : (work : List Task) (k j : ℕ) (epoch : List Line) (shown : Move) 
 mover_aside work k j epoch shown other (takes own s) = ap (λ (o : Option ℕ). is_job j o) own ∙ other_number j k other
 mover_aside work k j epoch shown other (rests none) = ap (λ (o : Option ℕ). is_job j o) none
 
-own_line : (config : Options) (before : List Line) (values : List ℕ) (k : ℕ) (shown : Move) (work : List Task) → disk_move_shown before ≡ None → fetched_of before k ≡ Some (fetched_in config values k) → ((indirect : List ℕ) → work_tasks (request_at values k) (back_info config) false indirect ≡ work)
+own_line : (terms : Terms) (before : List Line) (values : List ℕ) (k : ℕ) (shown : Move) (work : List Task) → disk_move_shown before ≡ None → fetched_of before k ≡ Some (fetched_in terms values k) → ((indirect : List ℕ) → work_tasks (request_at terms.abi values k) (back_info terms.config) false indirect ≡ work)
     → is_plain (lines.Move shown) ≡ true → StepsBy work k (this_epoch before) shown → IsRule before (lines.Move shown)
-own_line config before values k shown work quiet asked tasks plain (takes own steps) = own_rule config before values k shown work quiet asked tasks plain own steps
-own_line config before values k shown work quiet asked tasks plain (rests none) = bystander_rule before (lines.Move shown) quiet (record { plain = plain; unstepped = none })
+own_line terms before values k shown work quiet asked tasks plain (takes own steps) = own_rule terms before values k shown work quiet asked tasks plain own steps
+own_line terms before values k shown work quiet asked tasks plain (rests none) = bystander_rule before (lines.Move shown) quiet (record { plain = plain; unstepped = none })
 
 done_waits : (h : Hypervisor) (k : ℕ) (s : Stage) (t : Work) (o : Outcome) (a : BackAct) → back_act h (back.Job k) (ask_at s t) o ≡ Some a → IsDoneStage s → ⊥
 done_waits h k (stage.Done status) t o a e done = none-some a e
@@ -169,53 +170,53 @@ step_same (stage.GiveUp m) t answers.Done = record { number = refl; id = refl; o
 step_same s t a = record { number = refl; id = refl; op = refl }
 
 -- a job under its number
-pub record IsNumbered (config : Options) (values : List ℕ) (epoch : List Line) (t : Work) (k : ℕ) : Type 0 where
+pub record IsNumbered (terms : Terms) (values : List ℕ) (epoch : List Line) (t : Work) (k : ℕ) : Type 0 where
   pub work : List Task
   pub served : Status
   pub first : 1 ≤ k
-  pub read : 28 * k ≤ length values
-  pub id : id_of (request_at values k) ≡ t.id
-  pub plan : IsPlan (request_at values k) (back_info config) work served t.id t.op
+  pub read : entry_words_of terms.abi * k ≤ length values
+  pub id : id_of (request_at terms.abi values k) ≡ t.id
+  pub plan : IsPlan (request_at terms.abi values k) (back_info terms.config) work served t.id t.op
   pub at : HasCome served work k epoch t.stage t
 
 renamed : (request : RawRequest) (info : DiskInfo) (work : List Task) (served : Status) (id id' op op' : ℕ) → id ≡ id' → op ≡ op' → IsPlan request info work served id op → IsPlan request info work served id' op'
 renamed request info work served id id' op op' p q plan = subst (λ (n : ℕ). IsPlan request info work served id' n) q (subst (λ (n : ℕ). IsPlan request info work served n op) p plan)
 
-renumbered : (config : Options) (values : List ℕ) (epoch : List Line) (t : Work) (k : ℕ) → k ≡ t.number → IsNumbered config values epoch t k → IsJobOf config values epoch t
-renumbered config values epoch t k is n =
-    let m : IsNumbered config values epoch t t.number = subst (λ (j : ℕ). IsNumbered config values epoch t j) is n in
+renumbered : (terms : Terms) (values : List ℕ) (epoch : List Line) (t : Work) (k : ℕ) → k ≡ t.number → IsNumbered terms values epoch t k → IsJobOf terms values epoch t
+renumbered terms values epoch t k is n =
+    let m : IsNumbered terms values epoch t t.number = subst (λ (j : ℕ). IsNumbered terms values epoch t j) is n in
     record { work = m.work; served = m.served; first = m.first; read = m.read; id = m.id; plan = m.plan; at = m.at }
 
--- the lines and the jobs behind a move of a job
-pub record Turned (config : Options) (before : List Line) (values : List ℕ) (fetched k : ℕ) (ys : List Line) (works : List Work) : Type 0 where
-  pub after : After config before ys
-  pub jobs : AreJobs config values (this_epoch before ++ ys) fetched works
+-- the lines and the jobs after a move of a job
+pub record Turned (terms : Terms) (before : List Line) (values : List ℕ) (fetched k : ℕ) (ys : List Line) (works : List Work) : Type 0 where
+  pub after : After terms.config before ys
+  pub jobs : AreJobs terms values (this_epoch before ++ ys) fetched works
   pub aside : (j : ℕ) → j ≢ k → IsAside j ys
 
-pub found_turn : (config : Options) (before : List Line) (x : Sight) (fetched k : ℕ) (works : List Work) (h : Hypervisor) (o : Outcome) (a : BackAct) (place : ℕ) (t : Work) → slice_get works place ≡ Some t → t.number ≡ k
-    → entry_values before ≡ x.values → AreFetched config before → is_other (lines.Move a.shown) ≡ true → Tale config before → disk_move_shown before ≡ None → AreJobs config x.values (this_epoch before) fetched works
+pub found_turn : (terms : Terms) (before : List Line) (x : Sight) (fetched k : ℕ) (works : List Work) (h : Hypervisor) (o : Outcome) (a : BackAct) (place : ℕ) (t : Work) → slice_get works place ≡ Some t → t.number ≡ k
+    → entry_values before ≡ x.values → AreFetched terms before → is_other (lines.Move a.shown) ≡ true → Tale terms.config before → disk_move_shown before ≡ None → AreJobs terms x.values (this_epoch before) fetched works
     → back_act h (back.Job k) (ask_at t.stage t) o ≡ Some a
-    → Turned config before x.values fetched k (lines.Move a.shown ∷ told_at t.stage t a.answer) (told_works works (Some place) (Some t) a.answer)
-found_turn config before x fetched k works h o a place t found is same_values are other tale quiet jobs e = subst (λ (n : ℕ). back_act h (back.Job n) (ask_at t.stage t) o ≡ Some a → Turned config before x.values fetched n (lines.Move a.shown ∷ told_at t.stage t a.answer) (told_works works (Some place) (Some t) a.answer)) is go e
+    → Turned terms before x.values fetched k (lines.Move a.shown ∷ told_at t.stage t a.answer) (told_works works (Some place) (Some t) a.answer)
+found_turn terms before x fetched k works h o a place t found is same_values are other tale quiet jobs e = subst (λ (n : ℕ). back_act h (back.Job n) (ask_at t.stage t) o ≡ Some a → Turned terms before x.values fetched n (lines.Move a.shown ∷ told_at t.stage t a.answer) (told_works works (Some place) (Some t) a.answer)) is go e
   where
-    go : back_act h (back.Job t.number) (ask_at t.stage t) o ≡ Some a → Turned config before x.values fetched t.number (lines.Move a.shown ∷ told_at t.stage t a.answer) (told_works works (Some place) (Some t) a.answer)
+    go : back_act h (back.Job t.number) (ask_at t.stage t) o ≡ Some a → Turned terms before x.values fetched t.number (lines.Move a.shown ∷ told_at t.stage t a.answer) (told_works works (Some place) (Some t) a.answer)
     go act =
-        let j : IsJobOf config x.values (this_epoch before) t = job_found config x.values (this_epoch before) fetched works place t found jobs in
-        let plan : IsPlan (request_at x.values t.number) (back_info config) j.work j.served t.id t.op = j.plan in
+        let j : IsJobOf terms x.values (this_epoch before) t = job_found terms x.values (this_epoch before) fetched works place t found jobs in
+        let plan : IsPlan (request_at terms.abi x.values t.number) (back_info terms.config) j.work j.served t.id t.op = j.plan in
         let runs : IsRunning j.served j.work t.number (this_epoch before) t.stage t = running j.served j.work t.number (this_epoch before) t.stage t (done_waits h t.number t.stage t o a act) j.at in
         let goes : JobGoes j.work t.number (this_epoch before) a.shown (told_at t.stage t a.answer) (step_at t.stage t a.answer) = job_goes j.work t.number (this_epoch before) h t.stage t o a runs.at act in
         let tells : IsSpoken (this_epoch before) t.number t.stage t a = job_tells j.work (this_epoch before) h t.number t.stage t o a runs.at act in
-        let asked : fetched_of before t.number ≡ Some (fetched_in config x.values t.number) = fetched_is config before x.values t.number same_values are j.first j.read in
-        let rule : IsRule before (lines.Move a.shown) = own_line config before x.values t.number a.shown j.work quiet asked plan.tasks tells.plain goes.steps in
-        let longer : Tale config (before ++ lines.Move a.shown ∷ []) = tale_more config before (lines.Move a.shown) tale refl (plain_keeps (lines.Move a.shown) tells.plain) (plain_serves (lines.Move a.shown) tells.plain) (plain_tells (info_of config) (lines.Move a.shown) tells.plain) rule in
-        let asked_then : fetched_of (before ++ lines.Move a.shown ∷ []) t.number ≡ Some (fetched_in config x.values t.number) = fetched_still before (lines.Move a.shown) t.number refl (untouched_word before (lines.Move a.shown) (other_touch (lines.Move a.shown) other)) ∙ asked in
+        let asked : fetched_of before t.number ≡ Some (fetched_in terms x.values t.number) = fetched_is terms before x.values t.number same_values are j.first j.read in
+        let rule : IsRule before (lines.Move a.shown) = own_line terms before x.values t.number a.shown j.work quiet asked plan.tasks tells.plain goes.steps in
+        let longer : Tale terms.config (before ++ lines.Move a.shown ∷ []) = tale_more terms.config before (lines.Move a.shown) tale refl (plain_keeps (lines.Move a.shown) tells.plain) (plain_serves (lines.Move a.shown) tells.plain) (plain_tells (info_of terms.config) (lines.Move a.shown) tells.plain) rule in
+        let asked_then : fetched_of (before ++ lines.Move a.shown ∷ []) t.number ≡ Some (fetched_in terms x.values t.number) = fetched_still before (lines.Move a.shown) t.number refl (untouched_word before (lines.Move a.shown) (other_touch (lines.Move a.shown) other)) ∙ asked in
         let same : IsSame t (step_at t.stage t a.answer) = step_same t.stage t a.answer in
         let aside : (n : ℕ) → n ≢ t.number → IsAside n (lines.Move a.shown ∷ told_at t.stage t a.answer) = λ n apart. told_aside (this_epoch before) n t.number t.id t.moved a.shown (told_at t.stage t a.answer) (mover_aside j.work t.number n (this_epoch before) a.shown apart goes.steps) tells.told in
         let now : List Line = this_epoch before ++ lines.Move a.shown ∷ told_at t.stage t a.answer in
         let new : Work = step_at t.stage t a.answer in
-        let fresh : IsJobOf config x.values (this_epoch before ++ lines.Move a.shown ∷ told_at t.stage t a.answer) (step_at t.stage t a.answer) = renumbered config x.values now new t.number (sym same.number) (record { work = j.work; served = j.served; first = j.first; read = j.read; id = j.id ∙ sym same.id; plan = renamed (request_at x.values t.number) (back_info config) j.work j.served t.id new.id t.op new.op (sym same.id) (sym same.op) plan; at = serves runs.okay goes.at }) in
+        let fresh : IsJobOf terms x.values (this_epoch before ++ lines.Move a.shown ∷ told_at t.stage t a.answer) (step_at t.stage t a.answer) = renumbered terms x.values now new t.number (sym same.number) (record { work = j.work; served = j.served; first = j.first; read = j.read; id = j.id ∙ sym same.id; plan = renamed (request_at terms.abi x.values t.number) (back_info terms.config) j.work j.served t.id new.id t.op new.op (sym same.id) (sym same.op) plan; at = serves runs.okay goes.at }) in
         record {
-          after = after_told config before t.number t.id t.moved a.shown (told_at t.stage t a.answer) longer tells.told (some_and _ asked_then j.id);
-          jobs = jobs_told config x.values (this_epoch before) (lines.Move a.shown ∷ told_at t.stage t a.answer) fetched works place t new found same.number aside fresh jobs;
+          after = after_told terms.config before t.number t.id t.moved a.shown (told_at t.stage t a.answer) longer tells.told (some_and _ asked_then j.id);
+          jobs = jobs_told terms x.values (this_epoch before) (lines.Move a.shown ∷ told_at t.stage t a.answer) fetched works place t new found same.number aside fresh jobs;
           aside = aside;
         }

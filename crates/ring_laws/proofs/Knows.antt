@@ -1,12 +1,17 @@
 -- What the back keeps of the ring is what the lines tell of it.
-use Rattle.std.proofs.Common.{◌≡◌, ℕ, ◌+◌, ◌-◌, ◌*◌, ◌%◌, ◌^◌, ◌<◌, ◌≤◌, true, List, [], ◌∷◌, ◌++◌, refl, ap, sym, ◌∙◌, subst, arith}
-use Rattle.std.specs.Prelude.{Option, Some, None, is_some, length, take, drop}
+use Rattle.std.proofs.Common.{◌≡◌, ℕ, ◌+◌, ◌-◌, ◌*◌, ◌%◌, ◌^◌, ◌<◌, ◌≤◌, Bool, true, false, List, [], ◌∷◌, ◌++◌, refl, ap, sym, ◌∙◌, subst, arith}
+use Rattle.std.specs.Prelude.{Option, Some, None, is_some, IfSome, length, take, drop, map}
+use Rattle.blk_base.specs.declared.operation.Abi.{Abi}
+use Rattle.blk_base.specs.declared.operation.Abi.TheVariants.{X64, X32}
 use Rattle.blk_base.specs.declared.parts.Mapping.{Mapping}
 use Rattle.blk_base.specs.declared.ask.BackAnswer.{BackAnswer}
 use Rattle.blk_base.specs.declared.moves.Move.{Move}
 use Rattle.ring_words.specs.Ring.{Ring}
+use Rattle.ring_words.specs.Shape.{Shape, entries_of, entry_words_of}
 use Rattle.schedule_text.specs.declared.line.Line.{Line}
 use Rattle.schedule_text.specs.declared.line.Line.TheVariants as lines
+use Rattle.report_rules.specs.declared.standing.Standing.{Standing}
+use Rattle.back_jobs.specs.Jobs.{Held}
 use Rattle.blk_back.specs.declared.told.BackTold.{BackTold}
 use Rattle.blk_back.specs.declared.told.Halt.{Halt}
 use Rattle.blk_back.specs.declared.stage.Stage.{Stage}
@@ -15,71 +20,110 @@ use Rattle.blk_back.specs.View.{View}
 use Rattle.split_model.specs.Keys.{is_between}
 use Rattle.split_model.specs.Shown.{back_lines, halt_lines, halt_line}
 use Rattle.ring_laws.proofs.Shows.{Sight, Shows}
-use Rattle.ring_laws.proofs.Touches.{IsPage}
-use Rattle.ring_laws.proofs.ObeysRing.{ObeysRing}
+use Rattle.ring_laws.proofs.ObeysRing.{ObeysRing, IsWhole, none_whole}
+use Rattle.ring_laws.proofs.Lists.{AreApart}
+use Rattle.ring_laws.proofs.Pages.{number_of, number_told}
 
--- the ring's page isn't mapped yet
+-- the pages that the lines tell are those that the back has mapped, each under a number of its own
+pub record AreMapped (told : List Standing) (pages : List Mapping) : Type 0 where
+  pub same : map number_told told ≡ map number_of pages
+  pub apart : AreApart (map number_of pages)
+
+-- the back touched no word of the ring yet
 pub record Waits (x : Sight) (ring : Ring) (seen : ℕ) (halted : Option Halt) (fetched : ℕ) : Type 0 where
-  pub entries : ring.entries ≡ 32
   pub running : halted ≡ None
-  pub unmapped : x.pages ≡ []
+  pub untouched : x.touched ≡ false
+  pub begins : x.start ≡ ring.prod
   pub replied : x.replied ≡ ring.prod
   pub produced : x.produced ≡ seen
   pub words : x.words ≡ 0
-  pub consumed : ring.cons ≡ x.start
   pub values : x.values ≡ []
   pub numbered : fetched ≡ 0
 
+-- the terms aren't known yet
+pub record Untold (x : Sight) (ring : Ring) (pages : List Mapping) (seen : ℕ) (halted : Option Halt) (fetched : ℕ) : Type 0 where
+  pub waits : Waits x ring seen halted fetched
+  pub untold : x.pages ≡ []
+  pub none : pages ≡ []
+
+-- the back maps the pages of the ring
+pub record Maps (x : Sight) (shape : Shape) (ring : Ring) (grefs : List ℕ) (pages : List Mapping) (seen : ℕ) (halted : Option Halt) (fetched : ℕ) : Type 0 where
+  pub waits : Waits x ring seen halted fetched
+  pub narrow : shape.order ≤ 4
+  pub layout : x.abi ≡ Some shape.abi
+  pub entries : ring.entries ≡ entries_of shape.order
+  pub consumed : ring.cons ≡ ring.prod
+  pub mapped : AreMapped x.pages pages
+  pub each : length grefs ≡ 2 ^ shape.order
+  pub fewer : length pages < 2 ^ shape.order
+
 -- the back serves, and has read so many words of the entry that it fetches; between two entries it has the words of the last one in hand
-pub record Serves (k : ℕ) (x : Sight) (ring : Ring) (page : Mapping) (seen : ℕ) (halted : Option Halt) (entry : List ℕ) (fetched : ℕ) : Type 0 where
-  pub entries : ring.entries ≡ 32
+pub record ServesBy (k : ℕ) (x : Sight) (shape : Shape) (ring : Ring) (pages : List Mapping) (seen : ℕ) (halted : Option Halt) (entry : List ℕ) (fetched : ℕ) : Type 0 where
+  pub narrow : shape.order ≤ 4
+  pub layout : x.abi ≡ Some shape.abi
+  pub entries : ring.entries ≡ entries_of shape.order
   pub running : halted ≡ None
-  pub mapped : IsPage page.number x.pages
+  pub touched : x.touched ≡ true
+  pub mapped : AreMapped x.pages pages
+  pub all : length pages ≡ 2 ^ shape.order
   pub replied : x.replied ≡ ring.prod
   pub produced : x.produced ≡ seen
   pub count : ℕ
-  pub words : x.words ≡ 28 * count + k
-  pub within : k < 28
+  pub words : x.words ≡ entry_words_of shape.abi * count + k
+  pub within : k < entry_words_of shape.abi
   pub consumed : x.start < 2 ^ 32 → ring.cons ≡ (x.start + count) % 2 ^ 32
   pub long : length x.values ≡ x.words
   pub numbered : fetched ≡ count % 2 ^ 64
-  pub copied : 0 < k → entry ≡ drop (28 * count) x.values
-  pub copied_last : k ≡ 0 → 0 < count → entry ≡ take 28 (drop (28 * (count - 1)) x.values)
+  pub copied : 0 < k → entry ≡ drop (entry_words_of shape.abi * count) x.values
+  pub copied_last : k ≡ 0 → 0 < count → entry ≡ take (entry_words_of shape.abi) (drop (entry_words_of shape.abi * (count - 1)) x.values)
+
+abbrev pub Serves : ℕ → Sight → View → Type 0
+Serves k x v = ServesBy k x v.shape v.ring v.pages v.seen v.halted v.entry v.fetched
 
 -- between two entries
-pub whole : (words count : ℕ) → words ≡ 28 * count + 0 → words ≡ 28 * count
-whole words count e = omega arith
+whole : (abi : Abi) (words count : ℕ) → words ≡ entry_words_of abi * count + 0 → words % entry_words_of abi ≡ 0
+whole X64 words count e = omega arith
+whole X32 words count e = omega arith
+
+pub served_whole : (x : Sight) (v : View) → Serves 0 x v → IsWhole x
+served_whole x v s = subst (λ (abi : Option Abi). IfSome abi (λ a. x.words % entry_words_of a ≡ 0)) (sym s.layout) (whole v.shape.abi x.words s.count s.words)
 
 -- the back has halted
 pub record IsOver (x : Sight) (halted : Option Halt) : Type 0 where
   pub over : is_some halted ≡ true
-  pub count : ℕ
-  pub words : x.words ≡ 28 * count
+  pub whole : IsWhole x
 
-abbrev pub KnowsAt : Stage → Sight → Ring → Mapping → ℕ → Option Halt → List ℕ → ℕ → Type 0
-KnowsAt stage.MapRing x ring page seen halted entry fetched = Waits x ring seen halted fetched
-KnowsAt (stage.Fetch k) x ring page seen halted entry fetched = (1 ≤ k) × Serves k x ring page seen halted entry fetched
-KnowsAt (stage.GiveUp m) x ring page seen halted entry fetched = IsOver x halted
-KnowsAt stage.UnmapRing x ring page seen halted entry fetched = IsOver x halted
-KnowsAt stage.ClosePort x ring page seen halted entry fetched = IsOver x halted
-KnowsAt stage.UnmapUnbound x ring page seen halted entry fetched = IsOver x halted
-KnowsAt stage.Halted x ring page seen halted entry fetched = IsOver x halted
-KnowsAt s x ring page seen halted entry fetched = Serves 0 x ring page seen halted entry fetched
+abbrev pub KnowsAt : Stage → Sight → View → Type 0
+KnowsAt stage.InitWait x v = Untold x v.ring v.pages v.seen v.halted v.fetched
+KnowsAt stage.MapRing x v = Maps x v.shape v.ring v.grefs v.pages v.seen v.halted v.fetched
+KnowsAt (stage.Fetch k) x v = (1 ≤ k) × Serves k x v
+KnowsAt (stage.GiveUp m) x v = IsOver x v.halted
+KnowsAt stage.UnmapRing x v = IsOver x v.halted
+KnowsAt stage.ClosePort x v = IsOver x v.halted
+KnowsAt stage.UnmapUnbound x v = IsOver x v.halted
+KnowsAt stage.Halted x v = IsOver x v.halted
+KnowsAt s x v = Serves 0 x v
+
+-- its jobs, what it tells and whether it sleeps are nothing to it
+pub knows_still : (s : Stage) (x : Sight) (v : View) (asleep : Bool) (jobs : Held) (told : Option BackTold) → KnowsAt s x v → KnowsAt s x (record v { asleep = asleep; jobs = jobs; told = told })
+knows_still stage.InitWait x v asleep jobs told knows = knows
+knows_still s x v asleep jobs told knows = knows
 
 -- where no entry is being fetched the words of whole ones were read
-pub whole_words : (s : Stage) (x : Sight) (ring : Ring) (page : Mapping) (seen : ℕ) (halted : Option Halt) (entry : List ℕ) (fetched : ℕ) → is_between s ≡ true → KnowsAt s x ring page seen halted entry fetched → (count : ℕ) × (x.words ≡ 28 * count)
-whole_words stage.MapRing x ring page seen halted entry fetched is knows = (0, knows.words)
-whole_words (stage.Fetch k) x ring page seen halted entry fetched is knows = absurd (cc)
-whole_words (stage.GiveUp m) x ring page seen halted entry fetched is knows = (knows.count, knows.words)
-whole_words stage.UnmapRing x ring page seen halted entry fetched is knows = (knows.count, knows.words)
-whole_words stage.ClosePort x ring page seen halted entry fetched is knows = (knows.count, knows.words)
-whole_words stage.UnmapUnbound x ring page seen halted entry fetched is knows = (knows.count, knows.words)
-whole_words stage.Halted x ring page seen halted entry fetched is knows = (knows.count, knows.words)
-whole_words s x ring page seen halted entry fetched is knows = (knows.count, whole x.words knows.count knows.words)
+pub whole_words : (s : Stage) (x : Sight) (v : View) → is_between s ≡ true → KnowsAt s x v → IsWhole x
+whole_words stage.InitWait x v is knows = none_whole x knows.waits.words
+whole_words stage.MapRing x v is knows = none_whole x knows.waits.words
+whole_words (stage.Fetch k) x v is knows = absurd (cc)
+whole_words (stage.GiveUp m) x v is knows = knows.whole
+whole_words stage.UnmapRing x v is knows = knows.whole
+whole_words stage.ClosePort x v is knows = knows.whole
+whole_words stage.UnmapUnbound x v is knows = knows.whole
+whole_words stage.Halted x v is knows = knows.whole
+whole_words s x v is knows = served_whole x v knows
 
 -- as the back stands
 abbrev pub Knows : Sight → View → Type 0
-Knows x v = KnowsAt v.stage x v.ring v.page v.seen v.halted v.entry v.fetched
+Knows x v = KnowsAt v.stage x v
 
 -- rings start at that index, the words of entries that were read begin with those, the lines so far keep the rules of the ring, and tell what the back knows
 pub record Follows (start : ℕ) (values : List ℕ) (before : List Line) (v : View) : Type 0 where
@@ -91,7 +135,7 @@ pub record Follows (start : ℕ) (values : List ℕ) (before : List Line) (v : V
   pub knows : Knows sight v
   pub stands : ObeysRing before sight.start (is_some v.halted)
 
--- a move of the back, with the lines behind it
+-- a move of the back, with the lines after it
 abbrev pub BackGoes : ℕ → List ℕ → List Line → View → View → BackAnswer → Move → Type 0
 BackGoes start values before old new answer shown = Follows start values (before ++ lines.Move shown ∷ (back_lines new.told answer ++ halt_lines old.halted new.halted)) new
 

@@ -1,8 +1,10 @@
+pub mod BackReads
 pub mod Lists
 pub mod Sight
 pub mod Shows
 pub mod Touches
 pub mod ObeysRing
+pub mod Pages
 pub mod Knows
 pub mod Entry
 pub mod Serving
@@ -33,13 +35,13 @@ pub mod JobTurn
 pub mod Over
 pub mod Owed
 pub mod BackChange
-pub mod Standings
 pub mod Tells
 pub mod BackTells
 pub mod JobTells
 pub mod After
 pub mod JobRuns
 pub mod Makers
+pub mod Standings
 pub mod MakerLines
 pub mod MakerJob
 pub mod MakerTurns
@@ -57,4 +59,4 @@ pub mod Replying
 pub mod NextReply
 pub mod Chosen
 pub mod ReplyRuns
-pub mod LayoutRuns
+pub mod Short

@@ -1,7 +1,7 @@
--- Lists and what is counted and gathered of them, where functions agree.
-use Rattle.std.proofs.Common.{◌≡◌, ℕ, ◌+◌, ◌||◌, Bool, true, false, cond, List, [], ◌∷◌, ◌++◌, count_by, refl, ap, ◌∙◌, arith}
+-- Lists and what is counted and gathered of them, where functions agree; what holds of each of their items, and different numbers.
+use Rattle.std.proofs.Common.{◌≡◌, ◌≢◌, ℕ, ◌+◌, ◌<◌, ◌||◌, Bool, true, false, cond, List, [], ◌∷◌, ◌++◌, map, count_by, refl, ap, ◌∙◌, arith}
 use Rattle.std.specs.Prelude.{fold, Option, None}
-use Rattle.std.specs.List.{list_any, filter_map, cons_option}
+use Rattle.std.specs.List.{AllByRecursion, list_any, filter_map, cons_option}
 use Rattle.std.proofs.lemmas.List.Sums.{sum_by-cons, sum_by-append}
 
 pub fold_same : {X : Type 0} (f g : ℕ → X → ℕ) → ((n : ℕ) (x : X) → f n x ≡ g n x) → (xs : List X) (n : ℕ) → fold f n xs ≡ fold g n xs
@@ -57,3 +57,41 @@ gathered_none f moves still [] none = refl
 gathered_none {X} {Y} f moves still (x ∷ xs) none =
     let both : (moves x ≡ false) × (list_any moves xs ≡ false) = either_false (moves x) (list_any moves xs) none in
     ap (λ (y : Option Y). cons_option y (filter_map f xs)) (still x both.0) ∙ gathered_none f moves still xs both.1
+
+-- parts of a list of which all holds
+pub all_first : {X : Type 0} (P : X → Type 0) (xs ys : List X) → AllByRecursion P (xs ++ ys) → AllByRecursion P xs
+all_first P [] ys all = tt
+all_first P (x ∷ xs) ys all = (all.0, all_first P xs ys all.1)
+
+pub all_second : {X : Type 0} (P : X → Type 0) (xs ys : List X) → AllByRecursion P (xs ++ ys) → AllByRecursion P ys
+all_second P [] ys all = all
+all_second P (x ∷ xs) ys all = all_second P xs ys all.1
+
+pub all_both : {X : Type 0} (P : X → Type 0) (xs ys : List X) → AllByRecursion P xs → AllByRecursion P ys → AllByRecursion P (xs ++ ys)
+all_both P [] ys p q = q
+all_both P (x ∷ xs) ys p q = (p.0, all_both P xs ys p.1 q)
+
+pub all_more : {X : Type 0} (P Q : X → Type 0) (xs : List X) → ((x : X) → P x → Q x) → AllByRecursion P xs → AllByRecursion Q xs
+all_more P Q [] f all = tt
+all_more P Q (x ∷ xs) f all = (f x all.0, all_more P Q xs f all.1)
+
+pub all_pairs : {X : Type 0} (P Q R : X → Type 0) (xs : List X) → ((x : X) → P x → Q x → R x) → AllByRecursion P xs → AllByRecursion Q xs → AllByRecursion R xs
+all_pairs P Q R [] f p q = tt
+all_pairs P Q R (x ∷ xs) f p q = (f x p.0 q.0, all_pairs P Q R xs f p.1 q.1)
+
+pub all_of_map : {X Y : Type 0} (P : Y → Type 0) (f : X → Y) (xs : List X) → AllByRecursion P (map f xs) → AllByRecursion (λ (x : X). P (f x)) xs
+all_of_map P f [] all = tt
+all_of_map P f (x ∷ xs) all = (all.0, all_of_map P f xs all.1)
+
+-- no number twice
+abbrev pub AreApart : List ℕ → Type 0
+AreApart [] = Unit {0}
+AreApart (n ∷ ns) = AllByRecursion (λ (m : ℕ). m ≢ n) ns × AreApart ns
+
+-- a higher one after them
+pub apart_push : (xs : List ℕ) (n : ℕ) → AreApart xs → AllByRecursion (λ (m : ℕ). m < n) xs → AreApart (xs ++ n ∷ [])
+apart_push [] n apart low = (tt, tt)
+apart_push (x ∷ xs) n apart low = (all_both (λ (m : ℕ). m ≢ x) xs (n ∷ []) apart.0 (λ e. above x n low.0 e, tt), apart_push xs n apart.1 low.1)
+  where
+    above : (a b : ℕ) → a < b → b ≡ a → ⊥
+    above a b lt e = omega arith

@@ -36,8 +36,8 @@ use Rattle.blk_back.specs.declared.told.Halt.{Halt}
 use Rattle.blk_back.specs.declared.stage.Reply.{Reply}
 use Rattle.blk_back.specs.declared.stage.Stage.{Stage}
 use Rattle.blk_back.specs.declared.stage.Stage.TheVariants as stage
-use Rattle.blk_back.specs.View.{View, slot_word}
-use Rattle.blk_back.specs.Ask.{ask_at, loop_ask, next_reply}
+use Rattle.blk_back.specs.View.{View}
+use Rattle.blk_back.specs.Ask.{ask_at, loop_ask, index_ask, entry_ask, next_reply}
 use Rattle.split_model.specs.Happening.{submit_line}
 use Rattle.split_model.specs.Shown.{front_lines, back_lines, halt_lines, effect_line}
 use Rattle.split_model.proofs.SafeActs.{of_front, of_back, IsKeyMove, front_keys, back_keys, front_wait, back_wait}
@@ -201,12 +201,12 @@ loop_asks : (v : View) (r : Option Reply) → is_unmap (loop_ask v r) ≡ false
 loop_asks v (Some r) = refl
 loop_asks v None = by_tests v.asleep (requests_of v.ring v.seen == 0)
   where
-    by_tests : (asleep none : Bool) → is_unmap (if asleep then ask.Wait else (if none then ask.Read v.page 0 else ask.Read v.page (slot_word v.ring.cons 0))) ≡ false
+    by_tests : (asleep none : Bool) → is_unmap (if asleep then ask.Wait else (if none then index_ask v 0 else entry_ask v 0)) ≡ false
     by_tests true none = refl
     by_tests false true = refl
     by_tests false false = refl
 
-pub serving_asks : (s : Stage) (v : View) (x : Sight) → KnowsAt s x v.ring v.page v.seen v.halted v.entry v.fetched → is_some v.halted ≡ false → is_unmap (ask_at s v) ≡ false
+pub serving_asks : (s : Stage) (v : View) (x : Sight) → KnowsAt s x v → is_some v.halted ≡ false → is_unmap (ask_at s v) ≡ false
 serving_asks stage.Loop v x k runs = loop_asks v (next_reply v)
 serving_asks (stage.GiveUp m) v x k runs = absurd (let over = k.over in cc)
 serving_asks stage.UnmapRing v x k runs = absurd (let over = k.over in cc)

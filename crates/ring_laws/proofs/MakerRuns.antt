@@ -1,10 +1,11 @@
 -- Whatever happens from the start, jobs unmap only what they made, and nothing is left to them but what they have in their hands.
-use Rattle.std.proofs.Common.{◌≡◌, ℕ, ◌+◌, ◌<◌, ◌≤◌, ◌^◌, Bool, true, false, if◌then◌else◌, List, [], ◌∷◌, ◌++◌, length, refl, ap, sym, ◌∙◌, subst, append-nil, arith}
+use Rattle.std.proofs.Common.{◌≡◌, ℕ, ◌+◌, ◌*◌, ◌<◌, ◌≤◌, ◌^◌, Bool, true, false, if◌then◌else◌, List, [], ◌∷◌, ◌++◌, length, refl, ap, sym, ◌∙◌, subst, append-nil, arith}
 use Rattle.std.specs.Prelude.{Option, Some, None, is_some, slice_get}
 use Rattle.std.specs.List.{AllByRecursion}
 use Rattle.blk_base.specs.Options.{Options}
 use Rattle.blk_base.specs.declared.parts.Mapping.{Mapping}
 use Rattle.blk_base.specs.declared.moves.BackMover.TheVariants as mover
+use Rattle.blk_base.specs.declared.moves.Mover.TheVariants as who
 use Rattle.blk_base.specs.declared.ask.BackAsk.TheVariants as ask
 use Rattle.hypervisor.specs.Act.{FrontAct, BackAct, Outcome, Took, back_act}
 use Rattle.schedule_text.specs.declared.line.Line.{Line}
@@ -14,6 +15,7 @@ use Rattle.report_rules.specs.Obeys.{Obeys}
 use Rattle.report_rules.specs.Standing.{this_epoch}
 use Rattle.report_rules.specs.Job.{entry_values}
 use Rattle.report_rules.specs.Made.{left_to}
+use Rattle.ring_laws.proofs.BackReads.{reads_of}
 use Rattle.ring_laws.specs.Unmaps.{AreUnmaps}
 use Rattle.ring_laws.specs.Own.{AreOwn}
 use Rattle.report_rules.proofs.Obeys.{obeys_none, obeys_more}
@@ -29,28 +31,27 @@ use Rattle.blk_back.specs.declared.told.Halt.{Halt}
 use Rattle.blk_back.specs.View as back
 use Rattle.blk_back.specs.Step as back_step
 use Rattle.split_model.specs.World.{World, start_of}
-use Rattle.split_model.specs.Happening.{Happening, FrontMoves, BackMoves, JobMoves, Negotiates, FrontEnters, BackHalts, Submits, Notifies, Pokes, Dumps, Looks, Settles, poke_lines, ring_lines, happens, lines_at, after, front_after, front_shows, back_after, back_shows, job_after, job_shows, front_turn, back_turn, job_turn}
+use Rattle.split_model.specs.Happening.{Happening, FrontMoves, BackMoves, JobMoves, Negotiates, FrontEnters, BackAttaches, BackHalts, Submits, Notifies, Pokes, Dumps, Looks, Settles, poke_lines, layout_read, happens, lines_at, after, front_after, front_shows, back_after, back_shows, job_after, job_shows, front_turn, back_turn, job_turn}
 use Rattle.split_model.specs.Report.{report_of, ended_report_of}
 use Rattle.split_model.specs.Shown.{back_lines, halt_lines}
 use Rattle.split_model.proofs.SafeAnswers.{backs_of}
-use Rattle.move_laws.specs.Permitted.{IsPermitted}
-use Rattle.move_laws.proofs.Always.{always_within}
-use Rattle.split_model.specs.Keys.{is_between}
+use Rattle.split_model.proofs.Attaching.{attach_cases}
 use Rattle.ring_laws.proofs.Outsiders.{keys_outsiders, state_outsiders, poke_outsiders, dump_outsiders, outsiders_calm}
 use Rattle.ring_laws.proofs.Knows.{Follows}
 use Rattle.ring_laws.proofs.Free.{job_running}
-use Rattle.ring_laws.proofs.Began.{IsJobOf}
-use Rattle.ring_laws.proofs.Works.{AreJobs, all_second, all_more}
+use Rattle.ring_laws.proofs.Began.{Terms, IsJobOf}
+use Rattle.ring_laws.proofs.Lists.{all_second, all_more}
+use Rattle.ring_laws.proofs.Works.{AreJobs}
 use Rattle.ring_laws.proofs.BackChange.{Changed, change_at}
 use Rattle.ring_laws.proofs.BackTells.{told_none}
 use Rattle.ring_laws.proofs.Halting.{Stops, stops_cases}
-use Rattle.ring_laws.proofs.Tells.{small_number}
+use Rattle.ring_laws.proofs.Tells.{terms_of, small_number}
 use Rattle.ring_laws.proofs.Standings.{in_hand}
 use Rattle.ring_laws.proofs.Runs.{FollowsTo}
 use Rattle.ring_laws.proofs.After.{kept_after}
 use Rattle.ring_laws.proofs.JobRuns.{Stand, stand_start, stand_happens}
 use Rattle.ring_laws.proofs.Makers.{Holds, IsMine, open_more}
-use Rattle.ring_laws.proofs.MakerLines.{calm_quiet, calm_open, front_lines_calm, submit_calm, look_calm, settle_calm, halt_calm, told_calm, Does, back_does, serving_asks}
+use Rattle.ring_laws.proofs.MakerLines.{key_calm, calm_quiet, calm_open, front_lines_calm, submit_calm, look_calm, settle_calm, halt_calm, told_calm, Does, back_does, serving_asks}
 use Rattle.ring_laws.proofs.MakerTurns.{IsMadeBy, Made, made_aside, quiet_hands, changed_hands, HandStands, Turned, job_turned, all_by_place}
 
 no_lines : (before : List Line) (v : back.View) → Made before v → Made (before ++ []) v
@@ -60,8 +61,8 @@ front_made : (w : World) (before : List Line) (act : Option FrontAct) → front_
 front_made w before None e m = no_lines before w.back m
 front_made w before (Some a) e m = let g : front.View = front_step.step_of w.front a.answer in made_aside before (front_shows w (Some a)) w.back (front_lines_calm w.under (front_ask.ask_of w.front) a g.told e) m
 
-first_numbers : (config : Options) (values : List ℕ) (epoch : List Line) (fetched : ℕ) (works : List Work) → AreJobs config values epoch fetched works → AllByRecursion (λ (t : Work). 1 ≤ t.number) works
-first_numbers config values epoch fetched works jobs = all_more (IsJobOf config values epoch) (λ (t : Work). 1 ≤ t.number) works (λ t j. j.first) jobs.each
+first_numbers : (terms : Terms) (values : List ℕ) (epoch : List Line) (fetched : ℕ) (works : List Work) → AreJobs terms values epoch fetched works → AllByRecursion (λ (t : Work). 1 ≤ t.number) works
+first_numbers terms values epoch fetched works jobs = all_more (IsJobOf terms values epoch) (λ (t : Work). 1 ≤ t.number) works (λ t j. j.first) jobs.each
 
 back_made : (config : Options) (w : World) (before : List Line) (o : Outcome) (act : Option BackAct) → Stand config before w → Stand config (before ++ back_shows w act) (back_after w act) → back_turn w o ≡ act → Made before w.back → (let n : World = back_after w act in Made (before ++ back_shows w act) n.back)
 back_made config w before o None s t e m = no_lines before w.back m
@@ -76,10 +77,10 @@ back_made config w before o (Some a) s t e m =
     let made : Made (before ++ back_shows w (Some a)) (back_step.step_of w.back a.answer) = record {
       obeys = open_more before (back_shows w (Some a)) (d.allowed, calm_open (back_lines new.told a.answer ++ halt_lines v.halted new.halted) rest) m.obeys;
       hands = λ runs.
-          let jobs : AreJobs config (entry_values (before ++ back_shows w (Some a))) (this_epoch (before ++ back_shows w (Some a))) new.fetched new.jobs.works = t.tells.jobs runs in
+          let jobs : AreJobs (terms_of config new) (entry_values (before ++ back_shows w (Some a))) (this_epoch (before ++ back_shows w (Some a))) new.fetched new.jobs.works = t.tells.jobs runs in
           let small : v.fetched < 2 ^ 64 = small_number v.stage v g.sight g.knows (c.running runs) in
           quiet_hands before (back_shows w (Some a)) new.jobs.works (d.quiet (serving_asks v.stage v g.sight g.knows (c.running runs)), calm_quiet (back_lines new.told a.answer ++ halt_lines v.halted new.halted) rest)
-          (changed_hands (length g.sight.values) (this_epoch before) v new c.change runs small (s.tells.unseen (v.fetched + 1) (omega arith)) (first_numbers config _ _ new.fetched new.jobs.works jobs) (m.hands (c.running runs)));
+          (changed_hands (length g.sight.values) (this_epoch before) v new c.change runs small (s.tells.unseen (v.fetched + 1) (omega arith)) (first_numbers (terms_of config new) _ _ new.fetched new.jobs.works jobs) (m.hands (c.running runs)));
     } in
     record { obeys = made.obeys; hands = made.hands }
 
@@ -91,8 +92,8 @@ job_made config w before k o (Some a) e old s m =
     let running : is_some v.halted ≡ false = job_running (is_some v.halted) w.under k (ask_job v.jobs k) o a e in
     let asks = ap (λ (b : Bool). back_act w.under (mover.Job k) (if b then ask.Wait else ask_job v.jobs k) o) (sym running) ∙ e in
     let stands : AllByRecursion (HandStands (before ++ job_shows w k (Some a))) n.back.jobs.works = all_by_place (HandStands (before ++ job_shows w k (Some a))) n.back.jobs.works
-    (λ i t found x is. in_hand (before ++ job_shows w k (Some a)) n.under.pages n.under.grants n.back i t x s.memory.tells s.safe.held found is) in
-    let jobs : AreJobs config (entry_values before) (this_epoch before) v.fetched v.jobs.works = old.tells.jobs running in
+    (λ i t found x is. in_hand (before ++ job_shows w k (Some a)) n.under.grants n.back i t x s.standing s.safe.held found is) in
+    let jobs : AreJobs (terms_of config v) (entry_values before) (this_epoch before) v.fetched v.jobs.works = old.tells.jobs running in
     let turned : Turned before (job_shows w k (Some a)) n.back.jobs.works = job_turned before w.under v.jobs.works k o a (place_of v.jobs.works k) (work_of v.jobs.works k) refl refl asks m.obeys jobs.apart (m.hands running) stands in
     record { obeys = turned.obeys; hands = λ runs. turned.hands }
 
@@ -114,13 +115,16 @@ pub made_happens : (config : Options) (w : World) (h : Happening) (before : List
 made_happens config w FrontMoves before s t m = front_made w before (front_turn w) refl m
 made_happens config w BackMoves before s t m = back_made config w before Took (back_turn w Took) s t refl m
 made_happens config w (JobMoves number outcome) before s t m = job_made config w before number outcome (job_turn w number outcome) refl s t m
-made_happens config w (Negotiates at move) before s t m = made_aside before (lines_at w (Negotiates at move)) w.back (outsiders_calm (is_between w.back.stage) _ (keys_outsiders w.back.stage at move w.under.keys s.named)) m
-made_happens config w (FrontEnters state) before s t m = made_aside before (lines_at w (FrontEnters state)) w.back (outsiders_calm true _ (state_outsiders true state w.front)) m
+made_happens config w (Negotiates at move) before s t m = made_aside before (lines_at w (Negotiates at move)) w.back (outsiders_calm w.back.stage _ (keys_outsiders w.back.stage at move w.under.keys)) m
+made_happens config w (FrontEnters state) before s t m = made_aside before (lines_at w (FrontEnters state)) w.back (outsiders_calm w.back.stage _ (state_outsiders w.back.stage state w.front)) m
+made_happens config w (BackAttaches shape grefs port) before s t m =
+    attach_cases (λ (new : back.View) (shown : List Line). Made (before ++ shown) new) w shape grefs port
+    (λ may layout. let now : Made (before ++ lines.Move (layout_read w) ∷ []) w.back = made_aside before (lines.Move (layout_read w) ∷ []) w.back (key_calm who.Back (layout_read w) refl, tt) m in record { obeys = now.obeys; hands = now.hands }) (no_lines before w.back m)
 made_happens config w (BackHalts why) before s t m = halted_made config w before why s m
 made_happens config w (Submits job) before s t m = made_aside before (lines_at w (Submits job)) w.back (submit_calm job (front_submit.submit_of w.front job).0, tt) m
 made_happens config w (Notifies at) before s t m = no_lines before w.back m
-made_happens config w (Pokes frame word value) before s t m = made_aside before (poke_lines frame word value) w.back (outsiders_calm true _ (poke_outsiders true frame word value)) m
-made_happens config w Dumps before s t m = made_aside before (ring_lines w.under.pages 0 1024) w.back (outsiders_calm true _ (dump_outsiders true w.under.pages)) m
+made_happens config w (Pokes frame word value) before s t m = made_aside before (poke_lines frame word value) w.back (outsiders_calm w.back.stage _ (poke_outsiders w.back.stage frame word value)) m
+made_happens config w Dumps before s t m = made_aside before (lines_at w Dumps) w.back (outsiders_calm w.back.stage _ (dump_outsiders w.back.stage w.under.pages (1024 * 2 ^ w.front.shape.order))) m
 made_happens config w (Looks quiet) before s t m = made_aside before (lines_at w (Looks quiet)) w.back (look_calm quiet, tt) m
 made_happens config w (Settles quiet) before s t m = made_aside before (lines_at w (Settles quiet)) w.back (settle_calm quiet, tt) m
 
@@ -139,18 +143,18 @@ record StandMade (config : Options) (before : List Line) (w : World) : Type 0 wh
   stand : Stand config before w
   made : Made before w.back
 
-stand_made_happens : (config : Options) (w : World) (h : Happening) (before : List Line) → IsPermitted w h → StandMade config before w → length (before ++ lines_at w h) < 2 ^ 64 → StandMade config (before ++ lines_at w h) (happens w h)
-stand_made_happens config w h before within s few =
-    let t : Stand config (before ++ lines_at w h) (happens w h) = stand_happens config w h before within s.stand few in
+stand_made_happens : (config : Options) (w : World) (h : Happening) (before : List Line) → StandMade config before w → reads_of (before ++ lines_at w h) < 2 ^ 64 → StandMade config (before ++ lines_at w h) (happens w h)
+stand_made_happens config w h before s few =
+    let t : Stand config (before ++ lines_at w h) (happens w h) = stand_happens config w h before s.stand few in
     record { stand = t; made = made_happens config w h before s.stand t s.made }
 
-report_made : (config : Options) (detail : Detail) (history : List Happening) → length (report_of config detail history) < 2 ^ 64 → Obeys IsMine (report_of config detail history)
+report_made : (config : Options) (detail : Detail) (history : List Happening) → reads_of (report_of config detail history) < 2 ^ 64 → Obeys IsMine (report_of config detail history)
 report_made config detail history few =
-    let all : StandMade config (report_of config detail history) (after history (start_of config)) = kept_after (StandMade config) (stand_made_happens config) history (start_of config) (lines.Begin config detail ∷ []) (always_within config history) (record { stand = stand_start config detail; made = made_start config detail }) few in
+    let all : StandMade config (report_of config detail history) (after history (start_of config)) = kept_after (StandMade config) (stand_made_happens config) history (start_of config) (lines.Begin config detail ∷ []) (record { stand = stand_start config detail; made = made_start config detail }) few in
     let made : Made (report_of config detail history) (let w : World = after history (start_of config) in w.back) = all.made in
     made.obeys
 
-ended_made : (config : Options) (detail : Detail) (history : List Happening) → length (report_of config detail history) < 2 ^ 64 → Obeys IsMine (ended_report_of config detail history)
+ended_made : (config : Options) (detail : Detail) (history : List Happening) → reads_of (report_of config detail history) < 2 ^ 64 → Obeys IsMine (ended_report_of config detail history)
 ended_made config detail history few = obeys_more IsMine (report_of config detail history) lines.End (report_made config detail history few) (record { unmap = tt; touch = tt })
 
 unmaps_of : (ls : List Line) → Obeys IsMine ls → AreUnmaps ls
@@ -159,14 +163,14 @@ unmaps_of ls obeys before rest line e = (obeys before rest line e).unmap
 own_of : (ls : List Line) → Obeys IsMine ls → AreOwn ls
 own_of ls obeys before rest line e = (obeys before rest line e).touch
 
-pub report_unmaps : (config : Options) (detail : Detail) (history : List Happening) → length (report_of config detail history) < 2 ^ 64 → AreUnmaps (report_of config detail history)
+pub report_unmaps : (config : Options) (detail : Detail) (history : List Happening) → reads_of (report_of config detail history) < 2 ^ 64 → AreUnmaps (report_of config detail history)
 report_unmaps config detail history few = unmaps_of _ (report_made config detail history few)
 
-pub ended_unmaps : (config : Options) (detail : Detail) (history : List Happening) → length (report_of config detail history) < 2 ^ 64 → AreUnmaps (ended_report_of config detail history)
+pub ended_unmaps : (config : Options) (detail : Detail) (history : List Happening) → reads_of (report_of config detail history) < 2 ^ 64 → AreUnmaps (ended_report_of config detail history)
 ended_unmaps config detail history few = unmaps_of _ (ended_made config detail history few)
 
-pub report_own : (config : Options) (detail : Detail) (history : List Happening) → length (report_of config detail history) < 2 ^ 64 → AreOwn (report_of config detail history)
+pub report_own : (config : Options) (detail : Detail) (history : List Happening) → reads_of (report_of config detail history) < 2 ^ 64 → AreOwn (report_of config detail history)
 report_own config detail history few = own_of _ (report_made config detail history few)
 
-pub ended_own : (config : Options) (detail : Detail) (history : List Happening) → length (report_of config detail history) < 2 ^ 64 → AreOwn (ended_report_of config detail history)
+pub ended_own : (config : Options) (detail : Detail) (history : List Happening) → reads_of (report_of config detail history) < 2 ^ 64 → AreOwn (ended_report_of config detail history)
 ended_own config detail history few = own_of _ (ended_made config detail history few)

@@ -3,7 +3,6 @@ use Rattle.std.proofs.Common.{◌≡◌, ◌≢◌, ◌<◌, ◌≤◌, ℕ, zer
 use Rattle.std.specs.Prelude.{Option, Some, None, is_some, IsSomeAnd, slice_get, nat_le, take}
 use Rattle.std.specs.List.{AllByRecursion, list_any}
 use Rattle.std.proofs.lemmas.Option.{none-some}
-use Rattle.blk_base.specs.declared.operation.Abi.TheVariants.{X64}
 use Rattle.blk_base.specs.declared.operation.Status.TheVariants.{Error}
 use Rattle.blk_base.specs.declared.parts.Mapping.{Mapping}
 use Rattle.blk_base.specs.declared.moves.BackMover.TheVariants as mover
@@ -33,7 +32,8 @@ use Rattle.blk_back.specs.Step.{told_effect}
 use Rattle.ring_laws.proofs.Shows.{epoch_longer}
 use Rattle.ring_laws.proofs.JobLines.{is_of}
 use Rattle.ring_laws.proofs.BackChange.{Change, kept, replies, halts, fetches}
-use Rattle.ring_laws.proofs.Works.{numbers, AreApart, others_before, others_behind, all_first, all_second, all_both, all_more, all_pairs}
+use Rattle.ring_laws.proofs.Lists.{AreApart, all_first, all_second, all_both, all_more, all_pairs}
+use Rattle.ring_laws.proofs.Works.{numbers, others_before, others_behind}
 use Rattle.ring_laws.proofs.JobSteps.{told_at}
 use Rattle.ring_laws.proofs.JobTurn.{IsSame, step_same, other_number}
 use Rattle.ring_laws.proofs.BackTells.{begun_number}
@@ -97,9 +97,9 @@ changed_hands words epoch old new (kept works fetched) runs small none first all
 changed_hands words epoch old new (replies works fetched) runs small none first all = subst (λ (ws : List Work). AllByRecursion (IsMadeBy epoch) ws) (sym works) (removed_place (IsMadeBy epoch) old.jobs.works _ all)
 changed_hands words epoch old new (halts over fetched) runs small none first all = absurd (cc)
 changed_hands words epoch old new (fetches works fetched at some) runs small none first all =
-    let t : Work = begun ((old.fetched + 1) % 2 ^ 64) (request_of X64 new.entry) old.jobs.info.sectors (verdict_of (request_of X64 new.entry) old.jobs.info) in
+    let t : Work = begun ((old.fetched + 1) % 2 ^ 64) (request_of old.shape.abi new.entry) old.jobs.info.sectors (verdict_of (request_of old.shape.abi new.entry) old.jobs.info) in
     let firsts : AllByRecursion (λ (u : Work). 1 ≤ u.number) (old.jobs.works ++ t ∷ []) = subst (λ (ws : List Work). AllByRecursion (λ (u : Work). 1 ≤ u.number) ws) works first in
-    let request : RawRequest = request_of X64 new.entry in
+    let request : RawRequest = request_of old.shape.abi new.entry in
     let number = begun_number ((old.fetched + 1) % 2 ^ 64) old.jobs.info.sectors request (verdict_of request old.jobs.info) in
     let empty = begun_empty ((old.fetched + 1) % 2 ^ 64) request old.jobs.info.sectors (verdict_of request old.jobs.info) in
     let made : IsMadeBy epoch t = begun_made epoch old.fetched t number empty small (all_second (λ (u : Work). 1 ≤ u.number) old.jobs.works (t ∷ []) firsts).0 none in
@@ -109,7 +109,7 @@ changed_hands words epoch old new (fetches works fetched at some) runs small non
 abbrev pub HandStands : List Line → Work → Type 0
 HandStands ls t = (m : Mapping) → mapping_at t.stage ≡ Some m → IsSomeAnd (numbered m.number (standing_behind ls)) (λ (x : Standing). x.gref ≡ m.gref)
 
--- behind a job's lines
+-- after a job's lines
 record Behind (before ys : List Line) (k : ℕ) : Type 0 where
   epoch : this_epoch (before ++ ys) ≡ this_epoch before ++ ys
   none : (n gref : ℕ) → IsSomeAnd (numbered n (standing_behind (before ++ ys))) (λ (x : Standing). x.gref ≡ gref) → list_any (is_unmap_of n) ys ≡ false
@@ -134,7 +134,7 @@ behind before ys k s (gives m at one) = record {
   others = λ j other. subst (λ (ls : List Line). MakeNone j ls) (sym one) (refl, tt);
 }
 
--- the rules, behind a job's move and what is told of it
+-- the rules, after a job's move and what is told of it
 told_obeys : (before told : List Line) (line : Line) → Obeys IsMine before → IsMine before line → AllByRecursion IsOpen told → Obeys IsMine (before ++ line ∷ told)
 told_obeys before told line obeys mine opens = subst (λ (ls : List Line). Obeys IsMine ls) (append_assoc before (line ∷ []) told) (open_more (before ++ line ∷ []) told opens (obeys_more IsMine before line obeys mine))
 
@@ -147,7 +147,7 @@ record IsOther (before ys : List Line) (k : ℕ) (u : Work) : Type 0 where
 all_other : (before ys : List Line) (k : ℕ) (works : List Work) → AllByRecursion (λ (u : Work). u.number ≢ k) works → AllByRecursion (HandStands (before ++ ys)) works → AllByRecursion (IsOther before ys k) works
 all_other before ys k works apart stands = all_pairs (λ (u : Work). u.number ≢ k) (HandStands (before ++ ys)) (IsOther before ys k) works (λ u other s. record { apart = other; stands = s }) apart stands
 
--- the lines and the jobs behind a job's move
+-- the lines and the jobs after a job's move
 pub record Turned (before ys : List Line) (works : List Work) : Type 0 where
   pub obeys : Obeys IsMine (before ++ ys)
   pub hands : AllByRecursion (IsMadeBy (this_epoch (before ++ ys))) works

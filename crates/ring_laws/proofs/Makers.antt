@@ -129,7 +129,7 @@ pub open_more : (before ys : List Line) → AllByRecursion IsOpen ys → Obeys I
 open_more before [] all obeys = subst (λ (ls : List Line). Obeys IsMine ls) (sym (append-nil before)) obeys
 open_more before (y ∷ ys) all obeys = subst (λ (ls : List Line). Obeys IsMine ls) (append_assoc before (y ∷ []) ys) (open_more (before ++ y ∷ []) ys all.1 (obeys_more IsMine before y obeys (all.0 before)))
 
--- what stands behind an unmap is of another number
+-- what stands after an unmap is of another number
 none_left : (n : ℕ) (xs : List Standing) → numbered n (filter (λ (s : Standing). not (n == s.number)) xs ++ []) ≡ None
 none_left n [] = refl
 none_left n (s ∷ xs) = by_test (n == s.number) refl (none_left n xs)

@@ -3,7 +3,8 @@ use Rattle.std.proofs.Common.{◌≡◌, ◌≢◌, ℕ, zero, suc, ◌==◌, Bo
 use Rattle.std.specs.List.{AllByRecursion}
 use Rattle.std.proofs.lemmas.List.{map-append}
 use Rattle.std.proofs.lemmas.Bool.Decides.{nat_tests}
-use Rattle.ring_laws.proofs.Works.{AreApart, apart_first, apart_second, apart_without, all_first, all_second, all_both, all_pairs, all_of_map}
+use Rattle.ring_laws.proofs.Lists.{AreApart, all_first, all_second, all_both, all_pairs, all_of_map}
+use Rattle.ring_laws.proofs.Works.{apart_first, apart_second, apart_without}
 use Rattle.ring_laws.proofs.Due.{Answered}
 
 -- the job that the rule finds for a reply, and what the back answered by it
@@ -23,7 +24,7 @@ job_in m = let a : Answered = m.answer in a.job
 abbrev pub jobs_in : List Matched → List ℕ
 jobs_in matched = map job_in matched
 
--- a number that is taken out of the second list, and put behind the first
+-- a number that is taken out of the second list, and put after the first
 around : (P : ℕ → Type 0) (xs front rest : List ℕ) (n : ℕ) → AllByRecursion P (xs ++ (front ++ n ∷ rest)) → AllByRecursion P ((xs ++ n ∷ []) ++ (front ++ rest))
 around P xs front rest n all =
     let behind = all_second P xs (front ++ n ∷ rest) all in

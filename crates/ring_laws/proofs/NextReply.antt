@@ -3,7 +3,9 @@ use Rattle.std.proofs.Common.{◌≡◌, ◌≢◌, ℕ, ◌*◌, ◌/◌, ◌�
 use Rattle.std.specs.Prelude.{Option, Some, None, IfSome}
 use Rattle.std.specs.List.{AllByRecursion}
 use Rattle.std.proofs.lemmas.Bool.Decides.{nat_tests}
-use Rattle.blk_base.specs.Options.{Options}
+use Rattle.blk_base.specs.declared.operation.Abi.{Abi}
+use Rattle.blk_base.specs.declared.operation.Abi.TheVariants.{X64, X32}
+use Rattle.ring_words.specs.Shape.{entry_words_of}
 use Rattle.blk_layout.specs.declared.response.Response.{Response}
 use Rattle.blk_layout.specs.Response.{response_words_of}
 use Rattle.schedule_text.specs.declared.line.Line.{Line}
@@ -18,9 +20,11 @@ use Rattle.blk_back.specs.Ask.{next_reply}
 use Rattle.blk_back.specs.declared.stage.Reply.{Reply}
 use Rattle.blk_back.specs.declared.stage.Stage.TheVariants as stage
 use Rattle.blk_back.specs.declared.stage.Stage.{Stage}
+use Rattle.ring_laws.proofs.Began.{Terms}
 use Rattle.ring_laws.proofs.Shows.{Sight}
 use Rattle.ring_laws.proofs.Knows.{KnowsAt}
-use Rattle.ring_laws.proofs.Works.{AreApart, numbers, all_first, all_pairs, all_of_map}
+use Rattle.ring_laws.proofs.Lists.{AreApart, all_first, all_pairs, all_of_map}
+use Rattle.ring_laws.proofs.Works.{numbers}
 use Rattle.ring_laws.proofs.Fetched.{AreFetched}
 use Rattle.ring_laws.proofs.Matching.{Matched, IsFree, Passes, chosen_of, answer_of, job_in, jobs_in, moved, free}
 use Rattle.ring_laws.proofs.Due.{IsWorkOver, Answered, Candidate, jobs_of, response_in, next_word, replying}
@@ -37,21 +41,22 @@ record IsGood (before : List Line) (words : List ℕ) (k : ℕ) : Type 0 where
   first : 1 ≤ k
   last : k ≤ most_jobs before
 
-over_good : (config : Options) (before : List Line) (values words : List ℕ) (k : ℕ) (r : Response) → entry_values before ≡ values → AreFetched config before → response_words_of r ≡ words → IsWorkOver config values (this_epoch before) k r → IsGood before words k
-over_good config before values words k r same are is o =
+over_good : (terms : Terms) (before : List Line) (values words : List ℕ) (k : ℕ) (r : Response) → entry_values before ≡ values → AreFetched terms before → response_words_of r ≡ words → IsWorkOver terms values (this_epoch before) k r → IsGood before words k
+over_good terms before values words k r same are is o =
     let long : length (entry_values before) ≡ length values = ap (λ (vs : List ℕ). length vs) same in
     let read = o.read in
-    record { due = due config before values k r same are o ∙ ap (λ (ws : List ℕ). Some ws) is; left = o.left; first = o.first; last = enough (length (entry_values before)) k (omega arith) }
+    record { due = due terms before values k r same are o ∙ ap (λ (ws : List ℕ). Some ws) is; left = o.left; first = o.first; last = enough terms.abi (length (entry_values before)) k (omega arith) }
   where
-    enough : (n j : ℕ) → 28 * j ≤ n → j ≤ n / 27
-    enough n j h = omega arith
+    enough : (abi : Abi) (n j : ℕ) → entry_words_of abi * j ≤ n → j ≤ n / 27
+    enough X64 n j h = omega arith
+    enough X32 n j h = omega arith
 
 -- of one that was answered, where the one that the rule found is due these words
-passing : (config : Options) (before : List Line) (values words : List ℕ) (m : Matched) → entry_values before ≡ values → AreFetched config before → IsDueTo before m → IsOwed config values (this_epoch before) (answer_of m) → Passes (IsGood before words) m
-passing config before values words m same are found owed good =
+passing : (terms : Terms) (before : List Line) (values words : List ℕ) (m : Matched) → entry_values before ≡ values → AreFetched terms before → IsDueTo before m → IsOwed terms values (this_epoch before) (answer_of m) → Passes (IsGood before words) m
+passing terms before values words m same are found owed good =
     let a : Answered = m.answer in
     let is : words_in m ≡ words = same_words (sym found ∙ good.due) in
-    over_good config before values words a.job a.response same are is owed
+    over_good terms before values words a.job a.response same are is owed
   where
     same_words : {a b : List ℕ} → Some a ≡ Some b → a ≡ b
     same_words e = cc
@@ -73,9 +78,9 @@ none_chosen (m ∷ matched) k others = ap (λ (b : Bool). b || is_one_of k (map 
     other n differs = grind (arith, nat_tests)
 
 -- a reply that begins
-begun_has : (config : Options) (before : List Line) (values : List ℕ) (fetched : ℕ) (works : List Work) (answered : List Answered) (s : Stage) (r : Reply) → entry_values before ≡ values → AreFetched config before → IsChosen before s answered → ((d : IsReplyOf works r) → IsOwed config values (this_epoch before) (let t : Work = d.job in pending t.number r))
-    → Owes config values (this_epoch before) fetched works (answered ++ []) → IsReplyOf works r → Candidate before 0 (response_in r)
-begun_has config before values fetched works answered s r same are c done o d =
+begun_has : (terms : Terms) (before : List Line) (values : List ℕ) (fetched : ℕ) (works : List Work) (answered : List Answered) (s : Stage) (r : Reply) → entry_values before ≡ values → AreFetched terms before → IsChosen before s answered → ((d : IsReplyOf works r) → IsOwed terms values (this_epoch before) (let t : Work = d.job in pending t.number r))
+    → Owes terms values (this_epoch before) fetched works (answered ++ []) → IsReplyOf works r → Candidate before 0 (response_in r)
+begun_has terms before values fetched works answered s r same are c done o d =
     let job : Work = d.job in
     let words : List ℕ = response_words_of (response_in r) in
     let among : IsAmong works d.place d.job = place_among works d.place d.job d.found in
@@ -84,12 +89,12 @@ begun_has config before values fetched works answered s r same are c done o d =
     let parted : AreApart (jobs_of answered ++ job.number ∷ []) = apart_prefix (jobs_of answered ++ job.number ∷ []) (numbers among.front ++ numbers among.rest) (moved (jobs_of answered) (numbers among.front) (numbers among.rest) job.number (subst (λ (ns : List ℕ). AreApart (jobs_of answered ++ ns)) split apart)) in
     let turned : AreApart (job.number ∷ (jobs_of answered ++ [])) = moved [] (jobs_of answered) [] job.number parted in
     let jobs : jobs_of answered ++ [] ≡ jobs_in c.matched = append-nil (jobs_of answered) ∙ (ap jobs_of (sym c.answers) ∙ jobs_same c.matched) in
-    let owed : AllByRecursion (IsOwed config values (this_epoch before)) answered = all_first (IsOwed config values (this_epoch before)) answered [] o.each in
-    let each : AllByRecursion (λ (m : Matched). IsOwed config values (this_epoch before) (answer_of m)) c.matched = all_of_map (IsOwed config values (this_epoch before)) answer_of c.matched (subst (λ (l : List Answered). AllByRecursion (IsOwed config values (this_epoch before)) l) (sym c.answers) owed) in
+    let owed : AllByRecursion (IsOwed terms values (this_epoch before)) answered = all_first (IsOwed terms values (this_epoch before)) answered [] o.each in
+    let each : AllByRecursion (λ (m : Matched). IsOwed terms values (this_epoch before) (answer_of m)) c.matched = all_of_map (IsOwed terms values (this_epoch before)) answer_of c.matched (subst (λ (l : List Answered). AllByRecursion (IsOwed terms values (this_epoch before)) l) (sym c.answers) owed) in
     let passes : AllByRecursion (Passes (IsGood before (response_words_of (response_in r)))) c.matched =
-    all_pairs (IsDueTo before) (λ (m : Matched). IsOwed config values (this_epoch before) (answer_of m)) (Passes (IsGood before (response_words_of (response_in r)))) c.matched (λ m found over. passing config before values words m same are found over) c.due each in
+    all_pairs (IsDueTo before) (λ (m : Matched). IsOwed terms values (this_epoch before) (answer_of m)) (Passes (IsGood before (response_words_of (response_in r)))) c.matched (λ m found over. passing terms before values words m same are found over) c.due each in
     let f : IsFree (IsGood before (response_words_of (response_in r))) c.matched =
-    free (length c.matched) (IsGood before (response_words_of (response_in r))) c.matched job.number refl (subst (λ (ns : List ℕ). AreApart (job.number ∷ ns)) jobs turned) passes (over_good config before values words job.number (response_in r) same are refl (done d)) in
+    free (length c.matched) (IsGood before (response_words_of (response_in r))) c.matched job.number refl (subst (λ (ns : List ℕ). AreApart (job.number ∷ ns)) jobs turned) passes (over_good terms before values words job.number (response_in r) same are refl (done d)) in
     let good : IsGood before (response_words_of (response_in r)) f.job = f.good in
     record {
       job = f.job;
@@ -103,18 +108,18 @@ begun_has config before values fetched works answered s r same are c done o d =
 abbrev pub NextHas : List Line → Option (Reply × ℕ) → Type 0
 NextHas before next = IfSome next (λ (p : Reply × ℕ). Candidate before p.1 (response_in p.0))
 
-loop_has : (config : Options) (before : List Line) (x : Sight) (v : View) (answered : List Answered) (s : Stage) (next : Option Reply) → next_reply v ≡ next → entry_values before ≡ x.values → AreFetched config before → IsChosen before s answered → ((r : Reply) (d : IsReplyOf v.jobs.works r) → IsOwed config x.values (this_epoch before) (let t : Work = d.job in pending t.number r))
-    → Owes config x.values (this_epoch before) v.fetched v.jobs.works (answered ++ []) → NextHas before (next_word next)
-loop_has config before x v answered s None e same are c done o = tt
-loop_has config before x v answered s (Some r) e same are c done o = begun_has config before x.values v.fetched v.jobs.works answered s r same are c (done r) o (done_found v.jobs.works r e)
+loop_has : (terms : Terms) (before : List Line) (x : Sight) (v : View) (answered : List Answered) (s : Stage) (next : Option Reply) → next_reply v ≡ next → entry_values before ≡ x.values → AreFetched terms before → IsChosen before s answered → ((r : Reply) (d : IsReplyOf v.jobs.works r) → IsOwed terms x.values (this_epoch before) (let t : Work = d.job in pending t.number r))
+    → Owes terms x.values (this_epoch before) v.fetched v.jobs.works (answered ++ []) → NextHas before (next_word next)
+loop_has terms before x v answered s None e same are c done o = tt
+loop_has terms before x v answered s (Some r) e same are c done o = begun_has terms before x.values v.fetched v.jobs.works answered s r same are c (done r) o (done_found v.jobs.works r e)
 
 -- what is owed, as long as the back hasn't halted
-pub next_has : (config : Options) (before : List Line) (x : Sight) (s : Stage) (v : View) (answered : List Answered) (k : ℕ) → KnowsAt s x v.ring v.page v.seen v.halted v.entry v.fetched → entry_values before ≡ x.values → AreFetched config before → IsChosen before s answered
-    → (v.halted ≡ None → (r : Reply) (d : IsReplyOf v.jobs.works r) → IsOwed config x.values (this_epoch before) (let t : Work = d.job in pending t.number r))
-    → (v.halted ≡ None → Owes config x.values (this_epoch before) v.fetched v.jobs.works (answered ++ pending_at s k))
+pub next_has : (terms : Terms) (before : List Line) (x : Sight) (s : Stage) (v : View) (answered : List Answered) (k : ℕ) → KnowsAt s x v → entry_values before ≡ x.values → AreFetched terms before → IsChosen before s answered
+    → (v.halted ≡ None → (r : Reply) (d : IsReplyOf v.jobs.works r) → IsOwed terms x.values (this_epoch before) (let t : Work = d.job in pending t.number r))
+    → (v.halted ≡ None → Owes terms x.values (this_epoch before) v.fetched v.jobs.works (answered ++ pending_at s k))
     → NextHas before (replying s v)
-next_has config before x stage.Loop v answered k knows same are c done o = loop_has config before x v answered stage.Loop (next_reply v) refl same are c (done knows.running) (o knows.running)
-next_has config before x (stage.ReplyHigh r) v answered k knows same are c done o = c.row
-next_has config before x (stage.ReplyLast r) v answered k knows same are c done o = c.row
-next_has config before x (stage.Producer r) v answered k knows same are c done o = c.row
-next_has config before x s v answered k knows same are c done o = tt
+next_has terms before x stage.Loop v answered k knows same are c done o = loop_has terms before x v answered stage.Loop (next_reply v) refl same are c (done knows.running) (o knows.running)
+next_has terms before x (stage.ReplyHigh r) v answered k knows same are c done o = c.row
+next_has terms before x (stage.ReplyLast r) v answered k knows same are c done o = c.row
+next_has terms before x (stage.Producer r) v answered k knows same are c done o = c.row
+next_has terms before x s v answered k knows same are c done o = tt

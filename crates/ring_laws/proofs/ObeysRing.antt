@@ -1,9 +1,10 @@
 -- The rules of the ring hold of the lines so far, and of one line more.
-use Rattle.std.proofs.Common.{◌≡◌, ℕ, ◌*◌, ◌^◌, ◌<◌, ◌||◌, Bool, true, false, if◌then◌else◌, List, [], ◌∷◌, ◌++◌, refl, ap, sym, ◌∙◌, subst, append_assoc, arith}
+use Rattle.std.proofs.Common.{◌≡◌, ℕ, ◌%◌, ◌^◌, ◌<◌, ◌||◌, Bool, true, false, if◌then◌else◌, List, [], ◌∷◌, ◌++◌, refl, ap, sym, ◌∙◌, subst, append_assoc, arith}
 use Rattle.std.specs.Prelude.{Option, Some, None, is_some, IfSome}
 use Rattle.std.proofs.lemmas.List.{reverse-append, reverse-reverse}
 use Rattle.blk_base.specs.declared.operation.Abi.{Abi}
-use Rattle.blk_base.specs.declared.operation.Abi.TheVariants.{X64}
+use Rattle.blk_base.specs.declared.operation.Abi.TheVariants.{X64, X32}
+use Rattle.ring_words.specs.Shape.{entry_words_of}
 use Rattle.blk_base.specs.declared.moves.BackMover.TheVariants as back
 use Rattle.blk_base.specs.declared.moves.Move.TheVariants as moves
 use Rattle.schedule_text.specs.declared.line.Halt.TheVariants as halts
@@ -16,6 +17,7 @@ use Rattle.report_rules.specs.Overrun.{overrun_of, overrun_by, overrun_shown, ov
 use Rattle.report_rules.specs.Stretch.{entry_word_read, words_within, is_back_move, word_touched, IsStretchAt}
 use Rattle.report_rules.specs.Reply.{is_of_back}
 use Rattle.report_rules.proofs.Obeys.{obeys_none, obeys_more}
+use Rattle.ring_laws.specs.Layout.{reads_protocol, IsNamedFirstAt}
 use Rattle.ring_laws.proofs.Lists.{or_false}
 use Rattle.ring_laws.proofs.Sight.{is_touch}
 use Rattle.ring_laws.proofs.Shows.{Sight, Shows}
@@ -28,11 +30,12 @@ is_overrun line = false
 pub record ObeysRing (before : List Line) (start : ℕ) (over : Bool) : Type 0 where
   pub overruns : Obeys IsOverrunAt before
   pub stretches : start < 2 ^ 32 → Obeys IsStretchAt before
+  pub named : Obeys IsNamedFirstAt before
   pub last : overrun_shown before ≡ None
   pub halted : overran_behind before ≡ true → over ≡ true
 
 pub ring_none : (start : ℕ) → ObeysRing [] start false
-ring_none start = record { overruns = obeys_none IsOverrunAt; stretches = λ small. obeys_none IsStretchAt; last = refl; halted = λ e. e }
+ring_none start = record { overruns = obeys_none IsOverrunAt; stretches = λ small. obeys_none IsStretchAt; named = obeys_none IsNamedFirstAt; last = refl; halted = λ e. e }
 
 shown_more : (before : List Line) (line : Line) → overrun_shown (before ++ line ∷ []) ≡ overrun_by before line
 shown_more before line = rw (reverse-append before (line ∷ []), reverse-reverse before) refl
@@ -65,19 +68,24 @@ allowed before line start over s idle none = record {
   serves_nothing = λ overran. idle (s.halted overran);
 }
 
-pub ring_more : (before : List Line) (line : Line) (start : ℕ) (over : Bool) → ObeysRing before start over → is_epoch line ≡ false → overrun_by before line ≡ None → (over ≡ true → is_service line ≡ false) → is_overrun line ≡ false → (start < 2 ^ 32 → IsStretchAt before line) → ObeysRing (before ++ line ∷ []) start over
-ring_more before line start over s same shown idle none stretch = record {
+pub ring_more : (before : List Line) (line : Line) (start : ℕ) (over : Bool) → ObeysRing before start over → is_epoch line ≡ false → overrun_by before line ≡ None → (over ≡ true → is_service line ≡ false) → is_overrun line ≡ false → IsNamedFirstAt before line → (start < 2 ^ 32 → IsStretchAt before line) → ObeysRing (before ++ line ∷ []) start over
+ring_more before line start over s same shown idle none first stretch = record {
   overruns = obeys_more IsOverrunAt before line s.overruns (allowed before line start over s idle none);
   stretches = λ small. obeys_more IsStretchAt before line (s.stretches small) (stretch small);
+  named = obeys_more IsNamedFirstAt before line s.named first;
   last = shown_more before line ∙ shown;
   halted = λ overran. s.halted (sym (overran_by before line same shown) ∙ overran);
 }
 
--- a read that overran, and the halt behind it
-pub ring_overrun : (before : List Line) (line : Line) (start produced replied : ℕ) → ObeysRing before start false → is_epoch line ≡ false → overrun_by before line ≡ Some (record { produced = produced; replied = replied }) → is_overrun line ≡ false
+-- most lines read of no layout
+pub unnamed_first : (before : List Line) (line : Line) → reads_protocol line ≡ false → IsNamedFirstAt before line
+unnamed_first before line unnamed read = absurd (cc)
+
+-- a read that overran, and the halt after it
+pub ring_overrun : (before : List Line) (line : Line) (start produced replied : ℕ) → ObeysRing before start false → is_epoch line ≡ false → overrun_by before line ≡ Some (record { produced = produced; replied = replied }) → is_overrun line ≡ false → IsNamedFirstAt before line
     → (start < 2 ^ 32 → IsStretchAt before line) → (start < 2 ^ 32 → IsStretchAt (before ++ line ∷ []) (lines.Halt (halts.Overrun produced replied)))
     → ObeysRing (before ++ line ∷ lines.Halt (halts.Overrun produced replied) ∷ []) start true
-ring_overrun before line start produced replied s same shown none stretch behind =
+ring_overrun before line start produced replied s same shown none first stretch behind =
     let halt : Line = lines.Halt (halts.Overrun produced replied) in
     let longer : List Line = before ++ line ∷ [] in
     let told : overrun_shown (before ++ line ∷ []) ≡ Some (record { produced = produced; replied = replied }) = shown_more before line ∙ shown in
@@ -91,6 +99,7 @@ ring_overrun before line start produced replied s same shown none stretch behind
     (record {
       overruns = obeys_more IsOverrunAt longer halt one allowed_halt;
       stretches = λ small. obeys_more IsStretchAt longer halt (obeys_more IsStretchAt before line (s.stretches small) (stretch small)) (behind small);
+      named = obeys_more IsNamedFirstAt longer halt (obeys_more IsNamedFirstAt before line s.named first) (λ read. absurd (cc));
       last = shown_more longer halt ∙ shows_none longer halt refl;
       halted = λ overran. refl;
     })
@@ -130,14 +139,27 @@ foreign_move line e = e
 pub foreign_stretch : (before : List Line) (line : Line) → is_of_back line ≡ false → entry_word_read before line ≡ None → IsStretchAt before line
 foreign_stretch before line foreign none = let other : is_back_move line ≡ false = foreign_move line foreign in record { next = rw none tt; whole = λ own. absurd (cc); inside = foreign_inside before line other }
 
+-- the words of whole entries were read, whichever layout was named last
+abbrev pub IsWhole : Sight → Type 0
+IsWhole x = IfSome x.abi (λ abi. x.words % entry_words_of abi ≡ 0)
+
+pub none_whole : (x : Sight) → x.words ≡ 0 → IsWhole x
+none_whole x none = by_abi x.abi
+  where
+    by_abi : (abi : Option Abi) → IfSome abi (λ a. x.words % entry_words_of a ≡ 0)
+    by_abi None = tt
+    by_abi (Some X64) = omega arith
+    by_abi (Some X32) = omega arith
+
 -- a line of the back's own between two stretches
-pub own_stretch : (before : List Line) (line : Line) (x : Sight) (n : ℕ) → Shows before x → x.words ≡ 28 * n → entry_word_read before line ≡ None → IsInside before line → IsStretchAt before line
-own_stretch before line x n shows whole none within = record {
+pub own_stretch : (before : List Line) (line : Line) (x : Sight) → Shows before x → IsWhole x → entry_word_read before line ≡ None → IsInside before line → IsStretchAt before line
+own_stretch before line x shows whole none within = record {
   inside = within;
   next = rw none tt;
-  whole = λ own read. subst (λ (abi : Option Abi). IfSome (shape_of abi (ring_order before)) (λ s. words_within before s ≡ 0)) (sym shows.abi) (by_order (ring_order before));
+  whole = λ own read. subst (λ (abi : Option Abi). IfSome (shape_of abi (ring_order before)) (λ s. words_within before s ≡ 0)) (sym shows.abi) (by_shape x.abi (ring_order before) whole);
 }
   where
-    by_order : (order : Option ℕ) → IfSome (shape_of (Some X64) order) (λ s. words_within before s ≡ 0)
-    by_order None = tt
-    by_order (Some order) = let words = shows.words in omega arith
+    by_shape : (abi : Option Abi) (order : Option ℕ) → IfSome abi (λ a. x.words % entry_words_of a ≡ 0) → IfSome (shape_of abi order) (λ s. words_within before s ≡ 0)
+    by_shape None order all = tt
+    by_shape (Some abi) None all = tt
+    by_shape (Some abi) (Some order) all = ap (λ (n : ℕ). n % entry_words_of abi) shows.words ∙ all

@@ -1,16 +1,19 @@
 -- Lines that come between all others: a word that a hostile hand overwrote, a word that a dump shows, a state that the front enters, and what an end does with its keys.
-use Rattle.std.proofs.Common.{◌≡◌, ℕ, ◌*◌, ◌||◌, ◌&&◌, not, Bool, true, false, if◌then◌else◌, List, [], ◌∷◌, ◌++◌, refl, ap, sym, ◌∙◌, subst, append_assoc, append-nil}
-use Rattle.std.specs.Prelude.{Option, Some, None}
+use Rattle.std.proofs.Common.{◌≡◌, ℕ, ◌||◌, ◌&&◌, not, Bool, true, false, List, [], ◌∷◌, ◌++◌, refl, ap, sym, ◌∙◌, subst, append_assoc, append-nil}
+use Rattle.std.specs.Prelude.{Option, None}
 use Rattle.std.specs.List.{AllByRecursion}
 use Rattle.blk_base.specs.declared.parts.End.{End}
 use Rattle.blk_base.specs.declared.parts.End.TheVariants as end
+use Rattle.blk_base.specs.declared.operation.Abi.{Abi}
 use Rattle.blk_base.specs.declared.moves.Mover.{Mover}
+use Rattle.blk_base.specs.declared.moves.Mover.TheVariants as mover
 use Rattle.blk_base.specs.declared.moves.Move.{Move}
 use Rattle.blk_base.specs.declared.moves.Move.TheVariants as moves
 use Rattle.key_directory.specs.Directory.{Directory, key_of}
 use Rattle.hypervisor.specs.Act.{is_own_path}
 use Rattle.schedule_text.specs.declared.line.Line.{Line}
 use Rattle.schedule_text.specs.declared.line.Line.TheVariants as lines
+use Rattle.report_rules.specs.Ring.{abi_after}
 use Rattle.report_rules.specs.Overrun.{is_service}
 use Rattle.report_rules.specs.Stretch.{is_mover_back, IsStretchAt}
 use Rattle.report_rules.specs.Job.{mover_job}
@@ -21,156 +24,174 @@ use Rattle.report_rules.specs.Reply.{is_of_back, is_reply}
 use Rattle.blk_front.specs.declared.state.FrontState.{FrontState}
 use Rattle.blk_front.specs.View as front
 use Rattle.blk_back.specs.declared.stage.Stage.{Stage}
+use Rattle.blk_back.specs.declared.stage.Stage.TheVariants as stage
+use Rattle.blk_back.specs.Ask.{is_led}
 use Rattle.blk_back.specs.View.{View}
-use Rattle.split_model.specs.Keys.{KeyMove, mover_at, names_layout, is_x64_text, names_feature, is_zero_text, may_set, is_between, key_lines, negotiated_lines}
+use Rattle.split_model.specs.Keys.{KeyMove, Gets, mover_at, reads_layout, may_set, may_negotiate, is_between, key_lines, negotiated_lines}
 use Rattle.split_model.specs.Happening.{poke_lines, ring_lines, enter_lines}
 use Rattle.split_model.proofs.SafeActs.{IsKeyMove}
-use Rattle.split_model.proofs.Keys.{NamesNoOther, IsOrNone, key_cases}
+use Rattle.split_model.proofs.Keys.{key_cases, negotiated_cases}
 use Rattle.split_model.proofs.States.{enter_lines_are, state_lines_are}
 use Rattle.split_model.proofs.Overwriting.{poke_lines_are, dump_lines_are}
-use Rattle.ring_laws.proofs.Sight.{is_other, other_touch, untouched_word, is_x64_or_none, keeps_layout}
+use Rattle.ring_laws.specs.Layout.{reads_protocol, IsNamedFirstAt}
+use Rattle.ring_laws.proofs.Sight.{is_other, other_touch, same_abi, foreign_abi, untouched_word}
 use Rattle.ring_laws.proofs.Shows.{Sight, Shows}
-use Rattle.ring_laws.proofs.ObeysRing.{is_overrun, own_stretch, foreign_stretch, untouched_inside}
-use Rattle.ring_laws.proofs.Knows.{Follows, whole_words}
-use Rattle.ring_laws.proofs.Free.{follow_other}
-use Rattle.ring_laws.proofs.Works.{all_more}
+use Rattle.ring_laws.proofs.ObeysRing.{IsWhole, is_overrun, unnamed_first, own_stretch, foreign_stretch, untouched_inside}
+use Rattle.ring_laws.proofs.Knows.{Waits, KnowsAt, Follows, whole_words}
+use Rattle.ring_laws.proofs.Free.{follow_named}
+use Rattle.ring_laws.proofs.Lists.{all_more}
 use Rattle.ring_laws.proofs.Bystanders.{IsBystander, AreBystanders, is_plain, offers_none}
 use Rattle.ring_laws.proofs.Fetched.{AreOther}
 use Rattle.ring_laws.proofs.Makers.{IsOpen}
 use Rattle.ring_laws.proofs.MakerLines.{IsCalm, AreCalm, key_calm}
 use Rattle.ring_laws.proofs.Written.{Passes, AllPass, passes_other}
 
--- the rules of the ring, of jobs, of replies and of what a job maps pass over it; `own` says whether it may be one of the back's
-pub record IsOutsider (own : Bool) (line : Line) : Type 0 where
+-- the rules of the ring, of jobs, of replies and of what a job maps pass over it; one of the back's own comes between two entries and two replies, and names the layout only where the back waits for the terms of its front
+pub record IsOutsider (s : Stage) (line : Line) : Type 0 where
   pub other : is_other line ≡ true
-  pub foreign : own ≡ false → is_of_back line ≡ false
+  pub unnamed : is_led s ≡ false → reads_protocol line ≡ false
+  pub foreign : is_between s ≡ false → is_of_back line ≡ false
   pub idle : is_service line ≡ false
   pub unhalting : is_overrun line ≡ false
   pub by : IsBystander line
   pub untold : is_reply line ≡ false
   pub calm : IsCalm line
 
-abbrev pub AreOutsiders : Bool → List Line → Type 0
-AreOutsiders own ls = AllByRecursion (IsOutsider own) ls
-
-outsider : (own : Bool) (line : Line) → is_other line ≡ true → (own ≡ false → is_of_back line ≡ false) → is_service line ≡ false → is_overrun line ≡ false → IsBystander line → is_reply line ≡ false → IsCalm line → IsOutsider own line
-outsider own line other foreign idle unhalting by untold calm = record { other = other; foreign = foreign; idle = idle; unhalting = unhalting; by = by; untold = untold; calm = calm }
+abbrev pub AreOutsiders : Stage → List Line → Type 0
+AreOutsiders s ls = AllByRecursion (IsOutsider s) ls
 
 -- a line that tells of no move
-said : (own : Bool) (line : Line) → is_other line ≡ true → is_of_back line ≡ false → is_service line ≡ false → is_overrun line ≡ false → is_plain line ≡ true → stepper line ≡ None → is_reply line ≡ false → is_epoch line ≡ false → ((n : ℕ) → is_unmap_of n line ≡ false) → ((k : ℕ) → made_by k line ≡ None) → IsOpen line → IsOutsider own line
-said own line other foreign idle unhalting plain unstepped untold same gone made free =
-    outsider own line other (λ none. foreign) idle unhalting (record { plain = plain; unstepped = unstepped }) untold (record { quiet = record { same_epoch = same; none_gone = gone; none_made = made }; free = free })
+said : (s : Stage) (line : Line) → is_other line ≡ true → is_of_back line ≡ false → is_service line ≡ false → is_overrun line ≡ false → is_plain line ≡ true → stepper line ≡ None → is_reply line ≡ false → is_epoch line ≡ false → ((n : ℕ) → is_unmap_of n line ≡ false) → ((k : ℕ) → made_by k line ≡ None) → IsOpen line → IsOutsider s line
+said s line other foreign idle unhalting plain unstepped untold same gone made free = record {
+  other = other;
+  unnamed = λ led. foreign_abi line foreign;
+  foreign = λ none. foreign;
+  idle = idle;
+  unhalting = unhalting;
+  by = record { plain = plain; unstepped = unstepped };
+  untold = untold;
+  calm = record { quiet = record { same_epoch = same; none_gone = gone; none_made = made }; free = free };
+}
 
-poke_outsider : (own : Bool) (frame word value : ℕ) → IsOutsider own (lines.Poke frame word value)
-poke_outsider own frame word value = said own (lines.Poke frame word value) refl refl refl refl refl refl refl refl (λ n. refl) (λ k. refl) (λ before. record { unmap = tt; touch = tt })
+poke_outsider : (s : Stage) (frame word value : ℕ) → IsOutsider s (lines.Poke frame word value)
+poke_outsider s frame word value = said s (lines.Poke frame word value) refl refl refl refl refl refl refl refl (λ n. refl) (λ k. refl) (λ before. record { unmap = tt; touch = tt })
 
-word_outsider : (own : Bool) (frame word value : ℕ) → IsOutsider own (lines.Word frame word value)
-word_outsider own frame word value = said own (lines.Word frame word value) refl refl refl refl refl refl refl refl (λ n. refl) (λ k. refl) (λ before. record { unmap = tt; touch = tt })
+word_outsider : (s : Stage) (frame word value : ℕ) → IsOutsider s (lines.Word frame word value)
+word_outsider s frame word value = said s (lines.Word frame word value) refl refl refl refl refl refl refl refl (λ n. refl) (λ k. refl) (λ before. record { unmap = tt; touch = tt })
 
 -- a move of an end on a key or a watch
-of_end : (own : Bool) (at : End) (m : Mover) → m ≡ mover_at at → (own ≡ false → is_mover_back (mover_at at) ≡ false) → own ≡ false → is_mover_back m ≡ false
-of_end own at m same foreign none = ap is_mover_back same ∙ foreign none
+of_end : (s : Stage) (at : End) (m : Mover) → m ≡ mover_at at → (is_between s ≡ false → is_mover_back (mover_at at) ≡ false) → is_between s ≡ false → is_mover_back m ≡ false
+of_end s at m same foreign none = ap is_mover_back same ∙ foreign none
 
 no_job : (at : End) (m : Mover) → m ≡ mover_at at → mover_job m ≡ None
 no_job end.Front m same = ap mover_job same
 no_job end.Back m same = ap mover_job same
 
-key_outsider : (own : Bool) (at : End) (shown : Move) → IsKeyMove (mover_at at) shown → (own ≡ false → is_mover_back (mover_at at) ≡ false) → is_other (lines.Move shown) ≡ true → is_plain (lines.Move shown) ≡ true → IsOutsider own (lines.Move shown)
-key_outsider own at (moves.Watch m path) same foreign other plain =
-    outsider own (lines.Move (moves.Watch m path)) refl (of_end own at m same foreign) refl refl (record { plain = refl; unstepped = no_job at m same }) refl (key_calm (mover_at at) (moves.Watch m path) same)
-key_outsider own at (moves.Watched m path) same foreign other plain =
-    outsider own (lines.Move (moves.Watched m path)) refl (of_end own at m same foreign) refl refl (record { plain = refl; unstepped = no_job at m same }) refl (key_calm (mover_at at) (moves.Watched m path) same)
-key_outsider own at (moves.GetKey m path text) same foreign other plain =
-    outsider own (lines.Move (moves.GetKey m path text)) other (of_end own at m same foreign) refl refl (record { plain = plain; unstepped = no_job at m same }) refl (key_calm (mover_at at) (moves.GetKey m path text) same)
-key_outsider own at (moves.SetKey m path text) same foreign other plain =
-    outsider own (lines.Move (moves.SetKey m path text)) refl (of_end own at m same foreign) refl refl (record { plain = plain; unstepped = no_job at m same }) refl (key_calm (mover_at at) (moves.SetKey m path text) same)
-key_outsider own at shown same foreign other plain = absurd same
+key_outsider : (s : Stage) (at : End) (shown : Move) → IsKeyMove (mover_at at) shown → (is_between s ≡ false → is_mover_back (mover_at at) ≡ false) → (is_led s ≡ false → reads_protocol (lines.Move shown) ≡ false) → is_plain (lines.Move shown) ≡ true → IsOutsider s (lines.Move shown)
+key_outsider s at (moves.Watch m path) same foreign unnamed plain =
+    record { other = refl; unnamed = unnamed; foreign = of_end s at m same foreign; idle = refl; unhalting = refl; by = record { plain = refl; unstepped = no_job at m same }; untold = refl; calm = key_calm (mover_at at) (moves.Watch m path) same }
+key_outsider s at (moves.Watched m path) same foreign unnamed plain =
+    record { other = refl; unnamed = unnamed; foreign = of_end s at m same foreign; idle = refl; unhalting = refl; by = record { plain = refl; unstepped = no_job at m same }; untold = refl; calm = key_calm (mover_at at) (moves.Watched m path) same }
+key_outsider s at (moves.GetKey m path text) same foreign unnamed plain =
+    record { other = refl; unnamed = unnamed; foreign = of_end s at m same foreign; idle = refl; unhalting = refl; by = record { plain = plain; unstepped = no_job at m same }; untold = refl; calm = key_calm (mover_at at) (moves.GetKey m path text) same }
+key_outsider s at (moves.SetKey m path text) same foreign unnamed plain =
+    record { other = refl; unnamed = unnamed; foreign = of_end s at m same foreign; idle = refl; unhalting = refl; by = record { plain = plain; unstepped = no_job at m same }; untold = refl; calm = key_calm (mover_at at) (moves.SetKey m path text) same }
+key_outsider s at shown same foreign unnamed plain = absurd same
 
--- what is read names no other layout
-reads_layout : (d : Directory) (path : List ℕ) → NamesNoOther d → keeps_layout path (key_of d.keys path) ≡ true
-reads_layout d path named = by_path (names_layout path) (key_of d.keys path) (named path)
+-- a key is read that names no layout, or while the back waits for terms
+pub get_key : (s : Stage) (at : End) (path : List ℕ) (text : Option (List ℕ)) → (is_between s ≡ false → is_mover_back (mover_at at) ≡ false) → (is_led s ≡ false → reads_protocol (lines.Move (moves.GetKey (mover_at at) path text)) ≡ false) → IsOutsider s (lines.Move (moves.GetKey (mover_at at) path text))
+get_key s end.Front path text foreign unnamed = key_outsider s end.Front (moves.GetKey mover.Front path text) refl foreign unnamed refl
+get_key s end.Back path text foreign unnamed = key_outsider s end.Back (moves.GetKey mover.Back path text) refl foreign unnamed refl
+
+-- what is set offers nothing
+set_key : (s : Stage) (at : End) (path text : List ℕ) → (is_between s ≡ false → is_mover_back (mover_at at) ≡ false) → may_set at path text ≡ true → IsOutsider s (lines.Move (moves.SetKey (mover_at at) path text))
+set_key s end.Front path text foreign may = key_outsider s end.Front (moves.SetKey mover.Front path text) refl foreign (λ led. refl) refl
+set_key s end.Back path text foreign may = key_outsider s end.Back (moves.SetKey mover.Back path text) refl foreign (λ led. refl) (last (is_own_path end.Back path) (offers_none path text) may)
   where
-    by_text : (text : Option (List ℕ)) → IsOrNone is_x64_text text → is_x64_or_none text ≡ true
-    by_text None is = refl
-    by_text (Some text) is = is
+    last : (a b : Bool) → (a && b) ≡ true → b ≡ true
+    last true b e = e
+    last false b e = absurd (cc)
 
-    by_path : (b : Bool) (text : Option (List ℕ)) → (b ≡ true → IsOrNone is_x64_text text) → (not b || is_x64_or_none text) ≡ true
-    by_path true text is = by_text text (is refl)
-    by_path false text is = refl
+end_outsiders : (s : Stage) (at : End) (move : KeyMove) (d : Directory) → (is_between s ≡ false → is_mover_back (mover_at at) ≡ false) → ((path : List ℕ) (text : Option (List ℕ)) → move ≡ Gets path → is_led s ≡ false → reads_protocol (lines.Move (moves.GetKey (mover_at at) path text)) ≡ false)
+    → AreOutsiders s (key_lines at move d)
+end_outsiders s at move d foreign unnamed =
+    key_cases (λ keys shown. AreOutsiders s shown) at move d
+    (λ path same. (get_key s at path (key_of d.keys path) foreign (unnamed path (key_of d.keys path) same), tt))
+    (λ path text same may. (set_key s at path text foreign may, tt))
+    (λ path same. (key_outsider s at (moves.Watch (mover_at at) path) refl foreign (λ led. refl) refl, tt))
+    (λ path first. (key_outsider s at (moves.Watched (mover_at at) path) refl foreign (λ led. refl) refl, tt)) tt
 
--- and what is set offers nothing
-sets_none : (at : End) (path text : List ℕ) → may_set at path text ≡ true → offers_none path text ≡ true
-sets_none at path text may = last (is_own_path at path) (not (names_layout path) || is_x64_text text) (not (names_feature path) || is_zero_text text) may
+-- those of the back come only where they may
+pub keys_outsiders : (s : Stage) (at : End) (move : KeyMove) (d : Directory) → AreOutsiders s (negotiated_lines s at move d)
+keys_outsiders s end.Front move d = end_outsiders s end.Front move d (λ own. refl) (λ path text same led. refl)
+keys_outsiders s end.Back move d = negotiated_cases (λ keys shown. AreOutsiders s shown) s end.Back move d does tt
   where
-    last : (a b c : Bool) → (a && b && c) ≡ true → c ≡ true
-    last true true c e = e
-    last true false c e = absurd (cc)
-    last false b c e = absurd (cc)
+    between : (a b : Bool) → (a && b) ≡ true → a ≡ true
+    between true b e = refl
+    between false b e = e
 
-get_key : (own : Bool) (at : End) (path : List ℕ) (text : Option (List ℕ)) → (own ≡ false → is_mover_back (mover_at at) ≡ false) → keeps_layout path text ≡ true → IsOutsider own (lines.Move (moves.GetKey (mover_at at) path text))
-get_key own end.Front path text foreign keeps = key_outsider own end.Front (moves.GetKey (mover_at end.Front) path text) refl foreign refl refl
-get_key own end.Back path text foreign keeps = key_outsider own end.Back (moves.GetKey (mover_at end.Back) path text) refl foreign keeps keeps
+    unread : (a reads led : Bool) → (a && (not reads || led)) ≡ true → led ≡ false → reads ≡ false
+    unread true true true e none = absurd (cc)
+    unread true true false e none = absurd (cc)
+    unread true false led e none = refl
+    unread false reads led e none = absurd (cc)
 
-set_key : (own : Bool) (at : End) (path text : List ℕ) → (own ≡ false → is_mover_back (mover_at at) ≡ false) → offers_none path text ≡ true → IsOutsider own (lines.Move (moves.SetKey (mover_at at) path text))
-set_key own end.Front path text foreign none = key_outsider own end.Front (moves.SetKey (mover_at end.Front) path text) refl foreign refl refl
-set_key own end.Back path text foreign none = key_outsider own end.Back (moves.SetKey (mover_at end.Back) path text) refl foreign refl none
+    does : may_negotiate s end.Back move ≡ true → AreOutsiders s (key_lines end.Back move d)
+    does may =
+        end_outsiders s end.Back move d (λ own. let is : is_between s ≡ true = between (is_between s) (not (reads_layout move) || is_led s) may in absurd (cc))
+        (λ path text same led. ap reads_layout (sym same) ∙ unread (is_between s) (reads_layout move) (is_led s) may led)
 
-end_outsiders : (own : Bool) (at : End) (move : KeyMove) (d : Directory) → (own ≡ false → is_mover_back (mover_at at) ≡ false) → NamesNoOther d → AreOutsiders own (key_lines at move d)
-end_outsiders own at move d foreign named =
-    key_cases (λ keys shown. AreOutsiders own shown) at move d
-    (λ path same. (get_key own at path (key_of d.keys path) foreign (reads_layout d path named), tt))
-    (λ path text same may. (set_key own at path text foreign (sets_none at path text may), tt))
-    (λ path same. (key_outsider own at (moves.Watch (mover_at at) path) refl foreign refl refl, tt))
-    (λ path first. (key_outsider own at (moves.Watched (mover_at at) path) refl foreign refl refl, tt)) tt
+pub state_outsiders : (s : Stage) (state : FrontState) (v : front.View) → AreOutsiders s (enter_lines state v)
+state_outsiders s state v =
+    enter_lines_are (IsOutsider s) state v
+    (λ may. state_lines_are (IsOutsider s) state
+    (said s lines.Ready refl refl refl refl refl refl refl refl (λ n. refl) (λ k. refl) (λ before. record { unmap = tt; touch = tt }))
+    (said s lines.Closing refl refl refl refl refl refl refl refl (λ n. refl) (λ k. refl) (λ before. record { unmap = tt; touch = tt }))
+    (said s lines.Closed refl refl refl refl refl refl refl refl (λ n. refl) (λ k. refl) (λ before. record { unmap = tt; touch = tt }))
+    (λ word. said s (lines.Broken word) refl refl refl refl refl refl refl refl (λ n. refl) (λ k. refl) (λ before. record { unmap = tt; touch = tt })))
 
--- those of the back come only between two entries and two replies
-pub keys_outsiders : (s : Stage) (at : End) (move : KeyMove) (d : Directory) → NamesNoOther d → AreOutsiders (is_between s) (negotiated_lines s at move d)
-keys_outsiders s end.Front move d named = end_outsiders (is_between s) end.Front move d (λ own. refl) named
-keys_outsiders s end.Back move d named = by_between (is_between s)
-  where
-    by_between : (b : Bool) → AreOutsiders b (if b then key_lines end.Back move d else [])
-    by_between true = end_outsiders true end.Back move d (λ own. absurd (cc)) named
-    by_between false = tt
+pub poke_outsiders : (s : Stage) (frame word value : ℕ) → AreOutsiders s (poke_lines frame word value)
+poke_outsiders s frame word value = poke_lines_are (IsOutsider s) frame word value (poke_outsider s frame word value)
 
-pub state_outsiders : (own : Bool) (s : FrontState) (v : front.View) → AreOutsiders own (enter_lines s v)
-state_outsiders own s v =
-    enter_lines_are (IsOutsider own) s v
-    (λ may. state_lines_are (IsOutsider own) s
-    (said own lines.Ready refl refl refl refl refl refl refl refl (λ n. refl) (λ k. refl) (λ before. record { unmap = tt; touch = tt }))
-    (said own lines.Closing refl refl refl refl refl refl refl refl (λ n. refl) (λ k. refl) (λ before. record { unmap = tt; touch = tt }))
-    (said own lines.Closed refl refl refl refl refl refl refl refl (λ n. refl) (λ k. refl) (λ before. record { unmap = tt; touch = tt }))
-    (λ word. said own (lines.Broken word) refl refl refl refl refl refl refl refl (λ n. refl) (λ k. refl) (λ before. record { unmap = tt; touch = tt })))
+pub dump_outsiders : (s : Stage) (pages : List ℕ) (count : ℕ) → AreOutsiders s (ring_lines pages 0 count)
+dump_outsiders s pages count = dump_lines_are (IsOutsider s) pages 0 count (word_outsider s)
 
-pub poke_outsiders : (own : Bool) (frame word value : ℕ) → AreOutsiders own (poke_lines frame word value)
-poke_outsiders own frame word value = poke_lines_are (IsOutsider own) frame word value (poke_outsider own frame word value)
+pub outsiders_other : (s : Stage) (ls : List Line) → AreOutsiders s ls → AreOther ls
+outsiders_other s ls all = all_more (IsOutsider s) (λ (l : Line). is_other l ≡ true) ls (λ l o. o.other) all
 
-pub dump_outsiders : (own : Bool) (pages : List ℕ) → AreOutsiders own (ring_lines pages 0 1024)
-dump_outsiders own pages = dump_lines_are (IsOutsider own) pages 0 1024 (word_outsider own)
+pub outsiders_by : (s : Stage) (ls : List Line) → AreOutsiders s ls → AreBystanders ls
+outsiders_by s ls all = all_more (IsOutsider s) IsBystander ls (λ l o. o.by) all
 
-pub outsiders_other : (own : Bool) (ls : List Line) → AreOutsiders own ls → AreOther ls
-outsiders_other own ls all = all_more (IsOutsider own) (λ (l : Line). is_other l ≡ true) ls (λ l o. o.other) all
+pub outsiders_pass : (s : Stage) (ls : List Line) → AreOutsiders s ls → AllPass (is_between s) ls
+outsiders_pass s ls all = all_more (IsOutsider s) (Passes (is_between s)) ls (λ l o. passes_other (is_between s) l o.other o.untold o.foreign) all
 
-pub outsiders_by : (own : Bool) (ls : List Line) → AreOutsiders own ls → AreBystanders ls
-outsiders_by own ls all = all_more (IsOutsider own) IsBystander ls (λ l o. o.by) all
-
-pub outsiders_pass : (own : Bool) (ls : List Line) → AreOutsiders own ls → AllPass own ls
-outsiders_pass own ls all = all_more (IsOutsider own) (Passes own) ls (λ l o. passes_other own l o.other o.untold o.foreign) all
-
-pub outsiders_calm : (own : Bool) (ls : List Line) → AreOutsiders own ls → AreCalm ls
-outsiders_calm own ls all = all_more (IsOutsider own) IsCalm ls (λ l o. o.calm) all
+pub outsiders_calm : (s : Stage) (ls : List Line) → AreOutsiders s ls → AreCalm ls
+outsiders_calm s ls all = all_more (IsOutsider s) IsCalm ls (λ l o. o.calm) all
 
 -- one of the back's own stands between two entries
-outsider_stretch : (own : Bool) (before : List Line) (line : Line) (x : Sight) → (own ≡ true → (count : ℕ) × (x.words ≡ 28 * count)) → IsOutsider own line → Shows before x → IsStretchAt before line
-outsider_stretch true before line x whole o shows =
-    let words = whole refl in
-    own_stretch before line x words.0 shows words.1 (untouched_word before line (other_touch line o.other)) (untouched_inside before line (other_touch line o.other))
-outsider_stretch false before line x whole o shows = foreign_stretch before line (o.foreign refl) (untouched_word before line (other_touch line o.other))
+outsider_stretch : (s : Stage) (between : Bool) (before : List Line) (line : Line) (x : Sight) → is_between s ≡ between → (between ≡ true → IsWhole x) → IsOutsider s line → Shows before x → IsStretchAt before line
+outsider_stretch s true before line x is whole o shows = own_stretch before line x shows (whole refl) (untouched_word before line (other_touch line o.other)) (untouched_inside before line (other_touch line o.other))
+outsider_stretch s false before line x is whole o shows = foreign_stretch before line (o.foreign is) (untouched_word before line (other_touch line o.other))
+
+-- the layout that it may name is nothing to what the back knows
+named_knows : (s : Stage) (x : Sight) (v : View) (line : Line) → (is_led s ≡ false → reads_protocol line ≡ false) → KnowsAt s x v → KnowsAt s (record x { abi = abi_after x.abi line }) v
+named_knows stage.InitWait x v line unnamed n =
+    let w : Waits x v.ring v.seen v.halted v.fetched = n.waits in
+    record { waits = record { running = w.running; untouched = w.untouched; begins = w.begins; replied = w.replied; produced = w.produced; words = w.words; values = w.values; numbered = w.numbered }; untold = n.untold; none = n.none }
+named_knows s x v line unnamed knows = subst (λ (abi : Option Abi). KnowsAt s (record x { abi = abi }) v) (sym (same_abi x.abi line (unnamed refl))) knows
+
+-- and it names one before a page of the ring is mapped
+named_first : (s : Stage) (before : List Line) (line : Line) (x : Sight) (v : View) → (is_led s ≡ false → reads_protocol line ≡ false) → Shows before x → KnowsAt s x v → IsNamedFirstAt before line
+named_first stage.InitWait before line x v unnamed shows n = λ read. shows.pages ∙ n.untold
+named_first s before line x v unnamed shows knows = unnamed_first before line (unnamed refl)
 
 -- they tell what the back knows, as the lines before them
-pub outsiders_follow : (start : ℕ) (values : List ℕ) (ls before : List Line) (v : View) → AreOutsiders (is_between v.stage) ls → Follows start values before v → Follows start values (before ++ ls) v
+pub outsiders_follow : (start : ℕ) (values : List ℕ) (ls before : List Line) (v : View) → AreOutsiders v.stage ls → Follows start values before v → Follows start values (before ++ ls) v
 outsiders_follow start values [] before v all f = subst (λ (l : List Line). Follows start values l v) (sym (append-nil before)) f
 outsiders_follow start values (line ∷ ls) before v all f =
-    let o : IsOutsider (is_between v.stage) line = all.0 in
-    let stretch : IsStretchAt before line = outsider_stretch (is_between v.stage) before line f.sight (λ is. whole_words v.stage f.sight v.ring v.page v.seen v.halted v.entry v.fetched is f.knows) o f.shows in
+    let o : IsOutsider v.stage line = all.0 in
+    let x : Sight = f.sight in
+    let stretch : IsStretchAt before line = outsider_stretch v.stage (is_between v.stage) before line f.sight refl (λ is. whole_words v.stage f.sight v is f.knows) o f.shows in
     subst (λ (l : List Line). Follows start values l v) (append_assoc before (line ∷ []) ls)
-    (outsiders_follow start values ls (before ++ line ∷ []) v all.1 (follow_other start values before line v o.other (λ over. o.idle) o.unhalting stretch f))
+    (outsiders_follow start values ls (before ++ line ∷ []) v all.1
+    (follow_named start values before line v v (abi_after x.abi line) f o.other refl (λ over. o.idle) o.unhalting (named_first v.stage before line f.sight v o.unnamed f.shows f.knows) stretch refl (named_knows v.stage f.sight v line o.unnamed f.knows)))

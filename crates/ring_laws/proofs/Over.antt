@@ -3,8 +3,8 @@ use Rattle.std.proofs.Common.{◌≡◌, ℕ, ◌%◌, ◌/◌, ◌^◌, ◌<◌
 use Rattle.std.specs.Prelude.{Option, Some, None, slice_index}
 use Rattle.std.specs.List.{list_any, cons_option}
 use Rattle.std.proofs.lemmas.List.Folds.{list_any-append}
-use Rattle.blk_base.specs.Options.{Options}
-use Rattle.blk_base.specs.declared.operation.Abi.TheVariants.{X64}
+use Rattle.blk_base.specs.declared.operation.Abi.{Abi}
+use Rattle.ring_words.specs.Shape.{entry_words_of}
 use Rattle.blk_base.specs.declared.operation.Status.{Status}
 use Rattle.blk_base.specs.declared.moves.Move.TheVariants as moves
 use Rattle.blk_layout.specs.declared.segment.Segment.{Segment}
@@ -32,7 +32,7 @@ use Rattle.blk_back.specs.View.{info_of as back_info}
 use Rattle.ring_laws.proofs.Lists.{either_false}
 use Rattle.ring_laws.proofs.JobLines.{is_of, IsAside}
 use Rattle.ring_laws.proofs.Places.{ending, ending_aside, IsAt}
-use Rattle.ring_laws.proofs.Began.{IsPlan, HasCome, serves, over, IsJobOf, request_at}
+use Rattle.ring_laws.proofs.Began.{Terms, IsPlan, HasCome, serves, over, IsJobOf, request_at}
 use Rattle.ring_laws.proofs.Due.{IsWorkOver}
 use Rattle.ring_laws.proofs.Works.{entry_kept}
 use Rattle.ring_laws.proofs.Fetched.{AreFetched, fetched_in, fetched_is}
@@ -65,7 +65,7 @@ still_unmapped (Some s) xs ys e = by_test (list_any (is_unmap_of s.number) xs) r
     by_test true is h = ap (λ (b : Bool). if b then None else Some s) (list_any-append (is_unmap_of s.number) xs ys ∙ ap (λ (b : Bool). b || list_any (is_unmap_of s.number) ys) is)
     by_test false is h = absurd (cc)
 
--- a job that left no mapping leaves none behind others' lines
+-- a job that left no mapping leaves none after others' lines
 pub left_aside : (k : ℕ) (ys epoch : List Line) → list_any (is_of k) ys ≡ false → left_to k epoch ≡ [] → left_to k (epoch ++ ys) ≡ []
 left_aside k ys [] none left = left_none k ys none
 left_aside k ys (x ∷ xs) none left =
@@ -73,9 +73,9 @@ left_aside k ys (x ∷ xs) none left =
     ap (λ (o : Option Standing). cons_option o (left_to k (xs ++ ys))) (still_unmapped (made_by k x) xs ys both.0) ∙ left_aside k ys xs none both.1
 
 -- others' lines, and entries more, leave a job over
-pub over_kept : (config : Options) (values more : List ℕ) (epoch ys : List Line) (k : ℕ) (r : Response) → IsAside k ys → IsWorkOver config values epoch k r → IsWorkOver config (values ++ more) (epoch ++ ys) k r
-over_kept config values more epoch ys k r aside o =
-    let kept = entry_kept values more k o.first o.read in
+pub over_kept : (terms : Terms) (values more : List ℕ) (epoch ys : List Line) (k : ℕ) (r : Response) → IsAside k ys → IsWorkOver terms values epoch k r → IsWorkOver terms (values ++ more) (epoch ++ ys) k r
+over_kept terms values more epoch ys k r aside o =
+    let kept = entry_kept terms.abi values more k o.first o.read in
     let long = length-append values more in
     let read = o.read in
     record {
@@ -83,9 +83,9 @@ over_kept config values more epoch ys k r aside o =
       served = o.served;
       first = o.first;
       read = omega arith;
-      names = ap (λ (ws : List ℕ). work_response (request_of X64 ws) r.status) kept ∙ o.names;
-      tasks = λ indirect. ap (λ (ws : List ℕ). work_tasks (request_of X64 ws) (back_info config) false indirect) kept ∙ o.tasks indirect;
-      verdict = λ indirect. ap (λ (ws : List ℕ). status_by (work_verdict (request_of X64 ws) (back_info config) indirect)) kept ∙ o.verdict indirect;
+      names = ap (λ (ws : List ℕ). work_response (request_of terms.abi ws) r.status) kept ∙ o.names;
+      tasks = λ indirect. ap (λ (ws : List ℕ). work_tasks (request_of terms.abi ws) (back_info terms.config) false indirect) kept ∙ o.tasks indirect;
+      verdict = λ indirect. ap (λ (ws : List ℕ). status_by (work_verdict (request_of terms.abi ws) (back_info terms.config) indirect)) kept ∙ o.verdict indirect;
       ended = ending_aside o.work k epoch ys o.served aside ∙ o.ended;
       left = left_aside k ys epoch aside.none o.left;
     }
@@ -98,9 +98,9 @@ ended_as served work k epoch s t status done (over was ends) = ends ∙ ap (λ (
     same_done e = cc
 
 -- a job that is done, and left no mapping
-pub over_of_done : (config : Options) (values : List ℕ) (epoch : List Line) (t : Work) (status : Status) → IsJobOf config values epoch t → t.stage ≡ stage.Done status → left_to t.number epoch ≡ [] → IsWorkOver config values epoch t.number (record { id = t.id; op = t.op; status = status })
-over_of_done config values epoch t status j done left =
-    let plan : IsPlan (request_at values t.number) (back_info config) j.work j.served t.id t.op = j.plan in
+pub over_of_done : (terms : Terms) (values : List ℕ) (epoch : List Line) (t : Work) (status : Status) → IsJobOf terms values epoch t → t.stage ≡ stage.Done status → left_to t.number epoch ≡ [] → IsWorkOver terms values epoch t.number (record { id = t.id; op = t.op; status = status })
+over_of_done terms values epoch t status j done left =
+    let plan : IsPlan (request_at terms.abi values t.number) (back_info terms.config) j.work j.served t.id t.op = j.plan in
     record {
       work = j.work;
       served = j.served;
@@ -114,22 +114,22 @@ over_of_done config values epoch t status j done left =
     }
 
 -- the rule finds that status
-status_is : (config : Options) (before : List Line) (values : List ℕ) (k : ℕ) (r : Response) → IsWorkOver config values (this_epoch before) k r → status_at_end before k (fetched_in config values k) ≡ Some r.status
-status_is config before values k r o =
-    ap (λ (w : List Task). end_of (failed_in k (this_epoch before)) (length w) (status_by (work_verdict (request_at values k) (back_info config) (values_read before k))) (walk_of false w k (this_epoch before))) (o.tasks (values_read before k))
+status_is : (terms : Terms) (before : List Line) (values : List ℕ) (k : ℕ) (r : Response) → IsWorkOver terms values (this_epoch before) k r → status_at_end before k (fetched_in terms values k) ≡ Some r.status
+status_is terms before values k r o =
+    ap (λ (w : List Task). end_of (failed_in k (this_epoch before)) (length w) (status_by (work_verdict (request_at terms.abi values k) (back_info terms.config) (values_read before k))) (walk_of false w k (this_epoch before))) (o.tasks (values_read before k))
     ∙ (ap (λ (s : Status). ending o.work k (this_epoch before) s) (o.verdict (values_read before k)) ∙ o.ended)
 
 -- and that response
-pub due : (config : Options) (before : List Line) (values : List ℕ) (k : ℕ) (r : Response) → entry_values before ≡ values → AreFetched config before → IsWorkOver config values (this_epoch before) k r → response_due before k ≡ Some (response_words_of r)
-due config before values k r same are o =
-    ap (λ (f : Option Fetched). words_due before k f) (fetched_is config before values k same are o.first o.read)
-    ∙ (ap (λ (s : Option Status). words_with (request_at values k) s) (status_is config before values k r o)
+pub due : (terms : Terms) (before : List Line) (values : List ℕ) (k : ℕ) (r : Response) → entry_values before ≡ values → AreFetched terms before → IsWorkOver terms values (this_epoch before) k r → response_due before k ≡ Some (response_words_of r)
+due terms before values k r same are o =
+    ap (λ (f : Option Fetched). words_due before k f) (fetched_is terms before values k same are o.first o.read)
+    ∙ (ap (λ (s : Option Status). words_with (request_at terms.abi values k) s) (status_is terms before values k r o)
     ∙ ap (λ (a : Response). Some (response_words_of a)) o.names)
 
 -- an operation is a byte
-small_request : (words : List ℕ) (status : Status) → (let a : Response = work_response (request_of X64 words) status in a.op) < 2 ^ 8
+small_request : (abi : Abi) (words : List ℕ) (status : Status) → (let a : Response = work_response (request_of abi words) status in a.op) < 2 ^ 8
 unfolding request_of
-small_request words status = by_tests (slice_index words 0 % 2 ^ 8 == 5) (slice_index words 0 % 2 ^ 8 == 6) _ _ _ _ _ _ _ _ _ (low_byte (slice_index words 0)) (low_byte (slice_index words 0 / 2 ^ 8))
+small_request abi words status = by_tests (slice_index words 0 % 2 ^ 8 == 5) (slice_index words 0 % 2 ^ 8 == 6) _ _ _ _ _ _ _ _ _ (low_byte (slice_index words 0)) (low_byte (slice_index words 0 / 2 ^ 8))
   where
     low_byte : (w : ℕ) → w % 2 ^ 8 < 2 ^ 8
     low_byte w = omega arith
@@ -140,5 +140,5 @@ small_request words status = by_tests (slice_index words 0 % 2 ^ 8 == 5) (slice_
     by_tests false true op second third device id sector count pages segments p q = q
     by_tests false false op second third device id sector count pages segments p q = p
 
-pub small_op : (config : Options) (values : List ℕ) (epoch : List Line) (k : ℕ) (r : Response) → IsWorkOver config values epoch k r → r.op < 2 ^ 8
-small_op config values epoch k r o = subst (λ (a : Response). a.op < 2 ^ 8) o.names (small_request (words_of_job values 28 k) r.status)
+pub small_op : (terms : Terms) (values : List ℕ) (epoch : List Line) (k : ℕ) (r : Response) → IsWorkOver terms values epoch k r → r.op < 2 ^ 8
+small_op terms values epoch k r o = subst (λ (a : Response). a.op < 2 ^ 8) o.names (small_request terms.abi (words_of_job values (entry_words_of terms.abi) k) r.status)

@@ -114,7 +114,7 @@ load_at work done segment more writes begin tail is =
     ap (λ (l : List Task). slice_get l (length done)) (tail ∙ ap (λ (b : Bool). done ++ tasks_of b begin (segment ∷ more)) is)
     ∙ task_at done (loads_of (begin + length_of segment) more) (tasks.Load segment.gref begin segment.first (length_of segment))
 
--- the sectors behind a segment are those of the tasks behind its task
+-- the sectors after a segment are those of the tasks after its task
 append_one : (done more : List Task) (task : Task) → done ++ task ∷ more ≡ (done ++ task ∷ []) ++ more
 append_one [] more task = refl
 append_one (d ∷ done) more task = ap (λ (l : List Task). d ∷ l) (append_one done more task)

@@ -1,5 +1,5 @@
 -- Whatever happens from the start, the back replies only what a job is due, once.
-use Rattle.std.proofs.Common.{◌≡◌, ℕ, ◌<◌, ◌^◌, ◌||◌, Bool, true, false, if◌then◌else◌, List, [], ◌∷◌, ◌++◌, length, refl, ap, sym, ◌∙◌, subst, append-nil}
+use Rattle.std.proofs.Common.{◌≡◌, ℕ, ◌*◌, ◌<◌, ◌^◌, ◌||◌, Bool, true, false, if◌then◌else◌, List, [], ◌∷◌, ◌++◌, length, refl, ap, sym, ◌∙◌, subst, append-nil}
 use Rattle.std.specs.Prelude.{Option, Some, None, is_some}
 use Rattle.std.specs.List.{list_any}
 use Rattle.std.proofs.lemmas.Option.{none-some}
@@ -15,6 +15,9 @@ use Rattle.report_rules.specs.Standing.{is_epoch, this_epoch}
 use Rattle.report_rules.specs.Reply.{AreReplies}
 use Rattle.back_jobs.specs.Jobs.{ask_job, asked, place_of, work_of, work_at, told_at as told_works}
 use Rattle.back_jobs.specs.Task.{Work, step_of}
+use Rattle.ring_words.specs.Shape.{Shape}
+use Rattle.blk_base.specs.declared.parts.End.TheVariants as end
+use Rattle.blk_back.specs.Step.{may_attach, attached}
 use Rattle.blk_front.specs.Ask as front_ask
 use Rattle.blk_front.specs.Step as front_step
 use Rattle.blk_front.specs.Submit as front_submit
@@ -28,26 +31,30 @@ use Rattle.blk_back.specs.declared.stage.Stage.{Stage}
 use Rattle.blk_back.specs.declared.told.Halt.{Halt}
 use Rattle.hypervisor.specs.Hypervisor.{Hypervisor}
 use Rattle.split_model.specs.World.{World, start_of}
-use Rattle.split_model.specs.Happening.{Happening, FrontMoves, BackMoves, JobMoves, Negotiates, FrontEnters, BackHalts, Submits, Notifies, Pokes, Dumps, Looks, Settles, poke_lines, ring_lines, happens, lines_at, after, front_after, front_shows, back_after, back_shows, job_after, job_shows, front_turn, back_turn, job_turn}
+use Rattle.split_model.specs.Happening.{Happening, FrontMoves, BackMoves, JobMoves, Negotiates, FrontEnters, BackAttaches, BackHalts, Submits, Notifies, Pokes, Dumps, Looks, Settles, poke_lines, layout_text, layout_read, happens, lines_at, after, front_after, front_shows, back_after, back_shows, job_after, job_shows, front_turn, back_turn, job_turn}
 use Rattle.split_model.specs.Shown.{halt_lines}
 use Rattle.split_model.specs.Report.{report_of, ended_report_of}
-use Rattle.move_laws.specs.Permitted.{IsPermitted}
-use Rattle.move_laws.proofs.Always.{always_within}
+use Rattle.split_model.proofs.Attaching.{attach_cases}
+use Rattle.split_model.proofs.Shapes.{back_shape, attaches_waiting}
 use Rattle.split_model.proofs.SafeAnswers.{backs_of, jobs_of, fronts_no_key}
 use Rattle.back_jobs.specs.Jobs.{mapping_at}
+use Rattle.ring_laws.proofs.BackReads.{reads_of}
 use Rattle.ring_laws.proofs.Shows.{Sight}
 use Rattle.ring_laws.proofs.Knows.{KnowsAt, Knows, Follows, unhalted}
 use Rattle.ring_laws.proofs.Stages.{back_goes}
 use Rattle.ring_laws.proofs.Sight.{other_epoch}
-use Rattle.split_model.specs.Keys.{is_between}
-use Rattle.ring_laws.proofs.Outsiders.{AreOutsiders, keys_outsiders, state_outsiders, poke_outsiders, dump_outsiders, outsiders_other, outsiders_by, outsiders_pass}
+use Rattle.split_model.specs.Keys.{is_layout, layout_path, is_between}
+use Rattle.ring_laws.proofs.Outsiders.{IsOutsider, AreOutsiders, get_key, keys_outsiders, state_outsiders, poke_outsiders, dump_outsiders, outsiders_other, outsiders_by, outsiders_pass}
 use Rattle.ring_laws.proofs.Free.{IsFree, AreFree, front_free, job_free, job_running, free_front, free_told, free_submit, free_look, free_settle}
-use Rattle.ring_laws.proofs.Works.{AreJobs, job_found, all_second}
+use Rattle.ring_laws.proofs.Lists.{all_second}
+use Rattle.ring_laws.proofs.Works.{AreJobs, job_found}
 use Rattle.ring_laws.proofs.Bystanders.{Tale, IsBystander, AreBystanders, Aside, plain_epoch, bystanders_go, bystanders_aside}
 use Rattle.ring_laws.proofs.Fetched.{values_aside}
 use Rattle.ring_laws.proofs.Stays.{IsOn, AreIdle, move_idle}
 use Rattle.ring_laws.proofs.BackChange.{Changed, change_at, back_by, halt_by, told_by, front_by, front_told_by}
-use Rattle.ring_laws.proofs.Tells.{Tells, small_number}
+use Rattle.ring_laws.proofs.Tells.{Tells, terms_of, small_number}
+use Rattle.ring_laws.proofs.Began.{Terms}
+use Rattle.ring_laws.proofs.Runs.{earlier_pages, unread}
 use Rattle.ring_laws.proofs.BackTells.{lines_of_back, told_none}
 use Rattle.ring_laws.proofs.JobTells.{JobTells, job_tells, lines_of_job, low_number, found_number}
 use Rattle.ring_laws.proofs.JobTurn.{After, IsSame, step_same}
@@ -57,7 +64,7 @@ use Rattle.ring_laws.proofs.MakerTurns.{Made}
 use Rattle.ring_laws.proofs.MakerRuns.{made_happens, made_start, hand_empty}
 use Rattle.ring_laws.proofs.Due.{Answered, Writes, under_way, IsWorkOver, response_in, answered_then}
 use Rattle.ring_laws.proofs.Over.{over_of_done, over_kept, small_op}
-use Rattle.ring_laws.proofs.Owed.{IsOwed, Owes, owes_aside, owes_told, nothing_owed}
+use Rattle.ring_laws.proofs.Owed.{IsOwed, Owes, owes_aside, owes_told, owes_anew, nothing_owed}
 use Rattle.ring_laws.proofs.Replying.{pending, pending_at, IsReplyOf, IsOwing, Finds, OwesThen, owes_at}
 use Rattle.ring_laws.proofs.NextReply.{next_has}
 use Rattle.ring_laws.proofs.WrittenBack.{MoveWrites, halt_passes, back_writes}
@@ -71,11 +78,11 @@ pub record Replies (config : Options) (before : List Line) (v : back.View) : Typ
   pub answered : List Answered
   pub job : ℕ
   pub writes : Writes before v.stage answered
-  pub owes : IsOwing config (entry_values before) (this_epoch before) answered job v
+  pub owes : IsOwing (terms_of config v) (entry_values before) (this_epoch before) answered job v
   pub chosen : IsChosen before v.stage answered
 
-same_owes : (config : Options) (values values' : List ℕ) (epoch epoch' : List Line) (fetched : ℕ) (works : List Work) (owed : List Answered) → values ≡ values' → epoch ≡ epoch' → Owes config values epoch fetched works owed → Owes config values' epoch' fetched works owed
-same_owes config values values' epoch epoch' fetched works owed p q o = subst (λ (ls : List Line). Owes config values' ls fetched works owed) q (subst (λ (vs : List ℕ). Owes config vs epoch fetched works owed) p o)
+same_owes : (terms : Terms) (values values' : List ℕ) (epoch epoch' : List Line) (fetched : ℕ) (works : List Work) (owed : List Answered) → values ≡ values' → epoch ≡ epoch' → Owes terms values epoch fetched works owed → Owes terms values' epoch' fetched works owed
+same_owes terms values values' epoch epoch' fetched works owed p q o = subst (λ (ls : List Line). Owes terms values' ls fetched works owed) q (subst (λ (vs : List ℕ). Owes terms vs epoch fetched works owed) p o)
 
 no_lines : (config : Options) (before : List Line) (v : back.View) → Replies config before v → Replies config (before ++ []) v
 no_lines config before v r = subst (λ (ls : List Line). Replies config ls v) (sym (append-nil before)) r
@@ -98,8 +105,8 @@ others config own before ys v none passed all same t r =
       answered = r.answered;
       job = r.job;
       writes = writes_all own before ys v.stage r.answered none passed r.writes;
-      owes = λ runs. same_owes config (entry_values before ++ []) (entry_values (before ++ ys)) (this_epoch before ++ ys) (this_epoch (before ++ ys)) v.fetched v.jobs.works _ (append-nil (entry_values before) ∙ sym same) (sym go.epoch)
-          (owes_aside config (entry_values before) [] (this_epoch before) ys v.fetched v.jobs.works _ (λ k. bystanders_aside k ys all) (r.owes runs));
+      owes = λ runs. same_owes (terms_of config v) (entry_values before ++ []) (entry_values (before ++ ys)) (this_epoch before ++ ys) (this_epoch (before ++ ys)) v.fetched v.jobs.works _ (append-nil (entry_values before) ∙ sym same) (sym go.epoch)
+          (owes_aside (terms_of config v) (entry_values before) [] (this_epoch before) ys v.fetched v.jobs.works _ (λ k. bystanders_aside k ys all) (r.owes runs));
       chosen = chosen_aside own before ys v.stage r.answered passed (bystanders_on config before ys all go.epoch) (bystanders_idle before ys all) r.chosen;
     }
 
@@ -120,40 +127,40 @@ front_after_replies config w before None r = r
 front_after_replies config w before (Some a) r = r
 
 -- the job whose reply begins is over
-done_owed : (config : Options) (before : List Line) (v : back.View) (r : Reply) (d : IsReplyOf v.jobs.works r) → is_some v.halted ≡ false → Tells config before v → Made before v → IsOwed config (entry_values before) (this_epoch before) (let t : Work = d.job in pending t.number r)
+done_owed : (config : Options) (before : List Line) (v : back.View) (r : Reply) (d : IsReplyOf v.jobs.works r) → is_some v.halted ≡ false → Tells config before v → Made before v → IsOwed (terms_of config v) (entry_values before) (this_epoch before) (let t : Work = d.job in pending t.number r)
 done_owed config before v r d runs t made =
     let job : Work = d.job in
     let left = hand_empty before v made runs d.place d.job d.found (ap mapping_at d.stage) in
-    subst (λ x. IsWorkOver config (entry_values before) (this_epoch before) job.number x) (sym d.is)
-    (over_of_done config (entry_values before) (this_epoch before) d.job d.status (job_found config (entry_values before) (this_epoch before) v.fetched v.jobs.works d.place d.job d.found (t.jobs runs)) d.stage left)
+    subst (λ x. IsWorkOver (terms_of config v) (entry_values before) (this_epoch before) job.number x) (sym d.is)
+    (over_of_done (terms_of config v) (entry_values before) (this_epoch before) d.job d.status (job_found (terms_of config v) (entry_values before) (this_epoch before) v.fetched v.jobs.works d.place d.job d.found (t.jobs runs)) d.stage left)
 
--- a job that is over stays so behind lines of the back
-over_then : (config : Options) (before ys : List Line) (more : List ℕ) (x : Answered) → AreBystanders ys → entry_values before ++ more ≡ entry_values (before ++ ys) → this_epoch (before ++ ys) ≡ this_epoch before ++ ys → IsOwed config (entry_values before) (this_epoch before) x → IsOwed config (entry_values (before ++ ys)) (this_epoch (before ++ ys)) x
-over_then config before ys more x all grown epoch over =
-    subst (λ (ls : List Line). IsOwed config (entry_values (before ++ ys)) ls x) (sym epoch)
-    (subst (λ (vs : List ℕ). IsOwed config vs (this_epoch before ++ ys) x) grown (over_kept config (entry_values before) more (this_epoch before) ys x.job x.response (bystanders_aside x.job ys all) over))
+-- a job that is over stays so after lines of the back
+over_then : (terms : Terms) (before ys : List Line) (more : List ℕ) (x : Answered) → AreBystanders ys → entry_values before ++ more ≡ entry_values (before ++ ys) → this_epoch (before ++ ys) ≡ this_epoch before ++ ys → IsOwed terms (entry_values before) (this_epoch before) x → IsOwed terms (entry_values (before ++ ys)) (this_epoch (before ++ ys)) x
+over_then terms before ys more x all grown epoch over =
+    subst (λ (ls : List Line). IsOwed terms (entry_values (before ++ ys)) ls x) (sym epoch)
+    (subst (λ (vs : List ℕ). IsOwed terms vs (this_epoch before ++ ys) x) grown (over_kept terms (entry_values before) more (this_epoch before) ys x.job x.response (bystanders_aside x.job ys all) over))
 
-finds_of : (config : Options) (before ys : List Line) (more : List ℕ) (v new : back.View) (x : Sight) → Knows x v → AreBystanders ys → entry_values before ++ more ≡ entry_values (before ++ ys) → this_epoch (before ++ ys) ≡ this_epoch before ++ ys → is_some v.halted ≡ false → Tells config before v → Tells config (before ++ ys) new → Made before v
-    → Finds config (entry_values (before ++ ys)) (this_epoch (before ++ ys)) v new
-finds_of config before ys more v new x knows all grown epoch runs t behind made = record {
+finds_of : (config : Options) (before ys : List Line) (more : List ℕ) (v new : back.View) (x : Sight) → new.shape ≡ v.shape → Knows x v → AreBystanders ys → entry_values before ++ more ≡ entry_values (before ++ ys) → this_epoch (before ++ ys) ≡ this_epoch before ++ ys → is_some v.halted ≡ false → Tells config before v → Tells config (before ++ ys) new → Made before v
+    → Finds (terms_of config v) (entry_values (before ++ ys)) (this_epoch (before ++ ys)) v new
+finds_of config before ys more v new x shape knows all grown epoch runs t behind made = record {
   small = small_number v.stage v x knows runs;
-  low = let jobs : AreJobs config (entry_values before) (this_epoch before) v.fetched v.jobs.works = t.jobs runs in jobs.low;
-  later = behind.jobs;
-  done = λ r d. over_then config before ys more (let t : Work = d.job in pending t.number r) all grown epoch (done_owed config before v r d runs t made);
-  lower = λ r d. low_number config (entry_values before) (this_epoch before) v.fetched v.jobs.works d.place d.job d.found (t.jobs runs);
+  low = let jobs : AreJobs (terms_of config v) (entry_values before) (this_epoch before) v.fetched v.jobs.works = t.jobs runs in jobs.low;
+  later = λ going. subst (λ (s : Shape). AreJobs (record { config = config; abi = s.abi }) (entry_values (before ++ ys)) (this_epoch (before ++ ys)) new.fetched new.jobs.works) shape (behind.jobs going);
+  done = λ r d. over_then (terms_of config v) before ys more (let t : Work = d.job in pending t.number r) all grown epoch (done_owed config before v r d runs t made);
+  lower = λ r d. low_number (terms_of config v) (entry_values before) (this_epoch before) v.fetched v.jobs.works d.place d.job d.found (t.jobs runs);
 }
 
 -- the operation of the reply whose producer is written
-producer_op : (config : Options) (values : List ℕ) (epoch : List Line) (answered : List Answered) (k : ℕ) (s : Stage) (v : back.View) (x : Sight) → KnowsAt s x v.ring v.page v.seen v.halted v.entry v.fetched → (v.halted ≡ None → Owes config values epoch v.fetched v.jobs.works (answered ++ pending_at s k)) → (r : Reply) → s ≡ stage.Producer r → r.op < 2 ^ 8
-producer_op config values epoch answered k (stage.Producer p) v x knows owes r e =
-    let o : Owes config values epoch v.fetched v.jobs.works (answered ++ pending k p ∷ []) = owes knows.running in
-    let last : IsOwed config values epoch (pending k p) = (all_second (IsOwed config values epoch) answered (pending k p ∷ []) o.each).0 in
-    let small : p.op < 2 ^ 8 = small_op config values epoch k (response_in p) last in
+producer_op : (terms : Terms) (values : List ℕ) (epoch : List Line) (answered : List Answered) (k : ℕ) (s : Stage) (v : back.View) (x : Sight) → KnowsAt s x v → (v.halted ≡ None → Owes terms values epoch v.fetched v.jobs.works (answered ++ pending_at s k)) → (r : Reply) → s ≡ stage.Producer r → r.op < 2 ^ 8
+producer_op terms values epoch answered k (stage.Producer p) v x knows owes r e =
+    let o : Owes terms values epoch v.fetched v.jobs.works (answered ++ pending k p ∷ []) = owes knows.running in
+    let last : IsOwed terms values epoch (pending k p) = (all_second (IsOwed terms values epoch) answered (pending k p ∷ []) o.each).0 in
+    let small : p.op < 2 ^ 8 = small_op terms values epoch k (response_in p) last in
     subst (λ (q : Reply). q.op < 2 ^ 8) (same_reply p r e) small
   where
     same_reply : (p q : Reply) → stage.Producer p ≡ stage.Producer q → p ≡ q
     same_reply p q e = cc
-producer_op config values epoch answered k s v x knows owes r e = absurd (cc)
+producer_op terms values epoch answered k s v x knows owes r e = absurd (cc)
 
 runs_on : {X : Type 0} {o : Option X} → o ≡ None → is_some o ≡ false
 runs_on none = ap is_some none
@@ -163,42 +170,43 @@ back_replies config w before o None e s stand made r = no_lines config before w.
 back_replies config w before o (Some a) e s stand made r =
     let v : back.View = w.back in
     let new : back.View = back_step.step_of w.back a.answer in
+    let terms : Terms = terms_of config w.back in
     let f : Follows config.start [] before w.back = s.ring.follows in
     let t : Tells config before w.back = s.tells in
     let behind : Tells config (before ++ lines_of_back w.back a) (record new { told = None }) = stand.tells in
-    let gone : Follows f.sight.start f.sight.values (before ++ lines_of_back w.back a) (back_step.step_of w.back a.answer) = back_goes before w.under v.stage w.back o a f.sight f.knows f.knows f.shows f.stands s.ring.told e in
+    let gone : Follows f.sight.start f.sight.values (before ++ lines_of_back w.back a) (back_step.step_of w.back a.answer) = back_goes before w.under v.stage w.back o a f.sight (earlier_pages w s.safe) f.knows f.knows f.shows f.stands s.ring.told e in
     let c : Changed (length f.sight.values) w.back (back_step.step_of w.back a.answer) = change_at v.stage w.back f.sight a.answer f.knows (told_none v.told s.ring.told) in
     let all : AreBystanders (lines_of_back w.back a) = (back_by w.under (ask_of w.back) o a (backs_of w.back) e, told_by new.told a.answer v.halted new.halted c.tells) in
     let go : Aside config before (lines_of_back w.back a) = bystanders_go config (lines_of_back w.back a) before all t.tale t.quiet in
     let grown : entry_values before ++ gone.more ≡ entry_values (before ++ lines_of_back w.back a) = ap (λ (vs : List ℕ). vs ++ gone.more) f.shows.values ∙ (sym gone.grown ∙ sym gone.shows.values) in
-    let finds = λ (runs : is_some v.halted ≡ false). finds_of config before (lines_of_back w.back a) gone.more w.back (back_step.step_of w.back a.answer) f.sight f.knows all grown go.epoch runs t (record { tale = behind.tale; quiet = behind.quiet; info = behind.info; jobs = behind.jobs; unseen = behind.unseen }) made in
-    let owes = λ (runs : is_some v.halted ≡ false). same_owes config (entry_values before ++ gone.more) (entry_values (before ++ lines_of_back w.back a)) (this_epoch before ++ lines_of_back w.back a) (this_epoch (before ++ lines_of_back w.back a)) v.fetched v.jobs.works (r.answered ++ pending_at v.stage r.job) grown (sym go.epoch)
-    (owes_aside config (entry_values before) gone.more (this_epoch before) (lines_of_back w.back a) v.fetched v.jobs.works _ (λ k. bystanders_aside k (lines_of_back w.back a) all) (r.owes runs)) in
-    let next : OwesThen config (entry_values (before ++ lines_of_back w.back a)) (this_epoch (before ++ lines_of_back w.back a)) (answered_then v.stage r.answered r.job v.ring.prod) (back_step.step_of w.back a.answer) = owes_at config (entry_values (before ++ lines_of_back w.back a)) (this_epoch (before ++ lines_of_back w.back a)) r.answered r.job v.stage w.back f.sight a.answer refl f.knows finds owes in
-    let held = λ (none : v.halted ≡ None). same_owes config (entry_values before) f.sight.values (this_epoch before) (this_epoch before) v.fetched v.jobs.works (r.answered ++ pending_at v.stage r.job) f.shows.values refl (r.owes (runs_on none)) in
-    let done = λ (none : v.halted ≡ None) (q : Reply) (d : IsReplyOf v.jobs.works q). subst (λ (vs : List ℕ). IsOwed config vs (this_epoch before) (let u : Work = d.job in pending u.number q)) f.shows.values (done_owed config before w.back q d (runs_on none) t made) in
+    let finds = λ (runs : is_some v.halted ≡ false). finds_of config before (lines_of_back w.back a) gone.more w.back (back_step.step_of w.back a.answer) f.sight (back_shape w.back a.answer) f.knows all grown go.epoch runs t (record { tale = behind.tale; quiet = behind.quiet; info = behind.info; jobs = behind.jobs; unseen = behind.unseen }) made in
+    let owes = λ (runs : is_some v.halted ≡ false). same_owes terms (entry_values before ++ gone.more) (entry_values (before ++ lines_of_back w.back a)) (this_epoch before ++ lines_of_back w.back a) (this_epoch (before ++ lines_of_back w.back a)) v.fetched v.jobs.works (r.answered ++ pending_at v.stage r.job) grown (sym go.epoch)
+    (owes_aside terms (entry_values before) gone.more (this_epoch before) (lines_of_back w.back a) v.fetched v.jobs.works _ (λ k. bystanders_aside k (lines_of_back w.back a) all) (r.owes runs)) in
+    let next : OwesThen terms (entry_values (before ++ lines_of_back w.back a)) (this_epoch (before ++ lines_of_back w.back a)) (answered_then v.stage r.answered r.job v.ring.prod) (back_step.step_of w.back a.answer) = owes_at terms (entry_values (before ++ lines_of_back w.back a)) (this_epoch (before ++ lines_of_back w.back a)) r.answered r.job v.stage w.back f.sight a.answer refl f.knows finds owes in
+    let held = λ (none : v.halted ≡ None). same_owes terms (entry_values before) f.sight.values (this_epoch before) (this_epoch before) v.fetched v.jobs.works (r.answered ++ pending_at v.stage r.job) f.shows.values refl (r.owes (runs_on none)) in
+    let done = λ (none : v.halted ≡ None) (q : Reply) (d : IsReplyOf v.jobs.works q). subst (λ (vs : List ℕ). IsOwed terms vs (this_epoch before) (let u : Work = d.job in pending u.number q)) f.shows.values (done_owed config before w.back q d (runs_on none) t made) in
     let goes : MoveWrites before (answered_then v.stage r.answered r.job v.ring.prod) v.stage w.back a.answer a.shown (back_step.step_of w.back a.answer) =
-    back_writes before w.under w.back o a f.sight r.answered r.job f.knows f.shows s.ring.told r.writes (next_has config before f.sight v.stage w.back r.answered r.job f.knows f.shows.values s.fetched r.chosen done held) (producer_op config f.sight.values (this_epoch before) r.answered r.job v.stage w.back f.sight f.knows held) e in
+    back_writes before w.under w.back o a f.sight r.answered r.job f.knows f.shows s.ring.told r.writes (next_has terms before f.sight v.stage w.back r.answered r.job f.knows f.shows.values s.fetched r.chosen done held) (producer_op terms f.sight.values (this_epoch before) r.answered r.job v.stage w.back f.sight f.knows held) e in
     record {
       answered = answered_then v.stage r.answered r.job v.ring.prod;
       job = next.job;
       writes = goes.writes;
-      owes = next.owes;
+      owes = subst (λ (s : Shape). IsOwing (record { config = config; abi = s.abi }) (entry_values (before ++ lines_of_back w.back a)) (this_epoch (before ++ lines_of_back w.back a)) (answered_then v.stage r.answered r.job v.ring.prod) next.job (back_step.step_of w.back a.answer)) (sym (back_shape w.back a.answer)) next.owes;
       chosen = chosen_goes before (lines_of_back w.back a) v.stage new.stage r.answered r.job v.ring.prod goes.row (bystanders_on config before (lines_of_back w.back a) all go.epoch) (bystanders_idle before (lines_of_back w.back a) all) r.chosen;
     }
 
 -- a job moved: those that were answered are others
 moved_owes : (config : Options) (before : List Line) (h : Hypervisor) (v : back.View) (k : ℕ) (o : Outcome) (a : BackAct) (place : Option ℕ) (found : Option Work) (owed : List Answered) → place_of v.jobs.works k ≡ place → work_at v.jobs.works place ≡ found → back_act h (mover.Job k) (asked found) o ≡ Some a
-    → entry_values (before ++ lines_of_job found a) ≡ entry_values before → JobTells config before (lines_of_job found a) v k (told_works v.jobs.works place found a.answer) → Owes config (entry_values before) (this_epoch before) v.fetched v.jobs.works owed
-    → Owes config (entry_values (before ++ lines_of_job found a)) (this_epoch (before ++ lines_of_job found a)) v.fetched (told_works v.jobs.works place found a.answer) owed
+    → entry_values (before ++ lines_of_job found a) ≡ entry_values before → JobTells config before (lines_of_job found a) v k (told_works v.jobs.works place found a.answer) → Owes (terms_of config v) (entry_values before) (this_epoch before) v.fetched v.jobs.works owed
+    → Owes (terms_of config v) (entry_values (before ++ lines_of_job found a)) (this_epoch (before ++ lines_of_job found a)) v.fetched (told_works v.jobs.works place found a.answer) owed
 moved_owes config before h v k o a place None owed at is e same told owes = absurd (none-some a e)
 moved_owes config before h v k o a None (Some t) owed at is e same told owes = absurd (none-some t is)
 moved_owes config before h v k o a (Some place) (Some t) owed at is e same told owes =
     let behind : After config before (lines_of_job (Some t) a) = told.after in
     let number : t.number ≡ k = found_number v.jobs.works k place t at is in
     let kept : IsSame t (step_of t a.answer) = step_same t.stage t a.answer in
-    same_owes config (entry_values before) (entry_values (before ++ lines_of_job (Some t) a)) (this_epoch before ++ lines_of_job (Some t) a) (this_epoch (before ++ lines_of_job (Some t) a)) v.fetched _ owed (sym same) (sym behind.epoch)
-    (owes_told config (entry_values before) (this_epoch before) (lines_of_job (Some t) a) v.fetched v.jobs.works owed place t (step_of t a.answer) is kept.number (λ n other. told.aside n (λ same_k. other (same_k ∙ sym number))) owes)
+    same_owes (terms_of config v) (entry_values before) (entry_values (before ++ lines_of_job (Some t) a)) (this_epoch before ++ lines_of_job (Some t) a) (this_epoch (before ++ lines_of_job (Some t) a)) v.fetched _ owed (sym same) (sym behind.epoch)
+    (owes_told (terms_of config v) (entry_values before) (this_epoch before) (lines_of_job (Some t) a) v.fetched v.jobs.works owed place t (step_of t a.answer) is kept.number (λ n other. told.aside n (λ same_k. other (same_k ∙ sym number))) owes)
 
 free_epochs : (over : Bool) (ys : List Line) → AreFree over ys → list_any is_epoch ys ≡ false
 free_epochs over [] free = refl
@@ -226,10 +234,10 @@ job_replies config w before k o (Some a) e s r =
     }
 
 -- lines between all others
-outside_replies : (config : Options) (w : World) (before ys : List Line) → AreOutsiders (is_between w.back.stage) ys → Stand config before w → Replies config before w.back → Replies config (before ++ ys) w.back
+outside_replies : (config : Options) (w : World) (before ys : List Line) → AreOutsiders w.back.stage ys → Stand config before w → Replies config before w.back → Replies config (before ++ ys) w.back
 outside_replies config w before ys all s r =
     let own : Bool = is_between w.back.stage in
-    others config own before ys w.back (none_between w.back.stage) (outsiders_pass own ys all) (outsiders_by own ys all) (values_aside ys before (outsiders_other own ys all)) s.tells r
+    others config own before ys w.back (none_between w.back.stage) (outsiders_pass w.back.stage ys all) (outsiders_by w.back.stage ys all) (values_aside ys before (outsiders_other w.back.stage ys all)) s.tells r
   where
     none_between : (s : Stage) → is_between s ≡ true → under_way s ≡ []
     none_between (stage.ReplyHigh r) is = absurd (cc)
@@ -260,17 +268,41 @@ halted_replies config w before why s r = stops_cases (λ (new : back.View). Repl
           chosen = chosen_stage (before ++ ls) w.back.stage new.stage told.answered p.ceased told.chosen;
         }
 
+-- a back that waits may read the key that names the layout
+layout_outsider : (w : World) → w.back.stage ≡ stage.InitWait → IsOutsider w.back.stage (lines.Move (layout_read w))
+layout_outsider w waits = subst (λ (s : Stage). IsOutsider s (lines.Move (layout_read w))) (sym waits) (get_key stage.InitWait end.Back layout_path (layout_text w) (λ own. absurd (cc)) (λ led. absurd (cc)))
+
+-- a back that takes terms has answered no job
+attached_replies : (config : Options) (w : World) (before : List Line) (shape : Shape) (grefs : List ℕ) (port : ℕ) → Stand config before w → Replies config before w.back
+    → (let n : World = happens w (BackAttaches shape grefs port) in Replies config (before ++ lines_at w (BackAttaches shape grefs port)) n.back)
+attached_replies config w before shape grefs port s r = attach_cases (λ (new : back.View) (shown : List Line). Replies config (before ++ shown) new) w shape grefs port takes (no_lines config before w.back r)
+  where
+    takes : may_attach shape grefs w.back ≡ true → is_layout shape.abi (layout_text w) ≡ true → Replies config (before ++ lines.Move (layout_read w) ∷ []) (attached shape grefs port w.back)
+    takes may layout =
+        let waits : w.back.stage ≡ stage.InitWait = attaches_waiting shape grefs w.back may in
+        let same = values_aside (lines.Move (layout_read w) ∷ []) before (refl, tt) in
+        let told : Replies config (before ++ lines.Move (layout_read w) ∷ []) w.back = outside_replies config w before (lines.Move (layout_read w) ∷ []) (layout_outsider w waits, tt) s r in
+        record {
+          answered = told.answered;
+          job = told.job;
+          writes = writes_stage _ w.back.stage stage.MapRing told.answered (ap under_way waits) told.writes;
+          owes = λ runs. owes_anew (terms_of config w.back) _ _ _ w.back.fetched w.back.jobs.works (told.answered ++ []) (same ∙ unread config.start w before shape grefs s.ring may)
+              (subst (λ (q : Stage). Owes (terms_of config w.back) (entry_values (before ++ lines.Move (layout_read w) ∷ [])) (this_epoch (before ++ lines.Move (layout_read w) ∷ [])) w.back.fetched w.back.jobs.works (told.answered ++ pending_at q told.job)) waits (told.owes runs));
+          chosen = chosen_stage _ w.back.stage stage.MapRing told.answered refl told.chosen;
+        }
+
 replies_happen : (config : Options) (w : World) (h : Happening) (before : List Line) → Stand config before w → Stand config (before ++ lines_at w h) (happens w h) → Made before w.back → Replies config before w.back → (let n : World = happens w h in Replies config (before ++ lines_at w h) n.back)
 replies_happen config w FrontMoves before s t made r = front_after_replies config w (before ++ front_shows w (front_turn w)) (front_turn w) (front_replies config w before (front_turn w) s refl r)
 replies_happen config w BackMoves before s t made r = back_replies config w before Took (back_turn w Took) refl s t made r
 replies_happen config w (JobMoves number outcome) before s t made r = job_replies config w before number outcome (job_turn w number outcome) refl s r
-replies_happen config w (Negotiates at move) before s t made r = outside_replies config w before (lines_at w (Negotiates at move)) (keys_outsiders w.back.stage at move w.under.keys s.named) s r
-replies_happen config w (FrontEnters state) before s t made r = outside_replies config w before (lines_at w (FrontEnters state)) (state_outsiders (is_between w.back.stage) state w.front) s r
+replies_happen config w (Negotiates at move) before s t made r = outside_replies config w before (lines_at w (Negotiates at move)) (keys_outsiders w.back.stage at move w.under.keys) s r
+replies_happen config w (FrontEnters state) before s t made r = outside_replies config w before (lines_at w (FrontEnters state)) (state_outsiders w.back.stage state w.front) s r
+replies_happen config w (BackAttaches shape grefs port) before s t made r = attached_replies config w before shape grefs port s r
 replies_happen config w (BackHalts why) before s t made r = halted_replies config w before why s r
 replies_happen config w (Submits job) before s t made r = others_free config w before (lines_at w (Submits job)) (submit_else job (front_submit.submit_of w.front job).0) (submit_by job (front_submit.submit_of w.front job).0, tt) (free_submit (is_some w.back.halted) job (front_submit.submit_of w.front job).0, tt) s r
 replies_happen config w (Notifies at) before s t made r = no_lines config before w.back r
-replies_happen config w (Pokes frame word value) before s t made r = outside_replies config w before (poke_lines frame word value) (poke_outsiders (is_between w.back.stage) frame word value) s r
-replies_happen config w Dumps before s t made r = outside_replies config w before (ring_lines w.under.pages 0 1024) (dump_outsiders (is_between w.back.stage) w.under.pages) s r
+replies_happen config w (Pokes frame word value) before s t made r = outside_replies config w before (poke_lines frame word value) (poke_outsiders w.back.stage frame word value) s r
+replies_happen config w Dumps before s t made r = outside_replies config w before (lines_at w Dumps) (dump_outsiders w.back.stage w.under.pages (1024 * 2 ^ w.front.shape.order)) s r
 replies_happen config w (Looks quiet) before s t made r = others_free config w before (lines_at w (Looks quiet)) (look_else quiet) (look_by quiet, tt) (free_look (is_some w.back.halted) quiet, tt) s r
 replies_happen config w (Settles quiet) before s t made r = others_free config w before (lines_at w (Settles quiet)) (settle_else quiet) (settle_by quiet, tt) (free_settle (is_some w.back.halted) quiet, tt) s r
 
@@ -280,25 +312,25 @@ record All (config : Options) (before : List Line) (w : World) : Type 0 where
   made : Made before w.back
   replies : Replies config before w.back
 
-all_happens : (config : Options) (w : World) (h : Happening) (before : List Line) → IsPermitted w h → All config before w → length (before ++ lines_at w h) < 2 ^ 64 → All config (before ++ lines_at w h) (happens w h)
-all_happens config w h before within all few =
-    let t : Stand config (before ++ lines_at w h) (happens w h) = stand_happens config w h before within all.stand few in
+all_happens : (config : Options) (w : World) (h : Happening) (before : List Line) → All config before w → reads_of (before ++ lines_at w h) < 2 ^ 64 → All config (before ++ lines_at w h) (happens w h)
+all_happens config w h before all few =
+    let t : Stand config (before ++ lines_at w h) (happens w h) = stand_happens config w h before all.stand few in
     record { stand = t; made = made_happens config w h before all.stand t all.made; replies = replies_happen config w h before all.stand t all.made all.replies }
 
 start_replies : (config : Options) (detail : Detail) → (let w : World = start_of config in Replies config (lines.Begin config detail ∷ []) w.back)
-start_replies config detail = record { answered = []; job = 0; writes = start_writes config detail; owes = λ runs. nothing_owed config (entry_values (lines.Begin config detail ∷ [])) (this_epoch (lines.Begin config detail ∷ [])) 0; chosen = record { matched = []; chosen = refl; answers = refl; due = tt; stays = λ k words due. due; row = tt } }
+start_replies config detail = record { answered = []; job = 0; writes = start_writes config detail; owes = λ runs. nothing_owed (terms_of config (back.start_of config)) (entry_values (lines.Begin config detail ∷ [])) (this_epoch (lines.Begin config detail ∷ [])) 0; chosen = record { matched = []; chosen = refl; answers = refl; due = tt; stays = λ k words due. due; row = tt } }
 
-report_all : (config : Options) (detail : Detail) (history : List Happening) → length (report_of config detail history) < 2 ^ 64 → All config (report_of config detail history) (after history (start_of config))
-report_all config detail history few = kept_after (All config) (all_happens config) history (start_of config) (lines.Begin config detail ∷ []) (always_within config history) (record { stand = stand_start config detail; made = made_start config detail; replies = start_replies config detail }) few
+report_all : (config : Options) (detail : Detail) (history : List Happening) → reads_of (report_of config detail history) < 2 ^ 64 → All config (report_of config detail history) (after history (start_of config))
+report_all config detail history few = kept_after (All config) (all_happens config) history (start_of config) (lines.Begin config detail ∷ []) (record { stand = stand_start config detail; made = made_start config detail; replies = start_replies config detail }) few
 
-pub report_replies : (config : Options) (detail : Detail) (history : List Happening) → length (report_of config detail history) < 2 ^ 64 → AreReplies (report_of config detail history)
+pub report_replies : (config : Options) (detail : Detail) (history : List Happening) → reads_of (report_of config detail history) < 2 ^ 64 → AreReplies (report_of config detail history)
 report_replies config detail history few =
     let all : All config (report_of config detail history) (after history (start_of config)) = report_all config detail history few in
     let replies : Replies config (report_of config detail history) (let w : World = after history (start_of config) in w.back) = all.replies in
     let writes = replies.writes in
     writes.obeys
 
-pub ended_replies : (config : Options) (detail : Detail) (history : List Happening) → length (report_of config detail history) < 2 ^ 64 → AreReplies (ended_report_of config detail history)
+pub ended_replies : (config : Options) (detail : Detail) (history : List Happening) → reads_of (report_of config detail history) < 2 ^ 64 → AreReplies (ended_report_of config detail history)
 ended_replies config detail history few =
     let all : All config (report_of config detail history) (after history (start_of config)) = report_all config detail history few in
     let replies : Replies config (report_of config detail history) (let w : World = after history (start_of config) in w.back) = all.replies in

@@ -1,12 +1,11 @@
 -- A move of the back leaves what it answered and is answering different jobs, each of them over.
 use Rattle.std.proofs.Common.{◌≡◌, ℕ, ◌+◌, ◌%◌, ◌^◌, ◌<◌, ◌≤◌, ◌==◌, Bool, true, false, if◌then◌else◌, List, [], ◌∷◌, ◌++◌, remove, refl, sym, ap, ◌∙◌, subst, arith, append-nil}
-use Rattle.std.specs.Prelude.{Option, Some, None, is_some, slice_get, position}
+use Rattle.std.specs.Prelude.{Option, Some, None, is_some, slice_get, position, nat_lt, length}
 use Rattle.std.specs.Option.{option_and_then}
 use Rattle.std.specs.List.{AllByRecursion}
 use Rattle.std.proofs.lemmas.Option.{none-some, same_Some}
 use Rattle.std.proofs.lemmas.List.{map-append}
-use Rattle.blk_base.specs.Options.{Options}
-use Rattle.blk_base.specs.declared.operation.Abi.TheVariants.{X64}
+use Rattle.ring_words.specs.Shape.{entry_words_of}
 use Rattle.blk_base.specs.declared.operation.Status.{Status}
 use Rattle.blk_base.specs.declared.ask.BackAnswer.TheVariants as answers
 use Rattle.blk_base.specs.declared.ask.BackAnswer.{BackAnswer}
@@ -26,8 +25,9 @@ use Rattle.blk_back.specs.declared.stage.Stage.{Stage}
 use Rattle.ring_words.specs.Ring.{requests_of, overruns, notifies}
 use Rattle.ring_laws.proofs.Knows.{KnowsAt}
 use Rattle.ring_laws.proofs.Shows.{Sight}
-use Rattle.ring_laws.proofs.Began.{IsJobOf}
-use Rattle.ring_laws.proofs.Works.{AreJobs, AreApart, numbers, all_first, all_second, all_both}
+use Rattle.ring_laws.proofs.Began.{Terms, IsJobOf}
+use Rattle.ring_laws.proofs.Lists.{AreApart, all_first, all_second, all_both}
+use Rattle.ring_laws.proofs.Works.{AreJobs, numbers}
 use Rattle.ring_laws.proofs.BackTells.{begun_number}
 use Rattle.ring_laws.proofs.Due.{Answered, response_in, answered_then, job_answered, jobs_of}
 use Rattle.ring_laws.proofs.Owed.{IsOwed, Owes, owes_begun, owes_fetched}
@@ -68,127 +68,131 @@ done_found works r = by_place (position (λ (t : Work). is_done t) works) refl
     by_place (Some i) p e = by_work i (slice_get works i) p refl e
 
 -- what the back answered and is answering, unless it has halted
-abbrev pub IsOwing : Options → List ℕ → List Line → List Answered → ℕ → View → Type 0
-IsOwing config values epoch answered k v = is_some v.halted ≡ false → Owes config values epoch v.fetched v.jobs.works (answered ++ pending_at v.stage k)
+abbrev pub IsOwing : Terms → List ℕ → List Line → List Answered → ℕ → View → Type 0
+IsOwing terms values epoch answered k v = is_some v.halted ≡ false → Owes terms values epoch v.fetched v.jobs.works (answered ++ pending_at v.stage k)
 
-either : (config : Options) (values : List ℕ) (epoch : List Line) (answered : List Answered) (k : ℕ) (b : Bool) (x y : View) → IsOwing config values epoch answered k x → IsOwing config values epoch answered k y → IsOwing config values epoch answered k (if b then x else y)
-either config values epoch answered k true x y p q = p
-either config values epoch answered k false x y p q = q
+either : (terms : Terms) (values : List ℕ) (epoch : List Line) (answered : List Answered) (k : ℕ) (b : Bool) (x y : View) → IsOwing terms values epoch answered k x → IsOwing terms values epoch answered k y → IsOwing terms values epoch answered k (if b then x else y)
+either terms values epoch answered k true x y p q = p
+either terms values epoch answered k false x y p q = q
 
 over : {A : Type 0} (b : Bool) → b ≡ true → b ≡ false → A
 over b p q = absurd (cc)
 
 -- the same, where nothing is under way
-abbrev IsResting : Options → List ℕ → List Line → List Answered → View → Type 0
-IsResting config values epoch answered v = is_some v.halted ≡ false → Owes config values epoch v.fetched v.jobs.works (answered ++ [])
+abbrev IsResting : Terms → List ℕ → List Line → List Answered → View → Type 0
+IsResting terms values epoch answered v = is_some v.halted ≡ false → Owes terms values epoch v.fetched v.jobs.works (answered ++ [])
 
 -- the producer was read
-looked_owes : (config : Options) (values : List ℕ) (epoch : List Line) (answered : List Answered) (k : ℕ) (v : View) (word : ℕ) (otherwise : View) → IsResting config values epoch answered v → IsOwing config values epoch answered k otherwise → IsOwing config values epoch answered k (looked v word otherwise)
-looked_owes config values epoch answered k v word otherwise o p =
-    either config values epoch answered k (overruns v.ring word) _ _ (λ runs. over true refl runs)
-    (either config values epoch answered k (word == v.ring.cons) _ _ p (λ runs. o runs))
+looked_owes : (terms : Terms) (values : List ℕ) (epoch : List Line) (answered : List Answered) (k : ℕ) (v : View) (word : ℕ) (otherwise : View) → IsResting terms values epoch answered v → IsOwing terms values epoch answered k otherwise → IsOwing terms values epoch answered k (looked v word otherwise)
+looked_owes terms values epoch answered k v word otherwise o p =
+    either terms values epoch answered k (overruns v.ring word) _ _ (λ runs. over true refl runs)
+    (either terms values epoch answered k (word == v.ring.cons) _ _ p (λ runs. o runs))
 
--- what a move of the back finds, as long as it hasn't halted: the lines behind it tell the jobs that it held, of low numbers, and those that it holds then; and the job whose reply begins is over
-pub record Finds (config : Options) (values : List ℕ) (epoch : List Line) (v : View) (new : View) : Type 0 where
+-- what a move of the back finds, as long as it hasn't halted: the lines after it tell the jobs that it held, of low numbers, and those that it holds then; and the job whose reply begins is over
+pub record Finds (terms : Terms) (values : List ℕ) (epoch : List Line) (v : View) (new : View) : Type 0 where
   pub small : v.fetched < 2 ^ 64
   pub low : AllByRecursion (λ (n : ℕ). n ≤ v.fetched) (numbers v.jobs.works)
-  pub later : is_some new.halted ≡ false → AreJobs config values epoch new.fetched new.jobs.works
-  pub done : (r : Reply) (d : IsReplyOf v.jobs.works r) → IsOwed config values epoch (let t : Work = d.job in pending t.number r)
+  pub later : is_some new.halted ≡ false → AreJobs terms values epoch new.fetched new.jobs.works
+  pub done : (r : Reply) (d : IsReplyOf v.jobs.works r) → IsOwed terms values epoch (let t : Work = d.job in pending t.number r)
   pub lower : (r : Reply) (d : IsReplyOf v.jobs.works r) → (let t : Work = d.job in t.number ≤ v.fetched)
 
 -- the job of an entry that was read to its end
-begins : (config : Options) (values : List ℕ) (epoch : List Line) (answered : List Answered) (k : ℕ) (v : View) (words : List ℕ) → (is_some v.halted ≡ false → Finds config values epoch v (fetched v words)) → IsResting config values epoch answered v → IsOwing config values epoch answered k (fetched v words)
-begins config values epoch answered k v words finds o runs =
-    let f : Finds config values epoch v (fetched v words) = finds runs in
-    let t : Work = begun (next_number v) (request_of X64 words) v.jobs.info.sectors (verdict_of (request_of X64 words) v.jobs.info) in
-    let number = begun_number (next_number v) v.jobs.info.sectors (request_of X64 words) (verdict_of (request_of X64 words) v.jobs.info) in
+begins : (terms : Terms) (values : List ℕ) (epoch : List Line) (answered : List Answered) (k : ℕ) (v : View) (words : List ℕ) → (is_some v.halted ≡ false → Finds terms values epoch v (fetched v words)) → IsResting terms values epoch answered v → IsOwing terms values epoch answered k (fetched v words)
+begins terms values epoch answered k v words finds o runs =
+    let f : Finds terms values epoch v (fetched v words) = finds runs in
+    let t : Work = begun (next_number v) (request_of v.shape.abi words) v.jobs.info.sectors (verdict_of (request_of v.shape.abi words) v.jobs.info) in
+    let number = begun_number (next_number v) v.jobs.info.sectors (request_of v.shape.abi words) (verdict_of (request_of v.shape.abi words) v.jobs.info) in
     let jobs = f.later runs in
-    let j : IsJobOf config values epoch (begun (next_number v) (request_of X64 words) v.jobs.info.sectors (verdict_of (request_of X64 words) v.jobs.info)) = (all_second (IsJobOf config values epoch) v.jobs.works (begun (next_number v) (request_of X64 words) v.jobs.info.sectors (verdict_of (request_of X64 words) v.jobs.info) ∷ []) jobs.each).0 in
+    let j : IsJobOf terms values epoch (begun (next_number v) (request_of v.shape.abi words) v.jobs.info.sectors (verdict_of (request_of v.shape.abi words) v.jobs.info)) = (all_second (IsJobOf terms values epoch) v.jobs.works (begun (next_number v) (request_of v.shape.abi words) v.jobs.info.sectors (verdict_of (request_of v.shape.abi words) v.jobs.info) ∷ []) jobs.each).0 in
     let first : 1 ≤ next_number v = subst (λ (n : ℕ). 1 ≤ n) number j.first in
     let next : next_number v ≡ v.fetched + 1 = above v.fetched f.small first in
-    subst (λ (n : ℕ). Owes config values epoch n (v.jobs.works ++ begun (next_number v) (request_of X64 words) v.jobs.info.sectors (verdict_of (request_of X64 words) v.jobs.info) ∷ []) (answered ++ [])) (sym next)
-    (owes_fetched config values epoch v.fetched v.jobs.works (answered ++ []) (begun (next_number v) (request_of X64 words) v.jobs.info.sectors (verdict_of (request_of X64 words) v.jobs.info)) (number ∙ next) f.low (o runs))
+    subst (λ (n : ℕ). Owes terms values epoch n (v.jobs.works ++ begun (next_number v) (request_of v.shape.abi words) v.jobs.info.sectors (verdict_of (request_of v.shape.abi words) v.jobs.info) ∷ []) (answered ++ [])) (sym next)
+    (owes_fetched terms values epoch v.fetched v.jobs.works (answered ++ []) (begun (next_number v) (request_of v.shape.abi words) v.jobs.info.sectors (verdict_of (request_of v.shape.abi words) v.jobs.info)) (number ∙ next) f.low (o runs))
   where
     above : (n : ℕ) → n < 2 ^ 64 → 1 ≤ (n + 1) % 2 ^ 64 → (n + 1) % 2 ^ 64 ≡ n + 1
     above n lt some = omega arith
 
--- so it is behind a move, with some job under way
-pub record OwesThen (config : Options) (values : List ℕ) (epoch : List Line) (answered : List Answered) (v : View) : Type 0 where
+-- so it is after a move, with some job under way
+pub record OwesThen (terms : Terms) (values : List ℕ) (epoch : List Line) (answered : List Answered) (v : View) : Type 0 where
   pub job : ℕ
-  pub owes : IsOwing config values epoch answered job v
+  pub owes : IsOwing terms values epoch answered job v
 
-stays : (config : Options) (values : List ℕ) (epoch : List Line) (answered : List Answered) (k : ℕ) (v : View) → IsOwing config values epoch answered k v → OwesThen config values epoch answered v
-stays config values epoch answered k v o = record { job = k; owes = o }
+stays : (terms : Terms) (values : List ℕ) (epoch : List Line) (answered : List Answered) (k : ℕ) (v : View) → IsOwing terms values epoch answered k v → OwesThen terms values epoch answered v
+stays terms values epoch answered k v o = record { job = k; owes = o }
 
 -- the reply begins
-replies : (config : Options) (values : List ℕ) (epoch : List Line) (answered : List Answered) (v : View) (r : Reply) (a : BackAnswer) → next_reply v ≡ Some r → (is_some v.halted ≡ false → Finds config values epoch v (loop_step v (Some r) a)) → IsResting config values epoch answered v
-    → OwesThen config values epoch answered (loop_step v (Some r) a)
-replies config values epoch answered v r a e finds o =
+replies : (terms : Terms) (values : List ℕ) (epoch : List Line) (answered : List Answered) (v : View) (r : Reply) (a : BackAnswer) → next_reply v ≡ Some r → (is_some v.halted ≡ false → Finds terms values epoch v (loop_step v (Some r) a)) → IsResting terms values epoch answered v
+    → OwesThen terms values epoch answered (loop_step v (Some r) a)
+replies terms values epoch answered v r a e finds o =
     let d : IsReplyOf v.jobs.works r = done_found v.jobs.works r e in
     let t : Work = d.job in
-    record { job = t.number; owes = λ runs. subst (λ (p : Option ℕ). Owes config values epoch v.fetched (removed_at v.jobs.works p) (answered ++ pending t.number r ∷ [])) (sym d.lowest) (begun_reply d (finds runs) (o runs)) }
+    record { job = t.number; owes = λ runs. subst (λ (p : Option ℕ). Owes terms values epoch v.fetched (removed_at v.jobs.works p) (answered ++ pending t.number r ∷ [])) (sym d.lowest) (begun_reply d (finds runs) (o runs)) }
   where
-    begun_reply : (d : IsReplyOf v.jobs.works r) → Finds config values epoch v (loop_step v (Some r) a) → Owes config values epoch v.fetched v.jobs.works (answered ++ []) → (let t : Work = d.job in Owes config values epoch v.fetched (remove v.jobs.works d.place) (answered ++ pending t.number r ∷ []))
+    begun_reply : (d : IsReplyOf v.jobs.works r) → Finds terms values epoch v (loop_step v (Some r) a) → Owes terms values epoch v.fetched v.jobs.works (answered ++ []) → (let t : Work = d.job in Owes terms values epoch v.fetched (remove v.jobs.works d.place) (answered ++ pending t.number r ∷ []))
     begun_reply d f rest =
         let t : Work = d.job in
-        let nothing : Owes config values epoch v.fetched v.jobs.works answered = subst (λ (l : List Answered). Owes config values epoch v.fetched v.jobs.works l) (append-nil answered) rest in
-        owes_begun config values epoch v.fetched v.jobs.works answered d.place d.job (pending t.number r) d.found refl (f.lower r d) (f.done r d) nothing
+        let nothing : Owes terms values epoch v.fetched v.jobs.works answered = subst (λ (l : List Answered). Owes terms values epoch v.fetched v.jobs.works l) (append-nil answered) rest in
+        owes_begun terms values epoch v.fetched v.jobs.works answered d.place d.job (pending t.number r) d.found refl (f.lower r d) (f.done r d) nothing
 
 -- the stage stays
-as_it_was : (config : Options) (values : List ℕ) (epoch : List Line) (answered : List Answered) (k : ℕ) (s : Stage) (v : View) → v.stage ≡ s → Owes config values epoch v.fetched v.jobs.works (answered ++ pending_at s k) → Owes config values epoch v.fetched v.jobs.works (answered ++ pending_at v.stage k)
-as_it_was config values epoch answered k s v here o = subst (λ (q : Stage). Owes config values epoch v.fetched v.jobs.works (answered ++ pending_at q k)) (sym here) o
+as_it_was : (terms : Terms) (values : List ℕ) (epoch : List Line) (answered : List Answered) (k : ℕ) (s : Stage) (v : View) → v.stage ≡ s → Owes terms values epoch v.fetched v.jobs.works (answered ++ pending_at s k) → Owes terms values epoch v.fetched v.jobs.works (answered ++ pending_at v.stage k)
+as_it_was terms values epoch answered k s v here o = subst (λ (q : Stage). Owes terms values epoch v.fetched v.jobs.works (answered ++ pending_at q k)) (sym here) o
 
-loop_owes : (config : Options) (values : List ℕ) (epoch : List Line) (answered : List Answered) (k : ℕ) (v : View) (next : Option Reply) (a : BackAnswer) → v.stage ≡ stage.Loop → next_reply v ≡ next → (is_some v.halted ≡ false → Finds config values epoch v (loop_step v next a)) → IsResting config values epoch answered v
-    → OwesThen config values epoch answered (loop_step v next a)
-loop_owes config values epoch answered k v (Some r) a here e finds o = replies config values epoch answered v r a e finds o
-loop_owes config values epoch answered k v None (answers.Word word) here e finds o =
-    stays config values epoch answered k _
-    (either config values epoch answered k (requests_of v.ring v.seen == 0) (looked v word (record v { seen = word; stage = stage.StoreEvent })) (record v { entry = word ∷ []; stage = stage.Fetch 1 })
-    (looked_owes config values epoch answered k v word (record v { seen = word; stage = stage.StoreEvent }) o (λ runs. o runs)) (λ runs. o runs))
-loop_owes config values epoch answered k v None answers.Event here e finds o = stays config values epoch answered k (record v { asleep = false }) (λ runs. as_it_was config values epoch answered k stage.Loop v here (o runs))
-loop_owes config values epoch answered k v None a here e finds o = stays config values epoch answered k v (λ runs. as_it_was config values epoch answered k stage.Loop v here (o runs))
+loop_owes : (terms : Terms) (values : List ℕ) (epoch : List Line) (answered : List Answered) (k : ℕ) (v : View) (next : Option Reply) (a : BackAnswer) → v.stage ≡ stage.Loop → next_reply v ≡ next → (is_some v.halted ≡ false → Finds terms values epoch v (loop_step v next a)) → IsResting terms values epoch answered v
+    → OwesThen terms values epoch answered (loop_step v next a)
+loop_owes terms values epoch answered k v (Some r) a here e finds o = replies terms values epoch answered v r a e finds o
+loop_owes terms values epoch answered k v None (answers.Word word) here e finds o =
+    stays terms values epoch answered k _
+    (either terms values epoch answered k (requests_of v.ring v.seen == 0) (looked v word (record v { seen = word; stage = stage.StoreEvent })) (record v { entry = word ∷ []; stage = stage.Fetch 1 })
+    (looked_owes terms values epoch answered k v word (record v { seen = word; stage = stage.StoreEvent }) o (λ runs. o runs)) (λ runs. o runs))
+loop_owes terms values epoch answered k v None answers.Event here e finds o = stays terms values epoch answered k (record v { asleep = false }) (λ runs. as_it_was terms values epoch answered k stage.Loop v here (o runs))
+loop_owes terms values epoch answered k v None a here e finds o = stays terms values epoch answered k v (λ runs. as_it_was terms values epoch answered k stage.Loop v here (o runs))
 
-fetch_owes : (config : Options) (values : List ℕ) (epoch : List Line) (answered : List Answered) (k n word : ℕ) (v : View) (last : Bool) → (is_some v.halted ≡ false → Finds config values epoch v (if last then fetched v (v.entry ++ word ∷ []) else record v { entry = v.entry ++ word ∷ []; stage = stage.Fetch (n + 1) }))
-    → IsResting config values epoch answered v → IsOwing config values epoch answered k (if last then fetched v (v.entry ++ word ∷ []) else record v { entry = v.entry ++ word ∷ []; stage = stage.Fetch (n + 1) })
-fetch_owes config values epoch answered k n word v true finds o = begins config values epoch answered k v (v.entry ++ word ∷ []) finds o
-fetch_owes config values epoch answered k n word v false finds o = λ runs. o runs
+fetch_owes : (terms : Terms) (values : List ℕ) (epoch : List Line) (answered : List Answered) (k n word : ℕ) (v : View) (last : Bool) → (is_some v.halted ≡ false → Finds terms values epoch v (if last then fetched v (v.entry ++ word ∷ []) else record v { entry = v.entry ++ word ∷ []; stage = stage.Fetch (n + 1) }))
+    → IsResting terms values epoch answered v → IsOwing terms values epoch answered k (if last then fetched v (v.entry ++ word ∷ []) else record v { entry = v.entry ++ word ∷ []; stage = stage.Fetch (n + 1) })
+fetch_owes terms values epoch answered k n word v true finds o = begins terms values epoch answered k v (v.entry ++ word ∷ []) finds o
+fetch_owes terms values epoch answered k n word v false finds o = λ runs. o runs
 
--- the reply is pushed: it is told with the producer behind it
-pushed : (config : Options) (values : List ℕ) (epoch : List Line) (answered : List Answered) (k producer fetched : ℕ) (works : List Work) (r : Reply) → Owes config values epoch fetched works (answered ++ pending k r ∷ [])
-    → Owes config values epoch fetched works ((answered ++ record { job = k; response = response_in r; producer = producer } ∷ []) ++ [])
-pushed config values epoch answered k producer fetched works r o =
+-- the reply is pushed: it is told with the producer after it
+pushed : (terms : Terms) (values : List ℕ) (epoch : List Line) (answered : List Answered) (k producer fetched : ℕ) (works : List Work) (r : Reply) → Owes terms values epoch fetched works (answered ++ pending k r ∷ [])
+    → Owes terms values epoch fetched works ((answered ++ record { job = k; response = response_in r; producer = producer } ∷ []) ++ [])
+pushed terms values epoch answered k producer fetched works r o =
     let a : Answered = record { job = k; response = response_in r; producer = producer } in
     let jobs : jobs_of (answered ++ pending k r ∷ []) ≡ jobs_of ((answered ++ record { job = k; response = response_in r; producer = producer } ∷ []) ++ []) = map-append job_answered answered (pending k r ∷ []) ∙ (sym (map-append job_answered answered (a ∷ [])) ∙ ap jobs_of (sym (append-nil (answered ++ a ∷ [])))) in
-    let last : IsOwed config values epoch (pending k r) = (all_second (IsOwed config values epoch) answered (pending k r ∷ []) o.each).0 in
+    let last : IsOwed terms values epoch (pending k r) = (all_second (IsOwed terms values epoch) answered (pending k r ∷ []) o.each).0 in
     record {
-      each = all_both (IsOwed config values epoch) (answered ++ a ∷ []) [] (all_both (IsOwed config values epoch) answered (a ∷ []) (all_first (IsOwed config values epoch) answered (pending k r ∷ []) o.each) (last, tt)) tt;
+      each = all_both (IsOwed terms values epoch) (answered ++ a ∷ []) [] (all_both (IsOwed terms values epoch) answered (a ∷ []) (all_first (IsOwed terms values epoch) answered (pending k r ∷ []) o.each) (last, tt)) tt;
       apart = subst (λ (ns : List ℕ). AreApart (ns ++ numbers works)) jobs o.apart;
       low = subst (λ (ns : List ℕ). AllByRecursion (λ (n : ℕ). n ≤ fetched) ns) jobs o.low;
     }
 
-pub owes_at : (config : Options) (values : List ℕ) (epoch : List Line) (answered : List Answered) (k : ℕ) (s : Stage) (v : View) (x : Sight) (a : BackAnswer) → v.stage ≡ s → KnowsAt s x v.ring v.page v.seen v.halted v.entry v.fetched → (is_some v.halted ≡ false → Finds config values epoch v (step_at s v a))
-    → (is_some v.halted ≡ false → Owes config values epoch v.fetched v.jobs.works (answered ++ pending_at s k)) → OwesThen config values epoch (answered_then s answered k v.ring.prod) (step_at s v a)
-owes_at config values epoch answered k stage.MapRing v x (answers.Mapped m) here knows finds o = stays config values epoch answered k _ (λ runs. o runs)
-owes_at config values epoch answered k stage.MapRing v x (answers.MapRefused status) here knows finds o = stays config values epoch answered k _ (λ runs. over true refl runs)
-owes_at config values epoch answered k stage.Bind v x answers.Done here knows finds o = stays config values epoch answered k _ (λ runs. o runs)
-owes_at config values epoch answered k stage.Bind v x answers.BindRefused here knows finds o = stays config values epoch answered k _ (λ runs. over true refl runs)
-owes_at config values epoch answered k stage.Loop v x a here knows finds o = loop_owes config values epoch answered k v (next_reply v) a here refl finds o
-owes_at config values epoch answered k (stage.Fetch n) v x (answers.Word word) here knows finds o = stays config values epoch answered k _ (fetch_owes config values epoch answered k n word v (n == 27) finds o)
-owes_at config values epoch answered k (stage.ReplyHigh r) v x a here knows finds o = stays config values epoch answered k _ (λ runs. o runs)
-owes_at config values epoch answered k (stage.ReplyLast r) v x a here knows finds o = stays config values epoch answered k _ (λ runs. o runs)
-owes_at config values epoch answered k (stage.Producer r) v x a here knows finds o = stays config values epoch _ k _ (λ runs. pushed config values epoch answered k _ v.fetched v.jobs.works r (o runs))
-owes_at config values epoch answered k (stage.ProducerFence old) v x a here knows finds o = stays config values epoch answered k _ (λ runs. o runs)
-owes_at config values epoch answered k (stage.ResponseEvent old) v x (answers.Word event) here knows finds o = stays config values epoch answered k _ (either_stage (notifies old v.ring.prod event))
+pub owes_at : (terms : Terms) (values : List ℕ) (epoch : List Line) (answered : List Answered) (k : ℕ) (s : Stage) (v : View) (x : Sight) (a : BackAnswer) → v.stage ≡ s → KnowsAt s x v → (is_some v.halted ≡ false → Finds terms values epoch v (step_at s v a))
+    → (is_some v.halted ≡ false → Owes terms values epoch v.fetched v.jobs.works (answered ++ pending_at s k)) → OwesThen terms values epoch (answered_then s answered k v.ring.prod) (step_at s v a)
+owes_at terms values epoch answered k stage.MapRing v x (answers.Mapped m) here knows finds o = stays terms values epoch answered k _ (either_stage (nat_lt (length v.pages + 1) (length v.grefs)))
   where
-    either_stage : (b : Bool) → IsOwing config values epoch answered k (at (if b then stage.Send else stage.Loop) v)
+    either_stage : (b : Bool) → IsOwing terms values epoch answered k (record v { pages = v.pages ++ m ∷ []; stage = if b then stage.MapRing else stage.Bind })
     either_stage true = λ runs. o runs
     either_stage false = λ runs. o runs
-owes_at config values epoch answered k stage.Send v x a here knows finds o = stays config values epoch answered k _ (λ runs. o runs)
-owes_at config values epoch answered k stage.StoreEvent v x a here knows finds o = stays config values epoch answered k _ (λ runs. o runs)
-owes_at config values epoch answered k stage.EventFence v x a here knows finds o = stays config values epoch answered k _ (λ runs. o runs)
-owes_at config values epoch answered k stage.LookAgain v x (answers.Word word) here knows finds o = stays config values epoch answered k _ (looked_owes config values epoch answered k v word (record v { seen = word; stage = stage.Loop; asleep = true }) o (λ runs. o runs))
-owes_at config values epoch answered k (stage.GiveUp m) v x a here knows finds o = stays config values epoch answered k _ (λ runs. over _ knows.over runs)
-owes_at config values epoch answered k stage.UnmapRing v x a here knows finds o = stays config values epoch answered k _ (λ runs. over _ knows.over runs)
-owes_at config values epoch answered k stage.ClosePort v x a here knows finds o = stays config values epoch answered k _ (λ runs. over _ knows.over runs)
-owes_at config values epoch answered k stage.UnmapUnbound v x a here knows finds o = stays config values epoch answered k _ (λ runs. over _ knows.over runs)
-owes_at config values epoch answered k s v x a here knows finds o = stays config values epoch answered k v (λ runs. as_it_was config values epoch answered k s v here (o runs))
+owes_at terms values epoch answered k stage.MapRing v x (answers.MapRefused status) here knows finds o = stays terms values epoch answered k _ (λ runs. over true refl runs)
+owes_at terms values epoch answered k stage.Bind v x answers.Done here knows finds o = stays terms values epoch answered k _ (λ runs. o runs)
+owes_at terms values epoch answered k stage.Bind v x answers.BindRefused here knows finds o = stays terms values epoch answered k _ (λ runs. over true refl runs)
+owes_at terms values epoch answered k stage.Loop v x a here knows finds o = loop_owes terms values epoch answered k v (next_reply v) a here refl finds o
+owes_at terms values epoch answered k (stage.Fetch n) v x (answers.Word word) here knows finds o = stays terms values epoch answered k _ (fetch_owes terms values epoch answered k n word v (n + 1 == entry_words_of v.shape.abi) finds o)
+owes_at terms values epoch answered k (stage.ReplyHigh r) v x a here knows finds o = stays terms values epoch answered k _ (λ runs. o runs)
+owes_at terms values epoch answered k (stage.ReplyLast r) v x a here knows finds o = stays terms values epoch answered k _ (λ runs. o runs)
+owes_at terms values epoch answered k (stage.Producer r) v x a here knows finds o = stays terms values epoch _ k _ (λ runs. pushed terms values epoch answered k _ v.fetched v.jobs.works r (o runs))
+owes_at terms values epoch answered k (stage.ProducerFence old) v x a here knows finds o = stays terms values epoch answered k _ (λ runs. o runs)
+owes_at terms values epoch answered k (stage.ResponseEvent old) v x (answers.Word event) here knows finds o = stays terms values epoch answered k _ (either_stage (notifies old v.ring.prod event))
+  where
+    either_stage : (b : Bool) → IsOwing terms values epoch answered k (at (if b then stage.Send else stage.Loop) v)
+    either_stage true = λ runs. o runs
+    either_stage false = λ runs. o runs
+owes_at terms values epoch answered k stage.Send v x a here knows finds o = stays terms values epoch answered k _ (λ runs. o runs)
+owes_at terms values epoch answered k stage.StoreEvent v x a here knows finds o = stays terms values epoch answered k _ (λ runs. o runs)
+owes_at terms values epoch answered k stage.EventFence v x a here knows finds o = stays terms values epoch answered k _ (λ runs. o runs)
+owes_at terms values epoch answered k stage.LookAgain v x (answers.Word word) here knows finds o = stays terms values epoch answered k _ (looked_owes terms values epoch answered k v word (record v { seen = word; stage = stage.Loop; asleep = true }) o (λ runs. o runs))
+owes_at terms values epoch answered k (stage.GiveUp m) v x a here knows finds o = stays terms values epoch answered k _ (λ runs. over _ knows.over runs)
+owes_at terms values epoch answered k stage.UnmapRing v x a here knows finds o = stays terms values epoch answered k _ (λ runs. over _ knows.over runs)
+owes_at terms values epoch answered k stage.ClosePort v x a here knows finds o = stays terms values epoch answered k _ (λ runs. over _ knows.over runs)
+owes_at terms values epoch answered k stage.UnmapUnbound v x a here knows finds o = stays terms values epoch answered k _ (λ runs. over _ knows.over runs)
+owes_at terms values epoch answered k s v x a here knows finds o = stays terms values epoch answered k v (λ runs. as_it_was terms values epoch answered k s v here (o runs))

@@ -1,35 +1,56 @@
 -- Whatever happens from the start, the lines keep the rules of the ring.
-use Rattle.std.proofs.Common.{◌≡◌, ℕ, ◌<◌, ◌^◌, false, List, [], ◌∷◌, ◌++◌, refl, ap, sym, subst, append_assoc, ◌∙◌}
-use Rattle.std.specs.Prelude.{Option, Some, None, is_some}
+use Rattle.std.proofs.Common.{◌≡◌, ℕ, ◌*◌, ◌<◌, ◌^◌, Bool, true, false, if◌then◌else◌, length, List, [], ◌∷◌, ◌++◌, refl, ap, sym, subst, append_assoc, ◌∙◌, arith}
+use Rattle.std.specs.Prelude.{Option, Some, None, is_some, codes}
 use Rattle.std.proofs.lemmas.List.{append-nil}
+use Rattle.std.proofs.lemmas.Nat.{pow_pos}
+use Rattle.std.proofs.lemmas.Slice.Eq.{bytes_eq-Decides}
+use Rattle.std.specs.Str.{bytes_eq}
 use Rattle.blk_base.specs.Options.{Options}
+use Rattle.blk_base.specs.declared.operation.Abi.{Abi}
+use Rattle.blk_base.specs.declared.operation.Abi.TheVariants.{X64, X32}
+use Rattle.blk_base.specs.declared.parts.Mapping.{Mapping}
+use Rattle.blk_base.specs.declared.moves.Mover.TheVariants as mover
+use Rattle.blk_base.specs.declared.moves.Move.TheVariants as moves
+use Rattle.ring_words.specs.Shape.{Shape, entries_of}
+use Rattle.hypervisor.specs.Hypervisor.{Hypervisor}
+use Rattle.report_rules.specs.declared.standing.Standing.{Standing}
+use Rattle.report_rules.specs.Ring.{abi_named, abi_after}
 use Rattle.schedule_text.specs.declared.line.Line.{Line}
 use Rattle.schedule_text.specs.declared.line.Line.TheVariants as lines
 use Rattle.schedule_text.specs.declared.line.Detail.{Detail}
 use Rattle.hypervisor.specs.Act.{FrontAct, BackAct, Outcome, Took}
 use Rattle.report_rules.specs.Overrun.{IsOverrunRule}
 use Rattle.report_rules.specs.Stretch.{AreStretches}
-use Rattle.back_jobs.specs.Jobs.{ask_job}
+use Rattle.back_jobs.specs.Jobs.{ask_job, tell_job}
 use Rattle.blk_front.specs.Ask as front_ask
 use Rattle.blk_front.specs.Submit as front_submit
 use Rattle.blk_back.specs.declared.told.Halt.{Halt}
+use Rattle.blk_back.specs.declared.stage.Stage.{Stage as BackStage}
+use Rattle.blk_back.specs.declared.stage.Stage.TheVariants as stage
+use Rattle.blk_back.specs.Step.{may_attach, attached}
+use Rattle.report_rules.specs.Job.{entry_values}
 use Rattle.blk_back.specs.View as back
 use Rattle.blk_back.specs.Step as back_step
 use Rattle.split_model.specs.World.{World, start_of}
-use Rattle.split_model.specs.Happening.{Happening, FrontMoves, BackMoves, JobMoves, Negotiates, FrontEnters, BackHalts, Submits, Notifies, Pokes, Dumps, Looks, Settles, poke_lines, ring_lines, happens, lines_at, after, lines_of, front_after, front_shows, back_after, back_shows, job_after, job_shows, front_turn, back_turn, job_turn}
+use Rattle.split_model.specs.Happening.{Happening, FrontMoves, BackMoves, JobMoves, Negotiates, FrontEnters, BackAttaches, BackHalts, Submits, Notifies, Pokes, Dumps, Looks, Settles, poke_lines, layout_text, layout_read, happens, lines_at, after, lines_of, front_after, front_shows, back_after, back_shows, job_after, job_shows, front_turn, back_turn, job_turn}
 use Rattle.split_model.proofs.SafeAnswers.{jobs_of, fronts_no_key}
-use Rattle.split_model.specs.Keys.{is_between}
+use Rattle.split_model.specs.Keys.{is_layout, layout_path}
 use Rattle.split_model.specs.Shown.{halt_lines, halt_line}
 use Rattle.split_model.specs.Report.{report_of, ended_report_of}
-use Rattle.split_model.proofs.Keys.{NamesNoOther, named_start, named_happens}
-use Rattle.ring_laws.proofs.ObeysRing.{ring_none, ring_more, foreign_stretch}
+use Rattle.split_model.specs.Safe.{IsSafe}
+use Rattle.split_model.proofs.Safe.{safe_start, safe_happens}
+use Rattle.split_model.proofs.Attaching.{attach_cases}
+use Rattle.split_model.proofs.Shapes.{attaches_waiting, attaches_order, attaches_grefs}
+use Rattle.ring_laws.specs.Layout.{IsNamedFirst}
+use Rattle.ring_laws.proofs.ObeysRing.{IsWhole, ring_none, ring_more, foreign_stretch, none_whole, own_stretch}
+use Rattle.ring_laws.proofs.Pages.{AreEarlier, pages_earlier}
 use Rattle.ring_laws.proofs.Shows.{Sight}
-use Rattle.ring_laws.proofs.Knows.{Follows, unhalted}
+use Rattle.ring_laws.proofs.Knows.{AreMapped, Waits, Untold, Maps, KnowsAt, Follows, knows_still, unhalted}
 use Rattle.ring_laws.proofs.Back.{halt_follows}
 use Rattle.ring_laws.proofs.Halting.{Stops, stops_cases}
 use Rattle.ring_laws.proofs.Stages.{back_goes}
 use Rattle.ring_laws.proofs.Outsiders.{keys_outsiders, state_outsiders, poke_outsiders, dump_outsiders, outsiders_follow}
-use Rattle.ring_laws.proofs.Free.{follow_free, follow_all, front_free, job_free, job_running, free_front, free_told, free_submit, free_look, free_settle, free_end}
+use Rattle.ring_laws.proofs.Free.{follow_named, follow_free, follow_all, front_free, job_free, job_running, free_front, free_told, free_submit, free_look, free_settle, free_end}
 
 -- the lines so far keep the rules, and the back has nothing left to tell
 pub record FollowsTo (start : ℕ) (before : List Line) (w : World) : Type 0 where
@@ -38,7 +59,7 @@ pub record FollowsTo (start : ℕ) (before : List Line) (w : World) : Type 0 whe
 
 -- only what it tells differs
 retold : (start : ℕ) (before : List Line) (v : back.View) → Follows start [] before v → Follows start [] before (record v { told = None })
-retold start before v f = record { sight = f.sight; begun = f.begun; more = f.more; grown = f.grown; shows = f.shows; knows = f.knows; stands = f.stands }
+retold start before v f = record { sight = f.sight; begun = f.begun; more = f.more; grown = f.grown; shows = f.shows; knows = knows_still v.stage f.sight v v.asleep v.jobs None f.knows; stands = f.stands }
 
 no_lines : (start : ℕ) (before : List Line) (w : World) → FollowsTo start before w → FollowsTo start (before ++ []) w
 no_lines start before w f = subst (λ (ls : List Line). FollowsTo start ls w) (sym (append-nil before)) f
@@ -53,10 +74,14 @@ front_follows start w before (Some a) f e = record {
 whole : (start n : ℕ) (values : List ℕ) {ls : List Line} {v : back.View} → n ≡ start → Follows n values ls v → Follows start [] ls v
 whole start n values same g = record { sight = g.sight; begun = g.begun ∙ same; more = g.sight.values; grown = refl; shows = g.shows; knows = g.knows; stands = g.stands }
 
-back_follows : (start : ℕ) (w : World) (before : List Line) (o : Outcome) (act : Option BackAct) → FollowsTo start before w → back_turn w o ≡ act → FollowsTo start (before ++ back_shows w act) (back_after w act)
-back_follows start w before o None f e = no_lines start before w f
-back_follows start w before o (Some a) f e =
-    let gone = back_goes before w.under w.back.stage w.back o a f.follows.sight f.follows.knows f.follows.knows f.follows.shows f.follows.stands f.told e in
+-- the pages that the back has mapped were made before
+pub earlier_pages : (w : World) → IsSafe w → (let h : Hypervisor = w.under in AreEarlier h.grants.made w.back.pages)
+earlier_pages w safe = pages_earlier w.under.grants w.back safe.held
+
+back_follows : (start : ℕ) (w : World) (before : List Line) (o : Outcome) (act : Option BackAct) → IsSafe w → FollowsTo start before w → back_turn w o ≡ act → FollowsTo start (before ++ back_shows w act) (back_after w act)
+back_follows start w before o None safe f e = no_lines start before w f
+back_follows start w before o (Some a) safe f e =
+    let gone = back_goes before w.under w.back.stage w.back o a f.follows.sight (earlier_pages w safe) f.follows.knows f.follows.knows f.follows.shows f.follows.stands f.told e in
     record { follows = retold start _ (back_step.step_of w.back a.answer) (whole start f.follows.sight.start f.follows.sight.values f.follows.begun gone); told = refl }
 
 job_follows : (start : ℕ) (w : World) (before : List Line) (k : ℕ) (o : Outcome) (act : Option BackAct) → FollowsTo start before w → job_turn w k o ≡ act → FollowsTo start (before ++ job_shows w k act) (job_after w k act)
@@ -64,7 +89,7 @@ job_follows start w before k o None f e = no_lines start before w f
 job_follows start w before k o (Some a) f e =
     let running : is_some w.back.halted ≡ false = job_running (is_some w.back.halted) w.under k (ask_job w.back.jobs k) o a e in
     let all : Follows start [] (before ++ job_shows w k (Some a)) w.back = follow_all start [] _ before w.back (job_free (is_some w.back.halted) w.under k (back_step.job_ask_of w.back k) o a running (jobs_of w.back k) e, free_told (is_some w.back.halted) _ a.answer running) f.follows in
-    record { follows = record { sight = all.sight; begun = all.begun; more = all.more; grown = all.grown; shows = all.shows; knows = all.knows; stands = all.stands }; told = refl }
+    record { follows = record { sight = all.sight; begun = all.begun; more = all.more; grown = all.grown; shows = all.shows; knows = knows_still w.back.stage all.sight w.back w.back.asleep (tell_job w.back.jobs k a.answer) None all.knows; stands = all.stands }; told = refl }
 
 -- the lines of a back whose negotiation has it halt
 halted_follows : (start : ℕ) (w : World) (before : List Line) (why : Halt) → FollowsTo start before w → FollowsTo start (before ++ lines_at w (BackHalts why)) (happens w (BackHalts why))
@@ -75,49 +100,102 @@ halted_follows start w before why f =
     stops new s =
         let one : lines.Halt (halt_line why) ∷ [] ≡ halt_lines w.back.halted new.halted = sym (ap (λ (o : Option Halt). halt_lines o new.halted) s.running ∙ ap (λ (o : Option Halt). halt_lines None o) s.halted) in
         let x : Sight = f.follows.sight in
-        let all : Follows x.start x.values (before ++ lines.Halt (halt_line why) ∷ []) new = halt_follows before new f.follows.sight s.count why (is_some w.back.halted) s.halted s.plain s.knows s.words f.follows.shows f.follows.stands in
+        let all : Follows x.start x.values (before ++ lines.Halt (halt_line why) ∷ []) new = halt_follows before new f.follows.sight why (is_some w.back.halted) s.halted s.plain s.knows s.whole f.follows.shows f.follows.stands in
         record { follows = subst (λ (ls : List Line). Follows start [] (before ++ ls) new) one (whole start x.start x.values f.follows.begun all); told = s.told ∙ f.told }
 
     none : FollowsTo start (before ++ halt_lines w.back.halted w.back.halted) (record { front = w.front; back = w.back; under = w.under })
     none = record { follows = subst (λ (ls : List Line). Follows start [] ls w.back) (sym (ap (λ (ls : List Line). before ++ ls) (unhalted w.back.halted) ∙ append-nil before)) f.follows; told = f.told }
 
-pub follows_happens : (start : ℕ) (w : World) (h : Happening) (before : List Line) → NamesNoOther w.under.keys → FollowsTo start before w → FollowsTo start (before ++ lines_at w h) (happens w h)
-follows_happens start w FrontMoves before named f = front_follows start w before (front_turn w) f refl
-follows_happens start w BackMoves before named f = back_follows start w before Took (back_turn w Took) f refl
-follows_happens start w (JobMoves number outcome) before named f = job_follows start w before number outcome (job_turn w number outcome) f refl
-follows_happens start w (Negotiates at move) before named f =
-    record { follows = outsiders_follow start [] (lines_at w (Negotiates at move)) before w.back (keys_outsiders w.back.stage at move w.under.keys named) f.follows; told = f.told }
-follows_happens start w (FrontEnters state) before named f = record { follows = outsiders_follow start [] (lines_at w (FrontEnters state)) before w.back (state_outsiders (is_between w.back.stage) state w.front) f.follows; told = f.told }
-follows_happens start w (BackHalts why) before named f = halted_follows start w before why f
-follows_happens start w (Submits job) before named f = record { follows = follow_free start [] before _ w.back (free_submit (is_some w.back.halted) job (front_submit.submit_of w.front job).0) f.follows; told = f.told }
-follows_happens start w (Notifies at) before named f = subst (λ (ls : List Line). FollowsTo start ls (happens w (Notifies at))) (sym (append-nil before)) (record { follows = f.follows; told = f.told })
-follows_happens start w (Pokes frame word value) before named f =
-    record { follows = outsiders_follow start [] (poke_lines frame word value) before w.back (poke_outsiders (is_between w.back.stage) frame word value) f.follows; told = f.told }
-follows_happens start w Dumps before named f =
-    record { follows = outsiders_follow start [] (ring_lines w.under.pages 0 1024) before w.back (dump_outsiders (is_between w.back.stage) w.under.pages) f.follows; told = f.told }
-follows_happens start w (Looks quiet) before named f = record { follows = follow_free start [] before _ w.back (free_look (is_some w.back.halted) quiet) f.follows; told = f.told }
-follows_happens start w (Settles quiet) before named f = record { follows = follow_free start [] before _ w.back (free_settle (is_some w.back.halted) quiet) f.follows; told = f.told }
+-- the layout that the key names is the one that the back takes
+abi_told : (last : Option Abi) (abi : Abi) (text : Option (List ℕ)) → is_layout abi text ≡ true → abi_after last (lines.Move (moves.GetKey mover.Back layout_path text)) ≡ Some abi
+abi_told last X64 None layout = refl
+abi_told last X64 (Some text) layout = ap (λ (b : Bool). if b then Some X64 else (if bytes_eq text (codes "x86_32-abi") then Some X32 else None)) layout
+abi_told last X32 None layout = absurd (cc)
+abi_told last X32 (Some text) layout = ap (λ (t : List ℕ). abi_named (Some t)) ((bytes_eq-Decides text (codes "x86_32-abi")).0 layout)
 
-follows_after : (start : ℕ) (hs : List Happening) (w : World) (before : List Line) → NamesNoOther w.under.keys → FollowsTo start before w → FollowsTo start (before ++ lines_of hs w) (after hs w)
-follows_after start [] w before named f = no_lines start before w f
-follows_after start (h ∷ hs) w before named f =
+no_pages : (told : List Standing) (pages : List Mapping) → told ≡ [] → pages ≡ [] → AreMapped told pages
+no_pages told pages none empty = rw (none, empty) (record { same = refl; apart = tt })
+
+-- a back that takes terms waited for them
+waited : (start : ℕ) (w : World) (before : List Line) (shape : Shape) (grefs : List ℕ) (f : FollowsTo start before w) → may_attach shape grefs w.back ≡ true → (let g : Follows start [] before w.back = f.follows in KnowsAt stage.InitWait g.sight w.back)
+waited start w before shape grefs f may = let g : Follows start [] before w.back = f.follows in subst (λ (s : BackStage). KnowsAt s g.sight w.back) (attaches_waiting shape grefs w.back may) g.knows
+
+pub unread : (start : ℕ) (w : World) (before : List Line) (shape : Shape) (grefs : List ℕ) → FollowsTo start before w → may_attach shape grefs w.back ≡ true → entry_values before ≡ []
+unread start w before shape grefs f may =
+    let g : Follows start [] before w.back = f.follows in
+    let n : Untold g.sight w.back.ring w.back.pages w.back.seen w.back.halted w.back.fetched = waited start w before shape grefs f may in
+    g.shows.values ∙ n.waits.values
+
+-- the terms of its front are taken with the read of the layout
+attached_follows : (start : ℕ) (w : World) (before : List Line) (shape : Shape) (grefs : List ℕ) (port : ℕ) → FollowsTo start before w → FollowsTo start (before ++ lines_at w (BackAttaches shape grefs port)) (happens w (BackAttaches shape grefs port))
+attached_follows start w before shape grefs port f =
+    attach_cases (λ (new : back.View) (shown : List Line). FollowsTo start (before ++ shown) (record { front = w.front; back = new; under = w.under })) w shape grefs port takes (no_lines start before w f)
+  where
+    x : Sight
+    x = f.follows.sight
+
+    takes : may_attach shape grefs w.back ≡ true → is_layout shape.abi (layout_text w) ≡ true → FollowsTo start (before ++ lines.Move (layout_read w) ∷ []) (record { front = w.front; back = attached shape grefs port w.back; under = w.under })
+    takes may layout =
+        let n : Untold x w.back.ring w.back.pages w.back.seen w.back.halted w.back.fetched = waited start w before shape grefs f may in
+        let waits : Waits x w.back.ring w.back.seen w.back.halted w.back.fetched = n.waits in
+        let line : Line = lines.Move (layout_read w) in
+        let whole : IsWhole x = none_whole x waits.words in
+        let few : length w.back.pages ≡ 0 = ap (λ (ps : List Mapping). length ps) n.none in
+        let some = pow_pos shape.order in
+        let knows : Maps (record x { abi = Some shape.abi }) shape (record { entries = entries_of shape.order; prod = w.back.ring.prod; cons = w.back.ring.prod }) grefs w.back.pages w.back.seen w.back.halted w.back.fetched = record {
+          waits = record { running = waits.running; untouched = waits.untouched; begins = waits.begins; replied = waits.replied; produced = waits.produced; words = waits.words; values = waits.values; numbered = waits.numbered };
+          narrow = attaches_order shape grefs w.back may;
+          layout = refl;
+          entries = refl;
+          consumed = refl;
+          mapped = no_pages x.pages w.back.pages n.untold n.none;
+          each = attaches_grefs shape grefs w.back may;
+          fewer = omega arith;
+        } in
+        record {
+          follows = follow_named start [] before line w.back (attached shape grefs port w.back) (Some shape.abi) f.follows refl (abi_told x.abi shape.abi (layout_text w) layout) (λ over. refl) refl
+              (λ read. f.follows.shows.pages ∙ n.untold) (own_stretch before line x f.follows.shows whole refl tt) refl knows;
+          told = f.told;
+        }
+
+pub follows_happens : (start : ℕ) (w : World) (h : Happening) (before : List Line) → IsSafe w → FollowsTo start before w → FollowsTo start (before ++ lines_at w h) (happens w h)
+follows_happens start w FrontMoves before safe f = front_follows start w before (front_turn w) f refl
+follows_happens start w BackMoves before safe f = back_follows start w before Took (back_turn w Took) safe f refl
+follows_happens start w (JobMoves number outcome) before safe f = job_follows start w before number outcome (job_turn w number outcome) f refl
+follows_happens start w (Negotiates at move) before safe f =
+    record { follows = outsiders_follow start [] (lines_at w (Negotiates at move)) before w.back (keys_outsiders w.back.stage at move w.under.keys) f.follows; told = f.told }
+follows_happens start w (FrontEnters state) before safe f = record { follows = outsiders_follow start [] (lines_at w (FrontEnters state)) before w.back (state_outsiders w.back.stage state w.front) f.follows; told = f.told }
+follows_happens start w (BackAttaches shape grefs port) before safe f = attached_follows start w before shape grefs port f
+follows_happens start w (BackHalts why) before safe f = halted_follows start w before why f
+follows_happens start w (Submits job) before safe f = record { follows = follow_free start [] before _ w.back (free_submit (is_some w.back.halted) job (front_submit.submit_of w.front job).0) f.follows; told = f.told }
+follows_happens start w (Notifies at) before safe f = subst (λ (ls : List Line). FollowsTo start ls (happens w (Notifies at))) (sym (append-nil before)) (record { follows = f.follows; told = f.told })
+follows_happens start w (Pokes frame word value) before safe f =
+    record { follows = outsiders_follow start [] (poke_lines frame word value) before w.back (poke_outsiders w.back.stage frame word value) f.follows; told = f.told }
+follows_happens start w Dumps before safe f =
+    record { follows = outsiders_follow start [] (lines_at w Dumps) before w.back (dump_outsiders w.back.stage w.under.pages (1024 * 2 ^ w.front.shape.order)) f.follows; told = f.told }
+follows_happens start w (Looks quiet) before safe f = record { follows = follow_free start [] before _ w.back (free_look (is_some w.back.halted) quiet) f.follows; told = f.told }
+follows_happens start w (Settles quiet) before safe f = record { follows = follow_free start [] before _ w.back (free_settle (is_some w.back.halted) quiet) f.follows; told = f.told }
+
+follows_after : (start : ℕ) (hs : List Happening) (w : World) (before : List Line) → IsSafe w → FollowsTo start before w → FollowsTo start (before ++ lines_of hs w) (after hs w)
+follows_after start [] w before safe f = no_lines start before w f
+follows_after start (h ∷ hs) w before safe f =
     subst (λ (ls : List Line). FollowsTo start ls (after hs (happens w h))) (append_assoc before (lines_at w h) (lines_of hs (happens w h)))
-    (follows_after start hs (happens w h) (before ++ lines_at w h) (named_happens w h named) (follows_happens start w h before named f))
+    (follows_after start hs (happens w h) (before ++ lines_at w h) (safe_happens w h safe) (follows_happens start w h before safe f))
 
 -- the first line
 pub follows_begin : (config : Options) (detail : Detail) → Follows config.start [] (lines.Begin config detail ∷ []) (back.start_of config)
 follows_begin config detail = record {
-  sight = record { pages = []; replied = config.start; produced = config.start; words = 0; start = config.start; values = [] };
+  sight = record { pages = []; replied = config.start; produced = config.start; words = 0; start = config.start; values = []; abi = Some X64; touched = false };
   begun = refl;
   more = [];
   grown = refl;
-  shows = record { pages = refl; replied = refl; produced = refl; words = refl; start = refl; values = refl; abi = refl; fresh = λ none. refl; few = λ page pages e. absurd (cc) };
-  knows = record { entries = refl; running = refl; unmapped = refl; replied = refl; produced = refl; words = refl; consumed = refl; values = refl; numbered = refl };
-  stands = ring_more [] (lines.Begin config detail) config.start false (ring_none config.start) refl refl (λ over. refl) refl (λ small. foreign_stretch [] (lines.Begin config detail) refl refl);
+  shows = record { pages = refl; replied = refl; produced = refl; words = refl; start = refl; values = refl; abi = refl; fresh = λ none. refl };
+  knows = record { waits = record { running = refl; untouched = refl; begins = refl; replied = refl; produced = refl; words = refl; values = refl; numbered = refl }; untold = refl; none = refl };
+  stands = ring_more [] (lines.Begin config detail) config.start false (ring_none config.start) refl refl (λ over. refl) refl (λ read. absurd (cc)) (λ small. foreign_stretch [] (lines.Begin config detail) refl refl);
 }
 
 report_follows : (config : Options) (detail : Detail) (history : List Happening) → FollowsTo config.start (report_of config detail history) (after history (start_of config))
-report_follows config detail history = follows_after config.start history (start_of config) (lines.Begin config detail ∷ []) named_start (record { follows = follows_begin config detail; told = refl })
+report_follows config detail history = follows_after config.start history (start_of config) (lines.Begin config detail ∷ []) (safe_start config) (record { follows = follows_begin config detail; told = refl })
 
 ended_follows : (config : Options) (detail : Detail) (history : List Happening) → Follows config.start [] (ended_report_of config detail history) (let w : World = after history (start_of config) in w.back)
 ended_follows config detail history =
@@ -138,3 +216,9 @@ report_stretches config detail history small = stretches_of config.start _ _ sma
 
 pub ended_stretches : (config : Options) (detail : Detail) (history : List Happening) → config.start < 2 ^ 32 → AreStretches (ended_report_of config detail history)
 ended_stretches config detail history small = stretches_of config.start _ _ small (ended_follows config detail history)
+
+pub report_named : (config : Options) (detail : Detail) (history : List Happening) → IsNamedFirst (report_of config detail history)
+report_named config detail history = (report_follows config detail history).follows.stands.named
+
+pub ended_named : (config : Options) (detail : Detail) (history : List Happening) → IsNamedFirst (ended_report_of config detail history)
+ended_named config detail history = (ended_follows config detail history).stands.named

@@ -90,7 +90,7 @@ next_place first last within i j e h is = record { is = omega arith; sector = om
 end_place : (first last within i j : ℕ) → within ≡ first + i → within ≡ last → j ≡ 129 → 1 + (129 * i + j) ≡ 1 + 129 * (last - first + 1)
 end_place first last within i j e h is = omega arith
 
--- the last step of a sector, behind which another comes, or none
+-- the last step of a sector, after which another comes, or none
 pub sector_taken : (work : List Task) (k : ℕ) (epoch : List Line) (rest : List Segment) (within disk moved : ℕ) (writes : Bool) (m : Mapping) (w : Within work k epoch rest within disk moved writes 128 1 m) → writes ≡ true → within + 1 ≤ w.segment.last
     → option_and_then (advanced false work (moves.DiskWrite k disk)) (walk_of false work k epoch) ≡ Some (spot (length w.done) (1 + (129 * w.i + (128 + 1))) false (Some m.number))
 sector_taken work k epoch rest within disk moved writes m w is more =

@@ -20,10 +20,11 @@ use Rattle.report_rules.specs.Ring.{page_from, word_in, page_made, ring_pages, s
 use Rattle.report_rules.specs.Stretch.{of_entries, entry_word_read, words_read}
 use Rattle.report_rules.specs.Job.{when, entry_value, entry_values}
 use Rattle.report_rules.proofs.Back.{epoch_more}
+use Rattle.ring_laws.specs.Layout.{reads_protocol}
 use Rattle.ring_laws.proofs.Lists.{gathered_same, gathered_none, or_false, fold_same, count_same, count_more, fold_none, count_none}
-use Rattle.ring_laws.proofs.Sight.{is_touch, is_other, other_epoch, other_start, other_page, other_abi, other_touch, untouched_produced, untouched_replied, untouched_word, produced_same, replied_same, word_same}
+use Rattle.ring_laws.proofs.Sight.{is_touch, is_other, other_epoch, other_start, other_page, same_abi, other_touch, untouched_produced, untouched_replied, untouched_word, produced_same, replied_same, word_same}
 
--- the ring's pages, the two producers, how many words of entries were read, where rings start, and those words
+-- the ring's pages, the two producers, how many words of entries were read, where rings start, those words, the layout that was named last, and whether the back touched a word
 pub record Sight : Type 0 where
   pub pages : List Standing
   pub replied : ℕ
@@ -31,8 +32,9 @@ pub record Sight : Type 0 where
   pub words : ℕ
   pub start : ℕ
   pub values : List ℕ
+  pub abi : Option Abi
+  pub touched : Bool
 
--- and where there is no page yet, the back touched no word
 pub record Shows (before : List Line) (x : Sight) : Type 0 where
   pub pages : ring_pages before ≡ x.pages
   pub replied : replied_before before ≡ x.replied
@@ -40,9 +42,8 @@ pub record Shows (before : List Line) (x : Sight) : Type 0 where
   pub words : words_read before ≡ x.words
   pub start : start_of before ≡ x.start
   pub values : entry_values before ≡ x.values
-  pub abi : ring_abi before ≡ Some X64
-  pub fresh : x.pages ≡ [] → list_any is_touch (this_epoch before) ≡ false
-  pub few : (page : Standing) (pages : List Standing) → x.pages ≡ page ∷ pages → pages ≡ []
+  pub abi : ring_abi before ≡ x.abi
+  pub fresh : x.touched ≡ false → list_any is_touch (this_epoch before) ≡ false
 
 -- the lines of the epoch, with one more
 pub epoch_longer : (before : List Line) (line : Line) → is_epoch line ≡ false → this_epoch (before ++ line ∷ []) ≡ this_epoch before ++ line ∷ []
@@ -84,10 +85,9 @@ pub record IsOnPages (line : Line) : Type 0 where
   pub same_epoch : is_epoch line ≡ false
   pub start : (n : ℕ) → start_told n line ≡ n
   pub page : page_made line ≡ None
-  pub abi : abi_after (Some X64) line ≡ Some X64
 
 pub other_on_pages : (line : Line) → is_other line ≡ true → IsOnPages line
-other_on_pages line other = record { same_epoch = other_epoch line other; start = λ n. other_start n line other; page = other_page line other; abi = other_abi line other }
+other_on_pages line other = record { same_epoch = other_epoch line other; start = λ n. other_start n line other; page = other_page line other }
 
 replied_more : (before : List Line) (line : Line) → IsOnPages line → replied_before (before ++ line ∷ []) ≡ replied_after before (replied_before before) line
 replied_more before line on =
@@ -134,15 +134,16 @@ words_more before line on =
     ∙ (ap (λ (ls : List Line). count_by (λ (l : Line). is_some (entry_word_read before l)) ls) (epoch_longer before line on.same_epoch)
     ∙ count_more (λ (l : Line). is_some (entry_word_read before l)) (this_epoch before) line)
 
--- the sight behind a line that makes no page
-pub shows_more : (before : List Line) (line : Line) (x : Sight) (replied produced words : ℕ) (values : List ℕ) → IsOnPages line → Shows before x
+-- the sight after a line that makes no page
+pub shows_more : (before : List Line) (line : Line) (x : Sight) (replied produced words : ℕ) (values : List ℕ) (abi : Option Abi) → IsOnPages line → Shows before x
     → replied_after before x.replied line ≡ replied
     → produced_after before x.produced line ≡ produced
     → x.words + cond (is_some (entry_word_read before line)) 1 0 ≡ words
-    → (x.pages ≡ [] → is_touch line ≡ false)
+    → (x.touched ≡ false → is_touch line ≡ false)
     → x.values ++ option_to_list (entry_value before line) ≡ values
-    → Shows (before ++ line ∷ []) (record { pages = x.pages; replied = replied; produced = produced; words = words; start = x.start; values = values })
-shows_more before line x replied produced words values on shows r p w t vs = record {
+    → abi_after x.abi line ≡ abi
+    → Shows (before ++ line ∷ []) (record { pages = x.pages; replied = replied; produced = produced; words = words; start = x.start; values = values; abi = abi; touched = x.touched })
+shows_more before line x replied produced words values abi on shows r p w t vs named = record {
   pages = pages_kept before line on.same_epoch on.page ∙ shows.pages;
   replied = replied_more before line on ∙ (ap (λ (n : ℕ). replied_after before n line) shows.replied ∙ r);
   produced = produced_more before line on ∙ (ap (λ (n : ℕ). produced_after before n line) shows.produced ∙ p);
@@ -150,24 +151,30 @@ shows_more before line x replied produced words values on shows r p w t vs = rec
   start = start_more before line (on.start (start_of before)) ∙ shows.start;
   fresh = λ none. touched_more before line on.same_epoch ∙ both_false (list_any is_touch (this_epoch before)) (is_touch line) (shows.fresh none) (t none);
   values = values_more before line on ∙ (ap (λ (ws : List ℕ). ws ++ option_to_list (entry_value before line)) shows.values ∙ vs);
-  abi = abi_more before line on.same_epoch ∙ (ap (λ (abi : Option Abi). abi_after abi line) shows.abi ∙ on.abi);
-  few = shows.few;
+  abi = abi_more before line on.same_epoch ∙ (ap (λ (last : Option Abi). abi_after last line) shows.abi ∙ named);
 }
 
--- a line that the rules on the ring pass over
-pub shows_other : (before : List Line) (line : Line) (x : Sight) → is_other line ≡ true → Shows before x → Shows (before ++ line ∷ []) x
-shows_other before line x other shows =
+-- a line that the rules on the ring pass over, but for the layout
+pub shows_named : (before : List Line) (line : Line) (x : Sight) (abi : Option Abi) → is_other line ≡ true → abi_after x.abi line ≡ abi → Shows before x → Shows (before ++ line ∷ []) (record x { abi = abi })
+shows_named before line x abi other named shows =
     let none = other_touch line other in
-    shows_more before line x x.replied x.produced x.words x.values (other_on_pages line other) shows
+    shows_more before line x x.replied x.produced x.words x.values abi (other_on_pages line other) shows
     (untouched_replied before x.replied line none)
     (ap (λ (shown : Option ℕ). unwrap_or shown x.produced) (untouched_produced before line none))
     (ap (λ (word : Option ℕ). x.words + cond (is_some word) 1 0) (untouched_word before line none) ∙ omega arith)
     (λ empty. none)
-    (ap (λ (value : Option ℕ). x.values ++ option_to_list value) (untouched_value before line none) ∙ append-nil x.values)
+    (ap (λ (value : Option ℕ). x.values ++ option_to_list value) (untouched_value before line none) ∙ append-nil x.values) named
 
--- the ring's first page is mapped
-pub shows_map : (before : List Line) (gref number frame : ℕ) (mode : Mode) (x : Sight) → x.pages ≡ [] → Shows before x
-    → Shows (before ++ lines.Move (moves.Map back.Back gref mode number frame) ∷ []) (record x { pages = record { number = number; gref = gref; mode = mode; frame = frame } ∷ [] })
+pub shows_other : (before : List Line) (line : Line) (x : Sight) → is_other line ≡ true → reads_protocol line ≡ false → Shows before x → Shows (before ++ line ∷ []) x
+shows_other before line x other unnamed shows = shows_named before line x x.abi other (same_abi x.abi line unnamed) shows
+
+-- from here on the back may touch words
+pub shows_open : (before : List Line) (x : Sight) → Shows before x → Shows before (record x { touched = true })
+shows_open before x shows = record { pages = shows.pages; replied = shows.replied; produced = shows.produced; words = shows.words; start = shows.start; values = shows.values; abi = shows.abi; fresh = λ none. absurd (cc) }
+
+-- a page of the ring is mapped, before the back touches a word
+pub shows_map : (before : List Line) (gref number frame : ℕ) (mode : Mode) (x : Sight) → x.touched ≡ false → Shows before x
+    → Shows (before ++ lines.Move (moves.Map back.Back gref mode number frame) ∷ []) (record x { pages = x.pages ++ record { number = number; gref = gref; mode = mode; frame = frame } ∷ [] })
 shows_map before gref number frame mode x none shows =
     let line : Line = lines.Move (moves.Map back.Back gref mode number frame) in
     let longer : List Line = before ++ lines.Move (moves.Map back.Back gref mode number frame) ∷ [] in
@@ -175,7 +182,7 @@ shows_map before gref number frame mode x none shows =
     let still : list_any is_touch (this_epoch longer) ≡ false = touched_more before line refl ∙ (or_false (list_any is_touch (this_epoch before)) ∙ untouched) in
     let start : start_of longer ≡ start_of before = start_more before line refl in
     record {
-      pages = pages_more before line refl ∙ ap (λ (ps : List Standing). ps ++ record { number = number; gref = gref; mode = mode; frame = frame } ∷ []) (shows.pages ∙ none);
+      pages = pages_more before line refl ∙ ap (λ (ps : List Standing). ps ++ record { number = number; gref = gref; mode = mode; frame = frame } ∷ []) shows.pages;
       replied = fold_none (replied_after longer) is_touch (λ n l e. untouched_replied longer n l e) (this_epoch longer) (start_of longer) still ∙ (start ∙ (sym (fold_none (replied_after before) is_touch (λ n l e. untouched_replied before n l e) (this_epoch before) (start_of before) untouched) ∙ shows.replied));
       produced = fold_none (produced_after longer) is_touch (λ n l e. untouched_producer longer n l e) (this_epoch longer) (start_of longer) still ∙ (start ∙ (sym (fold_none (produced_after before) is_touch (λ n l e. untouched_producer before n l e) (this_epoch before) (start_of before) untouched) ∙ shows.produced));
       words = count_none (λ (l : Line). is_some (entry_word_read longer l)) is_touch (λ l e. ap (λ (word : Option ℕ). is_some word) (untouched_word longer l e)) (this_epoch longer) still ∙ (sym (count_none (λ (l : Line). is_some (entry_word_read before l)) is_touch (λ l e. ap (λ (word : Option ℕ). is_some word) (untouched_word before l e)) (this_epoch before) untouched) ∙ shows.words);
@@ -183,11 +190,7 @@ shows_map before gref number frame mode x none shows =
       values = gathered_none (entry_value longer) is_touch (λ l e. untouched_value longer l e) (this_epoch longer) still ∙ (sym (gathered_none (entry_value before) is_touch (λ l e. untouched_value before l e) (this_epoch before) untouched) ∙ shows.values);
       abi = abi_more before line refl ∙ shows.abi;
       fresh = λ empty. still;
-      few = λ page pages e. sym (only _ page pages e);
     }
   where
-    only : (made page : Standing) (pages : List Standing) → made ∷ [] ≡ page ∷ pages → [] ≡ pages
-    only made page pages e = cc
-
     untouched_producer : (ls : List Line) (n : ℕ) (l : Line) → is_touch l ≡ false → produced_after ls n l ≡ n
     untouched_producer ls n l e = ap (λ (shown : Option ℕ). unwrap_or shown n) (untouched_produced ls l e)

@@ -1,17 +1,20 @@
 -- What the rules on the ring make of the lines before a line, and how one line more changes it.
-use Rattle.std.proofs.Common.{◌≡◌, ℕ, ◌&&◌, ◌||◌, ◌==◌, not, Bool, true, false, if◌then◌else◌, List, refl, ap}
-use Rattle.std.specs.Prelude.{slice_get, Option, Some, None}
-use Rattle.blk_base.specs.declared.operation.Abi.TheVariants.{X64}
+use Rattle.std.proofs.Common.{◌≡◌, ℕ, ◌&&◌, ◌==◌, Bool, true, false, if◌then◌else◌, List, [], ◌∷◌, refl, ap}
+use Rattle.std.specs.Prelude.{slice_get, Option, Some, None, is_some}
+use Rattle.std.specs.List.{list_any}
+use Rattle.blk_base.specs.declared.operation.Abi.{Abi}
 use Rattle.blk_base.specs.declared.moves.BackMover.TheVariants as back
 use Rattle.blk_base.specs.declared.moves.Mover.TheVariants as mover
 use Rattle.blk_base.specs.declared.moves.Move.TheVariants as moves
 use Rattle.schedule_text.specs.declared.line.Line.{Line}
 use Rattle.schedule_text.specs.declared.line.Line.TheVariants as lines
 use Rattle.report_rules.specs.declared.standing.Standing.{Standing}
-use Rattle.report_rules.specs.Standing.{is_epoch, has_number}
-use Rattle.report_rules.specs.Ring.{page_made, ring_pages, start_told, produced_shown, replied_after, page_from, word_in, is_protocol, abi_named, abi_after}
-use Rattle.report_rules.specs.Stretch.{of_entries, entry_word_read}
-use Rattle.split_model.specs.Keys.{is_x64_text}
+use Rattle.report_rules.specs.Standing.{is_epoch, this_epoch, has_number}
+use Rattle.report_rules.specs.Ring.{page_made, ring_pages, start_told, produced_shown, replied_after, page_from, word_in, abi_named, abi_after}
+use Rattle.report_rules.specs.Stretch.{of_entries, entry_word_read, words_read}
+use Rattle.report_rules.specs.Reply.{is_of_back}
+use Rattle.ring_laws.specs.Layout.{reads_protocol}
+use Rattle.ring_laws.proofs.Lists.{count_none}
 
 -- the back reads or writes a word
 abbrev pub is_touch : Line → Bool
@@ -31,30 +34,13 @@ pub untouched_word : (before : List Line) (line : Line) → is_touch line ≡ fa
 untouched_word before (lines.Move (moves.Read back.Back number frame word value)) e = absurd (cc)
 untouched_word before line e = refl
 
--- no other layout of entries is named than that of 64-bit guests
-abbrev pub is_x64_or_none : Option (List ℕ) → Bool
-is_x64_or_none None = true
-is_x64_or_none (Some text) = is_x64_text text
-
-abbrev pub keeps_layout : (path : List ℕ) → Option (List ℕ) → Bool
-keeps_layout path text = not (is_protocol path) || is_x64_or_none text
-
-pub layout_kept : (path : List ℕ) (text : Option (List ℕ)) → keeps_layout path text ≡ true → abi_after (Some X64) (lines.Move (moves.GetKey mover.Back path text)) ≡ Some X64
-layout_kept path text e = by_path (is_protocol path) text e
-  where
-    by_path : (names : Bool) (text : Option (List ℕ)) → (not names || is_x64_or_none text) ≡ true → (if names then abi_named text else Some X64) ≡ Some X64
-    by_path false text e = refl
-    by_path true None e = refl
-    by_path true (Some text) e = rw e refl
-
--- lines of which none makes a page, a word's value, another layout or an epoch
+-- lines of which none makes a page, a word's value or an epoch
 abbrev pub is_other : Line → Bool
 is_other (lines.Begin config detail) = false
 is_other lines.Epoch = false
 is_other (lines.Move (moves.Read back.Back number frame word value)) = false
 is_other (lines.Move (moves.Write back.Back number frame word value)) = false
 is_other (lines.Move (moves.Map back.Back gref mode number frame)) = false
-is_other (lines.Move (moves.GetKey mover.Back path text)) = keeps_layout path text
 is_other line = true
 
 pub other_epoch : (line : Line) → is_other line ≡ true → is_epoch line ≡ false
@@ -69,9 +55,14 @@ pub other_page : (line : Line) → is_other line ≡ true → page_made line ≡
 other_page (lines.Move (moves.Map back.Back gref mode number frame)) e = absurd (cc)
 other_page line e = refl
 
-pub other_abi : (line : Line) → is_other line ≡ true → abi_after (Some X64) line ≡ Some X64
-other_abi (lines.Move (moves.GetKey mover.Back path text)) e = layout_kept path text e
-other_abi line e = refl
+-- where the back doesn't read of a layout, the last one stays
+pub same_abi : (abi : Option Abi) (line : Line) → reads_protocol line ≡ false → abi_after abi line ≡ abi
+same_abi abi (lines.Move (moves.GetKey mover.Back path text)) e = ap (λ (names : Bool). if names then abi_named text else abi) e
+same_abi abi line e = refl
+
+pub foreign_abi : (line : Line) → is_of_back line ≡ false → reads_protocol line ≡ false
+foreign_abi (lines.Move (moves.GetKey mover.Back path text)) e = absurd (cc)
+foreign_abi line e = refl
 
 pub other_touch : (line : Line) → is_other line ≡ true → is_touch line ≡ false
 other_touch (lines.Move (moves.Read back.Back number frame word value)) e = absurd (cc)
@@ -90,3 +81,15 @@ replied_same a b same n line = refl
 pub word_same : (a b : List Line) → ring_pages a ≡ ring_pages b → (line : Line) → entry_word_read a line ≡ entry_word_read b line
 word_same a b same (lines.Move (moves.Read back.Back number frame word value)) = ap (λ (pages : List Standing). of_entries (word_in (page_from 0 number pages) word)) same
 word_same a b same line = refl
+
+-- a word of the ring is read only through a page of it
+pub no_words : (before : List Line) → ring_pages before ≡ [] → words_read before ≡ 0
+no_words before none = count_none (λ (line : Line). is_some (entry_word_read before line)) (λ (line : Line). false) (λ line e. ap (λ (word : Option ℕ). is_some word) (no_word line)) (this_epoch before) (no_line (this_epoch before))
+  where
+    no_word : (line : Line) → entry_word_read before line ≡ None
+    no_word (lines.Move (moves.Read back.Back number frame word value)) = ap (λ (pages : List Standing). of_entries (word_in (page_from 0 number pages) word)) none
+    no_word line = refl
+
+    no_line : (ls : List Line) → list_any (λ (line : Line). false) ls ≡ false
+    no_line [] = refl
+    no_line (l ∷ ls) = no_line ls

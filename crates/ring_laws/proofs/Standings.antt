@@ -1,33 +1,145 @@
--- The mapping in a job's hand stands by the lines, of its reference.
-use Rattle.std.proofs.Common.{◌≡◌, ℕ, List, ap, sym, ◌∙◌, subst}
-use Rattle.std.specs.Prelude.{Option, Some, IsSomeAnd, Contains, slice_get}
+-- The mappings that stand by the lines are those that live, whatever happens; so the mapping in a job's hand stands.
+use Rattle.std.proofs.Common.{◌≡◌, ℕ, ◌+◌, ◌==◌, Bool, true, false, not, if◌then◌else◌, List, [], ◌∷◌, ◌++◌, map, filter, refl, ap, sym, ◌∙◌, subst, append_assoc, append-nil}
+use Rattle.std.specs.Prelude.{Option, Some, None, IsSomeAnd, Contains, slice_get, Result, Ok, Err}
 use Rattle.std.specs.Option.{option_to_list, option_map}
+use Rattle.std.proofs.lemmas.Option.{none-some}
+use Rattle.std.proofs.lemmas.List.{map-append}
 use Rattle.std.proofs.lemmas.List.Elements.{All-contains}
 use Rattle.blk_base.specs.declared.parts.Mapping.{Mapping}
+use Rattle.blk_base.specs.declared.parts.Mode.{Mode}
+use Rattle.blk_base.specs.declared.ask.BackAsk.{BackAsk}
 use Rattle.blk_base.specs.declared.ask.BackAsk.TheVariants as ask
+use Rattle.blk_base.specs.declared.moves.BackMover.{BackMover}
+use Rattle.blk_base.specs.declared.moves.BackMover.TheVariants as back
+use Rattle.blk_base.specs.declared.moves.Mover.TheVariants as mover
+use Rattle.blk_base.specs.declared.moves.Move.{Move}
+use Rattle.blk_base.specs.declared.moves.Move.TheVariants as moves
+use Rattle.grant_table.specs.declared.entry.MapRefusal.{MapRefusal}
 use Rattle.grant_table.specs.declared.held.Held.{Held}
-use Rattle.grant_table.specs.Table.{GrantTable, IsLive}
+use Rattle.grant_table.specs.Table.{GrantTable, IsLive, held_of, next_mapping, verdict_at, without}
+use Rattle.event_channel.specs.declared.channels.PortState.{PortState}
+use Rattle.event_channel.specs.declared.channels.PortState.TheVariants as port
+use Rattle.event_channel.specs.Channels.{state_of}
+use Rattle.hypervisor.specs.Hypervisor.{Hypervisor}
+use Rattle.hypervisor.specs.Act.{BackAct, Outcome, Gave, Took, Failed, back_act, map_act, bind_act, read_act, disk_act}
 use Rattle.schedule_text.specs.declared.line.Line.{Line}
+use Rattle.schedule_text.specs.declared.line.Line.TheVariants as lines
 use Rattle.report_rules.specs.declared.standing.Standing.{Standing}
-use Rattle.report_rules.specs.Standing.{standing_behind, numbered}
+use Rattle.report_rules.specs.Ring.{page_made}
+use Rattle.report_rules.specs.Made.{made_by}
+use Rattle.report_rules.specs.Standing.{is_epoch, is_unmap_of, mapping_made, standing_behind, numbered}
+use Rattle.report_rules.proofs.Back.{standing_more}
 use Rattle.back_jobs.specs.Task.{Work}
 use Rattle.back_jobs.specs.Jobs.{mapping_at}
 use Rattle.back_jobs.specs.Hands.{hand_of, hands_in}
 use Rattle.back_jobs.proofs.Hands.{among, named_in}
 use Rattle.back_jobs.proofs.Sizes.{only}
 use Rattle.blk_back.specs.View.{View}
-use Rattle.blk_back.specs.Hands.{given_up, page_at, hands_of}
+use Rattle.blk_back.specs.Hands.{given_up, hands_of}
 use Rattle.split_model.specs.Safe.{AreHeld}
-use Rattle.move_laws.specs.Tells.{Tells, standing_of}
-use Rattle.move_laws.proofs.Entries.{Found, found}
-use Rattle.move_laws.proofs.Standing.{numbered_live}
-use Rattle.ring_laws.proofs.Bystanders.{some_and}
+use Rattle.split_model.proofs.SafeActs.{IsKeyMove, of_back, back_wait, back_keys, back_key_grants}
+use Rattle.move_laws.specs.Tells.{standing_of}
+use Rattle.move_laws.proofs.Standing.{filter_none, numbered_live, without_live}
+use Rattle.move_laws.proofs.Still.{none_goes}
+use Rattle.ring_laws.proofs.Sight.{other_page}
+use Rattle.ring_laws.proofs.JobMoves.{itself}
+use Rattle.ring_laws.proofs.Fetched.{AreOther}
+use Rattle.ring_laws.proofs.Makers.{IsQuiet, AreQuiet}
 
-pub in_hand : (before : List Line) (pages : List ℕ) (table : GrantTable) (v : View) (place : ℕ) (t : Work) (m : Mapping) → Tells before pages table → AreHeld table (hands_of v) → slice_get v.jobs.works place ≡ Some t → mapping_at t.stage ≡ Some m
+abbrev pub Stands : List Line → GrantTable → Type 0
+Stands before table = standing_behind before ≡ map standing_of table.live
+
+-- a line that changes no mapping
+stands_still : (before : List Line) (line : Line) (table : GrantTable) → is_epoch line ≡ false → ((n : ℕ) → is_unmap_of n line ≡ false) → mapping_made line ≡ None → Stands before table → Stands (before ++ line ∷ []) table
+stands_still before line table same gone made s =
+    standing_more before line ∙ rw (same, s, made, none_goes line (map standing_of table.live) gone) (append-nil (map standing_of table.live))
+
+none_mapped : (line : Line) → page_made line ≡ None → ((k : ℕ) → made_by k line ≡ None) → mapping_made line ≡ None
+none_mapped (lines.Move (moves.Map back.Back gref mode number frame)) page made = absurd (cc)
+none_mapped (lines.Move (moves.Map (back.Job k) gref mode number frame)) page made = absurd (none-some _ (sym (made k) ∙ ap (λ (b : Bool). if b then Some (record { number = number; gref = gref; mode = mode; frame = frame }) else None) (itself k)))
+none_mapped line page made = refl
+
+-- lines of others
+pub stands_aside : (before ys : List Line) (table : GrantTable) → AreQuiet ys → AreOther ys → Stands before table → Stands (before ++ ys) table
+stands_aside before [] table quiet other s = subst (λ (ls : List Line). Stands ls table) (sym (append-nil before)) s
+stands_aside before (y ∷ ys) table quiet other s =
+    let q : IsQuiet y = quiet.0 in
+    subst (λ (ls : List Line). Stands ls table) (append_assoc before (y ∷ []) ys)
+    (stands_aside (before ++ y ∷ []) ys table quiet.1 other.1 (stands_still before y table q.same_epoch q.none_gone (none_mapped y (other_page y other.0) q.none_made) s))
+
+-- a move of the back or of a job
+abbrev StandsThen : List Line → BackAct → Type 0
+StandsThen before a = Stands (before ++ lines.Move a.shown ∷ []) a.under.grants
+
+map_stands : (before : List Line) (h : Hypervisor) (who : BackMover) (gref : ℕ) (mode : Mode) (verdict : Result ℕ MapRefusal) → Stands before h.grants → StandsThen before (map_act h who gref mode verdict)
+map_stands before h who gref mode (Ok frame) s =
+    let next : Held = record { mapping = next_mapping h.grants gref mode; frame = frame } in
+    standing_more before (lines.Move (moves.Map who gref mode (h.grants.made + 1) frame))
+    ∙ (ap (λ (left : List Standing). filter (λ (x : Standing). true) left ++ standing_of next ∷ []) s
+    ∙ (ap (λ (left : List Standing). left ++ standing_of next ∷ []) (filter_none (map standing_of h.grants.live)) ∙ sym (map-append standing_of h.grants.live (next ∷ []))))
+map_stands before h who gref mode (Err refusal) s = stands_still before _ h.grants refl (λ n. refl) refl s
+
+unmap_stands : (before : List Line) (h : Hypervisor) (who : BackMover) (m : Mapping) → Stands before h.grants → standing_behind (before ++ lines.Move (moves.Unmap who m.number) ∷ []) ≡ map standing_of (without m.number h.grants.live)
+unmap_stands before h who m s =
+    standing_more before (lines.Move (moves.Unmap who m.number))
+    ∙ (ap (λ (left : List Standing). filter (λ (x : Standing). not (m.number == x.number)) left ++ []) s ∙ (append-nil _ ∙ without_live m.number h.grants.live))
+
+bind_stands : (before : List Line) (h : Hypervisor) (p : ℕ) (state : PortState) → Stands before h.grants → StandsThen before (bind_act h p state)
+bind_stands before h p port.Unbound s = stands_still before _ h.grants refl (λ n. refl) refl s
+bind_stands before h p port.Closed s = stands_still before _ h.grants refl (λ n. refl) refl s
+bind_stands before h p port.Bound s = stands_still before _ h.grants refl (λ n. refl) refl s
+
+key_stands : (before : List Line) (shown : Move) (table : GrantTable) → IsKeyMove mover.Back shown → Stands before table → Stands (before ++ lines.Move shown ∷ []) table
+key_stands before (moves.Watch m path) table is s = stands_still before _ table refl (λ n. refl) refl s
+key_stands before (moves.Watched m path) table is s = stands_still before _ table refl (λ n. refl) refl s
+key_stands before (moves.GetKey m path text) table is s = stands_still before _ table refl (λ n. refl) refl s
+key_stands before (moves.SetKey m path text) table is s = stands_still before _ table refl (λ n. refl) refl s
+key_stands before shown table is s = absurd is
+
+read_stands : (before : List Line) (h : Hypervisor) (shown : Move) (o : Outcome) (a : BackAct) → Stands (before ++ lines.Move shown ∷ []) h.grants → read_act h shown o ≡ Some a → StandsThen before a
+read_stands before h shown (Gave words) a s e = of_back (StandsThen before) _ a s e
+read_stands before h shown Failed a s e = of_back (StandsThen before) _ a s e
+read_stands before h shown Took a s e = absurd (none-some a e)
+
+call_stands : (before : List Line) (h : Hypervisor) (shown : Move) (o : Outcome) (a : BackAct) → Stands (before ++ lines.Move shown ∷ []) h.grants → disk_act h shown o ≡ Some a → StandsThen before a
+call_stands before h shown Took a s e = of_back (StandsThen before) _ a s e
+call_stands before h shown Failed a s e = of_back (StandsThen before) _ a s e
+call_stands before h shown (Gave words) a s e = absurd (none-some a e)
+
+pub act_stands : (before : List Line) (h : Hypervisor) (who : BackMover) (asked : BackAsk) (o : Outcome) (a : BackAct) → Stands before h.grants → back_act h who asked o ≡ Some a → StandsThen before a
+act_stands before h who ask.Wait o a s e = back_wait (StandsThen before) h who a (stands_still before _ h.grants refl (λ n. refl) refl s) (λ path. stands_still before _ h.grants refl (λ n. refl) refl s) e
+act_stands before h who ask.Fence o a s e = of_back (StandsThen before) _ a (stands_still before _ h.grants refl (λ n. refl) refl s) e
+act_stands before h who (ask.Read m word) o a s e = of_back (StandsThen before) _ a (stands_still before _ h.grants refl (λ n. refl) refl s) e
+act_stands before h who (ask.Write m word value) o a s e = of_back (StandsThen before) _ a (stands_still before _ h.grants refl (λ n. refl) refl s) e
+act_stands before h who (ask.Map gref mode) o a s e = of_back (StandsThen before) _ a (map_stands before h who gref mode (verdict_at h.pages gref mode) s) e
+act_stands before h who (ask.Unmap m) o a s e = of_back (StandsThen before) _ a (unmap_stands before h who m s) e
+act_stands before h who (ask.Bind p) o a s e = of_back (StandsThen before) _ a (bind_stands before h p (state_of h.channels p) s) e
+act_stands before h who ask.Send o a s e = of_back (StandsThen before) _ a (stands_still before _ h.grants refl (λ n. refl) refl s) e
+act_stands before h who ask.ClosePort o a s e = of_back (StandsThen before) _ a (stands_still before _ h.grants refl (λ n. refl) refl s) e
+act_stands before h who (ask.GetKey path) o a s e = back_keys (StandsThen before) h who (ask.GetKey path) o a tt (λ x is. key_stands before x.shown x.under.grants is.shown (subst (Stands before) (sym (back_key_grants h x is)) s)) e
+act_stands before h who (ask.SetKey path text) o a s e = back_keys (StandsThen before) h who (ask.SetKey path text) o a tt (λ x is. key_stands before x.shown x.under.grants is.shown (subst (Stands before) (sym (back_key_grants h x is)) s)) e
+act_stands before h who (ask.Watch path) o a s e = back_keys (StandsThen before) h who (ask.Watch path) o a tt (λ x is. key_stands before x.shown x.under.grants is.shown (subst (Stands before) (sym (back_key_grants h x is)) s)) e
+act_stands before h who (ask.DiskRead sector) o a s e = read_stands before h _ o a (stands_still before _ h.grants refl (λ n. refl) refl s) e
+act_stands before h who (ask.DiskWrite sector words) o a s e = call_stands before h _ o a (stands_still before _ h.grants refl (λ n. refl) refl s) e
+act_stands before h who ask.Flush o a s e = call_stands before h _ o a (stands_still before _ h.grants refl (λ n. refl) refl s) e
+act_stands before h who (ask.Trim sector count) o a s e = call_stands before h _ o a (stands_still before _ h.grants refl (λ n. refl) refl s) e
+
+-- with the lines after it
+pub turn_stands : (before ys : List Line) (h : Hypervisor) (who : BackMover) (asked : BackAsk) (o : Outcome) (a : BackAct) → AreQuiet ys → AreOther ys → Stands before h.grants → back_act h who asked o ≡ Some a → Stands (before ++ lines.Move a.shown ∷ ys) a.under.grants
+turn_stands before ys h who asked o a quiet other s e =
+    subst (λ (ls : List Line). Stands ls a.under.grants) (append_assoc before (lines.Move a.shown ∷ []) ys)
+    (stands_aside (before ++ lines.Move a.shown ∷ []) ys a.under.grants quiet other (act_stands before h who asked o a s e))
+
+-- the mapping in a job's hand stands, of its reference
+pub in_hand : (before : List Line) (table : GrantTable) (v : View) (place : ℕ) (t : Work) (m : Mapping) → Stands before table → AreHeld table (hands_of v) → slice_get v.jobs.works place ≡ Some t → mapping_at t.stage ≡ Some m
     → IsSomeAnd (numbered m.number (standing_behind before)) (λ (x : Standing). x.gref ≡ m.gref)
-in_hand before pages table v place t m tells held found_at is =
+in_hand before table v place t m stands held found_at is =
     let hand : Contains (hand_of t) m = subst (λ (o : Option Mapping). Contains (option_to_list o) m) (sym is) (only m) in
     let inside : Contains (hands_in v.jobs.works) m = named_in v.jobs.works place t (ask.Unmap m) found_at hand in
-    let whole : Contains (hands_of v) m = among m (given_up v.stage) (page_at v.stage v.page) (hands_in v.jobs.works) inside in
-    let f : Found table m = found table m (All-contains (IsLive table) (hands_of v) m held.live whole) tells.grantable in
-    some_and _ (ap (λ (s : List Standing). numbered m.number s) tells.standing ∙ (numbered_live m.number table.live ∙ ap (λ (o : Option Held). option_map standing_of o) f.is)) (ap (λ (x : Mapping). x.gref) f.same)
+    let whole : Contains (hands_of v) m = among m (given_up v.stage) v.pages (hands_in v.jobs.works) inside in
+    subst (λ (o : Option Standing). IsSomeAnd o (λ (x : Standing). x.gref ≡ m.gref)) (sym (ap (λ (s : List Standing). numbered m.number s) stands ∙ numbered_live m.number table.live))
+    (named (held_of m.number table.live) (All-contains (IsLive table) (hands_of v) m held.live whole))
+  where
+    named : (o : Option Held) → IsSomeAnd o (λ (x : Held). x.mapping ≡ m) → IsSomeAnd (option_map standing_of o) (λ (x : Standing). x.gref ≡ m.gref)
+    named None same = same
+    named (Some h) same = ap (λ (x : Mapping). x.gref) same

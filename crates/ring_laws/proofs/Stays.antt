@@ -148,7 +148,7 @@ due_aside before ys k words on aside due =
 abbrev pub AreIdle : List Line → List Line → Type 0
 AreIdle before ys = (k : ℕ) (words : List ℕ) → response_due before k ≡ Some words → IsAside k ys
 
--- the lines behind a move are no steps
+-- the lines after a move are no steps
 effect_unstepped : (k id index : ℕ) (a : BackAnswer) → is_of k (effect_line id index a) ≡ false
 effect_unstepped k id index (answers.Sector words) = refl
 effect_unstepped k id index a = refl
@@ -159,7 +159,7 @@ told_unstepped k (Some (back_told.Effect id index)) a = ap (λ (b : Bool). b || 
 told_unstepped k (Some (back_told.Fault id index)) a = refl
 told_unstepped k (Some (back_told.Reply id status)) a = refl
 
--- a move of a job, and the lines behind it, that obey the rules
+-- a move of a job, and the lines after it, that obey the rules
 pub move_idle : (before : List Line) (shown : Move) (told : Option BackTold) (a : BackAnswer) → Obeys IsRule (before ++ lines.Move shown ∷ back_lines told a) → AreIdle before (lines.Move shown ∷ back_lines told a)
 move_idle before shown told a obeys k words due = by_test (is_of k (lines.Move shown)) refl
   where

@@ -32,7 +32,7 @@ pub written_same : (a b : List Line) → ring_pages a ≡ ring_pages b → (line
 written_same a b same (lines.Move (moves.Write back.Back number frame word value)) = ap (λ (pages : List Standing). if is_event (word_in (page_from 0 number pages) word) then None else Some value) same
 written_same a b same line = refl
 
--- behind such a line, as before it
+-- after such a line, as before it
 pub written_behind : (before : List Line) (line : Line) → IsOnPages line → value_written (before ++ line ∷ []) line ≡ value_written before line
 written_behind before line on = written_same (before ++ line ∷ []) before (pages_kept before line on.same_epoch on.page) line
 
@@ -57,8 +57,8 @@ pub untouched_written : (before : List Line) (line : Line) → is_touch line ≡
 untouched_written before (lines.Move (moves.Write back.Back number frame word value)) e = absurd (cc)
 untouched_written before line e = refl
 
--- before the ring's first page is mapped no word was written
-pub written_map : (before : List Line) (gref number frame : ℕ) (mode : Mode) (x : Sight) → x.pages ≡ [] → Shows before x → values_written (before ++ lines.Move (moves.Map back.Back gref mode number frame) ∷ []) ≡ values_written before
+-- where a page of the ring is mapped no word was written yet
+pub written_map : (before : List Line) (gref number frame : ℕ) (mode : Mode) (x : Sight) → x.touched ≡ false → Shows before x → values_written (before ++ lines.Move (moves.Map back.Back gref mode number frame) ∷ []) ≡ values_written before
 written_map before gref number frame mode x none shows =
     let line : Line = lines.Move (moves.Map back.Back gref mode number frame) in
     let longer : List Line = before ++ lines.Move (moves.Map back.Back gref mode number frame) ∷ [] in
@@ -74,7 +74,7 @@ pushed_more before line =
     let longer : List Line = before ++ line ∷ [] in
     ap (λ (ls : List Line). if ends_with_write longer ls && (within_reply longer == 0) then Some (row_of (values_written longer) (length (values_written longer) / 4 - 1)) else None) (reverse-append before (line ∷ []))
 
--- none, behind a line without a word of a reply
+-- none, after a line without a word of a reply
 pub pushes_none : (before : List Line) (line : Line) → value_written (before ++ line ∷ []) line ≡ None → reply_pushed (before ++ line ∷ []) ≡ None
 pushes_none before line none =
     let longer : List Line = before ++ line ∷ [] in
@@ -137,7 +137,7 @@ pub writes_stage : (before : List Line) (s t : Stage) (answered : List Answered)
 writes_stage before s t answered same w = record { obeys = w.obeys; words = w.words ∙ ap (λ (u : List ℕ). rows_of answered ++ u) same; pushed = w.pushed }
 
 -- the first line, and the last
-pub start_writes : (config : Options) (detail : Detail) → Writes (lines.Begin config detail ∷ []) stage.MapRing []
+pub start_writes : (config : Options) (detail : Detail) → Writes (lines.Begin config detail ∷ []) stage.InitWait []
 start_writes config detail = record {
   obeys = obeys_more IsReplyAt [] (lines.Begin config detail) (obeys_none IsReplyAt) (record { next = tt; told = tt; only = λ told. absurd (cc); whole = λ own none. absurd (cc) });
   words = refl;

@@ -1,6 +1,6 @@
 -- Whatever the back is at, its move keeps the rule on replies.
-use Rattle.std.proofs.Common.{◌≡◌, ℕ, ◌+◌, ◌^◌, ◌<◌, ◌==◌, Bool, true, false, if◌then◌else◌, List, [], ◌∷◌, ◌++◌, length, refl, ap, sym, ◌∙◌, subst, arith}
-use Rattle.std.specs.Prelude.{Option, Some, None, Result, Ok, Err, IfSome}
+use Rattle.std.proofs.Common.{◌≡◌, ℕ, ◌+◌, ◌^◌, ◌<◌, ◌==◌, Bool, true, false, if◌then◌else◌, List, [], ◌∷◌, ◌++◌, length, refl, ap, sym, ◌∙◌, subst, length-append, arith}
+use Rattle.std.specs.Prelude.{Option, Some, None, nat_lt, Result, Ok, Err, IfSome}
 use Rattle.blk_base.specs.declared.parts.Mapping.{Mapping}
 use Rattle.blk_base.specs.declared.parts.Mode.TheVariants.{ReadWrite}
 use Rattle.blk_base.specs.declared.ask.BackAsk.TheVariants as ask
@@ -12,31 +12,33 @@ use Rattle.blk_base.specs.declared.moves.Move.{Move}
 use Rattle.blk_base.specs.declared.moves.Move.TheVariants as moves
 use Rattle.grant_table.specs.declared.entry.MapRefusal.{MapRefusal}
 use Rattle.grant_table.specs.Entry.{status_of}
-use Rattle.grant_table.specs.Table.{frame_of, verdict_at}
+use Rattle.grant_table.specs.Table.{frame_of, verdict_at, next_mapping}
 use Rattle.event_channel.specs.declared.channels.PortState.{PortState}
 use Rattle.event_channel.specs.declared.channels.PortState.TheVariants as port
 use Rattle.event_channel.specs.Channels.{state_of}
 use Rattle.hypervisor.specs.Hypervisor.{Hypervisor}
 use Rattle.hypervisor.specs.Act.{BackAct, Outcome, back_act, map_act, bind_act}
 use Rattle.ring_words.specs.Ring.{next_of, requests_of, overruns, notifies}
+use Rattle.ring_words.specs.Shape.{entry_words_of, slot_word_of}
 use Rattle.schedule_text.specs.declared.line.Line.{Line}
 use Rattle.schedule_text.specs.declared.line.Line.TheVariants as lines
 use Rattle.blk_layout.specs.Response.{response_words_of}
-use Rattle.report_rules.specs.Reply.{is_reply, value_written, response_due, lines_before, answered_in}
+use Rattle.report_rules.specs.Reply.{is_reply, row_of, are_alike, value_written, response_due, lines_before, answered_in}
 use Rattle.back_jobs.specs.Jobs.{first_mapping}
 use Rattle.blk_back.specs.declared.stage.Reply.{Reply}
 use Rattle.blk_back.specs.declared.stage.Stage.{Stage}
 use Rattle.blk_back.specs.declared.stage.Stage.TheVariants as stage
 use Rattle.blk_back.specs.declared.told.Halt.{Halt}
-use Rattle.blk_back.specs.View.{View, slot_word}
-use Rattle.blk_back.specs.Ask.{ask_at, ask_of, loop_ask, next_reply, response_word}
-use Rattle.blk_back.specs.Step.{at, giving_up, give_up, overrun, looked, loop_word, loop_step, fetched, fetch_step, replied, step_at, step_of}
+use Rattle.blk_back.specs.View.{View, page_of, slot_page, slot_word}
+use Rattle.blk_back.proofs.Slots.{response_fits}
+use Rattle.blk_back.specs.Ask.{ask_at, ask_of, loop_ask, index_ask, entry_ask, unmap_ask, next_gref, next_reply, response_word}
+use Rattle.blk_back.specs.Step.{at, unbound, bound, other_pages, mapped, unmapped_bound, unmapped_unbound, giving_up, give_up, overrun, looked, loop_word, loop_step, fetched, fetch_step, replied, step_at, step_of}
 use Rattle.split_model.specs.Shown.{back_lines, halt_lines, halt_line}
 use Rattle.split_model.proofs.SafeActs.{of_back, back_wait}
 use Rattle.ring_laws.proofs.Sight.{is_other}
 use Rattle.ring_laws.proofs.Shows.{Sight, Shows, IsOnPages}
-use Rattle.ring_laws.proofs.Touches.{IsPage, read_on, write_on}
-use Rattle.ring_laws.proofs.Entry.{high_slot}
+use Rattle.ring_laws.proofs.Touches.{read_on, write_on}
+use Rattle.ring_laws.proofs.Entry.{first_is, slot_is, high_slot}
 use Rattle.ring_laws.proofs.Knows.{untold, unhalted, Serves, KnowsAt}
 use Rattle.ring_laws.proofs.Due.{Answered, Candidate, response_in, under_way, row_at, answered_then, next_word, replying, Writes}
 use Rattle.ring_laws.proofs.Rows.{answered_one, answered_aside}
@@ -50,7 +52,7 @@ pub data RowGoes (before ys : List Line) (s t : Stage) : Type 0 where
       → ((answered : List Answered) (k prod : ℕ) → answered_then s answered k prod ≡ answered) → RowGoes before ys s t
   ends : (r : Reply) (chosen : ℕ) → s ≡ stage.Producer r → under_way t ≡ [] → response_due (lines_before before 3) chosen ≡ Some (response_words_of (response_in r)) → answered_in (before ++ ys) ≡ answered_in before ++ chosen ∷ [] → RowGoes before ys s t
 
--- a move of the back, with the lines behind it
+-- a move of the back, with the lines after it
 pub record MoveWrites (before : List Line) (answered : List Answered) (s : Stage) (old : View) (answer : BackAnswer) (shown : Move) (new : View) : Type 0 where
   pub writes : Writes (before ++ lines.Move shown ∷ (back_lines new.told answer ++ halt_lines old.halted new.halted)) new.stage answered
   pub row : RowGoes before (lines.Move shown ∷ (back_lines new.told answer ++ halt_lines old.halted new.halted)) s new.stage
@@ -100,46 +102,60 @@ BackWrites before s answered k v a = MoveWrites before (answered_then s answered
 abbrev Loops : List Line → List Answered → Option Reply → View → BackAct → Type 0
 Loops before answered r v a = MoveWrites before answered stage.Loop v a.answer a.shown (loop_step v r a.answer)
 
--- the ring's page is mapped, or it isn't
-map_writes : (before : List Line) (h : Hypervisor) (v : View) (x : Sight) (answered : List Answered) (k : ℕ) (verdict : Result ℕ MapRefusal) → x.pages ≡ [] → Shows before x → v.told ≡ None → Writes before stage.MapRing answered → BackWrites before stage.MapRing answered k v (map_act h back.Back 8 ReadWrite verdict)
-map_writes before h v x answered k (Ok frame) none shows told w =
-    let line : Line = lines.Move (moves.Map back.Back 8 ReadWrite (h.grants.made + 1) frame) in
-    alone before answered stage.MapRing v _ (moves.Map back.Back 8 ReadWrite (h.grants.made + 1) frame) _ told refl
-    (writes_stage _ stage.MapRing stage.Bind answered refl
-    (writes_still before line stage.MapRing answered w (unwritten_at before line stage.MapRing answered w refl refl (λ own. refl)) (written_map before 8 (h.grants.made + 1) frame ReadWrite x none shows) refl))
-    (rests refl refl (answered_one before line refl refl))
-map_writes before h v x answered k (Err refusal) none shows told w =
-    quiet before answered stage.MapRing v _ (moves.MapRefused back.Back 8 ReadWrite (status_of refusal)) _ w refl (own_passes (lines.Move (moves.MapRefused back.Back 8 ReadWrite (status_of refusal))) refl refl) told refl
+two_mappings : (b : Bool) → under_way (if b then stage.MapRing else stage.Bind) ≡ []
+two_mappings true = refl
+two_mappings false = refl
 
-bind_writes : (before : List Line) (h : Hypervisor) (v : View) (answered : List Answered) (k : ℕ) (state : PortState) → v.told ≡ None → Writes before stage.Bind answered → BackWrites before stage.Bind answered k v (bind_act h 1 state)
-bind_writes before h v answered k port.Unbound told w = quiet before answered stage.Bind v _ (moves.Bind 1) _ w refl (own_passes (lines.Move (moves.Bind 1)) refl refl) told refl
-bind_writes before h v answered k port.Closed told w = quiet before answered stage.Bind v _ (moves.BindRefused 1) _ w refl (own_passes (lines.Move (moves.BindRefused 1)) refl refl) told refl
-bind_writes before h v answered k port.Bound told w = quiet before answered stage.Bind v _ (moves.BindRefused 1) _ w refl (own_passes (lines.Move (moves.BindRefused 1)) refl refl) told refl
+pub unbound_nothing : (pages : List Mapping) → under_way (unbound pages) ≡ []
+unbound_nothing [] = refl
+unbound_nothing (page ∷ pages) = refl
+
+bound_nothing : (pages : List Mapping) → under_way (bound pages) ≡ []
+bound_nothing [] = refl
+bound_nothing (page ∷ pages) = refl
+
+-- a page of the ring is mapped, or it isn't
+map_writes : (before : List Line) (h : Hypervisor) (v : View) (x : Sight) (answered : List Answered) (k : ℕ) (verdict : Result ℕ MapRefusal) → x.touched ≡ false → Shows before x → v.told ≡ None → Writes before stage.MapRing answered → BackWrites before stage.MapRing answered k v (map_act h back.Back (next_gref v) ReadWrite verdict)
+map_writes before h v x answered k (Ok frame) none shows told w =
+    let line : Line = lines.Move (moves.Map back.Back (next_gref v) ReadWrite (h.grants.made + 1) frame) in
+    let last : Bool = nat_lt (length v.pages + 1) (length v.grefs) in
+    let next : Stage = if last then stage.MapRing else stage.Bind in
+    alone before answered stage.MapRing v _ (moves.Map back.Back (next_gref v) ReadWrite (h.grants.made + 1) frame) (mapped (next_mapping h.grants (next_gref v) ReadWrite) v) told refl
+    (writes_stage _ stage.MapRing next answered (sym (two_mappings last))
+    (writes_still before line stage.MapRing answered w (unwritten_at before line stage.MapRing answered w refl refl (λ own. refl)) (written_map before (next_gref v) (h.grants.made + 1) frame ReadWrite x none shows) refl))
+    (rests refl (two_mappings last) (answered_one before line refl refl))
+map_writes before h v x answered k (Err refusal) none shows told w =
+    quiet before answered stage.MapRing v _ (moves.MapRefused back.Back (next_gref v) ReadWrite (status_of refusal)) _ w refl (own_passes (lines.Move (moves.MapRefused back.Back (next_gref v) ReadWrite (status_of refusal))) refl refl) told (unbound_nothing v.pages)
+
+bind_writes : (before : List Line) (h : Hypervisor) (v : View) (answered : List Answered) (k : ℕ) (state : PortState) → v.told ≡ None → Writes before stage.Bind answered → BackWrites before stage.Bind answered k v (bind_act h v.port state)
+bind_writes before h v answered k port.Unbound told w = quiet before answered stage.Bind v _ (moves.Bind v.port) _ w refl (own_passes (lines.Move (moves.Bind v.port)) refl refl) told refl
+bind_writes before h v answered k port.Closed told w = quiet before answered stage.Bind v _ (moves.BindRefused v.port) _ w refl (own_passes (lines.Move (moves.BindRefused v.port)) refl refl) told (unbound_nothing v.pages)
+bind_writes before h v answered k port.Bound told w = quiet before answered stage.Bind v _ (moves.BindRefused v.port) _ w refl (own_passes (lines.Move (moves.BindRefused v.port)) refl refl) told (unbound_nothing v.pages)
 
 -- a word is read, whatever the back makes of it
-read_writes : (before : List Line) (answered : List Answered) (s : Stage) (old : View) (answer : BackAnswer) (frame word value : ℕ) (new : View) → Writes before s answered → under_way s ≡ [] → new.told ≡ None → under_way new.stage ≡ [] → MoveWrites before answered s old answer (moves.Read back.Back old.page.number frame word value) new
-read_writes before answered s old answer frame word value new w none told still = quiet before answered s old answer (moves.Read back.Back old.page.number frame word value) new w none (read_passes old.page.number frame word value) told still
+read_writes : (before : List Line) (answered : List Answered) (s : Stage) (old : View) (answer : BackAnswer) (number frame word value : ℕ) (new : View) → Writes before s answered → under_way s ≡ [] → new.told ≡ None → under_way new.stage ≡ [] → MoveWrites before answered s old answer (moves.Read back.Back number frame word value) new
+read_writes before answered s old answer number frame word value new w none told still = quiet before answered s old answer (moves.Read back.Back number frame word value) new w none (read_passes number frame word value) told still
 
-looked_writes : (before : List Line) (answered : List Answered) (s : Stage) (v otherwise : View) (answer : BackAnswer) (frame place word : ℕ) → Writes before s answered → under_way s ≡ [] → v.told ≡ None → otherwise.told ≡ None → under_way otherwise.stage ≡ [] → MoveWrites before answered s v answer (moves.Read back.Back v.page.number frame place word) (looked v word otherwise)
-looked_writes before answered s v otherwise answer frame place word w none told other still =
-    let P : View → Type 0 = λ (new : View). MoveWrites before answered s v answer (moves.Read back.Back v.page.number frame place word) new in
+looked_writes : (before : List Line) (answered : List Answered) (s : Stage) (v otherwise : View) (answer : BackAnswer) (number frame place word : ℕ) → Writes before s answered → under_way s ≡ [] → v.told ≡ None → otherwise.told ≡ None → under_way otherwise.stage ≡ [] → MoveWrites before answered s v answer (moves.Read back.Back number frame place word) (looked v word otherwise)
+looked_writes before answered s v otherwise answer number frame place word w none told other still =
+    let P : View → Type 0 = λ (new : View). MoveWrites before answered s v answer (moves.Read back.Back number frame place word) new in
     either_view P (overruns v.ring word) (overrun v word) _
-    (read_writes before answered s v answer frame place word (overrun v word) w none told (giving_nothing (first_mapping v.jobs.works)))
+    (read_writes before answered s v answer number frame place word (overrun v word) w none told (giving_nothing (first_mapping v.jobs.works)))
     (either_view P (word == v.ring.cons) otherwise (record v { seen = word; stage = stage.Loop })
-    (read_writes before answered s v answer frame place word otherwise w none other still)
-    (read_writes before answered s v answer frame place word (record v { seen = word; stage = stage.Loop }) w none told refl))
+    (read_writes before answered s v answer number frame place word otherwise w none other still)
+    (read_writes before answered s v answer number frame place word (record v { seen = word; stage = stage.Loop }) w none told refl))
 
-loop_word_writes : (before : List Line) (answered : List Answered) (v : View) (answer : BackAnswer) (frame place word : ℕ) → Writes before stage.Loop answered → v.told ≡ None → MoveWrites before answered stage.Loop v answer (moves.Read back.Back v.page.number frame place word) (loop_word v word)
-loop_word_writes before answered v answer frame place word w told =
-    either_view (λ (new : View). MoveWrites before answered stage.Loop v answer (moves.Read back.Back v.page.number frame place word) new) (requests_of v.ring v.seen == 0) (looked v word (record v { seen = word; stage = stage.StoreEvent })) (record v { entry = word ∷ []; stage = stage.Fetch 1 })
-    (looked_writes before answered stage.Loop v (record v { seen = word; stage = stage.StoreEvent }) answer frame place word w refl told told refl)
-    (read_writes before answered stage.Loop v answer frame place word (record v { entry = word ∷ []; stage = stage.Fetch 1 }) w refl told refl)
+loop_word_writes : (before : List Line) (answered : List Answered) (v : View) (answer : BackAnswer) (number frame place word : ℕ) → Writes before stage.Loop answered → v.told ≡ None → MoveWrites before answered stage.Loop v answer (moves.Read back.Back number frame place word) (loop_word v word)
+loop_word_writes before answered v answer number frame place word w told =
+    either_view (λ (new : View). MoveWrites before answered stage.Loop v answer (moves.Read back.Back number frame place word) new) (requests_of v.ring v.seen == 0) (looked v word (record v { seen = word; stage = stage.StoreEvent })) (record v { entry = word ∷ []; stage = stage.Fetch 1 })
+    (looked_writes before answered stage.Loop v (record v { seen = word; stage = stage.StoreEvent }) answer number frame place word w refl told told refl)
+    (read_writes before answered stage.Loop v answer number frame place word (record v { entry = word ∷ []; stage = stage.Fetch 1 }) w refl told refl)
 
-fetch_writes : (before : List Line) (answered : List Answered) (n : ℕ) (v : View) (answer : BackAnswer) (frame place word : ℕ) → Writes before (stage.Fetch n) answered → v.told ≡ None → MoveWrites before answered (stage.Fetch n) v answer (moves.Read back.Back v.page.number frame place word) (fetch_step v n word)
-fetch_writes before answered n v answer frame place word w told =
-    either_view (λ (new : View). MoveWrites before answered (stage.Fetch n) v answer (moves.Read back.Back v.page.number frame place word) new) (n == 27) (fetched v (v.entry ++ word ∷ [])) (record v { entry = v.entry ++ word ∷ []; stage = stage.Fetch (n + 1) })
-    (read_writes before answered (stage.Fetch n) v answer frame place word (fetched v (v.entry ++ word ∷ [])) w refl told refl)
-    (read_writes before answered (stage.Fetch n) v answer frame place word (record v { entry = v.entry ++ word ∷ []; stage = stage.Fetch (n + 1) }) w refl told refl)
+fetch_writes : (before : List Line) (answered : List Answered) (n : ℕ) (v : View) (answer : BackAnswer) (number frame place word : ℕ) → Writes before (stage.Fetch n) answered → v.told ≡ None → MoveWrites before answered (stage.Fetch n) v answer (moves.Read back.Back number frame place word) (fetch_step v n word)
+fetch_writes before answered n v answer number frame place word w told =
+    either_view (λ (new : View). MoveWrites before answered (stage.Fetch n) v answer (moves.Read back.Back number frame place word) new) (n + 1 == entry_words_of v.shape.abi) (fetched v (v.entry ++ word ∷ [])) (record v { entry = v.entry ++ word ∷ []; stage = stage.Fetch (n + 1) })
+    (read_writes before answered (stage.Fetch n) v answer number frame place word (fetched v (v.entry ++ word ∷ [])) w refl told refl)
+    (read_writes before answered (stage.Fetch n) v answer number frame place word (record v { entry = v.entry ++ word ∷ []; stage = stage.Fetch (n + 1) }) w refl told refl)
 
 -- the back waits; its stage stays
 wait_writes : (before : List Line) (answered : List Answered) (s : Stage) (old new : View) (answer : BackAnswer) → Writes before s answered → under_way s ≡ [] → new.told ≡ None → under_way new.stage ≡ under_way s → MoveWrites before answered s old answer (moves.Event mover.Back) new
@@ -150,85 +166,104 @@ watch_writes : (before : List Line) (answered : List Answered) (s : Stage) (old 
 watch_writes before answered s old new answer path w none told same = quiet before answered s old answer (moves.Watched mover.Back path) new w none (own_passes (lines.Move (moves.Watched mover.Back path)) refl refl) told (same ∙ none)
 
 idle_writes : (before : List Line) (h : Hypervisor) (v : View) (o : Outcome) (a : BackAct) (answered : List Answered) (asleep none : Bool) → under_way v.stage ≡ [] → v.told ≡ None → Writes before stage.Loop answered
-    → back_act h back.Back (if asleep then ask.Wait else (if none then ask.Read v.page 0 else ask.Read v.page (slot_word v.ring.cons 0))) o ≡ Some a → Loops before answered None v a
+    → back_act h back.Back (if asleep then ask.Wait else (if none then index_ask v 0 else entry_ask v 0)) o ≡ Some a → Loops before answered None v a
 idle_writes before h v o a answered true none same told w e = back_wait (Loops before answered None v) h back.Back a (wait_writes before answered stage.Loop v (record v { asleep = false }) answers.Event w refl told same) (λ path. watch_writes before answered stage.Loop v v (answers.Watched path) path w refl told same) e
-idle_writes before h v o a answered false true same told w e = of_back (Loops before answered None v) _ a (loop_word_writes before answered v _ (frame_of h.grants v.page) 0 _ w told) e
-idle_writes before h v o a answered false false same told w e = of_back (Loops before answered None v) _ a (loop_word_writes before answered v _ (frame_of h.grants v.page) (slot_word v.ring.cons 0) _ w told) e
+idle_writes before h v o a answered false true same told w e = of_back (Loops before answered None v) _ a (loop_word_writes before answered v _ _ (frame_of h.grants (page_of v 0)) 0 _ w told) e
+idle_writes before h v o a answered false false same told w e = of_back (Loops before answered None v) _ a (loop_word_writes before answered v _ _ (frame_of h.grants (slot_page v v.ring.cons 0)) (slot_word v.shape v.ring.cons 0) _ w told) e
 
 -- a word of a response is written: the row has it
-slot_goes : (before : List Line) (x : Sight) (number frame prod i w : ℕ) (r : Reply) (s t : Stage) → IsPage number x.pages → Shows before x → length (under_way s) < 3 → Candidate before (length (under_way s)) (response_in r) → row_at t ≡ Some r → length (under_way t) ≡ length (under_way s) + 1
-    → ((answered : List Answered) (k p : ℕ) → answered_then s answered k p ≡ answered) → i < 28 → RowGoes before (lines.Move (moves.Write back.Back number frame (slot_word prod i) w) ∷ []) s t
-slot_goes before x number frame prod i w r s t is shows small c at long same within =
-    let line : Line = lines.Move (moves.Write back.Back number frame (slot_word prod i) w) in
-    grows r c at long (slot_lines before x number frame (slot_word prod i) w (length (under_way s)) (not_one (slot_word prod i) (high_slot prod i within)) is shows) (answered_one before line refl refl) same
+slot_goes : (before : List Line) (x : Sight) (v : View) (frame i w : ℕ) (r : Reply) (s t : Stage) → Serves 0 x v → Shows before x → length (under_way s) < 3 → Candidate before (length (under_way s)) (response_in r) → row_at t ≡ Some r → length (under_way t) ≡ length (under_way s) + 1
+    → ((answered : List Answered) (k p : ℕ) → answered_then s answered k p ≡ answered) → i < 3 → (let page : Mapping = slot_page v v.ring.prod i in RowGoes before (lines.Move (moves.Write back.Back page.number frame (slot_word v.shape v.ring.prod i) w) ∷ []) s t)
+slot_goes before x v frame i w r s t k shows small c at long same within =
+    let page : Mapping = slot_page v v.ring.prod i in
+    let line : Line = lines.Move (moves.Write back.Back page.number frame (slot_word v.shape v.ring.prod i) w) in
+    grows r c at long
+    (slot_lines before x page.number (slot_word_of v.shape v.ring.prod i).0 frame (slot_word v.shape v.ring.prod i) w (length (under_way s)) (not_one _ (high_slot v.shape v.ring.prod i)) (slot_is 0 v.ring.prod i x v k (response_fits v.shape.abi i within)) shows)
+    (answered_one before line refl refl) same
 
-loop_writes : (before : List Line) (h : Hypervisor) (v : View) (o : Outcome) (a : BackAct) (x : Sight) (answered : List Answered) (r : Option Reply) → Serves 0 x v.ring v.page v.seen v.halted v.entry v.fetched → Shows before x → under_way v.stage ≡ [] → v.told ≡ None → Writes before stage.Loop answered
+-- one of the three words, and the stage that follows
+word_writes : (before : List Line) (h : Hypervisor) (x : Sight) (v new : View) (answer : BackAnswer) (i : ℕ) (r : Reply) (s t : Stage) (answered : List Answered) → Serves 0 x v → Shows before x → new.told ≡ None → new.halted ≡ v.halted → new.stage ≡ t → Writes before s answered → length (under_way s) ≡ i → i < 3 → under_way s ++ response_word r i ∷ [] ≡ under_way t
+    → ((words : List ℕ) → are_alike i (row_of (under_way s ++ response_word r i ∷ []) 0) words ≡ are_alike i (response_words_of (response_in r)) words) → Candidate before i (response_in r) → row_at t ≡ Some r → ((l : List Answered) (n m : ℕ) → answered_then s l n m ≡ l)
+    → (let page : Mapping = slot_page v v.ring.prod i in MoveWrites before answered s v answer (moves.Write back.Back page.number (frame_of h.grants page) (slot_word v.shape v.ring.prod i) (response_word r i)) new)
+word_writes before h x v new answer i r s t answered k shows told halted here w long small same alike job at still =
+    let page : Mapping = slot_page v v.ring.prod i in
+    let shown : Move = moves.Write back.Back page.number (frame_of h.grants page) (slot_word v.shape v.ring.prod i) (response_word r i) in
+    let longer : length (under_way t) ≡ length (under_way s) + 1 = ap (λ (u : List ℕ). length u) (sym same) ∙ length-append (under_way s) (response_word r i ∷ []) in
+    alone before answered s v answer shown new told halted
+    (subst (λ (q : Stage). Writes (before ++ lines.Move shown ∷ []) q answered) (sym here) (slot_writes before x v (frame_of h.grants page) i (response_word r i) (response_in r) s t answered k shows w long small same alike job))
+    (subst (λ (q : Stage). RowGoes before (lines.Move shown ∷ []) s q) (sym here)
+    (slot_goes before x v (frame_of h.grants page) i (response_word r i) r s t k shows (omega arith) (subst (λ (n : ℕ). Candidate before n (response_in r)) (sym long) job) at longer still small))
+
+loop_writes : (before : List Line) (h : Hypervisor) (v : View) (o : Outcome) (a : BackAct) (x : Sight) (answered : List Answered) (r : Option Reply) → Serves 0 x v → Shows before x → under_way v.stage ≡ [] → v.told ≡ None → Writes before stage.Loop answered
     → IfSome (next_word r) (λ (p : Reply × ℕ). Candidate before p.1 (response_in p.0)) → back_act h back.Back (loop_ask v r) o ≡ Some a → Loops before answered r v a
 loop_writes before h v o a x answered (Some r) k shows same told w job e =
-    of_back (Loops before answered (Some r) v) _ a
-    (alone before answered stage.Loop v _ _ _ told refl
-    (slot_writes before x v.page.number (frame_of h.grants v.page) v.ring.prod 0 (response_word r 0) (response_in r) stage.Loop (stage.ReplyHigh r) answered k.mapped k.replied shows w refl (omega arith) refl (λ words. refl) job)
-    (slot_goes before x v.page.number (frame_of h.grants v.page) v.ring.prod 0 (response_word r 0) r stage.Loop (stage.ReplyHigh r) k.mapped shows (omega arith) job refl refl (λ l n m. refl) (omega arith))) e
+    of_back (Loops before answered (Some r) v) _ a (word_writes before h x v _ answers.Done 0 r stage.Loop (stage.ReplyHigh r) answered k shows told refl refl w refl (omega arith) refl (λ words. refl) job refl (λ l n m. refl)) e
 loop_writes before h v o a x answered None k shows same told w job e = idle_writes before h v o a answered v.asleep (requests_of v.ring v.seen == 0) same told w e
 
 -- req_event is no word of a reply
-event_writes : (before : List Line) (x : Sight) (v : View) (frame value : ℕ) (answered : List Answered) → Serves 0 x v.ring v.page v.seen v.halted v.entry v.fetched → Shows before x → v.told ≡ None → Writes before stage.StoreEvent answered → MoveWrites before answered stage.StoreEvent v answers.Done (moves.Write back.Back v.page.number frame 1 value) (at stage.EventFence v)
+event_writes : (before : List Line) (x : Sight) (v : View) (frame value : ℕ) (answered : List Answered) → Serves 0 x v → Shows before x → v.told ≡ None → Writes before stage.StoreEvent answered → (let page : Mapping = page_of v 0 in MoveWrites before answered stage.StoreEvent v answers.Done (moves.Write back.Back page.number frame 1 value) (at stage.EventFence v))
 event_writes before x v frame value answered k shows told w =
-    let line : Line = lines.Move (moves.Write back.Back v.page.number frame 1 value) in
-    let on : IsOnPages (lines.Move (moves.Write back.Back v.page.number frame 1 value)) = write_on v.page.number frame 1 value in
-    let none : value_written before (lines.Move (moves.Write back.Back v.page.number frame 1 value)) ≡ None = written_event before x v.page.number frame value k.mapped shows in
-    alone before answered stage.StoreEvent v answers.Done (moves.Write back.Back v.page.number frame 1 value) (at stage.EventFence v) told refl
+    let page : Mapping = page_of v 0 in
+    let line : Line = lines.Move (moves.Write back.Back page.number frame 1 value) in
+    let on : IsOnPages (lines.Move (moves.Write back.Back page.number frame 1 value)) = write_on page.number frame 1 value in
+    let none : value_written before (lines.Move (moves.Write back.Back page.number frame 1 value)) ≡ None = written_event before x page.number frame value (first_is 0 x v k) shows in
+    alone before answered stage.StoreEvent v answers.Done (moves.Write back.Back page.number frame 1 value) (at stage.EventFence v) told refl
     (writes_stage _ stage.StoreEvent stage.EventFence answered refl
     (writes_still before line stage.StoreEvent answered w (unwritten_at before line stage.StoreEvent answered w none refl (λ own. refl)) (written_still before line on none) (written_behind before line on ∙ none)))
     (rests refl refl (answered_one before line refl refl))
 
 -- the producer is raised, and the reply told
-raised_writes : (before : List Line) (x : Sight) (v : View) (frame k : ℕ) (r : Reply) (answered : List Answered) → Serves 0 x v.ring v.page v.seen v.halted v.entry v.fetched → Shows before x → r.op < 2 ^ 8 → Writes before (stage.Producer r) answered → Candidate before 3 (response_in r)
-    → MoveWrites before (answered ++ record { job = k; response = response_in r; producer = next_of v.ring.prod } ∷ []) (stage.Producer r) v answers.Done (moves.Write back.Back v.page.number frame 2 (next_of v.ring.prod)) (replied v r)
+raised_writes : (before : List Line) (x : Sight) (v : View) (frame k : ℕ) (r : Reply) (answered : List Answered) → Serves 0 x v → Shows before x → r.op < 2 ^ 8 → Writes before (stage.Producer r) answered → Candidate before 3 (response_in r)
+    → (let page : Mapping = page_of v 0 in MoveWrites before (answered ++ record { job = k; response = response_in r; producer = next_of v.ring.prod } ∷ []) (stage.Producer r) v answers.Done (moves.Write back.Back page.number frame 2 (next_of v.ring.prod)) (replied v r))
 raised_writes before x v frame k r answered s shows small w c =
+    let page : Mapping = page_of v 0 in
     let all = answered ++ record { job = k; response = response_in r; producer = next_of v.ring.prod } ∷ [] in
-    let line : Line = lines.Move (moves.Write back.Back v.page.number frame 2 (next_of v.ring.prod)) in
-    let up : IsRaised before (lines.Move (moves.Write back.Back v.page.number frame 2 (next_of v.ring.prod)) ∷ lines.Reply r.id r.status ∷ []) v.ring.prod k r answered = producer_writes before x v.page.number frame v.ring.prod k r answered s.mapped s.replied shows small w c in
+    let line : Line = lines.Move (moves.Write back.Back page.number frame 2 (next_of v.ring.prod)) in
+    let up : IsRaised before (lines.Move (moves.Write back.Back page.number frame 2 (next_of v.ring.prod)) ∷ lines.Reply r.id r.status ∷ []) v.ring.prod k r answered = producer_writes before x v frame k r answered s shows small w c in
     record {
       writes = subst (λ (ls : List Line). Writes (before ++ line ∷ lines.Reply r.id r.status ∷ ls) (stage.ProducerFence v.ring.prod) all) (sym (unhalted v.halted)) up.writes;
       row = subst (λ (ls : List Line). RowGoes before (line ∷ lines.Reply r.id r.status ∷ ls) (stage.Producer r) (stage.ProducerFence v.ring.prod)) (sym (unhalted v.halted)) (ends r up.chosen refl refl up.due up.told);
     }
 
-writes_at : (before : List Line) (h : Hypervisor) (s : Stage) (v : View) (o : Outcome) (a : BackAct) (x : Sight) (answered : List Answered) (k : ℕ) → KnowsAt s x v.ring v.page v.seen v.halted v.entry v.fetched → Shows before x → under_way v.stage ≡ under_way s → v.told ≡ None → Writes before s answered
+-- the first page that is left is unmapped, or the back waits
+unmap_writes : (before : List Line) (h : Hypervisor) (s : Stage) (v new : View) (o : Outcome) (a : BackAct) (answered : List Answered) (pages : List Mapping) → Writes before s answered → under_way s ≡ [] → new.told ≡ None → under_way new.stage ≡ [] → back_act h back.Back (unmap_ask pages) o ≡ Some a → MoveWrites before answered s v a.answer a.shown new
+unmap_writes before h s v new o a answered [] w none told still e =
+    back_wait (λ (b : BackAct). MoveWrites before answered s v b.answer b.shown new) h back.Back a (wait_writes before answered s v new _ w none told (still ∙ sym none)) (λ path. watch_writes before answered s v new _ path w none told (still ∙ sym none)) e
+unmap_writes before h s v new o a answered (page ∷ pages) w none told still e =
+    of_back (λ (b : BackAct). MoveWrites before answered s v b.answer b.shown new) _ a (quiet before answered s v _ (moves.Unmap back.Back page.number) new w none (own_passes (lines.Move (moves.Unmap back.Back page.number)) refl refl) told still) e
+
+writes_at : (before : List Line) (h : Hypervisor) (s : Stage) (v : View) (o : Outcome) (a : BackAct) (x : Sight) (answered : List Answered) (k : ℕ) → KnowsAt s x v → Shows before x → under_way v.stage ≡ under_way s → v.told ≡ None → Writes before s answered
     → IfSome (replying s v) (λ (p : Reply × ℕ). Candidate before p.1 (response_in p.0)) → ((r : Reply) → s ≡ stage.Producer r → r.op < 2 ^ 8)
     → back_act h back.Back (ask_at s v) o ≡ Some a → BackWrites before s answered k v a
-writes_at before h stage.MapRing v o a x answered k n shows same told w job small e = of_back (BackWrites before stage.MapRing answered k v) _ a (map_writes before h v x answered k (verdict_at h.pages 8 ReadWrite) n.unmapped shows told w) e
-writes_at before h stage.Bind v o a x answered k n shows same told w job small e = of_back (BackWrites before stage.Bind answered k v) _ a (bind_writes before h v answered k (state_of h.channels 1) told w) e
+writes_at before h stage.InitWait v o a x answered k n shows same told w job small e =
+    back_wait (BackWrites before stage.InitWait answered k v) h back.Back a (wait_writes before answered stage.InitWait v v _ w refl told same) (λ path. watch_writes before answered stage.InitWait v v _ path w refl told same) e
+writes_at before h stage.MapRing v o a x answered k n shows same told w job small e =
+    of_back (BackWrites before stage.MapRing answered k v) _ a (map_writes before h v x answered k (verdict_at h.pages (next_gref v) ReadWrite) n.waits.untouched shows told w) e
+writes_at before h stage.Bind v o a x answered k n shows same told w job small e = of_back (BackWrites before stage.Bind answered k v) _ a (bind_writes before h v answered k (state_of h.channels v.port) told w) e
 writes_at before h stage.Loop v o a x answered k n shows same told w job small e = loop_writes before h v o a x answered (next_reply v) n shows same told w job e
-writes_at before h (stage.Fetch i) v o a x answered k n shows same told w job small e = of_back (BackWrites before (stage.Fetch i) answered k v) _ a (fetch_writes before answered i v _ (frame_of h.grants v.page) (slot_word v.ring.cons i) _ w told) e
+writes_at before h (stage.Fetch i) v o a x answered k n shows same told w job small e = of_back (BackWrites before (stage.Fetch i) answered k v) _ a (fetch_writes before answered i v _ _ (frame_of h.grants (slot_page v v.ring.cons i)) (slot_word v.shape v.ring.cons i) _ w told) e
 writes_at before h (stage.ReplyHigh r) v o a x answered k n shows same told w job small e =
-    of_back (BackWrites before (stage.ReplyHigh r) answered k v) _ a
-    (alone before answered (stage.ReplyHigh r) v _ _ _ told refl
-    (slot_writes before x v.page.number (frame_of h.grants v.page) v.ring.prod 1 (response_word r 1) (response_in r) (stage.ReplyHigh r) (stage.ReplyLast r) answered n.mapped n.replied shows w refl (omega arith) refl (λ words. refl) job)
-    (slot_goes before x v.page.number (frame_of h.grants v.page) v.ring.prod 1 (response_word r 1) r (stage.ReplyHigh r) (stage.ReplyLast r) n.mapped shows (omega arith) job refl refl (λ l n m. refl) (omega arith))) e
+    of_back (BackWrites before (stage.ReplyHigh r) answered k v) _ a (word_writes before h x v _ answers.Done 1 r (stage.ReplyHigh r) (stage.ReplyLast r) answered n shows told refl refl w refl (omega arith) refl (λ words. refl) job refl (λ l i m. refl)) e
 writes_at before h (stage.ReplyLast r) v o a x answered k n shows same told w job small e =
-    of_back (BackWrites before (stage.ReplyLast r) answered k v) _ a
-    (alone before answered (stage.ReplyLast r) v _ _ _ told refl
-    (slot_writes before x v.page.number (frame_of h.grants v.page) v.ring.prod 2 (response_word r 2) (response_in r) (stage.ReplyLast r) (stage.Producer r) answered n.mapped n.replied shows w refl (omega arith) refl (λ words. refl) job)
-    (slot_goes before x v.page.number (frame_of h.grants v.page) v.ring.prod 2 (response_word r 2) r (stage.ReplyLast r) (stage.Producer r) n.mapped shows (omega arith) job refl refl (λ l n m. refl) (omega arith))) e
-writes_at before h (stage.Producer r) v o a x answered k n shows same told w job small e = of_back (BackWrites before (stage.Producer r) answered k v) _ a (raised_writes before x v (frame_of h.grants v.page) k r answered n shows (small r refl) w job) e
+    of_back (BackWrites before (stage.ReplyLast r) answered k v) _ a (word_writes before h x v _ answers.Done 2 r (stage.ReplyLast r) (stage.Producer r) answered n shows told refl refl w refl (omega arith) refl (λ words. refl) job refl (λ l i m. refl)) e
+writes_at before h (stage.Producer r) v o a x answered k n shows same told w job small e = of_back (BackWrites before (stage.Producer r) answered k v) _ a (raised_writes before x v (frame_of h.grants (page_of v 0)) k r answered n shows (small r refl) w job) e
 writes_at before h (stage.ProducerFence old) v o a x answered k n shows same told w job small e = of_back (BackWrites before (stage.ProducerFence old) answered k v) _ a (quiet before answered (stage.ProducerFence old) v _ (moves.Fence mover.Back) _ w refl (own_passes (lines.Move (moves.Fence mover.Back)) refl refl) told refl) e
 writes_at before h (stage.ResponseEvent old) v o a x answered k n shows same told w job small e =
     of_back (BackWrites before (stage.ResponseEvent old) answered k v) _ a
-    (read_writes before answered (stage.ResponseEvent old) v _ (frame_of h.grants v.page) 3 _ (at (if notifies old v.ring.prod _ then stage.Send else stage.Loop) v) w refl told (two_stages (notifies old v.ring.prod _))) e
+    (read_writes before answered (stage.ResponseEvent old) v _ _ (frame_of h.grants (page_of v 0)) 3 _ (at (if notifies old v.ring.prod _ then stage.Send else stage.Loop) v) w refl told (two_stages (notifies old v.ring.prod _))) e
 writes_at before h stage.Send v o a x answered k n shows same told w job small e = of_back (BackWrites before stage.Send answered k v) _ a (quiet before answered stage.Send v _ (moves.Send mover.Back) _ w refl (own_passes (lines.Move (moves.Send mover.Back)) refl refl) told refl) e
-writes_at before h stage.StoreEvent v o a x answered k n shows same told w job small e = of_back (BackWrites before stage.StoreEvent answered k v) _ a (event_writes before x v (frame_of h.grants v.page) (next_of v.ring.cons) answered n shows told w) e
+writes_at before h stage.StoreEvent v o a x answered k n shows same told w job small e = of_back (BackWrites before stage.StoreEvent answered k v) _ a (event_writes before x v (frame_of h.grants (page_of v 0)) (next_of v.ring.cons) answered n shows told w) e
 writes_at before h stage.EventFence v o a x answered k n shows same told w job small e = of_back (BackWrites before stage.EventFence answered k v) _ a (quiet before answered stage.EventFence v _ (moves.Fence mover.Back) _ w refl (own_passes (lines.Move (moves.Fence mover.Back)) refl refl) told refl) e
 writes_at before h stage.LookAgain v o a x answered k n shows same told w job small e =
-    of_back (BackWrites before stage.LookAgain answered k v) _ a (looked_writes before answered stage.LookAgain v (record v { seen = _; stage = stage.Loop; asleep = true }) _ (frame_of h.grants v.page) 0 _ w refl told told refl) e
+    of_back (BackWrites before stage.LookAgain answered k v) _ a (looked_writes before answered stage.LookAgain v (record v { seen = _; stage = stage.Loop; asleep = true }) _ _ (frame_of h.grants (page_of v 0)) 0 _ w refl told told refl) e
 writes_at before h (stage.GiveUp m) v o a x answered k n shows same told w job small e = of_back (BackWrites before (stage.GiveUp m) answered k v) _ a (quiet before answered (stage.GiveUp m) v _ (moves.Unmap back.Back m.number) (give_up v) w refl (own_passes (lines.Move (moves.Unmap back.Back m.number)) refl refl) told (giving_nothing (first_mapping v.jobs.works))) e
-writes_at before h stage.UnmapRing v o a x answered k n shows same told w job small e = of_back (BackWrites before stage.UnmapRing answered k v) _ a (quiet before answered stage.UnmapRing v _ (moves.Unmap back.Back v.page.number) _ w refl (own_passes (lines.Move (moves.Unmap back.Back v.page.number)) refl refl) told refl) e
+writes_at before h stage.UnmapRing v o a x answered k n shows same told w job small e = unmap_writes before h stage.UnmapRing v (unmapped_bound v) o a answered v.pages w refl told (bound_nothing (other_pages v.pages)) e
 writes_at before h stage.ClosePort v o a x answered k n shows same told w job small e = of_back (BackWrites before stage.ClosePort answered k v) _ a (quiet before answered stage.ClosePort v _ (moves.ClosePort mover.Back) _ w refl (own_passes (lines.Move (moves.ClosePort mover.Back)) refl refl) told refl) e
-writes_at before h stage.UnmapUnbound v o a x answered k n shows same told w job small e = of_back (BackWrites before stage.UnmapUnbound answered k v) _ a (quiet before answered stage.UnmapUnbound v _ (moves.Unmap back.Back v.page.number) _ w refl (own_passes (lines.Move (moves.Unmap back.Back v.page.number)) refl refl) told refl) e
+writes_at before h stage.UnmapUnbound v o a x answered k n shows same told w job small e = unmap_writes before h stage.UnmapUnbound v (unmapped_unbound v) o a answered v.pages w refl told (unbound_nothing (other_pages v.pages)) e
 writes_at before h stage.Halted v o a x answered k n shows same told w job small e = back_wait (BackWrites before stage.Halted answered k v) h back.Back a (wait_writes before answered stage.Halted v v _ w refl told same) (λ path. watch_writes before answered stage.Halted v v _ path w refl told same) e
 
 -- a move of the back, where a job is due the response that it writes
-pub back_writes : (before : List Line) (h : Hypervisor) (v : View) (o : Outcome) (a : BackAct) (x : Sight) (answered : List Answered) (k : ℕ) → KnowsAt v.stage x v.ring v.page v.seen v.halted v.entry v.fetched → Shows before x → v.told ≡ None → Writes before v.stage answered
+pub back_writes : (before : List Line) (h : Hypervisor) (v : View) (o : Outcome) (a : BackAct) (x : Sight) (answered : List Answered) (k : ℕ) → KnowsAt v.stage x v → Shows before x → v.told ≡ None → Writes before v.stage answered
     → IfSome (replying v.stage v) (λ (p : Reply × ℕ). Candidate before p.1 (response_in p.0)) → ((r : Reply) → v.stage ≡ stage.Producer r → r.op < 2 ^ 8)
     → back_act h back.Back (ask_of v) o ≡ Some a
     → MoveWrites before (answered_then v.stage answered k v.ring.prod) v.stage v a.answer a.shown (step_of v a.answer)

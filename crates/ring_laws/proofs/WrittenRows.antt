@@ -45,7 +45,7 @@ row_behind : (xs ys : List ℕ) (m n : ℕ) → 4 * m ≡ length xs + 4 * n → 
 row_behind xs ys m n e =
     three (value_behind xs ys (4 * m) (4 * n) e) (value_behind xs ys (4 * m + 1) (4 * n + 1) (omega arith)) (value_behind xs ys (4 * m + 2) (4 * n + 2) (omega arith))
 
--- the row behind the replies
+-- the row after the replies
 pub row_after : (answered : List Answered) (u : List ℕ) → row_of (rows_of answered ++ u) (length answered) ≡ row_of u 0
 row_after answered u = let rows = rows_long answered in row_behind (rows_of answered) u (length answered) 0 (omega arith)
 

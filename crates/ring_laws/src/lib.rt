@@ -16,7 +16,7 @@ ghost use Rattle.report_rules.specs.Effect.{AreEffects};
 ghost use Rattle.report_rules.specs.Reply.{AreReplies};
 ghost use Rattle.ring_laws.specs.Unmaps.{AreUnmaps};
 ghost use Rattle.ring_laws.specs.Own.{AreOwn};
-ghost use Rattle.ring_laws.specs.Layout.{HasOneLayout};
+ghost use Rattle.ring_laws.specs.Layout.{IsNamedFirst};
 ghost use Rattle.split_model.specs.Happening.{Happening};
 ghost use Rattle.split_model.specs.Report.{report_of, ended_report_of};
 
@@ -29,8 +29,8 @@ pub fn the_overruns_halt_the_back()
 
 /// Each entry is fetched in one stretch, each of its words read once, in order; a stretch begins
 /// only where a request is unconsumed, and the back makes no other move before its end, and touches
-/// only the 1024 words of the ring's page. An index has
-/// 32 bits (`RING_IDX`), so a ring starts at one below 2^32: that is the one premise.
+/// only the 1024 words of each of the ring's pages. An index has 32 bits (`RING_IDX`), so a ring
+/// starts at one below 2^32: that is the one premise.
 pub fn the_entries_are_fetched_in_stretches()
     ensures report { (config : Options) (detail : Detail) (history : List Happening) → config.start < 2 ^ 32
         → AreStretches (report_of config detail history) }
@@ -95,8 +95,10 @@ pub fn the_replies_are_those_of_the_work()
         → AreReplies (ended_report_of config detail history) }
 {}
 
-/// The back reads no `protocol` that names another layout of entries than that of 64-bit guests.
-pub fn one_layout_is_named()
-    ensures report { (config : Options) (detail : Detail) (history : List Happening) → HasOneLayout (report_of config detail history) }
-    ensures ended { (config : Options) (detail : Detail) (history : List Happening) → HasOneLayout (ended_report_of config detail history) }
+/// The back reads the front's key `protocol`, which names the layout of entries (`io/blkif.h`,
+/// XEN_IO_PROTO_ABI_*), only before it maps a page of the ring in the epoch: the layout stays while
+/// entries are read.
+pub fn the_layout_is_named_before_the_ring_is_mapped()
+    ensures report { (config : Options) (detail : Detail) (history : List Happening) → IsNamedFirst (report_of config detail history) }
+    ensures ended { (config : Options) (detail : Detail) (history : List Happening) → IsNamedFirst (ended_report_of config detail history) }
 {}

@@ -17,7 +17,7 @@ entry_words_of X32 = 27
 abbrev pub entries_of : ℕ → ℕ
 entries_of order = 32 * 2 ^ order
 
--- __RING_SIZE: the greatest power of two of entries that the pages have room for, behind the 64 bytes of the indices
+-- __RING_SIZE: the greatest power of two of entries that the pages have room for, after the 64 bytes of the indices
 pub record IsRingSize (abi : Abi) (order entries : ℕ) : Type 0 where
   pub power : (m : ℕ) × (entries ≡ 2 ^ m)
   pub fits : 64 + entries * (4 * entry_words_of abi) ≤ 4096 * 2 ^ order

@@ -13,14 +13,14 @@ use Rattle.vbd_model.proofs.Running.{leads_nowhere}
 use Rattle.machine_pipeline.specs.Plain.{IsPlain}
 use Rattle.schedule_run.specs.Outcome.{IsServed, HasCarried, outside}
 
--- options that are served: a ring of one page
+-- options that are served: a ring without indirect requests
 pub plain_of : (config : Options) → IsServed config → IsPlain config
 plain_of config served =
     let carried = served.carried in
     let options = served.options in
     let start : config.start < 2 ^ 32 = options.3 in
     let sectors : config.sectors < 2 ^ 64 = options.4 in
-    record { order = grind (arith, nat_tests); indirect = grind (arith, nat_tests); start = start; sectors = omega arith }
+    record { order = options.0; indirect = grind (arith, nat_tests); start = start; sectors = omega arith }
 
 pub run_begins : (config : Options) (disk : DiskSeen) (r s : RecorderSeen) → IsServed config → (word : Detail) → Gained (Begin config word ∷ []) r s → HasCarried config [] (outside disk r) (moment (start_of config) disk s)
 run_begins config disk r s served word took = record {

@@ -18,9 +18,8 @@ use Rattle.move_laws.proofs.ReadOnly.{content_kept}
 use Rattle.ring_laws.proofs.JobRuns.{report_rules, ended_rules, steps_of, data_of, effects_of}
 use Rattle.ring_laws.proofs.MakerRuns.{report_unmaps, ended_unmaps, report_own, ended_own}
 use Rattle.ring_laws.proofs.ReplyRuns.{report_replies, ended_replies}
-use Rattle.ring_laws.specs.Layout.{KeepsX64}
-use Rattle.ring_laws.proofs.LayoutRuns.{report_layout, ended_layout}
-use Rattle.ring_laws.proofs.Runs.{report_overruns, ended_overruns, report_stretches, ended_stretches}
+use Rattle.ring_laws.proofs.BackReads.{reads_of}
+use Rattle.ring_laws.proofs.Runs.{report_overruns, ended_overruns, report_stretches, ended_stretches, report_named, ended_named}
 use Rattle.pipeline_laws.specs.Run.{IsRun}
 use Rattle.disk_laws.specs.Run.{IsRunSoFar}
 use Rattle.pipeline_laws.specs.Answered.{AreAnsweredOnce, IsQuietAnswered}
@@ -59,12 +58,14 @@ use Rattle.report_laws.proofs.Texts.{all_before, grammar_before}
 use Rattle.report_laws.proofs.Ready.{report_ready, ended_ready}
 use Rattle.report_laws.proofs.QuietRing.{report_quiet, ended_quiet}
 use Rattle.report_laws.proofs.States.{report_agreed, ended_agreed}
+use Rattle.schedule_run.proofs.Wished.{possible_wished}
+use Rattle.schedule_run.proofs.FewReads.{IsBrief}
 use Rattle.schedule_run.specs.Lawful.{ObeysMoves, ShowsWork, ServesRequests, ServesRequestsSoFar, IsLawful, IsLawfulSoFar}
 
 -- the moves, where they are shown
-whole_moves : (config : Options) (history : List Happening) → IsPlain config → ObeysMoves config.order (report_of config Moves history)
-whole_moves config history plain =
-    let obeys = report_obeys config Moves history in
+whole_moves : (config : Options) (history : List Happening) → IsPlain config → ArePossible history (start_of config) → ObeysMoves config.order (report_of config Moves history)
+whole_moves config history plain may =
+    let obeys = report_obeys config Moves history plain.order in
     let report = report_of config Moves history in
     record {
       coherent = coherent_of report obeys;
@@ -73,13 +74,13 @@ whole_moves config history plain =
       grantable = grantable_of report obeys;
       overruns = report_overruns config Moves history;
       stretches = report_stretches config Moves history plain.start;
-      dumps = report_dumped config Moves history plain.order;
-      layout = report_layout config Moves history;
+      dumps = report_dumped config Moves history plain.order (possible_wished config history may);
+      layout = report_named config Moves history;
     }
 
-ended_moves : (config : Options) (history : List Happening) → IsPlain config → ObeysMoves config.order (ended_report_of config Moves history)
-ended_moves config history plain =
-    let obeys = ended_obeys config Moves history in
+ended_moves : (config : Options) (history : List Happening) → IsPlain config → ArePossible history (start_of config) → ObeysMoves config.order (ended_report_of config Moves history)
+ended_moves config history plain may =
+    let obeys = ended_obeys config Moves history plain.order in
     let report = ended_report_of config Moves history in
     record {
       coherent = coherent_of report obeys;
@@ -88,39 +89,39 @@ ended_moves config history plain =
       grantable = grantable_of report obeys;
       overruns = ended_overruns config Moves history;
       stretches = ended_stretches config Moves history plain.start;
-      dumps = ended_dumped config Moves history plain.order;
-      layout = ended_layout config Moves history;
+      dumps = ended_dumped config Moves history plain.order (possible_wished config history may);
+      layout = ended_named config Moves history;
     }
 
-shown : (detail : Detail) (config : Options) (history : List Happening) → IsPlain config → detail ≡ Moves → ObeysMoves config.order (kept_of detail (report_of config detail history))
-shown detail config history plain same =
-    subst (λ (d : Detail). ObeysMoves config.order (kept_of d (report_of config d history))) (sym same) (subst (ObeysMoves config.order) (sym (report_kept config history)) (whole_moves config history plain))
+shown : (detail : Detail) (config : Options) (history : List Happening) → IsPlain config → ArePossible history (start_of config) → detail ≡ Moves → ObeysMoves config.order (kept_of detail (report_of config detail history))
+shown detail config history plain may same =
+    subst (λ (d : Detail). ObeysMoves config.order (kept_of d (report_of config d history))) (sym same) (subst (ObeysMoves config.order) (sym (report_kept config history)) (whole_moves config history plain may))
 
-ended_shown : (detail : Detail) (config : Options) (history : List Happening) → IsPlain config → detail ≡ Moves → ObeysMoves config.order (kept_of detail (ended_report_of config detail history))
-ended_shown detail config history plain same =
-    subst (λ (d : Detail). ObeysMoves config.order (kept_of d (ended_report_of config d history))) (sym same) (subst (ObeysMoves config.order) (sym (ended_kept config history)) (ended_moves config history plain))
+ended_shown : (detail : Detail) (config : Options) (history : List Happening) → IsPlain config → ArePossible history (start_of config) → detail ≡ Moves → ObeysMoves config.order (kept_of detail (ended_report_of config detail history))
+ended_shown detail config history plain may same =
+    subst (λ (d : Detail). ObeysMoves config.order (kept_of d (ended_report_of config d history))) (sym same) (subst (ObeysMoves config.order) (sym (ended_kept config history)) (ended_moves config history plain may))
 
 -- the work
-whole_work : (config : Options) (history : List Happening) → length (report_of config Moves history) < 2 ^ 64 → ShowsWork (report_of config Moves history)
+whole_work : (config : Options) (history : List Happening) → reads_of (report_of config Moves history) < 2 ^ 64 → ShowsWork (report_of config Moves history)
 whole_work config history few =
     let obeys = report_rules config Moves history few in
     let report = report_of config Moves history in
     record { steps = steps_of report obeys; data_given = data_of report obeys; effects = effects_of report obeys; unmaps = report_unmaps config Moves history few; own = report_own config Moves history few; replies = report_replies config Moves history few }
 
-ended_work : (config : Options) (history : List Happening) → length (report_of config Moves history) < 2 ^ 64 → ShowsWork (ended_report_of config Moves history)
+ended_work : (config : Options) (history : List Happening) → reads_of (report_of config Moves history) < 2 ^ 64 → ShowsWork (ended_report_of config Moves history)
 ended_work config history few =
     let obeys = ended_rules config Moves history few in
     let report = ended_report_of config Moves history in
     record { steps = steps_of report obeys; data_given = data_of report obeys; effects = effects_of report obeys; unmaps = ended_unmaps config Moves history few; own = ended_own config Moves history few; replies = ended_replies config Moves history few }
 
-worked : (detail : Detail) (config : Options) (history : List Happening) → detail ≡ Moves → length (report_of config detail history) < 2 ^ 64 → ShowsWork (kept_of detail (report_of config detail history))
+worked : (detail : Detail) (config : Options) (history : List Happening) → detail ≡ Moves → reads_of (report_of config detail history) < 2 ^ 64 → ShowsWork (kept_of detail (report_of config detail history))
 worked detail config history same =
-    subst (λ (d : Detail). length (report_of config d history) < 2 ^ 64 → ShowsWork (kept_of d (report_of config d history))) (sym same)
+    subst (λ (d : Detail). reads_of (report_of config d history) < 2 ^ 64 → ShowsWork (kept_of d (report_of config d history))) (sym same)
     (λ few. subst ShowsWork (sym (report_kept config history)) (whole_work config history few))
 
-ended_worked : (detail : Detail) (config : Options) (history : List Happening) → detail ≡ Moves → length (report_of config detail history) < 2 ^ 64 → ShowsWork (kept_of detail (ended_report_of config detail history))
+ended_worked : (detail : Detail) (config : Options) (history : List Happening) → detail ≡ Moves → reads_of (report_of config detail history) < 2 ^ 64 → ShowsWork (kept_of detail (ended_report_of config detail history))
 ended_worked detail config history same =
-    subst (λ (d : Detail). length (report_of config d history) < 2 ^ 64 → ShowsWork (kept_of d (ended_report_of config d history))) (sym same)
+    subst (λ (d : Detail). reads_of (report_of config d history) < 2 ^ 64 → ShowsWork (kept_of d (ended_report_of config d history))) (sym same)
     (λ few. subst ShowsWork (sym (ended_kept config history)) (ended_work config history few))
 
 -- of a beginning
@@ -143,7 +144,7 @@ moves_before order report more h = record {
   overruns = obeys_before _ report more h.overruns;
   stretches = obeys_before _ report more h.stretches;
   dumps = obeys_before _ report more h.dumps;
-  layout = all_before KeepsX64 report more h.layout;
+  layout = obeys_before _ report more h.layout;
 }
 
 -- what a run of the plain disk answers
@@ -153,14 +154,14 @@ once_of sectors before now report h = run_answers_once report h.first h.disk h.r
 quiet_of : (sectors : ℕ) (before now : Option (List (List ℕ))) (report : List Line) → IsRun sectors before now report → IsQuietAnswered report
 quiet_of sectors before now report h = run_answers_at_quiet report h.first h.disk h.run
 
--- a history of the machine with these options, short enough
+-- a history of the machine with these options, brief enough
 pub record IsTold (config : Options) (detail : Detail) (history : List Happening) : Type 0 where
   pub plain : IsPlain config
   pub options : AreOptions config
   pub possible : ArePossible history (start_of config)
   pub served : AreServed (honest_history history) (start_of config)
   pub agreed : AreAgreed (honest_history history) (start_of config)
-  pub short : length (report_of config detail history) < 2 ^ 64
+  pub brief : IsBrief config detail history
 
 -- what happened before a hostile hand first overwrote a word
 allowed : {config : Options} {detail : Detail} {history : List Happening} → IsTold config detail history → AreServed (honest_history history) (start_of config)
@@ -371,7 +372,7 @@ report_lawful config detail history before now h long runs =
     record {
       begun = report_begun config detail history;
       kept = λ fixed. content_kept config history before now fixed runs;
-      grammar = report_grammar config detail history h.options h.possible h.short;
+      grammar = report_grammar config detail history h.options h.possible h.brief.numbers;
       requests = λ honest of. report_serves config detail history before now h long runs (all_honest config detail history h honest) of;
       honest = λ of.
           subst (ServesRequestsSoFar (submitted_of history) before.content) (sym same)
@@ -379,8 +380,8 @@ report_lawful config detail history before now h long runs =
       ready = report_ready config detail history h.possible;
       ring = λ moves. subst IsQuietRing (sym same) (report_quiet config detail (honest_history history) h.plain (allowed h) moves);
       agreed = λ moves. subst AreStatesAgreed (sym same) (alike detail config (honest_history history) h.agreed moves);
-      moves = shown detail config history h.plain;
-      work = λ moves. worked detail config history moves h.short;
+      moves = shown detail config history h.plain h.possible;
+      work = λ moves. worked detail config history moves h.brief.reads;
     }
 
 -- with its last line
@@ -389,7 +390,7 @@ ended_lawful config detail history before now h long runs =
     record {
       begun = ended_begun config detail history;
       kept = λ fixed. content_kept config history before now fixed runs;
-      grammar = ended_grammar config detail history h.options h.possible h.short;
+      grammar = ended_grammar config detail history h.options h.possible h.brief.numbers;
       requests = λ honest of. ended_serves config detail history before now h long runs (all_ended config detail history h honest) of;
       honest = λ of. so_far_served (submitted_of history) before.content _ (ended_honest_run config detail history before now h long runs of);
       ready = ended_ready config detail history h.possible;
@@ -399,8 +400,8 @@ ended_lawful config detail history before now h long runs =
       agreed = λ moves.
           of_part config detail history h AreStatesAgreed (λ all. ended_alike detail config history (subst (λ (hs : List Happening). AreAgreed hs (start_of config)) all h.agreed) moves)
           (alike detail config (honest_history history) h.agreed moves);
-      moves = ended_shown detail config history h.plain;
-      work = λ moves. ended_worked detail config history moves h.short;
+      moves = ended_shown detail config history h.plain h.possible;
+      work = λ moves. ended_worked detail config history moves h.brief.reads;
     }
 
 -- and the beginning of one
@@ -415,13 +416,13 @@ begun_lawful config detail history before said rest h all run =
     let part = said_part config detail history said rest h all in
     record {
       begun = begun_before config detail one other (subst (IsBegun config detail) (sym split) (ended_begun config detail history));
-      grammar = grammar_before one other (subst IsInGrammar (sym split) (ended_grammar config detail history h.options h.possible h.short));
+      grammar = grammar_before one other (subst IsInGrammar (sym split) (ended_grammar config detail history h.options h.possible h.brief.numbers));
       honest = λ of. so_far_served (submitted_of history) before (honest_part one) (run of);
       ready = obeys_before IsReadyAt one other (subst (Obeys IsReadyAt) (sym split) (ended_ready config detail history h.possible));
       ring = λ moves. obeys_before IsQuietRingAt (honest_part one) part.0 (subst (Obeys IsQuietRingAt) (sym part.1) (ended_quiet config detail (honest_history history) h.plain (allowed h) moves));
       agreed = λ moves. obeys_before IsAgreedAt (honest_part one) part.0 (subst (Obeys IsAgreedAt) (sym part.1) (ended_alike detail config (honest_history history) h.agreed moves));
-      moves = λ moves. moves_before config.order one other (subst (ObeysMoves config.order) (sym split) (ended_shown detail config history h.plain moves));
-      work = λ moves. work_before one other (subst ShowsWork (sym split) (ended_worked detail config history moves h.short));
+      moves = λ moves. moves_before config.order one other (subst (ObeysMoves config.order) (sym split) (ended_shown detail config history h.plain h.possible moves));
+      work = λ moves. work_before one other (subst ShowsWork (sym split) (ended_worked detail config history moves h.brief.reads));
     }
 
 -- no lines
@@ -450,7 +451,7 @@ nothing_lawful config detail jobs before =
       ready = obeys_none IsReadyAt;
       ring = λ same. obeys_none IsQuietRingAt;
       agreed = λ same. obeys_none IsAgreedAt;
-      moves = λ same. record { coherent = obeys_none _; answered = obeys_none _; touched = obeys_none _; grantable = obeys_none _; overruns = obeys_none _; stretches = obeys_none _; dumps = obeys_none _; layout = All-nil KeepsX64 };
+      moves = λ same. record { coherent = obeys_none _; answered = obeys_none _; touched = obeys_none _; grantable = obeys_none _; overruns = obeys_none _; stretches = obeys_none _; dumps = obeys_none _; layout = obeys_none _ };
       work = λ same. record { steps = obeys_none _; data_given = obeys_none _; effects = obeys_none _; unmaps = obeys_none _; own = obeys_none _; replies = obeys_none _ };
     }
   where

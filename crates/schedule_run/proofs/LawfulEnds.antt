@@ -1,5 +1,5 @@
 -- However a run ends, what was told of it is lawful.
-use Rattle.std.proofs.Common.{◌≡◌, ℕ, List, [], ◌∷◌, ◌++◌, Option, Some, None, Result, Ok, Err, inl, inr, ◌⊎◌, refl, ap, sym, ◌∙◌, subst, append-nil}
+use Rattle.std.proofs.Common.{◌≡◌, ℕ, List, [], ◌∷◌, ◌++◌, Option, Some, None, Result, Ok, Err, inl, inr, ◌⊎◌, refl, ap, sym, ◌∙◌, subst, append-nil, arith}
 use Rattle.blk_base.specs.Options.{Options}
 use Rattle.blk_base.specs.declared.config.Job.{Job}
 use Rattle.blk_io.specs.Outside.{SourceSeen}
@@ -85,7 +85,7 @@ echoes config events old new before h =
     let detail = old.recorder.detail in
     let lines = lines_of leads.history (start_of config) in
     let answers : AnswersAll config.order events (echo_of (kept_of detail lines)) =
-    subst (AnswersAll config.order events) (sym (kept_echo detail lines)) (schedule_echo config.order events (start_of config) leads.history leads.is_kind) in
+    subst (AnswersAll config.order events) (sym (kept_echo detail lines)) (schedule_echo config.order events (start_of config) leads.history (omega arith) leads.is_kind) in
     (kept_of detail (report_of config detail leads.history), kept_of-append detail (report_of config detail leads.history) (End ∷ []), (kept_of detail lines, refl, answers))
 
 done_lawful : (config : Options) (limit : ℕ) (a b : SourceSeen) (old new : Outside) → HasLength old.disk.content config.sectors → EndsWhole config limit a b old new → IsLawfulRun config limit a.left old new

@@ -8,7 +8,8 @@ pub mod Taking
 pub mod Ending
 pub mod Jobs
 pub mod Counts
-pub mod Lengths
+pub mod FewReads
+pub mod Wished
 pub mod Lawful
 pub mod Whole
 pub mod Begins

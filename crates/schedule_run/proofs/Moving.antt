@@ -58,6 +58,8 @@ use Rattle.vbd_model.specs.Fit.{IsFit}
 use Rattle.vbd_model.specs.Happening.{Happening, FrontMoves, BackMoves, JobMoves, Closes, Dumps, does, front_turn, back_turn, front_bus, back_bus, happens, lines_at, DiskGoes}
 use Rattle.vbd_model.specs.Kind.{IsJobMove}
 use Rattle.vbd_model.specs.Leads.{moment, Goes, Is}
+use Rattle.vbd_model.specs.Mappings.{mappings_in, mappings_of}
+use Rattle.vbd_model.proofs.Mappings.{cost_of, ring_left, back_comes}
 use Rattle.vbd_model.proofs.Running.{goes_one, goes_lacking}
 use Rattle.vbd_laws.proofs.Fit.{fit_happens}
 use Rattle.vbd_laws.proofs.MovesFront.{front_move_is, front_move_none, close_is}
@@ -69,7 +71,7 @@ use Rattle.vbd_model.specs.News.{news_lines}
 use Rattle.vbd_model.proofs.Keeping.{sectors_kept}
 
 -- one thing happened to the machine, and its lines were given to the recorder
-pub goes_here : (kind so_far : List Happening → Type 0) (n : ℕ) (h : Happening) (w v : World) (a b : DiskSeen) (r s : RecorderSeen) (result : Result (Unit {0}) RecordStop) → kind (h ∷ []) → so_far (h ∷ []) → v ≡ happens w h → v.rings.under.grants.made ≤ w.rings.under.grants.made + n → v.rings.front.sectors ≡ w.rings.front.sectors → DiskGoes w h a b → Adds (lines_at w h) result r s → Goes kind so_far n result (moment w a r) (moment v b s)
+pub goes_here : (kind so_far : List Happening → Type 0) (n : ℕ) (h : Happening) (w v : World) (a b : DiskSeen) (r s : RecorderSeen) (result : Result (Unit {0}) RecordStop) → kind (h ∷ []) → so_far (h ∷ []) → v ≡ happens w h → mappings_of v ≤ mappings_of w + n → v.rings.front.sectors ≡ w.rings.front.sectors → DiskGoes w h a b → Adds (lines_at w h) result r s → Goes kind so_far n result (moment w a r) (moment v b s)
 goes_here kind so_far n h w v a b r s result is far world made sectors disk told =
     goes_one kind so_far n h result (moment w a r) (moment v b s) is far world made sectors disk told
 
@@ -125,12 +127,12 @@ rings_lines : (x : ring.Happening) (w : rings.World) → ring.lines_at w x ≡ r
 rings_lines x w = sym (append-nil (ring.lines_at w x))
 
 -- what happened to the ring's machine alone happened to the whole
-pub rings_alone : (kind so_far : List Happening → Type 0) (n : ℕ) (h : Happening) (x : ring.Happening) (w : World) (v : rings.World) (a b : DiskSeen) (r s : RecorderSeen) (result : Result (Unit {0}) RecordStop) → kind (h ∷ []) → so_far (h ∷ []) → does w h ≡ x ∷ [] → front_bus w h ≡ w.front → back_bus w h ≡ w.back → ring_leads.Goes (ring_leads.Is (x ∷ [])) (ring_leads.Is (x ∷ [])) n result (ring_leads.moment w.rings a r) (ring_leads.moment v b s) → Goes kind so_far n result (moment w a r) (moment (with_rings w v) b s)
-rings_alone kind so_far n h x w v a b r s result is far does_it front back p =
+pub rings_alone : (kind so_far : List Happening → Type 0) (m n : ℕ) (h : Happening) (x : ring.Happening) (w : World) (v : rings.World) (a b : DiskSeen) (r s : RecorderSeen) (result : Result (Unit {0}) RecordStop) → kind (h ∷ []) → so_far (h ∷ []) → does w h ≡ x ∷ [] → front_bus w h ≡ w.front → back_bus w h ≡ w.back → mappings_in (ring.happens w.rings x) ≤ mappings_in w.rings + n → ring_leads.Goes (ring_leads.Is (x ∷ [])) (ring_leads.Is (x ∷ [])) m result (ring_leads.moment w.rings a r) (ring_leads.moment v b s) → Goes kind so_far n result (moment w a r) (moment (with_rings w v) b s)
+rings_alone kind so_far m n h x w v a b r s result is far does_it front back few p =
     let went = rings_went x result w.rings v a b r s p.ends in
     let keeps = p.keeps in
     goes_here kind so_far n h w (with_rings w v) a b r s result is far
-    (rw (does_it, front, back, went.world) refl) keeps.made keeps.sectors
+    (rw (does_it, front, back, went.world) refl) (subst (λ (u : rings.World). mappings_in u ≤ mappings_in w.rings + n) (sym went.world) few) keeps.sectors
     (subst (λ (l : List ring.Happening). ring.DiskRuns l w.rings a b) (sym does_it) (b, went.disk, refl))
     (subst (λ (l : List ring.Happening). Adds (ring.lines_of l w.rings) result r s) (sym does_it) (subst (λ (l : List Line). Adds l result r s) (rings_lines x w.rings) went.told))
 
@@ -145,13 +147,13 @@ err_job k n stop w v a b r s p =
     let e = p.ends in
     (e.is_kind.0, e.is_kind.2, record { ends = record { history = e.history; last = e.last; is_kind = e.is_kind.1; world = e.world; disk = e.disk; told = e.told }; keeps = p.keeps })
 
-pub job_alone : (k n : ℕ) (w : World) (v : rings.World) (a b : DiskSeen) (r s : RecorderSeen) (result : Result (Unit {0}) RecordStop) → ring_leads.Goes (ring_leads.IsJobMove k) (ring_leads.IsJobMove k) n result (ring_leads.moment w.rings a r) (ring_leads.moment v b s) → Goes (IsJobMove k) (IsJobMove k) n result (moment w a r) (moment (with_rings w v) b s)
+pub job_alone : (k n : ℕ) (w : World) (v : rings.World) (a b : DiskSeen) (r s : RecorderSeen) (result : Result (Unit {0}) RecordStop) → ring_leads.Goes (ring_leads.IsJobMove k) (ring_leads.IsJobMove k) n result (ring_leads.moment w.rings a r) (ring_leads.moment v b s) → Goes (IsJobMove k) (IsJobMove k) 0 result (moment w a r) (moment (with_rings w v) b s)
 job_alone k n w v a b r s (Ok tt) p =
     let o = ok_job k n w.rings v a b r s p in
-    rings_alone (IsJobMove k) (IsJobMove k) n (JobMoves k o.0) (ring.JobMoves k o.0) w v a b r s (Ok tt) (o.0, refl, o.1) (o.0, refl, o.1) refl refl refl o.2
+    rings_alone (IsJobMove k) (IsJobMove k) n 0 (JobMoves k o.0) (ring.JobMoves k o.0) w v a b r s (Ok tt) (o.0, refl, o.1) (o.0, refl, o.1) refl refl refl (ring_left w.rings (ring.JobMoves k o.0)) o.2
 job_alone k n w v a b r s (Err stop) p =
     let o = err_job k n stop w.rings v a b r s p in
-    rings_alone (IsJobMove k) (IsJobMove k) n (JobMoves k o.0) (ring.JobMoves k o.0) w v a b r s (Err stop) (o.0, refl, o.1) (o.0, refl, o.1) refl refl refl o.2
+    rings_alone (IsJobMove k) (IsJobMove k) n 0 (JobMoves k o.0) (ring.JobMoves k o.0) w v a b r s (Err stop) (o.0, refl, o.1) (o.0, refl, o.1) refl refl refl (ring_left w.rings (ring.JobMoves k o.0)) o.2
 
 -- a line was said of the machine as it stands
 pub said_goes : (h : Happening) (x : ring.Happening) (w : World) (c : DiskSeen) (r s : RecorderSeen) (result : Result (Unit {0}) RecordStop) (line : Line) → does w h ≡ x ∷ [] → w ≡ happens w h → ring.DiskGoes w.rings x c c → line ∷ [] ≡ ring.lines_at w.rings x → Adds (line ∷ []) result r s → Goes (Is (h ∷ [])) (Is (h ∷ [])) 0 result (moment w c r) (moment w c s)
@@ -263,7 +265,7 @@ back_as w b c u h same under = rw (same, under) refl
 back_said : (halted : Option Halt) (x y : back_view.View) (a answer : BackAnswer) (shown move : Shown) → x ≡ y → a ≡ answer → shown ≡ move → Move shown ∷ (back_lines y.ring.told a ++ halt_lines halted y.ring.halted) ≡ Move move ∷ (back_lines x.ring.told answer ++ halt_lines halted x.ring.halted)
 back_said halted x y a answer shown move same told moved = rw (same, told, moved) refl
 
-back_happened : (w : World) (ask : BackAsk) (seen : BackAnswer × Shown) (x b : back_view.View) (u : Hypervisor) (c d : DiskSeen) → IsFit w → BackSaid w ask seen x b u c d → (back_moved w b u ≡ happens w BackMoves) × (lines_at w BackMoves ≡ Move seen.1 ∷ (back_lines x.ring.told seen.0 ++ halt_lines w.rings.back.halted x.ring.halted)) × (u.grants.made ≤ w.rings.under.grants.made + 1) × ((e : DiskSeen) → DiskGoes w BackMoves e e)
+back_happened : (w : World) (ask : BackAsk) (seen : BackAnswer × Shown) (x b : back_view.View) (u : Hypervisor) (c d : DiskSeen) → IsFit w → BackSaid w ask seen x b u c d → (back_moved w b u ≡ happens w BackMoves) × (lines_at w BackMoves ≡ Move seen.1 ∷ (back_lines x.ring.told seen.0 ++ halt_lines w.rings.back.halted x.ring.halted)) × ((e : DiskSeen) → DiskGoes w BackMoves e e)
 back_happened w ask seen x b u c d fit said =
     let took = asks_no_disk (backend_of w) ask (outcome_told seen.0) c d said.asked said.disk in
     let act = back_act w.rings.under Back ask Took in
@@ -274,7 +276,7 @@ back_happened w ask seen x b u c d fit said =
     let turn : back_turn w ≡ Some a = ap (λ (x : BackAsk). back_act w.rings.under Back x Took) (sym said.asked) ∙ saw.1 in
     let is = back_move_is w a fit turn in
     let v : x ≡ back_step.step_of (backend_of w) a.answer = said.stepped ∙ ap (back_step.step_of (backend_of w)) (sym saw.2) in
-    (back_as w b (back_view.heard (back_step.step_of (backend_of w) a.answer)) u a.under (said.taken ∙ ap back_view.heard v) saw.4 ∙ sym is.world, is.lines ∙ back_said w.rings.back.halted x (back_step.step_of (backend_of w) a.answer) a.answer seen.0 a.shown seen.1 v saw.2 saw.3, subst (λ (h : Hypervisor). h.grants.made ≤ w.rings.under.grants.made + 1) (sym saw.4) is.made, is.disk)
+    (back_as w b (back_view.heard (back_step.step_of (backend_of w) a.answer)) u a.under (said.taken ∙ ap back_view.heard v) saw.4 ∙ sym is.world, is.lines ∙ back_said w.rings.back.halted x (back_step.step_of (backend_of w) a.answer) a.answer seen.0 a.shown seen.1 v saw.2 saw.3, is.disk)
 
 pub back_fit : (w : World) (ask : BackAsk) (seen : BackAnswer × Shown) (x b : back_view.View) (u : Hypervisor) (c d : DiskSeen) → IsFit w → BackSaid w ask seen x b u c d → IsFit (back_moved w b u)
 back_fit w ask seen x b u c d fit said =
@@ -285,22 +287,22 @@ back_fit w ask seen x b u c d fit said =
 pub halts_as : (w : World) (x b : back_view.View) (before after : Option Halt) → b ≡ back_view.heard x → before ≡ w.rings.back.halted → after ≡ b.ring.halted → halt_lines before after ≡ halt_lines w.rings.back.halted x.ring.halted
 halts_as w x b before after taken first last = rw (first, last, taken) refl
 
-pub back_goes_as : (w : World) (ask : BackAsk) (seen : BackAnswer × Shown) (x b : back_view.View) (u : Hypervisor) (c d : DiskSeen) (lines : List Line) (r s : RecorderSeen) (result : Result (Unit {0}) RecordStop) → IsFit w → BackSaid w ask seen x b u c d → lines ≡ back_lines x.ring.told seen.0 ++ halt_lines w.rings.back.halted x.ring.halted → Adds (Move seen.1 ∷ lines) result r s → Goes (Is (BackMoves ∷ [])) (Is (BackMoves ∷ [])) 1 result (moment w c r) (moment (back_moved w b u) d s)
+pub back_goes_as : (w : World) (ask : BackAsk) (seen : BackAnswer × Shown) (x b : back_view.View) (u : Hypervisor) (c d : DiskSeen) (lines : List Line) (r s : RecorderSeen) (result : Result (Unit {0}) RecordStop) → IsFit w → BackSaid w ask seen x b u c d → lines ≡ back_lines x.ring.told seen.0 ++ halt_lines w.rings.back.halted x.ring.halted → Adds (Move seen.1 ∷ lines) result r s → Goes (Is (BackMoves ∷ [])) (Is (BackMoves ∷ [])) 13 result (moment w c r) (moment (back_moved w b u) d s)
 back_goes_as w ask seen x b u c d lines r s result fit said same shown =
     let happened = back_happened w ask seen x b u c d fit said in
     let took = asks_no_disk (backend_of w) ask (outcome_told seen.0) c d said.asked said.disk in
-    goes_here (Is (BackMoves ∷ [])) (Is (BackMoves ∷ [])) 1 BackMoves w (back_moved w b u) c d r s result refl refl
-    happened.0 happened.2 (ap (λ (v : World). v.rings.front.sectors) happened.0 ∙ sectors_kept w BackMoves) (subst (λ (e : DiskSeen). DiskGoes w BackMoves c e) (sym took.1) (happened.3 c))
+    goes_here (Is (BackMoves ∷ [])) (Is (BackMoves ∷ [])) 13 BackMoves w (back_moved w b u) c d r s result refl refl
+    happened.0 (subst (λ (v : World). mappings_of v ≤ mappings_of w + 13) (sym happened.0) (back_comes w)) (ap (λ (v : World). v.rings.front.sectors) happened.0 ∙ sectors_kept w BackMoves) (subst (λ (e : DiskSeen). DiskGoes w BackMoves c e) (sym took.1) (happened.2 c))
     (subst (λ (l : List Line). Adds l result r s) (sym (happened.1 ∙ ap (λ (l : List Line). Move seen.1 ∷ l) (sym same))) shown)
 
 -- it waits, and neither an event nor a watch is pending
-pub back_waits : (w : World) (c : DiskSeen) (r : RecorderSeen) → IsFit w → back_turn w ≡ None → Goes (Is (BackMoves ∷ [])) (Is (BackMoves ∷ [])) 1 (Ok tt) (moment w c r) (moment w c r)
+pub back_waits : (w : World) (c : DiskSeen) (r : RecorderSeen) → IsFit w → back_turn w ≡ None → Goes (Is (BackMoves ∷ [])) (Is (BackMoves ∷ [])) 13 (Ok tt) (moment w c r) (moment w c r)
 back_waits w c r fit none =
     let rests = back_move_none w fit none in
-    goes_here (Is (BackMoves ∷ [])) (Is (BackMoves ∷ [])) 1 BackMoves w w c c r r (Ok tt) refl refl
+    goes_here (Is (BackMoves ∷ [])) (Is (BackMoves ∷ [])) 13 BackMoves w w c c r r (Ok tt) refl refl
     (sym rests.world) (omega arith) refl (rests.disk c) (subst (λ (l : List Line). Gained l r r) (sym rests.lines) (gained_none r))
 
-pub back_rests : (w : World) (ask : BackAsk) (o : Outcome) (u : Hypervisor) (c d : DiskSeen) (r : RecorderSeen) → IsFit w → ask ≡ back.ask_of (backend_of w) → None ≡ back_seen (back_act w.rings.under Back ask o) → u ≡ back_under w.rings.under (back_act w.rings.under Back ask o) → DiskDoes ask o c d → Goes (Is (BackMoves ∷ [])) (Is (BackMoves ∷ [])) 1 (Ok tt) (moment w c r) (moment (record { rings = record { front = w.rings.front; back = w.rings.back; under = u }; front = w.front; back = w.back }) d r)
+pub back_rests : (w : World) (ask : BackAsk) (o : Outcome) (u : Hypervisor) (c d : DiskSeen) (r : RecorderSeen) → IsFit w → ask ≡ back.ask_of (backend_of w) → None ≡ back_seen (back_act w.rings.under Back ask o) → u ≡ back_under w.rings.under (back_act w.rings.under Back ask o) → DiskDoes ask o c d → Goes (Is (BackMoves ∷ [])) (Is (BackMoves ∷ [])) 13 (Ok tt) (moment w c r) (moment (record { rings = record { front = w.rings.front; back = w.rings.back; under = u }; front = w.front; back = w.back }) d r)
 back_rests w ask o u c d r fit asked e under does =
     let took = asks_no_disk (backend_of w) ask o c d asked does in
     let act = back_act w.rings.under Back ask Took in
@@ -310,10 +312,10 @@ back_rests w ask o u c d r fit asked e under does =
     rw (nothing.1, took.1) (back_waits w c r fit (ap (λ (x : BackAsk). back_act w.rings.under Back x Took) (sym asked) ∙ nothing.0))
 
 -- What the ring's machine did, of a job or of the outside, in the whole machine.
-pub job_seen : (k n : ℕ) (w : World) (b : back_view.View) (u : Hypervisor) (c d : DiskSeen) (r s : RecorderSeen) (result : Result (Unit {0}) RecordStop) → b.bus ≡ w.back → ring_leads.Goes (ring_leads.IsJobMove k) (ring_leads.IsJobMove k) n result (ring_leads.moment w.rings c r) (ring_leads.moment (record { front = w.rings.front; back = b.ring; under = u }) d s) → Goes (IsJobMove k) (IsJobMove k) n result (moment w c r) (moment (back_moved w b u) d s)
+pub job_seen : (k n : ℕ) (w : World) (b : back_view.View) (u : Hypervisor) (c d : DiskSeen) (r s : RecorderSeen) (result : Result (Unit {0}) RecordStop) → b.bus ≡ w.back → ring_leads.Goes (ring_leads.IsJobMove k) (ring_leads.IsJobMove k) n result (ring_leads.moment w.rings c r) (ring_leads.moment (record { front = w.rings.front; back = b.ring; under = u }) d s) → Goes (IsJobMove k) (IsJobMove k) 0 result (moment w c r) (moment (back_moved w b u) d s)
 job_seen k n w b u c d r s result same p =
     let v : rings.World = record { front = w.rings.front; back = b.ring; under = u } in
-    subst (λ (bus : BackView). Goes (IsJobMove k) (IsJobMove k) n result (moment w c r) (moment (record { rings = v; front = w.front; back = bus }) d s)) (sym same) (job_alone k n w v c d r s result p)
+    subst (λ (bus : BackView). Goes (IsJobMove k) (IsJobMove k) 0 result (moment w c r) (moment (record { rings = v; front = w.front; back = bus }) d s)) (sym same) (job_alone k n w v c d r s result p)
 
 pub rings_fit : (h : Happening) (x : ring.Happening) (w : World) (v : rings.World) → does w h ≡ x ∷ [] → front_bus w h ≡ w.front → back_bus w h ≡ w.back → v ≡ ring.happens w.rings x → IsFit w → IsFit (with_rings w v)
 rings_fit h x w v does_it front back world fit =
@@ -339,15 +341,15 @@ front_asked_may w ask fit asked within = subst (FrontMay w.rings.under) (sym ask
 pub front_lacks : (w : World) (u : Hypervisor) (c : DiskSeen) (r : RecorderSeen) → u ≡ w.rings.under → Goes (Is (FrontMoves ∷ [])) (Is (FrontMoves ∷ [])) 0 (Err OutOfMemory) (moment w c r) (moment (record { rings = record { front = w.rings.front; back = w.rings.back; under = u }; front = w.front; back = w.back }) c r)
 front_lacks w u c r same = rw same (goes_lacking (Is (FrontMoves ∷ [])) (Is (FrontMoves ∷ [])) 0 FrontMoves (moment w c r) (moment w c r) refl refl refl refl)
 
-pub back_lacks : (w : World) (u : Hypervisor) (c d : DiskSeen) (r : RecorderSeen) → u ≡ w.rings.under → d ≡ c → Goes (Is (BackMoves ∷ [])) (Is (BackMoves ∷ [])) 1 (Err OutOfMemory) (moment w c r) (moment (record { rings = record { front = w.rings.front; back = w.rings.back; under = u }; front = w.front; back = w.back }) d r)
-back_lacks w u c d r same untouched = rw (same, untouched) (goes_lacking (Is (BackMoves ∷ [])) (Is (BackMoves ∷ [])) 1 BackMoves (moment w c r) (moment w c r) refl refl refl refl)
+pub back_lacks : (w : World) (u : Hypervisor) (c d : DiskSeen) (r : RecorderSeen) → u ≡ w.rings.under → d ≡ c → Goes (Is (BackMoves ∷ [])) (Is (BackMoves ∷ [])) 13 (Err OutOfMemory) (moment w c r) (moment (record { rings = record { front = w.rings.front; back = w.rings.back; under = u }; front = w.front; back = w.back }) d r)
+back_lacks w u c d r same untouched = rw (same, untouched) (goes_lacking (Is (BackMoves ∷ [])) (Is (BackMoves ∷ [])) 13 BackMoves (moment w c r) (moment w c r) refl refl refl refl)
 
-pub back_asked_may : (w v : World) (ask : BackAsk) (attached : Option ℕ) → w ≡ v → IsFit w → ask ≡ back.ask_of (backend_of w) → Names (hands_of w.rings.back) ask → length (hands_of w.rings.back) ≤ 34 → attached ≡ Some v.rings.front.sectors → v.rings.under.grants.made + 1 < 2 ^ 64 → BackMay w.rings.under attached ask
+pub back_asked_may : (w v : World) (ask : BackAsk) (attached : Option ℕ) → w ≡ v → IsFit w → ask ≡ back.ask_of (backend_of w) → Names (hands_of w.rings.back) ask → length (hands_of w.rings.back) ≤ 529 → attached ≡ Some v.rings.front.sectors → mappings_of v + 13 < 2 ^ 64 → BackMay w.rings.under attached ask
 back_asked_may w v ask attached is fit asked names few disk left =
     let known : attached ≡ Some w.rings.front.sectors = disk ∙ sym (ap (λ (x : World). Some x.rings.front.sectors) is) in
     subst (λ (a : Option ℕ). BackMay w.rings.under a ask) (sym known)
     (subst (BackMay w.rings.under (Some w.rings.front.sectors)) (sym asked)
-    (back_asks_may w fit (subst (Names (hands_of w.rings.back)) asked names) (subst (λ (x : World). x.rings.under.grants.made + 1 < 2 ^ 64) (sym is) left) few))
+    (back_asks_may w fit (subst (Names (hands_of w.rings.back)) asked names) (subst (λ (x : World). x.rings.under.grants.made + 1 < 2 ^ 64) (sym is) (omega arith)) few))
 
 asleep_at : (h : Hypervisor) (pending : Bool) (watches : List (List ℕ)) → (pending || not (is_empty_list watches)) ≡ false → (if pending then Some (back_event h) else back_watched h (first_of watches)) ≡ None
 asleep_at h true watches e = absurd (true≢false e)
@@ -370,11 +372,11 @@ pub job_bus : (k : ℕ) (v x b : back_view.View) (a : BackAnswer) → x ≡ back
 job_bus k v x b a stepped taken = ap (λ (y : back_view.View). y.bus) taken ∙ ap (λ (y : back_view.View). y.bus) stepped
 
 -- what happened to the front's end of the ring alone
-pub front_seen_as : (h : Happening) (x : ring.Happening) (w : World) (f : front_view.View) (c : DiskSeen) (r s : RecorderSeen) (result : Result (Unit {0}) RecordStop) → does w h ≡ x ∷ [] → front_bus w h ≡ w.front → back_bus w h ≡ w.back → f.bus ≡ w.front → ring_leads.Goes (ring_leads.Is (x ∷ [])) (ring_leads.Is (x ∷ [])) 0 result (ring_leads.moment w.rings c r) (ring_leads.moment (record { front = f.ring; back = w.rings.back; under = w.rings.under }) c s) → Goes (Is (h ∷ [])) (Is (h ∷ [])) 0 result (moment w c r) (moment (front_moved w f w.rings.under) c s)
-front_seen_as h x w f c r s result does_it front back same p =
+pub front_seen_as : (h : Happening) (x : ring.Happening) (w : World) (f : front_view.View) (c : DiskSeen) (r s : RecorderSeen) (result : Result (Unit {0}) RecordStop) → does w h ≡ x ∷ [] → front_bus w h ≡ w.front → back_bus w h ≡ w.back → f.bus ≡ w.front → cost_of x ≡ 0 → ring_leads.Goes (ring_leads.Is (x ∷ [])) (ring_leads.Is (x ∷ [])) 0 result (ring_leads.moment w.rings c r) (ring_leads.moment (record { front = f.ring; back = w.rings.back; under = w.rings.under }) c s) → Goes (Is (h ∷ [])) (Is (h ∷ [])) 0 result (moment w c r) (moment (front_moved w f w.rings.under) c s)
+front_seen_as h x w f c r s result does_it front back same none p =
     let v : rings.World = record { front = f.ring; back = w.rings.back; under = w.rings.under } in
     subst (λ (bus : FrontView). Goes (Is (h ∷ [])) (Is (h ∷ [])) 0 result (moment w c r) (moment (record { rings = v; front = bus; back = w.back }) c s)) (sym same)
-    (rings_alone (Is (h ∷ [])) (Is (h ∷ [])) 0 h x w v c c r s result refl refl does_it front back p)
+    (rings_alone (Is (h ∷ [])) (Is (h ∷ [])) 0 0 h x w v c c r s result refl refl does_it front back (let few = ring_left w.rings x in omega arith) p)
 
 pub front_part_fit : (h : Happening) (x : ring.Happening) (w : World) (f : front_view.View) → does w h ≡ x ∷ [] → front_bus w h ≡ w.front → back_bus w h ≡ w.back → f.news ≡ None → f.bus ≡ w.front → record { front = f.ring; back = w.rings.back; under = w.rings.under } ≡ ring.happens w.rings x → IsFit w → HasHeard f × IsFit (front_moved w f w.rings.under)
 front_part_fit h x w f does_it front back news same world fit =

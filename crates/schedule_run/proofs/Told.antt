@@ -20,7 +20,6 @@ use Rattle.vbd_model.specs.World.{World, start_of}
 use Rattle.vbd_model.specs.Happening.{Happening, after, lines_at, lines_of}
 use Rattle.vbd_model.specs.Kind.{AreOf, AreOfAll, AreOfSoFar}
 use Rattle.vbd_model.specs.Leads.{Moment, moment, Leads, StopsShowing, LacksMemory, LeadsToStop, Goes}
-use Rattle.split_model.specs.Report as ring_report
 use Rattle.vbd_model.specs.Report.{report_of, ended_report_of}
 use Rattle.vbd_model.proofs.Running.{lines_of-append, report_lift, leads_as, stops_on}
 use Rattle.vbd_model.proofs.Echo.{schedule_echo, kept_echo}
@@ -34,7 +33,7 @@ use Rattle.plain_disk.specs.Honest.{honest_part}
 use Rattle.pipeline_laws.specs.Effects.{IsOfADisk}
 use Rattle.schedule_run.specs.Outcome.{Outside, outside, IsServed, HasCarried}
 use Rattle.schedule_run.specs.Lawful.{IsLawful, IsLawfulSoFar, HasLawfulReport, HasLawfulBeginning, EventLeaves}
-use Rattle.schedule_run.proofs.Lengths.{report_short, report_so_far_short}
+use Rattle.schedule_run.proofs.FewReads.{events_brief, events_so_far_brief}
 use Rattle.schedule_run.proofs.Lawful.{nothing_lawful}
 use Rattle.schedule_run.proofs.Whole.{to_rings, submitted, IsTold, history_first, content_kept, report_lawful, report_honest_run, begun_honest, begun_lawful, run_later}
 use Rattle.schedule_run.proofs.Begins.{plain_of}
@@ -46,10 +45,6 @@ told_of config events old now h =
     let leads = h.leads in
     gained_twice (Begin config old.recorder.detail ∷ []) (lines_of leads.history (start_of config)) old.recorder h.began now.recorder h.first leads.told
 
--- its report is as short as the ring's machine's
-short_lift : (config : Options) (detail : Detail) (history : List Happening) → length (report_of config detail history) < 2 ^ 64 → length (ring_report.report_of config detail (to_rings config history)) < 2 ^ 64
-short_lift config detail history short = subst (λ (l : List Line). length l < 2 ^ 64) (report_lift config detail history) short
-
 pub is_told : (config : Options) (events : List Event) (old : Outside) (now : Moment) (h : HasCarried config events old now) → (let leads = h.leads in IsTold config old.recorder.detail leads.history)
 is_told config events old now h =
     let leads = h.leads in
@@ -60,7 +55,7 @@ is_told config events old now h =
       possible = rings_possible config leads.history served.carried served.options (events_possible events (start_of config) leads.history leads.is_kind);
       served = rings_served config leads.history served.carried served.options (events_possible events (start_of config) leads.history leads.is_kind);
       agreed = rings_agreed config leads.history served.carried served.options (events_possible events (start_of config) leads.history leads.is_kind);
-      short = short_lift config old.recorder.detail leads.history (report_short config old.recorder.detail events leads.history (plain_of config served) leads.is_kind h.few);
+      brief = events_brief config old.recorder.detail events leads.history (plain_of config served) leads.is_kind h.few;
     }
 
 -- each request that is submitted has numbers of the grammar
@@ -82,7 +77,7 @@ carried_lawful config events old now long h =
     record {
       report = kept_of detail report;
       told = told.told;
-      echo = subst (AnswersAll config.order events) (sym (kept_echo detail report)) (schedule_echo config.order events (start_of config) leads.history leads.is_kind);
+      echo = subst (AnswersAll config.order events) (sym (kept_echo detail report)) (schedule_echo config.order events (start_of config) leads.history (omega arith) leads.is_kind);
       widths = have_widths config events old now h;
       lawful = subst (λ (jobs : List Job). IsLawful config detail jobs old.disk.content now.disk.content (kept_of detail report)) (events_submit events (start_of config) leads.history leads.is_kind)
           (report_lawful config detail leads.history old.disk now.disk (is_told config events old now h) long leads.disk);
@@ -146,7 +141,7 @@ both_told config detail events event hs served few k =
       possible = rings_possible config (k.0 ++ k.1) served.carried served.options (events_so_far_possible events event start k.0 k.1 k.3 k.4);
       served = rings_served config (k.0 ++ k.1) served.carried served.options (events_so_far_possible events event start k.0 k.1 k.3 k.4);
       agreed = rings_agreed config (k.0 ++ k.1) served.carried served.options (events_so_far_possible events event start k.0 k.1 k.3 k.4);
-      short = short_lift config detail (k.0 ++ k.1) (report_so_far_short config detail events event k.0 k.1 plain k.3 k.4 few);
+      brief = events_so_far_brief config detail events event k.0 k.1 plain k.3 k.4 few;
     })
 
 -- the recorder stopped at a line of the last thing that happened

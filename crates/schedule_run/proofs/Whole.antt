@@ -24,6 +24,7 @@ use Rattle.vbd_model.specs.Happening.{Happening, does, lines_at, DiskRuns, after
 use Rattle.vbd_model.specs.Report.{report_of, ended_report_of}
 use Rattle.vbd_model.proofs.Running.{all_does-append, after_rings, disk_lift, report_lift, ended_report_lift}
 use Rattle.schedule_run.specs.Lawful.{IsLawful, IsLawfulSoFar}
+use Rattle.schedule_run.proofs.FewReads.{brief_first}
 use Rattle.schedule_run.proofs.Lawful as of_rings
 
 -- what happened, to the ring's machine
@@ -33,7 +34,7 @@ to_rings config history = all_does history (start_of config)
 abbrev pub submitted : Options → List Happening → List Job
 submitted config history = submitted_of (to_rings config history)
 
--- a history of the machine with these options, short enough
+-- a history of the machine with these options, brief enough
 abbrev pub IsTold : Options → Detail → List Happening → Type 0
 IsTold config detail history = of_rings.IsTold config detail (to_rings config history)
 
@@ -42,11 +43,14 @@ to_rings-append config first rest = all_does-append first rest (start_of config)
 
 -- the first part of a history that is told
 pub told_first : (config : Options) (detail : Detail) (first rest : List ring.Happening) → of_rings.IsTold config detail (first ++ rest) → of_rings.IsTold config detail first
-told_first config detail first rest h =
-    let whole = ring_running.lines_of-append first rest (rings.start_of config) in
-    let lines : length (ring.lines_of (first ++ rest) (rings.start_of config)) ≡ length (ring.lines_of first (rings.start_of config)) + length (ring.lines_of rest (ring.after first (rings.start_of config))) = ap length whole ∙ length-append (ring.lines_of first (rings.start_of config)) (ring.lines_of rest (ring.after first (rings.start_of config))) in
-    let short = h.short in
-    record { plain = h.plain; options = h.options; possible = possible_first first rest (rings.start_of config) h.possible; served = served_before first rest (rings.start_of config) h.served; agreed = of_rings.agreed_before first rest (rings.start_of config) h.agreed; short = omega arith }
+told_first config detail first rest h = record {
+  plain = h.plain;
+  options = h.options;
+  possible = possible_first first rest (rings.start_of config) h.possible;
+  served = served_before first rest (rings.start_of config) h.served;
+  agreed = of_rings.agreed_before first rest (rings.start_of config) h.agreed;
+  brief = brief_first config detail first rest h.brief;
+}
 
 pub history_first : (config : Options) (detail : Detail) (history : List Happening) (last : Happening) → IsTold config detail (history ++ last ∷ []) → IsTold config detail history
 history_first config detail history last h =

@@ -13,13 +13,13 @@ abbrev pub FrontGoes : Result (Unit {0}) RecordStop → World → World → Reco
 FrontGoes result w v before after =
     (disk : DiskSeen) → Goes (Is (FrontMoves ∷ [])) (Is (FrontMoves ∷ [])) 0 result (moment w disk before) (moment v disk after)
 
--- a move of the back
+-- a move of the back: a mapping of its own at most, and 12 that a job which it begins may come to make
 abbrev pub BackGoes : Result (Unit {0}) RecordStop → Moment → Moment → Type 0
-BackGoes result a b = Goes (Is (BackMoves ∷ [])) (Is (BackMoves ∷ [])) 1 result a b
+BackGoes result a b = Goes (Is (BackMoves ∷ [])) (Is (BackMoves ∷ [])) 13 result a b
 
--- a move of the job of a number
+-- a move of the job of a number, whose mappings were counted when it began
 abbrev pub JobGoes : ℕ → Result (Unit {0}) RecordStop → Moment → Moment → Type 0
-JobGoes number result a b = Goes (IsJobMove number) (IsJobMove number) 1 result a b
+JobGoes number result a b = Goes (IsJobMove number) (IsJobMove number) 0 result a b
 
 -- all of these happenings, or a beginning of them where the recorder stopped
 abbrev pub GoesThrough : List Happening → ℕ → Result (Unit {0}) RecordStop → Moment → Moment → Type 0

@@ -21,7 +21,7 @@ use Rattle.report_rules.specs.Data.{AreData}
 use Rattle.report_rules.specs.Effect.{AreEffects}
 use Rattle.ring_laws.specs.Unmaps.{AreUnmaps}
 use Rattle.ring_laws.specs.Own.{AreOwn}
-use Rattle.ring_laws.specs.Layout.{HasOneLayout}
+use Rattle.ring_laws.specs.Layout.{IsNamedFirst}
 use Rattle.report_rules.specs.Reply.{AreReplies}
 use Rattle.move_laws.specs.Grantable.{AreGrantable}
 use Rattle.move_laws.specs.Dumped.{AreWholeDumps}
@@ -46,7 +46,7 @@ use Rattle.schedule_run.specs.Outcome.{Outside, HasCarried}
 use Rattle.schedule_run.specs.declared.schedule.RunStop.{RunStop}
 use Rattle.schedule_run.specs.declared.schedule.RunStop.TheVariants as stop
 
--- the moves that a report shows: each read shows what the lines before it left there; each map is answered as its entry stands by them; each touch of the back or a job is of a word of frames 2 to 1023 through a mapping that stands, and writes only through one for writing; a producer that overran halts the back, which serves nothing more; each entry is fetched in one stretch, each word once, only where a request is unconsumed; a dump shows each word of a ring of `2^order` pages that isn't 0; and no other layout of entries is named than that of 64-bit guests
+-- the moves that a report shows: each read shows what the lines before it left there; each map is answered as its entry stands by them; each touch of the back or a job is of a word of frames 2 to 1023 through a mapping that stands, and writes only through one for writing; a producer that overran halts the back, which serves nothing more; each entry is fetched in one stretch, each word once, only where a request is unconsumed; a dump shows each word of a ring of `2^order` pages that isn't 0; and the back reads which layout of entries it is to serve only before it maps a page of the ring
 pub record ObeysMoves (order : ℕ) (report : List Line) : Type 0 where
   pub coherent : IsCoherent report
   pub answered : AreMapAnswers report
@@ -55,7 +55,7 @@ pub record ObeysMoves (order : ℕ) (report : List Line) : Type 0 where
   pub overruns : IsOverrunRule report
   pub stretches : AreStretches report
   pub dumps : AreWholeDumps order report
-  pub layout : HasOneLayout report
+  pub layout : IsNamedFirst report
 
 -- the work that a report shows: each job's moves are in order the steps of the work of its entry as its words were read; each word that it writes to the guest is the one that the disk gave; the outcome of a move of the disk stands after it, and nowhere else; a job reads, writes and unmaps only through what it mapped itself; and each reply is the response of a job whose work is over and that had none yet, pushed and told once it is whole
 pub record ShowsWork (report : List Line) : Type 0 where

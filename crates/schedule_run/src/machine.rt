@@ -11,7 +11,7 @@ ghost use Rattle.schedule_run.specs.Outcome.{Outside, HasCarried, IsServed, cont
 ghost use Rattle.schedule_run.specs.Lawful.{EventLeaves};
 
 use crate::split::Split;
-use blk_base::{Abi, Config, Job, OutOfMemory};
+use blk_base::{Config, Job, OutOfMemory};
 use blk_io::SectorDisk;
 use schedule_text::{Event, RecordStop, Recorder};
 use std::alloc::Global;
@@ -124,16 +124,12 @@ impl Machine {
     }
 }
 
-/// Whether options are ones that the machine serves yet: the x86_64 layout, a ring of one page from
+/// Whether options are ones that the machine serves yet: either layout, a ring of 1 to 16 pages from
 /// any start, and a disk of any size, read-only or not, without persistent grants or indirect pages.
 pub fn can_serve(config: &Config) -> bool
     ensures { result ≡ are_carried config.now }
 {
-    let is_x64 = match config.abi {
-        Abi::X64 => true,
-        Abi::X32 => false,
-    };
-    is_x64 && config.order == 0 && config.persistent == 0 && config.indirect == 0
+    config.persistent == 0 && config.indirect == 0
 }
 
 /// Whether an event is one that the machine carries out yet, with the numbers of the grammar: a

@@ -1,5 +1,5 @@
 // The runner over an outside in memory, as the program holds it.
-ghost use Rattle.std.specs.Prelude.{◌≡◌, [], ◌∷◌, length, true, Some, OnOk, IfOk};
+ghost use Rattle.std.specs.Prelude.{◌≡◌, ◌≤◌, [], ◌∷◌, length, true, Some, OnOk, IfOk};
 ghost use Rattle.blk_io.specs.Disk.{HasLength, attached_of};
 ghost use Rattle.image_disk.specs.Image.{image_seen};
 ghost use Rattle.schedule_text.specs.declared.line.Detail.TheVariants.{Lines};
@@ -117,6 +117,23 @@ fn config_from(sectors: u64, start: u32) -> Config
     }
 }
 
+// The same, with a ring of that layout and order.
+fn config_shaped(sectors: u64, abi: Abi, order: u32) -> Config
+    requires narrow { order ≤ 4 }
+    ensures carried { are_carried result ≡ true }
+    ensures sectors { result.sectors ≡ sectors }
+{
+    Config {
+        abi,
+        order,
+        persistent: 0,
+        indirect: 0,
+        start: 0,
+        read_only: false,
+        sectors,
+    }
+}
+
 // A disk of 8 zero sectors.
 fn zeros(alloc: Global) -> Result<MemoryDisk, Fail> {
     Ok(MemoryDisk::new(alloc, vec![in alloc; [0; 128]; 8]?)?)
@@ -137,9 +154,41 @@ fn report_from<D: SectorDisk + Drop>(
     alloc: Global,
     start: u32,
     schedule: &str,
-    mut disk: D,
+    disk: D,
     detail: Detail,
 ) -> Result<MemorySink, Fail> {
+    report_with(alloc, config_from(0, start), schedule, disk, detail)
+}
+
+// The same, of a ring of that layout and order.
+fn report_shaped<D: SectorDisk + Drop>(
+    alloc: Global,
+    abi: Abi,
+    order: u32,
+    schedule: &str,
+    disk: D,
+) -> Result<MemorySink, Fail>
+    requires { order ≤ 4 }
+{
+    report_with(
+        alloc,
+        config_shaped(0, abi, order),
+        schedule,
+        disk,
+        Detail::Lines,
+    )
+}
+
+// Runs a schedule with these options on a disk with its own number of sectors.
+fn report_with<D: SectorDisk + Drop>(
+    alloc: Global,
+    options: Config,
+    schedule: &str,
+    mut disk: D,
+    detail: Detail,
+) -> Result<MemorySink, Fail>
+    requires { are_carried options ≡ true }
+{
     let mut source = MemorySource::new(schedule.as_bytes().to_vec(alloc)?);
     let sectors = match disk.attach("image", true) {
         Ok(sectors) => sectors,
@@ -151,9 +200,18 @@ fn report_from<D: SectorDisk + Drop>(
         detail,
         room: LineText::new(),
     };
+    let config = Config {
+        abi: options.abi,
+        order: options.order,
+        persistent: options.persistent,
+        indirect: options.indirect,
+        start: options.start,
+        read_only: options.read_only,
+        sectors,
+    };
     run(
         alloc,
-        config_from(sectors, start),
+        config,
         4294967296,
         &mut source,
         &mut disk,
@@ -531,5 +589,39 @@ fn a_dump_shows_the_words_of_the_ring_in_order(rt: HostRuntime) -> Result<(), Fa
     let wanted =
         b"begin 64 0 0 0 4294967295 rw 8 lines\nready\nquiet\nsubmit 1 write 0 1 00000007\neffect 1 0\nreply 1 ok\nanswer 1 ok\nquiet\nsubmit 2 write 0 1 00000007\neffect 2 0\nreply 2 ok\nanswer 2 ok\nquiet\nsubmit 3 write 0 1 00000007\neffect 3 0\nreply 3 ok\nanswer 3 ok\nquiet\nword 2 0 00000002\nword 2 1 00000003\nword 2 2 00000002\nword 2 3 00000003\n";
     assert!(rt; sink.bytes().starts_with(wanted));
+    Ok(())
+}
+
+// Runs a write of one sector on a ring of that layout and order.
+fn writes_on(alloc: Global, abi: Abi, order: u32, begin: &str) -> Result<(), Fail>
+    requires { order ≤ 4 }
+{
+    let schedule = "settle\nsubmit write 0 1 00000007\nsettle\nclose front\nsettle\n";
+    let sink = report_shaped(alloc, abi, order, schedule, zeros(alloc)?)?;
+    let wanted = format!(in alloc;
+        "{begin}\nready\nquiet\nsubmit 1 write 0 1 00000007\neffect 1 0\nreply 1 ok\nanswer 1 ok\nquiet\nclosing\nhalt gone 5\nclosed\nquiet\nend\n"
+    )?;
+    if sink.bytes() == wanted.as_bytes() {
+        Ok(())
+    } else {
+        Err(Fail::from("another report"))
+    }
+}
+
+#[test]
+fn rings_of_each_layout_and_of_many_pages_are_served(rt: HostRuntime) -> Result<(), Fail> {
+    let alloc = rt.alloc();
+    writes_on(alloc, Abi::X32, 0, "begin 32 0 0 0 0 rw 8 lines")?;
+    writes_on(alloc, Abi::X64, 1, "begin 64 1 0 0 0 rw 8 lines")?;
+    writes_on(alloc, Abi::X32, 3, "begin 32 3 0 0 0 rw 8 lines")?;
+    writes_on(alloc, Abi::X64, 4, "begin 64 4 0 0 0 rw 8 lines")
+}
+
+#[test]
+fn a_dump_shows_each_page_of_the_ring(rt: HostRuntime) -> Result<(), Fail> {
+    let alloc = rt.alloc();
+    let schedule = "settle\npoke 5 1023 9\ndump\n";
+    let sink = report_shaped(alloc, Abi::X64, 2, schedule, zeros(alloc)?)?;
+    assert!(rt; sink.bytes().ends_with(b"word 5 1023 00000009\nend\n"));
     Ok(())
 }

@@ -1,4 +1,4 @@
--- Words put behind words.
+-- Words put after words.
 use Rattle.std.proofs.Common.{◌≡◌, ℕ, List, [], ◌∷◌, ◌++◌, refl, sym, ap, ◌∙◌, append_assoc}
 use Rattle.line_text.specs.Words.{spaced}
 

@@ -122,7 +122,7 @@ after_mover ws =
     if bytes_eq (word0 ws) (codes "front") then later ws else
     if bytes_eq (word0 ws) (codes "back") then later ws else later (later ws)
 
--- the text behind an equals sign, where there is one
+-- the text after an equals sign, where there is one
 abbrev pub found_at : List ℕ → Option (List ℕ)
 found_at [] = None
 found_at (b ∷ bs) = Some (text_in 64 bs)

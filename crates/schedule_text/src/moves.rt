@@ -273,7 +273,7 @@ fn put_found(text: &mut LineText, who: Mover, path: &Path, found: &Option<Text>)
     }
 }
 
-/// Adds a key's text behind an equals sign.
+/// Adds a key's text after an equals sign.
 fn put_value(text: &mut LineText, value: &Text)
     requires { array_string_len text.old ≤ 400 }
     ensures { AddsWords ((61 ∷ value.now) ∷ []) 500 text.old text.new }

@@ -7,7 +7,7 @@ use Rattle.std.proofs.lemmas.List.Sums.{sum_by-cons}
 use Rattle.blk_layout.specs.declared.segment.Segment.{Segment}
 use Rattle.segment_list.specs.Segments.{fails_test, length_of, sectors_of}
 
--- the sector behind the last of these segments, which begin at `end`
+-- the sector after the last of these segments, which begin at `end`
 abbrev pub end_over : ℕ → List Segment → Option ℕ
 end_over end segments = if list_any fails_test segments then None else Some (end + sectors_of segments)
 

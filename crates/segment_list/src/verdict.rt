@@ -209,7 +209,7 @@ fn inner_kind(op: u8) -> Option<Kind>
     }
 }
 
-// The disk sector behind the last one of segments from `sector` on, as a whole number; `None` exactly where one of
+// The disk sector after the last one of segments from `sector` on, as a whole number; `None` exactly where one of
 // them fails its test.
 fn end_of(sector: u64, segments: &[Segment]) -> Option<u128>
     ensures { result ≡ (if list_any fails_test segments.now then None else Some (sector + sectors_of segments.now)) }

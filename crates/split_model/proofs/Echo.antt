@@ -3,7 +3,7 @@ use Rattle.std.proofs.Common.{◌≡◌, ℕ, zero, suc, List, [], ◌∷◌, �
 use Rattle.std.specs.Prelude.{◌+◌, ◌*◌, ◌/◌, ◌%◌, ◌^◌, ◌<◌, ◌≤◌, filter}
 use Rattle.std.specs.List.{AllByRecursion}
 use Rattle.std.proofs.lemmas.List.{append-nil}
-use Rattle.std.proofs.lemmas.Nat.{pow_pos}
+use Rattle.std.proofs.Math.Nat.{pow-le-pow_right}
 use Rattle.std.proofs.lemmas.List.Elements.{filter-append}
 use Rattle.blk_front.specs.View as front
 use Rattle.blk_front.specs.Step as front_step
@@ -27,9 +27,10 @@ use Rattle.plain_disk.specs.Echo.{is_echo, AnswersSubmit, AreRingWords}
 use Rattle.xen_pages.specs.Pages.{word_of}
 use Rattle.split_model.specs.World.{World}
 use Rattle.split_model.specs.Shown.{front_lines, back_lines, halt_lines, effect_line}
-use Rattle.split_model.specs.Happening.{Happening, FrontMoves, BackMoves, JobMoves, Negotiates, FrontEnters, BackHalts, Submits, Notifies, Pokes, Dumps, Looks, Settles, is_guest_word, word_lines, ring_lines, happens, lines_at, lines_of, front_shows, back_shows, job_shows, front_turn, back_turn, job_turn, submit_line}
+use Rattle.split_model.specs.Happening.{Happening, FrontMoves, BackMoves, JobMoves, Negotiates, FrontEnters, BackAttaches, BackHalts, Submits, Notifies, Pokes, Dumps, Looks, Settles, is_guest_word, word_lines, ring_lines, happens, lines_at, lines_of, front_shows, back_shows, job_shows, front_turn, back_turn, job_turn, submit_line}
 use Rattle.schedule_text.specs.Recorder.{recorded, kept_of}
 use Rattle.split_model.proofs.Keys.{negotiated_lines_are}
+use Rattle.split_model.proofs.Attaching.{attach_lines_are}
 use Rattle.split_model.proofs.States.{enter_lines_are, state_lines_are}
 
 -- the lines that echo
@@ -46,6 +47,7 @@ is_move BackMoves = true
 is_move (JobMoves number outcome) = true
 is_move (Negotiates at move) = true
 is_move (FrontEnters state) = true
+is_move (BackAttaches shape grefs port) = true
 is_move (BackHalts why) = true
 is_move (Notifies at) = true
 is_move h = false
@@ -113,6 +115,7 @@ move_silent w BackMoves m = back_silent w (back_turn w Took)
 move_silent w (JobMoves number outcome) m = job_silent w number (job_turn w number outcome)
 move_silent w (Negotiates at move) m = none_silent _ (negotiated_lines_are (λ l. is_echo l ≡ false) w.back.stage at move w.under.keys (λ path. refl) (λ path text. refl) (λ path. refl) (λ path. refl))
 move_silent w (FrontEnters state) m = none_silent _ (enter_lines_are (λ l. is_echo l ≡ false) state w.front (λ may. state_lines_are (λ l. is_echo l ≡ false) state refl refl refl (λ word. refl)))
+move_silent w (BackAttaches shape grefs port) m = none_silent _ (attach_lines_are (λ l. is_echo l ≡ false) w shape grefs refl)
 move_silent w (BackHalts why) m = halt_silent w.back.halted (let b : back.View = back_step.halts why w.back in b.halted)
 move_silent w (Notifies at) m = refl
 move_silent w (Submits job) m = absurd (cc)
@@ -173,18 +176,19 @@ words_echo pages place (suc count) =
     ∙ (ap (λ l. l ++ echo_of (ring_lines pages (place + 1) count)) (word_echo place (word_of pages (2 + place / 1024) (place % 1024)))
     ∙ ap (λ l. word_lines place (word_of pages (2 + place / 1024) (place % 1024)) ++ l) (words_echo pages (place + 1) count))
 
-dump_echo : (w : World) → echo_of (lines_of (Dumps ∷ []) w) ≡ ring_lines w.under.pages 0 1024
-dump_echo w = ap echo_of (append-nil (ring_lines w.under.pages 0 1024)) ∙ words_echo w.under.pages 0 1024
+dump_echo : (w : World) (count : ℕ) → echo_of (ring_lines w.under.pages 0 count ++ []) ≡ ring_lines w.under.pages 0 count
+dump_echo w count = ap echo_of (append-nil (ring_lines w.under.pages 0 count)) ∙ words_echo w.under.pages 0 count
 
--- a ring of one page is a part of one of several
-one_page : (order : ℕ) → 1024 ≤ 1024 * 2 ^ order
-one_page order = let some : 0 < 2 ^ order = pow_pos order in omega arith
+-- the front's ring is a part of one of no fewer pages
+as_many_words : (own order : ℕ) → own ≤ order → 1024 * 2 ^ own ≤ 1024 * 2 ^ order
+as_many_words own order narrow = let pages : 2 ^ own ≤ 2 ^ order = pow-le-pow_right (omega arith) narrow in omega arith
 
 -- the lines of a look at the ring's words answer it
-pub dump_answers : (order : ℕ) (w : World) → AreRingWords 0 (1024 * 2 ^ order) (echo_of (lines_of (Dumps ∷ []) w))
-dump_answers order w =
-    wider 0 1024 (1024 * 2 ^ order) (echo_of (lines_of (Dumps ∷ []) w)) (one_page order)
-    (subst (AreRingWords 0 1024) (sym (dump_echo w)) (are_ring_words w.under.pages 0 1024))
+pub dump_answers : (order : ℕ) (w : World) → w.front.shape.order ≤ order → AreRingWords 0 (1024 * 2 ^ order) (echo_of (lines_of (Dumps ∷ []) w))
+dump_answers order w narrow =
+    let count : ℕ = 1024 * 2 ^ w.front.shape.order in
+    wider 0 count (1024 * 2 ^ order) (echo_of (lines_of (Dumps ∷ []) w)) (as_many_words w.front.shape.order order narrow)
+    (subst (AreRingWords 0 count) (sym (dump_echo w count)) (subst (λ (bound : ℕ). AreRingWords 0 bound (ring_lines w.under.pages 0 count)) (omega arith) (are_ring_words w.under.pages 0 count)))
 
 kept_echo_one : (d : Detail) (l : Line) → echo_of (recorded d l) ≡ echo_of (l ∷ [])
 kept_echo_one Lines (lines.Begin config other) = refl

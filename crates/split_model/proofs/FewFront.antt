@@ -12,7 +12,7 @@ use Rattle.blk_base.specs.declared.operation.Status.{Status}
 use Rattle.blk_base.specs.declared.ask.FrontAnswer.{FrontAnswer}
 use Rattle.blk_base.specs.declared.ask.FrontAnswer.TheVariants as answer
 use Rattle.ring_words.specs.Ring.{responses_of, notifies}
-use Rattle.ring_words.specs.Shape.{entries_of}
+use Rattle.ring_words.specs.Shape.{entries_of, entry_words_of}
 use Rattle.blk_layout.specs.declared.response.Response.{Response}
 use Rattle.blk_layout.specs.Response.{response_of}
 use Rattle.blk_front.specs.declared.stage.Stage.{Stage}
@@ -29,11 +29,12 @@ use Rattle.blk_front.specs.declared.told.Refusal.TheVariants as refusal
 use Rattle.blk_front.specs.declared.told.Told.TheVariants as told
 use Rattle.blk_front.specs.Pool.{taking}
 use Rattle.blk_front.specs.Request.{is_write, has_data, words_in, frames_for}
-use Rattle.blk_front.specs.View.{View, next_request, shape}
-use Rattle.blk_front.specs.Step.{at, broken, looked, issue_stage, data_stage, granted, loop_step, found_at, issued, taken, response_at, is_mapped, ended, revoked, sector_told, data_step, step_at, step_of}
+use Rattle.blk_front.specs.View.{View, next_request}
+use Rattle.blk_front.specs.Step.{at, broken, ring_granted, ring_left, looked, issue_stage, data_stage, granted, loop_step, found_at, issued, taken, response_at, is_mapped, ended, revoked, sector_told, data_step, step_at, step_of}
 use Rattle.blk_front.specs.State.{in_state, enters}
 use Rattle.blk_front.specs.Submit.{is_ready, ending_of, unfinished, wish_of, request_with, submit_with, submit_one, submit_of}
 use Rattle.split_model.proofs.States.{enters_cases}
+use Rattle.split_model.proofs.Shapes.{front_shape, entered_order, few_entries}
 
 -- a request has at most 88 sectors
 abbrev pub IsShort : Request → Type 0
@@ -43,9 +44,10 @@ abbrev pub IsShortEnding : Option Ending → Type 0
 IsShortEnding None = Unit {0}
 IsShortEnding (Some e) = IsShort e.request
 
--- with the one that is ending there are at most 32
+-- with the one that is ending there are at most 512, as many as a ring of 16 pages has entries
 pub record IsModest (v : View) : Type 0 where
-  pub room : length v.requests + ending_of v.stage ≤ 32
+  pub order : v.shape.order ≤ 4
+  pub room : length v.requests + ending_of v.stage ≤ 512
   pub short : All IsShort v.requests
   pub ending : IsShortEnding v.ending
 
@@ -124,19 +126,26 @@ data_owed v (Some e) n word here =
     (told_requests v e n _, λ short. subst IsShortEnding (sym (told_ending v e n _)) short, omega arith)
     (told_requests v e n _, λ short. tt, omega arith)
 
+-- the next page of the ring is granted, or its grant ended
+granted_ring_owed : (v : View) (page : ℕ) → ending_of (ring_granted v page) ≤ 0
+granted_ring_owed v page = either_stage (nat_lt (page + 1) (2 ^ v.shape.order)) (stage.RingFrame (page + 1)) stage.NewPort 0 (omega arith) (omega arith)
+
+left_ring_owed : (v : View) (page : ℕ) → ending_of (ring_left v page) ≤ 0
+left_ring_owed v page = either_stage (nat_lt (page + 1) (2 ^ v.shape.order)) (stage.RingRead (page + 1)) stage.ClosePort 0 (omega arith) (omega arith)
+
 -- a step that takes no response
 step_owed : (s : Stage) (v : View) (x : FrontAnswer) → v.stage ≡ s → ((low high last : ℕ) → s ≡ stage.ResponseLast low high → x ≡ answer.Word last → ⊥) → Owed (ending_of s) v (step_at s v x)
-step_owed (stage.RingWord k) v x here takes = (refl, λ short. short, either_stage (k == 15) stage.RingFrame (stage.RingWord (k + 1)) 0 (omega arith) (omega arith))
-step_owed stage.RingFrame v x here takes = goes_to 0 v stage.RingFence (omega arith)
-step_owed stage.RingFence v x here takes = goes_to 0 v stage.RingFlags (omega arith)
-step_owed stage.RingFlags v x here takes = goes_to 0 v stage.NewPort (omega arith)
+step_owed (stage.RingWord k) v x here takes = (refl, λ short. short, either_stage (k == 15) (stage.RingFrame 0) (stage.RingWord (k + 1)) 0 (omega arith) (omega arith))
+step_owed (stage.RingFrame page) v x here takes = goes_to 0 v (stage.RingFence page) (omega arith)
+step_owed (stage.RingFence page) v x here takes = goes_to 0 v (stage.RingFlags page) (omega arith)
+step_owed (stage.RingFlags page) v x here takes = goes_to 0 v (ring_granted v page) (granted_ring_owed v page)
 step_owed stage.NewPort v x here takes = (refl, λ short. short, omega arith)
 step_owed stage.Loop v x here takes = loop_owed v (next_request v) x here
 step_owed (stage.Data n) v x here takes = goes_to 0 v (data_stage (next_request v) n) (data_stage_owed (next_request v) n)
 step_owed (stage.GrantFrame place) v x here takes = goes_to 0 v (stage.GrantFence place) (omega arith)
 step_owed (stage.GrantFence place) v x here takes = goes_to 0 v (stage.GrantFlags place) (omega arith)
 step_owed (stage.GrantFlags place) v x here takes = granted_owed v (next_request v) place here
-step_owed (stage.Slot k) v x here takes = (refl, λ short. short, either_stage (k == 27) stage.Producer (stage.Slot (k + 1)) 0 (omega arith) (omega arith))
+step_owed (stage.Slot k) v x here takes = (refl, λ short. short, either_stage (k + 1 == entry_words_of v.shape.abi) stage.Producer (stage.Slot (k + 1)) 0 (omega arith) (omega arith))
 step_owed stage.Producer v x here takes = (refl, λ short. short, omega arith)
 step_owed (stage.ProducerFence old) v x here takes = goes_to 0 v (stage.RequestEvent old) (omega arith)
 step_owed (stage.RequestEvent old) v (answer.Word event) here takes = (refl, λ short. short, either_stage (notifies old v.ring.prod event) stage.Send stage.Loop 0 (omega arith) (omega arith))
@@ -151,16 +160,17 @@ step_owed (stage.ReadData n) v (answer.Word word) here takes = data_owed v v.end
 step_owed stage.StoreEvent v x here takes = goes_to 0 v stage.EventFence (omega arith)
 step_owed stage.EventFence v x here takes = goes_to 0 v stage.LookAgain (omega arith)
 step_owed stage.LookAgain v (answer.Word word) here takes = looked_owed 0 v word (record v { seen = word; stage = stage.Loop; asleep = true }) (refl, λ short. short, omega arith)
-step_owed stage.RingRead v (answer.Word word) here takes =
-    either (is_mapped word) 0 v (broken word v) (at (stage.RingEnd word) v) (refl, λ short. short, omega arith) (goes_to 0 v (stage.RingEnd word) (omega arith))
-step_owed (stage.RingEnd before) v (answer.Word word) here takes =
-    either (word == before) 0 v (at stage.ClosePort v) (broken word v) (goes_to 0 v stage.ClosePort (omega arith)) (refl, λ short. short, omega arith)
+step_owed (stage.RingRead page) v (answer.Word word) here takes =
+    either (is_mapped word) 0 v (broken word v) (at (stage.RingEnd page word) v) (refl, λ short. short, omega arith) (goes_to 0 v (stage.RingEnd page word) (omega arith))
+step_owed (stage.RingEnd page before) v (answer.Word word) here takes =
+    either (word == before) 0 v (at (ring_left v page) v) (broken word v) (goes_to 0 v (ring_left v page) (left_ring_owed v page)) (refl, λ short. short, omega arith)
 step_owed stage.ClosePort v x here takes = goes_to 0 v stage.Left (omega arith)
 step_owed s v x here takes = stays s v here
 
-owed_modest : (n : ℕ) (v x : View) → n ≤ ending_of v.stage → Owed n v x → IsModest v → IsModest x
-owed_modest n v x le o m = record {
-  room = let room = m.room in let stage = o.2 in subst (λ (rs : List Request). length rs + ending_of x.stage ≤ 32) (sym o.0) (omega arith);
+owed_modest : (n : ℕ) (v x : View) → n ≤ ending_of v.stage → x.shape.order ≤ v.shape.order → Owed n v x → IsModest v → IsModest x
+owed_modest n v x le narrow o m = record {
+  order = let order = m.order in omega arith;
+  room = let room = m.room in let stage = o.2 in subst (λ (rs : List Request). length rs + ending_of x.stage ≤ 512) (sym o.0) (omega arith);
   short = subst (All IsShort) (sym o.0) m.short;
   ending = o.1 m.ending;
 }
@@ -180,27 +190,32 @@ taken_modest v place r status here m =
     let shorter = length-remove v.requests place within in
     let room = m.room in
     record {
+      order = m.order;
       room = omega arith;
       short = All-append IsShort (take place v.requests) (drop (suc place) v.requests) (All-take IsShort place v.requests m.short) (All-drop IsShort (suc place) v.requests m.short);
       ending = let same = get_or_from_slice_get v.requests place r r here in subst IsShort same (All-get_or IsShort v.requests place r within m.short);
     }
 
 response_modest : (v : View) (response : Result Response ℕ) (low : ℕ) (found : Option (ℕ × Request)) → ((f : ℕ × Request) → found ≡ Some f → slice_get v.requests f.0 ≡ Some f.1) → IsModest v → IsModest (response_at v response low found)
-response_modest v response low None is m = owed_modest 0 v (broken low v) (omega arith) (refl, λ short. short, omega arith) m
-response_modest v (Err word) low (Some found) is m = owed_modest 0 v (broken word v) (omega arith) (refl, λ short. short, omega arith) m
+response_modest v response low None is m = owed_modest 0 v (broken low v) (omega arith) (omega arith) (refl, λ short. short, omega arith) m
+response_modest v (Err word) low (Some found) is m = owed_modest 0 v (broken word v) (omega arith) (omega arith) (refl, λ short. short, omega arith) m
 response_modest v (Ok response) low (Some found) is m = taken_modest v found.0 found.1 response.status (is found refl) m
 
 -- whatever the front is told
 pub step_modest : (v : View) (x : FrontAnswer) → IsModest v → IsModest (step_of v x)
 step_modest v x m = by_stage v.stage x refl
   where
+    narrow : (s : Stage) (a : FrontAnswer) → v.stage ≡ s → (step_at s v a).shape.order ≤ v.shape.order
+    narrow s a here = let same = front_shape s v a in rw same (omega arith)
+
     by_stage : (s : Stage) (a : FrontAnswer) → v.stage ≡ s → IsModest (step_at s v a)
     by_stage (stage.ResponseLast low high) (answer.Word last) here =
         response_modest v (response_of (low ∷ high ∷ last ∷ [])) low (issued v (low + high * 2 ^ 32)) (λ f e. found_in v.requests _ f e) m
-    by_stage s a here = owed_modest (ending_of s) v (step_at s v a) (rw here (omega arith)) (step_owed s v a here (λ low high last e f. absurd (cc))) m
+    by_stage s a here = owed_modest (ending_of s) v (step_at s v a) (rw here (omega arith)) (narrow s a here) (step_owed s v a here (λ low high last e f. absurd (cc))) m
 
 -- whatever state it enters
 in_state_owed : (s : FrontState) (v : View) → Owed (ending_of v.stage) v (in_state s v)
+in_state_owed (state.Agreed order) v = (refl, λ short. short, omega arith)
 in_state_owed state.Connected v = (refl, λ short. short, omega arith)
 in_state_owed state.Closing v = (refl, λ short. short, omega arith)
 in_state_owed state.Leaving v = (refl, λ short. short, omega arith)
@@ -208,16 +223,17 @@ in_state_owed state.Closed v = (refl, λ short. short, omega arith)
 in_state_owed (state.Broken word) v = (refl, λ short. short, omega arith)
 
 pub entered_modest : (s : FrontState) (v : View) → IsModest v → IsModest (enters s v)
-entered_modest s v m = enters_cases (λ x shown. IsModest x) s v (λ may. owed_modest (ending_of v.stage) v (in_state s v) (omega arith) (in_state_owed s v) m) m
+entered_modest s v m = enters_cases (λ x shown. IsModest x) s v (λ may. owed_modest (ending_of v.stage) v (in_state s v) (omega arith) (entered_order s v may) (in_state_owed s v) m) m
 
 -- and whatever is submitted
 either_submit : (b : Bool) (x y : Result ℕ Refusal × View) → IsModest x.1 → IsModest y.1 → IsModest (if b then x else y).1
 either_submit true x y p q = p
 either_submit false x y p q = q
 
-accepted_modest : (v : View) (wish : Wish) (frames : Option (List ℕ × List Bool)) → wish.count ≤ 88 → unfinished v < 32 → IsModest v → IsModest (submit_with v wish frames).1
+accepted_modest : (v : View) (wish : Wish) (frames : Option (List ℕ × List Bool)) → wish.count ≤ 88 → unfinished v < 512 → IsModest v → IsModest (submit_with v wish frames).1
 accepted_modest v wish None few room m = m
 accepted_modest v wish (Some frames) few room m = record {
+  order = m.order;
   room = let longer : length (v.requests ++ request_with v wish frames.0 ∷ []) ≡ length v.requests + 1 = length-append v.requests (request_with v wish frames.0 ∷ []) in omega (arith, longer, room);
   short = All-push IsShort v.requests (request_with v wish frames.0) m.short few;
   ending = m.ending;
@@ -225,12 +241,12 @@ accepted_modest v wish (Some frames) few room m = record {
 
 wish_modest : (v : View) (wish : Option Wish) → IsModest v → IsModest (submit_one v wish).1
 wish_modest v None m = m
-wish_modest v (Some wish) m = by_tests (is_write wish.transfer && v.read_only) (nat_lt v.sectors (wish.sector + wish.count)) (nat_lt 11 (frames_for wish.count)) (nat_le (entries_of shape.order) (unfinished v)) refl refl
+wish_modest v (Some wish) m = by_tests (is_write wish.transfer && v.read_only) (nat_lt v.sectors (wish.sector + wish.count)) (nat_lt 11 (frames_for wish.count)) (nat_le (entries_of v.shape.order) (unfinished v)) refl refl
   where
     frames : Option (List ℕ × List Bool)
     frames = taking (frames_for wish.count) v.pool []
 
-    by_tests : (refuses range long full : Bool) → nat_lt 11 (frames_for wish.count) ≡ long → nat_le (entries_of shape.order) (unfinished v) ≡ full
+    by_tests : (refuses range long full : Bool) → nat_lt 11 (frames_for wish.count) ≡ long → nat_le (entries_of v.shape.order) (unfinished v) ≡ full
         → IsModest (if refuses then (Err refusal.ReadOnly, v) else (if range then (Err refusal.Range, v) else (if long then (Err refusal.Long, v) else (if full then (Err refusal.Full, v) else submit_with v wish frames)))).1
     by_tests true range long full l f = m
     by_tests false true long full l f = m
@@ -238,7 +254,9 @@ wish_modest v (Some wish) m = by_tests (is_write wish.transfer && v.read_only) (
     by_tests false false false true l f = m
     by_tests false false false false l f =
         let few : frames_for wish.count ≤ 11 = grind (arith, nat_tests) in
-        let room : unfinished v < 32 = grind (arith, nat_tests) in
+        let below : unfinished v < entries_of v.shape.order = grind (arith, nat_tests) in
+        let few_pages = few_entries v.shape.order m.order in
+        let room : unfinished v < 512 = omega arith in
         accepted_modest v wish frames (omega arith) room m
 
 pub submit_modest : (v : View) (job : Job) → IsModest v → IsModest (submit_of v job).1

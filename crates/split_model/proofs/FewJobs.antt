@@ -1,6 +1,6 @@
 -- The back holds no more jobs than its ring has entries, whatever it is told.
 use Rattle.std.proofs.Common.{◌≡◌, ℕ, ◌+◌, ◌^◌, ◌<◌, ◌≤◌, Bool, true, false, if◌then◌else◌, List, [], ◌∷◌, ◌++◌, length, refl, sym, subst, arith, length-append, length-set}
-use Rattle.std.specs.Prelude.{◌≢◌, Option, Some, None, option_and_then, cond, is_some, position, ◌==◌}
+use Rattle.std.specs.Prelude.{◌≢◌, Option, Some, None, option_and_then, cond, is_some, position, ◌==◌, nat_lt}
 use Rattle.std.proofs.lemmas.Bool.Decides.{nat_tests}
 use Rattle.std.proofs.lemmas.Option.{none-some}
 use Rattle.std.proofs.lemmas.List.Quantifiers.{position-Some}
@@ -9,6 +9,7 @@ use Rattle.blk_base.specs.Distance.{distance_of}
 use Rattle.blk_base.specs.declared.ask.BackAnswer.{BackAnswer}
 use Rattle.blk_base.specs.declared.ask.BackAnswer.TheVariants as answer
 use Rattle.blk_base.specs.declared.parts.Mapping.{Mapping}
+use Rattle.ring_words.specs.Shape.{Shape, entry_words_of}
 use Rattle.ring_words.specs.Ring.{next_of, requests_of, overruns, notifies}
 use Rattle.back_jobs.specs.Task.{Work}
 use Rattle.back_jobs.specs.Jobs.{is_done, removed_at, behind_mapping, first_mapping, mapping_at, response_of, work_at, told_at, place_of, work_of}
@@ -19,30 +20,33 @@ use Rattle.blk_back.specs.View.{View}
 use Rattle.blk_back.specs.declared.told.Halt.{Halt}
 use Rattle.blk_back.specs.declared.told.Halt.TheVariants as halt
 use Rattle.blk_back.specs.Ask.{next_reply, reply_of}
-use Rattle.blk_back.specs.Step.{at, giving_up, give_up, halts, overrun, looked, loop_step, fetched, fetch_step, replied, step_at, step_of, job_step}
+use Rattle.blk_back.specs.Step.{at, giving_up, give_up, unbound, bound, other_pages, may_attach, attached, halts, overrun, looked, loop_step, fetched, fetch_step, replied, step_at, step_of, job_step}
 use Rattle.split_model.proofs.States.{halts_cases}
+use Rattle.split_model.proofs.Shapes.{attaches_waiting, attaches_order, few_entries}
 
--- the requests that were fetched and not replied to are at most 32, and jobs or the one that is being replied to are among them; a fetch has room for its job
+-- the requests that were fetched and not replied to are at most 512, and jobs or the one that is being replied to are among them; a fetch has room for its job
 abbrev pub IsRoomAt : Stage → (works waiting : ℕ) → Type 0
-IsRoomAt (stage.Fetch k) works waiting = (works ≤ waiting) × (waiting < 32)
-IsRoomAt (stage.ReplyHigh r) works waiting = (works + 1 ≤ waiting) × (waiting ≤ 32)
-IsRoomAt (stage.ReplyLast r) works waiting = (works + 1 ≤ waiting) × (waiting ≤ 32)
-IsRoomAt (stage.Producer r) works waiting = (works + 1 ≤ waiting) × (waiting ≤ 32)
-IsRoomAt (stage.GiveUp m) works waiting = works ≤ 32
-IsRoomAt stage.UnmapRing works waiting = works ≤ 32
-IsRoomAt stage.ClosePort works waiting = works ≤ 32
-IsRoomAt stage.UnmapUnbound works waiting = works ≤ 32
-IsRoomAt stage.Halted works waiting = works ≤ 32
-IsRoomAt s works waiting = (works ≤ waiting) × (waiting ≤ 32)
+IsRoomAt stage.InitWait works waiting = works ≡ 0
+IsRoomAt (stage.Fetch k) works waiting = (works ≤ waiting) × (waiting < 512)
+IsRoomAt (stage.ReplyHigh r) works waiting = (works + 1 ≤ waiting) × (waiting ≤ 512)
+IsRoomAt (stage.ReplyLast r) works waiting = (works + 1 ≤ waiting) × (waiting ≤ 512)
+IsRoomAt (stage.Producer r) works waiting = (works + 1 ≤ waiting) × (waiting ≤ 512)
+IsRoomAt (stage.GiveUp m) works waiting = works ≤ 512
+IsRoomAt stage.UnmapRing works waiting = works ≤ 512
+IsRoomAt stage.ClosePort works waiting = works ≤ 512
+IsRoomAt stage.UnmapUnbound works waiting = works ≤ 512
+IsRoomAt stage.Halted works waiting = works ≤ 512
+IsRoomAt s works waiting = (works ≤ waiting) × (waiting ≤ 512)
 
 pub record HasRoom (v : View) : Type 0 where
-  pub entries : v.ring.entries ≡ 32
+  pub entries : v.ring.entries ≤ 512
   pub prod : v.ring.prod < 2 ^ 32
   pub cons : v.ring.cons < 2 ^ 32
   pub room : IsRoomAt v.stage (length v.jobs.works) (distance_of v.ring.prod v.ring.cons)
 
--- at most 32 jobs are held
-room_few : (s : Stage) (works waiting : ℕ) → IsRoomAt s works waiting → works ≤ 32
+-- at most 512 jobs are held
+room_few : (s : Stage) (works waiting : ℕ) → IsRoomAt s works waiting → works ≤ 512
+room_few stage.InitWait works waiting r = omega (arith, r)
 room_few (stage.Fetch k) works waiting r = omega (arith, r.0, r.1)
 room_few (stage.ReplyHigh rep) works waiting r = omega (arith, r.0, r.1)
 room_few (stage.ReplyLast rep) works waiting r = omega (arith, r.0, r.1)
@@ -54,14 +58,14 @@ room_few stage.UnmapUnbound works waiting r = r
 room_few stage.Halted works waiting r = r
 room_few s works waiting r = omega (arith, r.0, r.1)
 
-pub few_jobs : (v : View) → HasRoom v → length v.jobs.works ≤ 32
+pub few_jobs : (v : View) → HasRoom v → length v.jobs.works ≤ 512
 few_jobs v h = room_few v.stage (length v.jobs.works) (distance_of v.ring.prod v.ring.cons) h.room
 
 -- indices go up by one
 next_below : (n : ℕ) → next_of n < 2 ^ 32
 next_below n = omega arith
 
-one_further : (a b : ℕ) → a < 2 ^ 32 → b < 2 ^ 32 → distance_of a b < 32 → distance_of a (next_of b) ≡ distance_of a b + 1
+one_further : (a b : ℕ) → a < 2 ^ 32 → b < 2 ^ 32 → distance_of a b < 512 → distance_of a (next_of b) ≡ distance_of a b + 1
 one_further a b low high below = omega (arith, low, high, below)
 
 one_nearer : (a b : ℕ) → a < 2 ^ 32 → b < 2 ^ 32 → 1 ≤ distance_of a b → distance_of (next_of a) b + 1 ≡ distance_of a b
@@ -80,11 +84,11 @@ behind_fewer (t ∷ works) = by_test (is_some (mapping_at t.stage)) (behind_fewe
     by_test true fewer = omega arith
     by_test false fewer = omega arith
 
-given_up : (m : Option Mapping) (works waiting : ℕ) → works ≤ 32 → IsRoomAt (giving_up m) works waiting
+given_up : (m : Option Mapping) (works waiting : ℕ) → works ≤ 512 → IsRoomAt (giving_up m) works waiting
 given_up None works waiting few = few
 given_up (Some m) works waiting few = few
 
-give_up_room : (v : View) → length v.jobs.works ≤ 32 → v.ring.entries ≡ 32 → v.ring.prod < 2 ^ 32 → v.ring.cons < 2 ^ 32 → HasRoom (give_up v)
+give_up_room : (v : View) → length v.jobs.works ≤ 512 → v.ring.entries ≤ 512 → v.ring.prod < 2 ^ 32 → v.ring.cons < 2 ^ 32 → HasRoom (give_up v)
 give_up_room v few entries prod cons = record {
   entries = entries;
   prod = prod;
@@ -98,7 +102,7 @@ either false x y p q = q
 
 -- in the loop, at rest or at a look, as many jobs as requests
 abbrev IsUsual : View → Type 0
-IsUsual v = (v.ring.entries ≡ 32) × (v.ring.prod < 2 ^ 32) × (v.ring.cons < 2 ^ 32) × (length v.jobs.works ≤ distance_of v.ring.prod v.ring.cons) × (distance_of v.ring.prod v.ring.cons ≤ 32)
+IsUsual v = (v.ring.entries ≤ 512) × (v.ring.prod < 2 ^ 32) × (v.ring.cons < 2 ^ 32) × (length v.jobs.works ≤ distance_of v.ring.prod v.ring.cons) × (distance_of v.ring.prod v.ring.cons ≤ 512)
 
 looked_room : (v : View) (word : ℕ) (otherwise : View) → IsUsual v → HasRoom otherwise → HasRoom (looked v word otherwise)
 looked_room v word otherwise u h =
@@ -116,7 +120,7 @@ reply_fewer (t ∷ works) rep (Some n) p e =
     let shorter = length-remove (t ∷ works) n within in
     omega arith
 
-usual_at : (v : View) (s : Stage) → v.stage ≡ s → (IsRoomAt s (length v.jobs.works) (distance_of v.ring.prod v.ring.cons) → (length v.jobs.works ≤ distance_of v.ring.prod v.ring.cons) × (distance_of v.ring.prod v.ring.cons ≤ 32)) → HasRoom v → IsUsual v
+usual_at : (v : View) (s : Stage) → v.stage ≡ s → (IsRoomAt s (length v.jobs.works) (distance_of v.ring.prod v.ring.cons) → (length v.jobs.works ≤ distance_of v.ring.prod v.ring.cons) × (distance_of v.ring.prod v.ring.cons ≤ 512)) → HasRoom v → IsUsual v
 usual_at v s here usual h =
     let room = usual (subst (λ (x : Stage). IsRoomAt x (length v.jobs.works) (distance_of v.ring.prod v.ring.cons)) here h.room) in
     (h.entries, h.prod, h.cons, room.0, room.1)
@@ -144,7 +148,7 @@ one_more : (v : View) (words : List ℕ) (waiting : ℕ) → length v.jobs.works
 one_more v words waiting low further = let longer : length (fetched v words).jobs.works ≡ length v.jobs.works + 1 = length-append v.jobs.works (_ ∷ []) in omega (arith, longer, low, further)
 
 fetch_room : (v : View) (k word : ℕ) → v.stage ≡ stage.Fetch k → HasRoom v → HasRoom (fetch_step v k word)
-fetch_room v k word here h = by_last (k == 27)
+fetch_room v k word here h = by_last (k + 1 == entry_words_of v.shape.abi)
   where
     room : IsRoomAt (stage.Fetch k) (length v.jobs.works) (distance_of v.ring.prod v.ring.cons)
     room = room_at v (stage.Fetch k) here h
@@ -170,12 +174,25 @@ replied_room v r here h =
     let nearer = one_nearer v.ring.prod v.ring.cons h.prod h.cons (omega arith) in
     record { entries = h.entries; prod = next_below v.ring.prod; cons = h.cons; room = (omega arith, omega arith) }
 
+-- pages that are left to give up, or none
+unbound_room : (pages : List Mapping) (works waiting : ℕ) → works ≤ 512 → IsRoomAt (unbound pages) works waiting
+unbound_room [] works waiting few = few
+unbound_room (page ∷ pages) works waiting few = few
+
+bound_room : (pages : List Mapping) (works waiting : ℕ) → works ≤ 512 → IsRoomAt (bound pages) works waiting
+bound_room [] works waiting few = few
+bound_room (page ∷ pages) works waiting few = few
+
 -- whatever the back is told
 step_room : (s : Stage) (v : View) (x : BackAnswer) → v.stage ≡ s → HasRoom v → HasRoom (step_at s v x)
-step_room stage.MapRing v (answer.Mapped m) here h = record { entries = h.entries; prod = h.prod; cons = h.cons; room = room_at v stage.MapRing here h }
-step_room stage.MapRing v (answer.MapRefused status) here h = record { entries = h.entries; prod = h.prod; cons = h.cons; room = few_jobs v h }
+step_room stage.MapRing v (answer.Mapped m) here h = mapped_room (nat_lt (length v.pages + 1) (length v.grefs))
+  where
+    mapped_room : (b : Bool) → HasRoom (record v { pages = v.pages ++ m ∷ []; stage = if b then stage.MapRing else stage.Bind })
+    mapped_room true = record { entries = h.entries; prod = h.prod; cons = h.cons; room = room_at v stage.MapRing here h }
+    mapped_room false = record { entries = h.entries; prod = h.prod; cons = h.cons; room = room_at v stage.MapRing here h }
+step_room stage.MapRing v (answer.MapRefused status) here h = record { entries = h.entries; prod = h.prod; cons = h.cons; room = unbound_room v.pages _ _ (few_jobs v h) }
 step_room stage.Bind v answer.Done here h = moves_on v stage.Loop (room_at v stage.Bind here h) h
-step_room stage.Bind v answer.BindRefused here h = record { entries = h.entries; prod = h.prod; cons = h.cons; room = few_jobs v h }
+step_room stage.Bind v answer.BindRefused here h = record { entries = h.entries; prod = h.prod; cons = h.cons; room = unbound_room v.pages _ _ (few_jobs v h) }
 step_room stage.Loop v x here h = loop_room v (next_reply v) x refl here (usual_at v stage.Loop here (λ r. r) h)
 step_room (stage.Fetch k) v (answer.Word word) here h = fetch_room v k word here h
 step_room (stage.ReplyHigh r) v x here h = moves_on v (stage.ReplyLast r) (room_at v (stage.ReplyHigh r) here h) h
@@ -194,9 +211,9 @@ step_room stage.LookAgain v (answer.Word word) here h =
     let u = usual_at v stage.LookAgain here (λ r. r) h in
     looked_room v word (record v { seen = word; stage = stage.Loop; asleep = true }) u (record { entries = u.0; prod = u.1; cons = u.2; room = (u.3, u.4) })
 step_room (stage.GiveUp m) v x here h = give_up_room v (few_jobs v h) h.entries h.prod h.cons
-step_room stage.UnmapRing v x here h = moves_on v stage.ClosePort (few_jobs v h) h
+step_room stage.UnmapRing v x here h = record { entries = h.entries; prod = h.prod; cons = h.cons; room = bound_room (other_pages v.pages) _ _ (few_jobs v h) }
 step_room stage.ClosePort v x here h = moves_on v stage.Halted (few_jobs v h) h
-step_room stage.UnmapUnbound v x here h = moves_on v stage.Halted (few_jobs v h) h
+step_room stage.UnmapUnbound v x here h = record { entries = h.entries; prod = h.prod; cons = h.cons; room = unbound_room (other_pages v.pages) _ _ (few_jobs v h) }
 step_room s v x here h = h
 
 pub back_room : (v : View) (x : BackAnswer) → HasRoom v → HasRoom (step_of v x)
@@ -205,8 +222,15 @@ back_room v x h = step_room v.stage v x refl h
 -- and where its negotiation has it halt
 pub halted_room : (why : Halt) (v : View) → HasRoom v → HasRoom (halts why v)
 halted_room why v h =
-    halts_cases (λ x. HasRoom x) why v (λ here. record { entries = h.entries; prod = h.prod; cons = h.cons; room = few_jobs v h })
+    halts_cases (λ x. HasRoom x) why v (λ here. record { entries = h.entries; prod = h.prod; cons = h.cons; room = unbound_room v.pages _ _ (few_jobs v h) })
     (λ here. give_up_room (record v { halted = Some why }) (few_jobs v h) h.entries h.prod h.cons) h
+
+-- and whatever terms it takes
+pub attached_room : (shape : Shape) (grefs : List ℕ) (port : ℕ) (v : View) → may_attach shape grefs v ≡ true → HasRoom v → HasRoom (attached shape grefs port v)
+attached_room shape grefs port v may h =
+    let none : IsRoomAt stage.InitWait (length v.jobs.works) (distance_of v.ring.prod v.ring.cons) = room_at v stage.InitWait (attaches_waiting shape grefs v may) h in
+    let prod = h.prod in
+    record { entries = few_entries shape.order (attaches_order shape grefs v may); prod = h.prod; cons = h.prod; room = (omega arith, omega arith) }
 
 -- a job's move leaves as many jobs
 told_as_many : (works : List Work) (place : Option ℕ) (work : Option Work) (x : BackAnswer) → length (told_at works place work x) ≡ length works

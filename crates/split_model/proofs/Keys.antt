@@ -1,4 +1,4 @@
--- What becomes of the keys: what an end does with them, and that no other layout than that of 64-bit guests is ever named.
+-- What becomes of the keys: what an end does with them.
 use Rattle.std.proofs.Common.{◌≡◌, ◌≢◌, ℕ, Bool, true, false, true≢false, not, ◌&&◌, ◌||◌, if◌then◌else◌, List, [], ◌∷◌, refl, sym, ap, ◌∙◌, subst}
 use Rattle.std.specs.Prelude.{Option, Some, None, Result, Ok, Err, codes}
 use Rattle.std.specs.List.{AllByRecursion}
@@ -32,8 +32,8 @@ use Rattle.blk_back.specs.declared.stage.Stage.{Stage as BackStage}
 use Rattle.blk_back.specs.Ask as back_ends
 use Rattle.blk_back.specs.Step.{job_ask_of}
 use Rattle.split_model.specs.World.{World}
-use Rattle.split_model.specs.Keys.{KeyMove, Gets, Sets, Watches as WatchesPath, TakesWatch, mover_at, names_layout, is_x64_text, names_feature, is_zero_text, may_set, may_negotiate, keys_after, watched_lines, key_lines, negotiated, negotiated_lines}
-use Rattle.split_model.specs.Happening.{Happening, FrontMoves, BackMoves, JobMoves, Negotiates, FrontEnters, BackHalts, Submits, Notifies, Pokes, Dumps, Looks, Settles, happens, after, front_after, back_after, job_after, front_turn, back_turn, job_turn}
+use Rattle.split_model.specs.Keys.{KeyMove, Gets, Sets, Watches as WatchesPath, TakesWatch, mover_at, may_set, may_negotiate, keys_after, watched_lines, key_lines, negotiated, negotiated_lines}
+use Rattle.split_model.specs.Happening.{Happening, FrontMoves, BackMoves, JobMoves, Negotiates, FrontEnters, BackAttaches, BackHalts, Submits, Notifies, Pokes, Dumps, Looks, Settles, happens, after, front_after, back_after, job_after, front_turn, back_turn, job_turn}
 use Rattle.split_model.proofs.Overwriting.{poke_cases}
 use Rattle.split_model.proofs.SafeActs.{of_front, of_back, of_read, of_disk, AsksBackKey, front_wait, back_wait}
 use Rattle.split_model.proofs.SafeAnswers.{AsksNoKey, fronts_no_key, IsBacks, backs_of, IsJobs, jobs_of}
@@ -73,10 +73,10 @@ key_cases P at TakesWatch d got set watch watched none = by_next (next_watch (wa
 
 -- where the end may turn to its keys; or nothing happens
 pub negotiated_cases : (P : Directory → List Line → Type 0) (s : BackStage) (at : End) (move : KeyMove) (d : Directory)
-    → (may_negotiate s at ≡ true → P (keys_after at move d) (key_lines at move d)) → P d [] → P (negotiated s at move d) (negotiated_lines s at move d)
-negotiated_cases P s at move d does none = by_test (may_negotiate s at) refl
+    → (may_negotiate s at move ≡ true → P (keys_after at move d) (key_lines at move d)) → P d [] → P (negotiated s at move d) (negotiated_lines s at move d)
+negotiated_cases P s at move d does none = by_test (may_negotiate s at move) refl
   where
-    by_test : (b : Bool) → may_negotiate s at ≡ b → P (if b then keys_after at move d else d) (if b then key_lines at move d else [])
+    by_test : (b : Bool) → may_negotiate s at move ≡ b → P (if b then keys_after at move d else d) (if b then key_lines at move d else [])
     by_test true may = does may
     by_test false may = none
 
@@ -187,6 +187,7 @@ keys_happen P taking w BackMoves kept u = back_turn_stays P taking w (back_turn 
 keys_happen P taking w (JobMoves number outcome) kept u = job_turn_stays P taking w number outcome (job_turn w number outcome) refl u
 keys_happen P taking w (Negotiates at move) kept u = kept at move refl u
 keys_happen P taking w (FrontEnters state) kept u = u
+keys_happen P taking w (BackAttaches shape grefs port) kept u = u
 keys_happen P taking w (BackHalts why) kept u = u
 keys_happen P taking w (Submits job) kept u = u
 keys_happen P taking w (Notifies at) kept u = u
@@ -204,17 +205,6 @@ IsOrNone kind (Some text) = kind text ≡ true
 abbrev pub SayOnly : (names kind : List ℕ → Bool) → Directory → Type 0
 SayOnly names kind d = (path : List ℕ) → names path ≡ true → IsOrNone kind (key_of d.keys path)
 
--- no other layout is named
-abbrev pub NamesNoOther : Directory → Type 0
-NamesNoOther d = SayOnly names_layout is_x64_text d
-
--- a key that isn't there at the start
-absent : (kind : List ℕ → Bool) (path there : List ℕ) → bytes_eq path there ≡ true → IsOrNone kind (key_of (fresh_directory (codes "1")).keys there) → IsOrNone kind (key_of (fresh_directory (codes "1")).keys path)
-absent kind path there is none = subst (λ (p : List ℕ). IsOrNone kind (key_of (fresh_directory (codes "1")).keys p)) (sym ((bytes_eq-Decides path there).0 is)) none
-
-pub named_start : NamesNoOther (fresh_directory (codes "1"))
-named_start path is = absent is_x64_text path (codes "/local/domain/1/device/vbd/51712/protocol") is tt
-
 say_watching : (names kind : List ℕ → Bool) (d : Directory) (at : End) (w : Watches) → SayOnly names kind d → SayOnly names kind (with_watches d at w)
 say_watching names kind d end.Front w say = say
 say_watching names kind d end.Back w say = say
@@ -229,13 +219,6 @@ say_written names kind path text d may say other is = by_test (bytes_eq path oth
     by_test false e =
         let differs : other ≢ path = λ same. true≢false (sym ((bytes_eq-Decides path other).1 (sym same)) ∙ e) in
         subst (IsOrNone kind) (sym (key_of-with_key_other d.keys path text other differs)) (say other is)
-
--- what may be set is so
-x64_set : (own layout x64 feature zero : Bool) → (own && (not layout || x64) && (not feature || zero)) ≡ true → layout ≡ true → x64 ≡ true
-x64_set false layout x64 feature zero may is = absurd (true≢false (sym may))
-x64_set true false x64 feature zero may is = absurd (true≢false (sym is))
-x64_set true true true feature zero may is = refl
-x64_set true true false feature zero may is = absurd (true≢false (sym may))
 
 -- what an end does with the keys keeps it, where each text that may be set is so
 say_keys :
@@ -252,11 +235,3 @@ say_happens :
     → (w : World) (h : Happening) → SayOnly names kind w.under.keys → (let v : World = happens w h in SayOnly names kind v.under.keys)
 say_happens names kind set w h say =
     keys_happen (SayOnly names kind) (λ at d here. say_watching names kind d at _ here) w h (λ at move is here. say_keys names kind set w.back.stage at move w.under.keys here) say
-
-pub named_happens : (w : World) (h : Happening) → NamesNoOther w.under.keys → (let v : World = happens w h in NamesNoOther v.under.keys)
-named_happens w h named =
-    say_happens names_layout is_x64_text (λ at path text may is. x64_set (is_own_path at path) (names_layout path) (is_x64_text text) (names_feature path) (is_zero_text text) may is) w h named
-
-pub named_after : (hs : List Happening) (w : World) → NamesNoOther w.under.keys → (let v : World = after hs w in NamesNoOther v.under.keys)
-named_after [] w named = named
-named_after (h ∷ hs) w named = named_after hs (happens w h) (named_happens w h named)

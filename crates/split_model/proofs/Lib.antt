@@ -9,6 +9,9 @@ pub mod SafeFront
 pub mod Safe
 pub mod Overwriting
 pub mod States
+pub mod Shapes
+pub mod Attaching
+pub mod Narrow
 pub mod Keys
 pub mod FewFront
 pub mod FewJobs

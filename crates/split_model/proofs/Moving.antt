@@ -171,7 +171,7 @@ job_needs_none w k ask same takes = job_needs (back_step.job_ask_of w.back k) (j
 one_left : (w v : World) → w ≡ v → v.under.grants.made + 1 < 2 ^ 64 → w.under.grants.made + 1 < 2 ^ 64
 one_left w v is left = subst (λ (x : World). x.under.grants.made + 1 < 2 ^ 64) (sym is) left
 
-pub job_asked_may : (w v : World) (k : ℕ) (ask : BackAsk) (attached : Option ℕ) → w ≡ v → IsSafe w → ask ≡ back_step.job_ask_of w.back k → Names (hands_of w.back) ask → StaysInPageAndDisk w.back.jobs.info.sectors ask → length (hands_of w.back) ≤ 34 → attached ≡ Some v.front.sectors → v.under.grants.made + 1 < 2 ^ 64 → BackMay w.under attached ask
+pub job_asked_may : (w v : World) (k : ℕ) (ask : BackAsk) (attached : Option ℕ) → w ≡ v → IsSafe w → ask ≡ back_step.job_ask_of w.back k → Names (hands_of w.back) ask → StaysInPageAndDisk w.back.jobs.info.sectors ask → length (hands_of w.back) ≤ 529 → attached ≡ Some v.front.sectors → v.under.grants.made + 1 < 2 ^ 64 → BackMay w.under attached ask
 job_asked_may w v k ask attached is safe same names within few disk left =
     let known : attached ≡ Some w.back.jobs.info.sectors = disk ∙ (sym (ap (λ (x : World). Some x.front.sectors) is) ∙ sym (ap (λ (n : ℕ). Some n) safe.sized)) in
     subst (BackMay w.under attached) (sym same)

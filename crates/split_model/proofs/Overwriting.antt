@@ -73,7 +73,7 @@ dump_lines_are P pages place (suc count) each =
     more (suc value) rest = (each (2 + place / 1024) (place % 1024) (suc value), rest)
 
 -- the word of the ring at a place
-abbrev place_lines : List ℕ → ℕ → List Line
+abbrev pub place_lines : List ℕ → ℕ → List Line
 place_lines pages place = word_lines place (word_of pages (2 + place / 1024) (place % 1024))
 
 -- one word more at the end
@@ -95,42 +95,30 @@ words_on pages (suc more) first =
           ∙ (ap (λ (ls : List Line). ls ++ place_lines pages (0 + (first + more))) before.1 ∙ append_assoc (ring_lines pages 0 first) before.0 (place_lines pages (0 + (first + more))))),
     )
 
--- one word more of the ring's page
-pub ring_lines-more : (pages : List ℕ) (place : ℕ) → place < 1024 → ring_lines pages 0 (place + 1) ≡ ring_lines pages 0 place ++ word_lines place (word_of pages 2 place)
-ring_lines-more pages place within = next ∙ (one_word_more pages 0 place ∙ last (same (0 + place) whole))
-  where
-    next : ring_lines pages 0 (place + 1) ≡ ring_lines pages 0 (suc place)
-    next = let e : place + 1 ≡ suc place = omega arith in ap (ring_lines pages 0) e
+-- one word more of the ring
+pub ring_lines-more : (pages : List ℕ) (place : ℕ) → ring_lines pages 0 (place + 1) ≡ ring_lines pages 0 place ++ place_lines pages place
+ring_lines-more pages place =
+    let next : place + 1 ≡ suc place = omega arith in
+    let whole : 0 + place ≡ place = omega arith in
+    ap (ring_lines pages 0) next ∙ (one_word_more pages 0 place ∙ ap (λ (n : ℕ). ring_lines pages 0 place ++ place_lines pages n) whole)
 
-    whole : 0 + place ≡ place
-    whole = omega arith
-
-    last : {a b : List Line} → a ≡ b → ring_lines pages 0 place ++ a ≡ ring_lines pages 0 place ++ b
-    last e = ap (λ (ls : List Line). ring_lines pages 0 place ++ ls) e
-
-    same : (n : ℕ) → n ≡ place → place_lines pages n ≡ word_lines place (word_of pages 2 place)
-    same n e =
-        let frame_two : 2 + place / 1024 ≡ 2 = omega arith in
-        let same_word : place % 1024 ≡ place = omega arith in
-        ap (place_lines pages) e ∙ ap (word_lines place) (rw (frame_two, same_word) refl)
-
--- all words of the ring's page, of which these are the first, and then this one
-pub ring_lines-whole : (pages : List ℕ) (place : ℕ) → place < 1024
-    → (rest : List Line) × (ring_lines pages 0 1024 ≡ (ring_lines pages 0 place ++ word_lines place (word_of pages 2 place)) ++ rest)
-ring_lines-whole pages place within =
-    let more = words_on pages (1024 - (place + 1)) (place + 1) in
-    let all : place + 1 + (1024 - (place + 1)) ≡ 1024 = omega arith in
-    let whole : ring_lines pages 0 1024 ≡ ring_lines pages 0 (place + 1 + (1024 - (place + 1))) = ap (ring_lines pages 0) (sym all) in
-    (more.0, whole ∙ (more.1 ∙ ap (λ (ls : List Line). ls ++ more.0) (ring_lines-more pages place within)))
+-- all words of the ring, of which these are the first, and then this one
+pub ring_lines-whole : (pages : List ℕ) (place count : ℕ) → place < count
+    → (rest : List Line) × (ring_lines pages 0 count ≡ (ring_lines pages 0 place ++ place_lines pages place) ++ rest)
+ring_lines-whole pages place count within =
+    let more = words_on pages (count - (place + 1)) (place + 1) in
+    let all : place + 1 + (count - (place + 1)) ≡ count = omega arith in
+    let whole : ring_lines pages 0 count ≡ ring_lines pages 0 (place + 1 + (count - (place + 1))) = ap (ring_lines pages 0) (sym all) in
+    (more.0, whole ∙ (more.1 ∙ ap (λ (ls : List Line). ls ++ more.0) (ring_lines-more pages place)))
 
 -- a word more was shown, or the recorder stopped at it
-pub shown_on : (pages : List ℕ) (word : ℕ) (a b c : RecorderSeen) → word < 1024 → Gained (ring_lines pages 0 word) a b → Gained (word_lines word (word_of pages 2 word)) b c → Gained (ring_lines pages 0 (word + 1)) a c
-shown_on pages word a b c less before now =
-    subst (λ (ls : List Line). Gained ls a c) (sym (ring_lines-more pages word less)) (gained_twice (ring_lines pages 0 word) (word_lines word (word_of pages 2 word)) a b c before now)
+pub shown_on : (pages : List ℕ) (place : ℕ) (a b c : RecorderSeen) → Gained (ring_lines pages 0 place) a b → Gained (place_lines pages place) b c → Gained (ring_lines pages 0 (place + 1)) a c
+shown_on pages place a b c before now =
+    subst (λ (ls : List Line). Gained ls a c) (sym (ring_lines-more pages place)) (gained_twice (ring_lines pages 0 place) (place_lines pages place) a b c before now)
 
-pub stopped_on : (pages : List ℕ) (word : ℕ) (stop : RecordStop) (a b c : RecorderSeen) → word < 1024 → Gained (ring_lines pages 0 word) a b → StopsAmong [] (word_lines word (word_of pages 2 word)) stop b c → StopsAmong [] (ring_lines pages 0 1024) stop a c
-stopped_on pages word stop a b c less before now =
-    let whole = ring_lines-whole pages word less in
-    let first = ring_lines pages 0 word in
-    let here = word_lines word (word_of pages 2 word) in
+pub stopped_on : (pages : List ℕ) (place count : ℕ) (stop : RecordStop) (a b c : RecorderSeen) → place < count → Gained (ring_lines pages 0 place) a b → StopsAmong [] (place_lines pages place) stop b c → StopsAmong [] (ring_lines pages 0 count) stop a c
+stopped_on pages place count stop a b c less before now =
+    let whole = ring_lines-whole pages place count less in
+    let first = ring_lines pages 0 place in
+    let here = place_lines pages place in
     subst (λ (ls : List Line). StopsAmong [] ls stop a c) (sym whole.1) (stopped_first (first ++ here) whole.0 stop a c (stopped_last first here stop a b c before now))

@@ -35,17 +35,20 @@ use Rattle.blk_back.specs.declared.stage.Stage.TheVariants as back_stage
 use Rattle.blk_back.specs.declared.told.Halt.{Halt}
 use Rattle.blk_back.specs.View as back
 use Rattle.blk_back.specs.Ask as back_ends
-use Rattle.blk_back.specs.Step.{give_up, step_of, job_step, job_ask_of}
+use Rattle.ring_words.specs.Shape.{Shape}
+use Rattle.blk_back.specs.Step.{attached, halts, step_of, job_step, job_ask_of}
 use Rattle.blk_back.specs.Hands.{hands_at, hands_of}
-use Rattle.blk_back.proofs.Hands.{hands_after, job_hands_after, step_info}
+use Rattle.blk_back.proofs.Hands.{hands_after, halted_hands, job_hands_after, step_info}
 use Rattle.segment_list.specs.declared.verdict.DiskInfo.{DiskInfo}
 use Rattle.split_model.specs.World.{World, start_of}
 use Rattle.split_model.proofs.Overwriting.{poke_cases}
-use Rattle.split_model.specs.Happening.{Happening, FrontMoves, BackMoves, JobMoves, Negotiates, FrontEnters, BackHalts, Submits, Notifies, Pokes, Dumps, Looks, Settles, happens, after, front_after, back_after, job_after, front_turn, back_turn, job_turn, other_end}
+use Rattle.split_model.specs.Happening.{Happening, FrontMoves, BackMoves, JobMoves, Negotiates, FrontEnters, BackAttaches, BackHalts, Submits, Notifies, Pokes, Dumps, Looks, Settles, happens, after, front_after, back_after, job_after, front_turn, back_turn, job_turn, other_end}
 use Rattle.split_model.specs.Safe.{AreHeld, IsPorted, IsSafe}
 use Rattle.split_model.proofs.SafeActs.{of_back, of_read, of_disk, held_after, made_front, IsBackKeyAct, back_wait, back_keys, back_key_channels}
 use Rattle.split_model.proofs.SafeAnswers.{IsFronts, IsBacks, IsJobs, fronts_at, backs_of, jobs_of, back_answered, job_answered}
 use Rattle.split_model.proofs.States.{halts_cases}
+use Rattle.split_model.proofs.Shapes.{attaches_waiting}
+use Rattle.split_model.proofs.Attaching.{attach_cases}
 use Rattle.split_model.proofs.SafeFront.{channels_front, step_fits, entered_kept, submit_kept}
 
 -- at the start nothing is mapped, made or to be told
@@ -68,9 +71,9 @@ NoPort c = (c.made ≡ 0) × (c.ports ≡ [])
 -- where no port was made and none is, that fits any stage before the port and so does what is like it
 ported_as : (s : FrontStage) (c c' : ChannelState) → (NoPort c → NoPort c') → IsPorted s c → IsPorted s c'
 ported_as (front_stage.RingWord k) c c' into p = into p
-ported_as front_stage.RingFrame c c' into p = into p
-ported_as front_stage.RingFence c c' into p = into p
-ported_as front_stage.RingFlags c c' into p = into p
+ported_as (front_stage.RingFrame page) c c' into p = into p
+ported_as (front_stage.RingFence page) c c' into p = into p
+ported_as (front_stage.RingFlags page) c c' into p = into p
 ported_as front_stage.NewPort c c' into p = into p
 ported_as s c c' into p = tt
 
@@ -163,26 +166,30 @@ safe_enter w s safe =
       back_told = safe.back_told;
     }
 
--- a back that gives up its jobs holds what it held in its loop, as one that finds an overrun does
-halted_hands : (v : back.View) → hands_of (give_up v) ≡ hands_at back_stage.Loop v
-halted_hands v = hands_after (record v { ring = record { entries = 0; prod = 0; cons = 0 }; stage = back_stage.LookAgain }) (back_answer.Word 1) tt
+-- a halt of the back, and terms that it takes
+safe_back_as : (w : World) (b : back.View) → IsSafe w → hands_of b ≡ hands_of w.back → b.jobs.info ≡ w.back.jobs.info → b.told ≡ w.back.told → IsSafe (record { front = w.front; back = b; under = w.under })
+safe_back_as w b safe hands info told = record {
+  ported = safe.ported;
+  held = rw hands safe.held;
+  sized = ap (λ (i : DiskInfo). i.sectors) info ∙ safe.sized;
+  front_told = safe.front_told;
+  back_told = told ∙ safe.back_told;
+}
 
--- a halt of the back
 safe_halt : (w : World) (why : Halt) → IsSafe w → IsSafe (happens w (BackHalts why))
-safe_halt w why safe =
-    halts_cases (λ b. IsSafe (record { front = w.front; back = b; under = w.under })) why w.back
-    (λ here. halted (record w.back { halted = Some why; stage = back_stage.Halted }) (ap (λ (s : BackStage). hands_at s w.back) (sym here)) refl refl)
-    (λ here. halted (give_up (record w.back { halted = Some why })) (halted_hands (record w.back { halted = Some why }) ∙ ap (λ (s : BackStage). hands_at s w.back) (sym here)) refl refl)
-    (halted w.back refl refl refl)
+safe_halt w why safe = safe_back_as w (halts why w.back) safe (halted_hands why w.back) info told
   where
-    halted : (b : back.View) → hands_of b ≡ hands_of w.back → b.jobs.info ≡ w.back.jobs.info → b.told ≡ w.back.told → IsSafe (record { front = w.front; back = b; under = w.under })
-    halted b hands info told = record {
-      ported = safe.ported;
-      held = rw hands safe.held;
-      sized = ap (λ (i : DiskInfo). i.sectors) info ∙ safe.sized;
-      front_told = safe.front_told;
-      back_told = told ∙ safe.back_told;
-    }
+    info : (halts why w.back).jobs.info ≡ w.back.jobs.info
+    info = halts_cases (λ b. b.jobs.info ≡ w.back.jobs.info) why w.back (λ here. refl) (λ here. refl) refl
+
+    told : (halts why w.back).told ≡ w.back.told
+    told = halts_cases (λ b. b.told ≡ w.back.told) why w.back (λ here. refl) (λ here. refl) refl
+
+safe_attach : (w : World) (shape : Shape) (grefs : List ℕ) (port : ℕ) → IsSafe w → IsSafe (happens w (BackAttaches shape grefs port))
+safe_attach w shape grefs port safe =
+    attach_cases (λ b shown. IsSafe (record { front = w.front; back = b; under = w.under })) w shape grefs port
+    (λ may layout. safe_back_as w (attached shape grefs port w.back) safe (ap (λ (s : BackStage). hands_at s w.back) (sym (attaches_waiting shape grefs w.back may))) refl refl)
+    (safe_back_as w w.back safe refl refl refl)
 
 -- a submission
 pub safe_submit : (w : World) (job : Job) → IsSafe w → IsSafe (happens w (Submits job))
@@ -234,11 +241,11 @@ front_may_at h (front_ask.Watch path) own within = tt
 pub front_may : (w : World) → IsSafe w → front_ends.StaysInMemory (front_ends.ask_of w.front) → FrontMay w.under (front_ends.ask_of w.front)
 front_may w safe within = front_may_at w.under (front_ends.ask_of w.front) (fronts_at w.under.channels w.front.stage w.front safe.ported) within
 
-has_left : (table : GrantTable) (hands : List Mapping) → AreHeld table hands → table.made + 1 < 2 ^ 64 → length hands ≤ 34 → HasMappingLeft table
+has_left : (table : GrantTable) (hands : List Mapping) → AreHeld table hands → table.made + 1 < 2 ^ 64 → length hands ≤ 529 → HasMappingLeft table
 has_left table hands held made few = (made, let many = held.as_many in omega arith)
 
 -- what the back asks may be carried out
-back_may_at : (h : Hypervisor) (attached : Option ℕ) (hands : List Mapping) (ask : BackAsk) → IsBacks ask → AreHeld h.grants hands → Names hands ask → h.grants.made + 1 < 2 ^ 64 → length hands ≤ 34 → BackMay h attached ask
+back_may_at : (h : Hypervisor) (attached : Option ℕ) (hands : List Mapping) (ask : BackAsk) → IsBacks ask → AreHeld h.grants hands → Names hands ask → h.grants.made + 1 < 2 ^ 64 → length hands ≤ 529 → BackMay h attached ask
 back_may_at h attached hands back_ask.Wait own held names made few = tt
 back_may_at h attached hands back_ask.Fence own held names made few = tt
 back_may_at h attached hands (back_ask.Read m word) own held names made few = (All-contains (IsLive h.grants) hands m held.live names.0, names.1)
@@ -256,11 +263,11 @@ back_may_at h attached hands (back_ask.DiskWrite sector words) own held names ma
 back_may_at h attached hands back_ask.Flush own held names made few = absurd own
 back_may_at h attached hands (back_ask.Trim sector count) own held names made few = absurd own
 
-pub back_may : (h : Hypervisor) (attached : Option ℕ) (hands : List Mapping) (v : back.View) → AreHeld h.grants hands → Names hands (back_ends.ask_of v) → h.grants.made + 1 < 2 ^ 64 → length hands ≤ 34 → BackMay h attached (back_ends.ask_of v)
+pub back_may : (h : Hypervisor) (attached : Option ℕ) (hands : List Mapping) (v : back.View) → AreHeld h.grants hands → Names hands (back_ends.ask_of v) → h.grants.made + 1 < 2 ^ 64 → length hands ≤ 529 → BackMay h attached (back_ends.ask_of v)
 back_may h attached hands v held names made few = back_may_at h attached hands (back_ends.ask_of v) (backs_of v) held names made few
 
 -- what a job asks may be carried out, with a disk of as many sectors as it knows
-job_may_at : (h : Hypervisor) (attached : Option ℕ) (sectors : ℕ) (hands : List Mapping) (ask : BackAsk) → IsJobs ask → AreHeld h.grants hands → Names hands ask → StaysInPageAndDisk sectors ask → attached ≡ Some sectors → h.grants.made + 1 < 2 ^ 64 → length hands ≤ 34 → BackMay h attached ask
+job_may_at : (h : Hypervisor) (attached : Option ℕ) (sectors : ℕ) (hands : List Mapping) (ask : BackAsk) → IsJobs ask → AreHeld h.grants hands → Names hands ask → StaysInPageAndDisk sectors ask → attached ≡ Some sectors → h.grants.made + 1 < 2 ^ 64 → length hands ≤ 529 → BackMay h attached ask
 job_may_at h attached sectors hands back_ask.Wait own held names within disk made few = tt
 job_may_at h attached sectors hands back_ask.Fence own held names within disk made few = absurd own
 job_may_at h attached sectors hands (back_ask.Read m word) own held names within disk made few = (All-contains (IsLive h.grants) hands m held.live names.0, names.1)
@@ -278,7 +285,7 @@ job_may_at h attached sectors hands (back_ask.DiskWrite sector words) own held n
 job_may_at h attached sectors hands back_ask.Flush own held names within disk made few = absurd own
 job_may_at h attached sectors hands (back_ask.Trim sector count) own held names within disk made few = absurd own
 
-pub job_may : (h : Hypervisor) (attached : Option ℕ) (sectors : ℕ) (hands : List Mapping) (v : back.View) (k : ℕ) → AreHeld h.grants hands → Names hands (job_ask_of v k) → StaysInPageAndDisk sectors (job_ask_of v k) → attached ≡ Some sectors → h.grants.made + 1 < 2 ^ 64 → length hands ≤ 34 → BackMay h attached (job_ask_of v k)
+pub job_may : (h : Hypervisor) (attached : Option ℕ) (sectors : ℕ) (hands : List Mapping) (v : back.View) (k : ℕ) → AreHeld h.grants hands → Names hands (job_ask_of v k) → StaysInPageAndDisk sectors (job_ask_of v k) → attached ≡ Some sectors → h.grants.made + 1 < 2 ^ 64 → length hands ≤ 529 → BackMay h attached (job_ask_of v k)
 job_may h attached sectors hands v k held names within disk made few = job_may_at h attached sectors hands (job_ask_of v k) (jobs_of v k) held names within disk made few
 
 safe_front_turn : (w : World) (act : Option FrontAct) → IsSafe w → front_turn w ≡ act → IsSafe (front_after w act)
@@ -300,6 +307,7 @@ safe_happens w BackMoves safe = safe_back_turn w Took (back_turn w Took) safe re
 safe_happens w (JobMoves number outcome) safe = safe_job_turn w number outcome (job_turn w number outcome) safe refl
 safe_happens w (Negotiates at move) safe = record { ported = safe.ported; held = safe.held; sized = safe.sized; front_told = safe.front_told; back_told = safe.back_told }
 safe_happens w (FrontEnters state) safe = safe_enter w state safe
+safe_happens w (BackAttaches shape grefs port) safe = safe_attach w shape grefs port safe
 safe_happens w (BackHalts why) safe = safe_halt w why safe
 safe_happens w (Submits job) safe = safe_submit w job safe
 safe_happens w (Notifies at) safe = safe_notify w at safe

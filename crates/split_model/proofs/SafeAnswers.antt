@@ -2,6 +2,7 @@
 use Rattle.std.proofs.Common.{◌≡◌, ℕ, Bool, true, false, if◌then◌else◌, List, [], ◌∷◌, refl}
 use Rattle.std.specs.Prelude.{Option, Some, None, Result, Ok, Err, is_some, ◌==◌, ◌||◌}
 use Rattle.std.proofs.lemmas.Option.{none-some}
+use Rattle.blk_base.specs.declared.parts.Mapping.{Mapping}
 use Rattle.blk_base.specs.declared.parts.Mode.{Mode}
 use Rattle.blk_base.specs.declared.ask.FrontAsk.{FrontAsk}
 use Rattle.blk_base.specs.declared.ask.FrontAsk.TheVariants as front_ask
@@ -58,7 +59,7 @@ issue_fronts c r (transfer.Write tag) = tt
 
 loop_fronts : (c : ChannelState) (v : front.View) (r : Option Request) → IsFronts c (front_ends.loop_ask v r)
 loop_fronts c v (Some r) = issue_fronts c r r.transfer
-loop_fronts c v None = either_fronts c (v.asleep || front_ends.is_through v) front_ask.Wait _ tt (either_fronts c (responses_of v.ring v.seen == 0) (front_ask.Read front.ring_frame 2) (front_ask.Read (front.slot_frame v.ring.cons 0) (front.slot_word v.ring.cons 0)) tt tt)
+loop_fronts c v None = either_fronts c (v.asleep || front_ends.is_through v) front_ask.Wait _ tt (either_fronts c (responses_of v.ring v.seen == 0) (front_ask.Read front.ring_frame 2) (front_ask.Read (front.slot_frame v.shape v.ring.cons 0) (front.slot_word v.shape v.ring.cons 0)) tt tt)
 
 issue_data_fronts : (c : ChannelState) (r : Option Request) (n : ℕ) → IsFronts c (front_ends.data_ask r n)
 issue_data_fronts c None n = tt
@@ -89,9 +90,9 @@ fronts_at c front_stage.NewPort v ported = ported
 fronts_at c front_stage.Initialised v ported = tt
 fronts_at c front_stage.Loop v ported = loop_fronts c v (front.next_request v)
 fronts_at c (front_stage.RingWord k) v ported = tt
-fronts_at c front_stage.RingFrame v ported = tt
-fronts_at c front_stage.RingFence v ported = tt
-fronts_at c front_stage.RingFlags v ported = tt
+fronts_at c (front_stage.RingFrame page) v ported = tt
+fronts_at c (front_stage.RingFence page) v ported = tt
+fronts_at c (front_stage.RingFlags page) v ported = tt
 fronts_at c (front_stage.Data n) v ported = issue_data_fronts c (front.next_request v) n
 fronts_at c (front_stage.GrantFrame place) v ported = name_fronts c (front.next_request v) place
 fronts_at c (front_stage.GrantFence place) v ported = tt
@@ -109,8 +110,8 @@ fronts_at c (front_stage.ReadData n) v ported = read_fronts c v.ending n
 fronts_at c front_stage.StoreEvent v ported = tt
 fronts_at c front_stage.EventFence v ported = tt
 fronts_at c front_stage.LookAgain v ported = tt
-fronts_at c front_stage.RingRead v ported = tt
-fronts_at c (front_stage.RingEnd seen) v ported = tt
+fronts_at c (front_stage.RingRead page) v ported = tt
+fronts_at c (front_stage.RingEnd page seen) v ported = tt
 fronts_at c front_stage.ClosePort v ported = tt
 fronts_at c front_stage.Left v ported = tt
 fronts_at c front_stage.Closed v ported = tt
@@ -118,9 +119,9 @@ fronts_at c (front_stage.Broken word) v ported = tt
 
 ported_fresh : (s : FrontStage) → IsPorted s fresh_channels
 ported_fresh (front_stage.RingWord k) = (refl, refl)
-ported_fresh front_stage.RingFrame = (refl, refl)
-ported_fresh front_stage.RingFence = (refl, refl)
-ported_fresh front_stage.RingFlags = (refl, refl)
+ported_fresh (front_stage.RingFrame page) = (refl, refl)
+ported_fresh (front_stage.RingFence page) = (refl, refl)
+ported_fresh (front_stage.RingFlags page) = (refl, refl)
 ported_fresh front_stage.NewPort = (refl, refl)
 ported_fresh s = tt
 
@@ -177,9 +178,14 @@ either_backs false x y p q = q
 
 loop_backs : (v : back.View) (r : Option Reply) → IsBacks (back_ends.loop_ask v r)
 loop_backs v (Some r) = tt
-loop_backs v None = either_backs v.asleep back_ask.Wait _ tt (either_backs (requests_of v.ring v.seen == 0) (back_ask.Read v.page 0) (back_ask.Read v.page (back.slot_word v.ring.cons 0)) tt tt)
+loop_backs v None = either_backs v.asleep back_ask.Wait _ tt (either_backs (requests_of v.ring v.seen == 0) (back_ends.index_ask v 0) (back_ends.entry_ask v 0) tt tt)
+
+unmap_backs : (pages : List Mapping) → IsBacks (back_ends.unmap_ask pages)
+unmap_backs [] = tt
+unmap_backs (page ∷ pages) = tt
 
 backs_at : (s : BackStage) (v : back.View) → IsBacks (back_ends.ask_at s v)
+backs_at back_stage.InitWait v = tt
 backs_at back_stage.MapRing v = tt
 backs_at back_stage.Bind v = tt
 backs_at back_stage.Loop v = loop_backs v (back_ends.next_reply v)
@@ -194,9 +200,9 @@ backs_at back_stage.StoreEvent v = tt
 backs_at back_stage.EventFence v = tt
 backs_at back_stage.LookAgain v = tt
 backs_at (back_stage.GiveUp m) v = tt
-backs_at back_stage.UnmapRing v = tt
+backs_at back_stage.UnmapRing v = unmap_backs v.pages
 backs_at back_stage.ClosePort v = tt
-backs_at back_stage.UnmapUnbound v = tt
+backs_at back_stage.UnmapUnbound v = unmap_backs v.pages
 backs_at back_stage.Halted v = tt
 
 pub backs_of : (v : back.View) → IsBacks (back_ends.ask_of v)

@@ -6,7 +6,7 @@ use Rattle.blk_base.specs.declared.config.Job.{Job}
 use Rattle.blk_base.specs.declared.ask.FrontAnswer.{FrontAnswer}
 use Rattle.blk_base.specs.declared.ask.FrontAnswer.TheVariants as answer
 use Rattle.ring_words.specs.Ring.{responses_of, notifies}
-use Rattle.ring_words.specs.Shape.{entries_of}
+use Rattle.ring_words.specs.Shape.{entries_of, entry_words_of}
 use Rattle.blk_layout.specs.declared.response.Response.{Response}
 use Rattle.blk_layout.specs.Response.{response_of}
 use Rattle.event_channel.specs.Channels.{ChannelState}
@@ -26,9 +26,9 @@ use Rattle.blk_front.specs.declared.request.Wish.{Wish}
 use Rattle.blk_front.specs.declared.told.Told.TheVariants as told
 use Rattle.blk_front.specs.Pool.{taking}
 use Rattle.blk_front.specs.Request.{is_write, has_data, words_in, frames_for}
-use Rattle.blk_front.specs.View.{View, next_request, shape}
+use Rattle.blk_front.specs.View.{View, next_request}
 use Rattle.blk_front.specs.Ask.{ask_at}
-use Rattle.blk_front.specs.Step.{at, broken, looked, issue_stage, data_stage, granted, loop_step, issued, response_at, is_mapped, ended, revoked, sector_told, data_step, step_at, step_of}
+use Rattle.blk_front.specs.Step.{at, broken, looked, issue_stage, data_stage, granted, loop_step, issued, response_at, is_mapped, ring_left, ended, revoked, sector_told, data_step, step_at, step_of}
 use Rattle.blk_front.specs.State.{in_state, enters}
 use Rattle.blk_front.specs.Submit.{is_ready, unfinished, wish_of, submit_with, submit_one, submit_of}
 use Rattle.split_model.specs.Safe.{IsPorted}
@@ -43,9 +43,9 @@ IsUnported s c = IsPorted s c
 -- before it makes its port the front leaves the channels as they are
 pub channels_front : (s : Stage) (v : View) (h : Hypervisor) (a : FrontAct) → front_act h (ask_at s v) ≡ Some a → IsPorted s h.channels → IsUnported s a.under.channels
 channels_front (stage.RingWord k) v h a e ported = of_front (λ (x : FrontAct). IsPorted stage.NewPort x.under.channels) _ a ported e
-channels_front stage.RingFrame v h a e ported = of_front (λ (x : FrontAct). IsPorted stage.NewPort x.under.channels) _ a ported e
-channels_front stage.RingFence v h a e ported = of_front (λ (x : FrontAct). IsPorted stage.NewPort x.under.channels) _ a ported e
-channels_front stage.RingFlags v h a e ported = of_front (λ (x : FrontAct). IsPorted stage.NewPort x.under.channels) _ a ported e
+channels_front (stage.RingFrame page) v h a e ported = of_front (λ (x : FrontAct). IsPorted stage.NewPort x.under.channels) _ a ported e
+channels_front (stage.RingFence page) v h a e ported = of_front (λ (x : FrontAct). IsPorted stage.NewPort x.under.channels) _ a ported e
+channels_front (stage.RingFlags page) v h a e ported = of_front (λ (x : FrontAct). IsPorted stage.NewPort x.under.channels) _ a ported e
 channels_front s v h a e ported = tt
 
 -- a front with that disk, whose stage fits the channels
@@ -113,17 +113,17 @@ data_fits v None n word c here = stays (stage.ReadData n) v c here tt
 data_fits v (Some e) n word c here = either (nat_lt (n + 1) (words_in e.request)) _ _ v.sectors c (tt, told_sectors v e n _) (tt, told_sectors v e n _)
 
 step_fits_at : (s : Stage) (v : View) (x : FrontAnswer) (c : ChannelState) → v.stage ≡ s → IsUnported s c → Fits v.sectors c (step_at s v x)
-step_fits_at (stage.RingWord k) v x c here p = (either_stage (k == 15) stage.RingFrame (stage.RingWord (k + 1)) c p p, refl)
-step_fits_at stage.RingFrame v x c here p = (p, refl)
-step_fits_at stage.RingFence v x c here p = (p, refl)
-step_fits_at stage.RingFlags v x c here p = (p, refl)
+step_fits_at (stage.RingWord k) v x c here p = (either_stage (k == 15) (stage.RingFrame 0) (stage.RingWord (k + 1)) c p p, refl)
+step_fits_at (stage.RingFrame page) v x c here p = (p, refl)
+step_fits_at (stage.RingFence page) v x c here p = (p, refl)
+step_fits_at (stage.RingFlags page) v x c here p = (either_stage (nat_lt (page + 1) (2 ^ v.shape.order)) (stage.RingFrame (page + 1)) stage.NewPort c p p, refl)
 step_fits_at stage.NewPort v x c here p = (tt, refl)
 step_fits_at stage.Loop v x c here p = loop_fits v (next_request v) x c here
 step_fits_at (stage.Data n) v x c here p = (data_stage_fits (next_request v) n c, refl)
 step_fits_at (stage.GrantFrame place) v x c here p = (tt, refl)
 step_fits_at (stage.GrantFence place) v x c here p = (tt, refl)
 step_fits_at (stage.GrantFlags place) v x c here p = granted_fits v (next_request v) place c here
-step_fits_at (stage.Slot k) v x c here p = (either_stage (k == 27) stage.Producer (stage.Slot (k + 1)) c tt tt, refl)
+step_fits_at (stage.Slot k) v x c here p = (either_stage (k + 1 == entry_words_of v.shape.abi) stage.Producer (stage.Slot (k + 1)) c tt tt, refl)
 step_fits_at stage.Producer v x c here p = (tt, refl)
 step_fits_at (stage.ProducerFence old) v x c here p = (tt, refl)
 step_fits_at (stage.RequestEvent old) v (answer.Word event) c here p = (either_stage (notifies old v.ring.prod event) stage.Send stage.Loop c tt tt, refl)
@@ -136,8 +136,8 @@ step_fits_at (stage.ReadData n) v (answer.Word word) c here p = data_fits v v.en
 step_fits_at stage.StoreEvent v x c here p = (tt, refl)
 step_fits_at stage.EventFence v x c here p = (tt, refl)
 step_fits_at stage.LookAgain v (answer.Word word) c here p = looked_fits v word (record v { seen = word; stage = stage.Loop; asleep = true }) c (tt, refl)
-step_fits_at stage.RingRead v (answer.Word word) c here p = either (is_mapped word) (broken word v) (at (stage.RingEnd word) v) v.sectors c (tt, refl) (tt, refl)
-step_fits_at (stage.RingEnd before) v (answer.Word word) c here p = either (word == before) (at stage.ClosePort v) (broken word v) v.sectors c (tt, refl) (tt, refl)
+step_fits_at (stage.RingRead page) v (answer.Word word) c here p = either (is_mapped word) (broken word v) (at (stage.RingEnd page word) v) v.sectors c (tt, refl) (tt, refl)
+step_fits_at (stage.RingEnd page before) v (answer.Word word) c here p = either (word == before) (at (ring_left v page) v) (broken word v) v.sectors c (either_stage (nat_lt (page + 1) (2 ^ v.shape.order)) (stage.RingRead (page + 1)) stage.ClosePort c tt tt, refl) (tt, refl)
 step_fits_at stage.ClosePort v x c here p = (tt, refl)
 step_fits_at s v x c here p = stays s v c here tt
 
@@ -151,9 +151,9 @@ sectors_front v x = (step_fits v x (record { made = 0; ports = []; front_pending
   where
     unported : (s : Stage) → IsUnported s (record { made = 0; ports = []; front_pending = false; back_pending = false })
     unported (stage.RingWord k) = (refl, refl)
-    unported stage.RingFrame = (refl, refl)
-    unported stage.RingFence = (refl, refl)
-    unported stage.RingFlags = (refl, refl)
+    unported (stage.RingFrame page) = (refl, refl)
+    unported (stage.RingFence page) = (refl, refl)
+    unported (stage.RingFlags page) = (refl, refl)
     unported s = tt
 
 -- a state that it enters leaves its disk and what it is to tell, and fits the channels where the stage before did
@@ -163,6 +163,7 @@ pub record IsEntered (v x : View) : Type 0 where
   pub told : x.told ≡ v.told
 
 in_state_kept : (s : FrontState) (v : View) → IsEntered v (in_state s v)
+in_state_kept (state.Agreed order) v = record { ported = λ c p. p; sectors = refl; told = refl }
 in_state_kept state.Connected v = record { ported = λ c p. tt; sectors = refl; told = refl }
 in_state_kept state.Closing v = record { ported = λ c p. p; sectors = refl; told = refl }
 in_state_kept state.Leaving v = record { ported = λ c p. tt; sectors = refl; told = refl }
@@ -193,12 +194,12 @@ submit_wish : (v : View) (wish : Option Wish) → IsUndisturbed v (submit_one v 
 submit_wish v None = undisturbed v
 submit_wish v (Some wish) =
     let frames = taking (frames_for wish.count) v.pool [] in
-    let unless_full = if nat_le (entries_of shape.order) (unfinished v) then (Err refusal.Full, v) else submit_with v wish frames in
+    let unless_full = if nat_le (entries_of v.shape.order) (unfinished v) then (Err refusal.Full, v) else submit_with v wish frames in
     let unless_long = if nat_lt 11 (frames_for wish.count) then (Err refusal.Long, v) else unless_full in
     either_submit (is_write wish.transfer && v.read_only) v (Err refusal.ReadOnly, v) (if nat_lt v.sectors (wish.sector + wish.count) then (Err refusal.Range, v) else unless_long) (undisturbed v)
     (either_submit (nat_lt v.sectors (wish.sector + wish.count)) v (Err refusal.Range, v) unless_long (undisturbed v)
     (either_submit (nat_lt 11 (frames_for wish.count)) v (Err refusal.Long, v) unless_full (undisturbed v)
-    (either_submit (nat_le (entries_of shape.order) (unfinished v)) v (Err refusal.Full, v) (submit_with v wish frames) (undisturbed v) (submit_with_frames v wish frames))))
+    (either_submit (nat_le (entries_of v.shape.order) (unfinished v)) v (Err refusal.Full, v) (submit_with v wish frames) (undisturbed v) (submit_with_frames v wish frames))))
 
 pub submit_kept : (v : View) (job : Job) → IsUndisturbed v (submit_of v job).1
 submit_kept v job =

@@ -127,8 +127,8 @@ next_above v last next n =
     let same = above_kept next v next answer.Done in
     omega arith
 
--- a job that is next is one of at most 32, each of which made a map at most
-pub job_left : (v : View) (last next made made_first above_first : ℕ) → next_job_of v last ≡ Some next → length v.jobs.works ≤ 32 → above 0 v ≡ above_first → made + above last v ≤ made_first + above_first → made + 1 ≤ made_first + 32
+-- a job that is next is one of at most 512, each of which made a map at most
+pub job_left : (v : View) (last next made made_first above_first : ℕ) → next_job_of v last ≡ Some next → length v.jobs.works ≤ 512 → above 0 v ≡ above_first → made + above last v ≤ made_first + above_first → made + 1 ≤ made_first + 512
 job_left v last next made made_first above_first n few same le =
     let less = next_above v last next n in
     let within = above_few 0 v in

@@ -90,7 +90,7 @@ count_others number taken (h ∷ live) other = by_test (h.mapping.number == take
         let kept = sum_by-cons (as_live number) h (without taken live) in
         rw t (omega arith)
 
--- what is found is found still when a mapping is added behind
+-- what is found is found still when a mapping is added after
 found_still : (number : ℕ) (live : List Held) (next : Held) (P : Held → Type 0) → IsSomeAnd (held_of number live) P → IsSomeAnd (held_of number (live ++ next ∷ [])) P
 found_still number [] next P found = absurd found
 found_still number (h ∷ live) next P found = by_test (h.mapping.number == number) refl (found_still number live next P) found

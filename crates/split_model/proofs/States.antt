@@ -1,5 +1,5 @@
 -- A state that the front enters, and a halt of the back, each with its lines; or nothing happens.
-use Rattle.std.proofs.Common.{◌≡◌, ℕ, Bool, true, false, if◌then◌else◌, List, [], refl}
+use Rattle.std.proofs.Common.{◌≡◌, ℕ, Bool, true, false, if◌then◌else◌, List, [], refl, ap}
 use Rattle.std.specs.Prelude.{Some}
 use Rattle.std.specs.List.{AllByRecursion}
 use Rattle.schedule_text.specs.declared.line.Line.{Line}
@@ -12,7 +12,7 @@ use Rattle.blk_back.specs.declared.stage.Stage.{Stage as BackStage}
 use Rattle.blk_back.specs.declared.stage.Stage.TheVariants as back_stage
 use Rattle.blk_back.specs.declared.told.Halt.{Halt}
 use Rattle.blk_back.specs.View as back
-use Rattle.blk_back.specs.Step.{halts_at, may_halt, halts, give_up}
+use Rattle.blk_back.specs.Step.{unbound, halts_at, may_halt, halts, give_up}
 use Rattle.split_model.specs.Shown.{state_lines}
 use Rattle.split_model.specs.Happening.{enter_lines}
 
@@ -30,19 +30,27 @@ enter_lines_are P s v all = enters_cases (λ (w : front.View) (shown : List Line
 pub state_lines_are : (P : Line → Type 0) (s : FrontState) → P lines.Ready → P lines.Closing → P lines.Closed → ((word : ℕ) → P (lines.Broken word)) → AllByRecursion P (state_lines s)
 state_lines_are P state.Connected ready closing closed broken = (ready, tt)
 state_lines_are P state.Closing ready closing closed broken = (closing, tt)
+state_lines_are P (state.Agreed order) ready closing closed broken = tt
 state_lines_are P state.Leaving ready closing closed broken = tt
 state_lines_are P state.Closed ready closing closed broken = (closed, tt)
 state_lines_are P (state.Broken word) ready closing closed broken = (broken word, tt)
 
--- a halt for a reason that may be one, in its two stages; or nothing happens
+-- it waits for the terms of its front, or maps the ring
+abbrev pub is_unbound : BackStage → Bool
+is_unbound back_stage.InitWait = true
+is_unbound back_stage.MapRing = true
+is_unbound s = false
+
+-- a halt for a reason that may be one, before the port is bound and in the loop; or nothing happens
 pub halts_for_cases : (P : back.View → Type 0) (why : Halt) (v : back.View)
-    → (may_halt why ≡ true → v.stage ≡ back_stage.MapRing → P (record v { halted = Some why; stage = back_stage.Halted }))
+    → (may_halt why ≡ true → is_unbound v.stage ≡ true → P (record v { halted = Some why; stage = unbound v.pages }))
     → (may_halt why ≡ true → v.stage ≡ back_stage.Loop → P (give_up (record v { halted = Some why })))
     → P v → P (halts why v)
 halts_for_cases P why v unmapped looping none = by_test (may_halt why) refl
   where
     by_stage : (s : BackStage) → may_halt why ≡ true → v.stage ≡ s → P (halts_at s why v)
-    by_stage back_stage.MapRing may e = unmapped may e
+    by_stage back_stage.InitWait may e = unmapped may (ap is_unbound e)
+    by_stage back_stage.MapRing may e = unmapped may (ap is_unbound e)
     by_stage back_stage.Loop may e = looping may e
     by_stage s may e = none
 
@@ -52,7 +60,7 @@ halts_for_cases P why v unmapped looping none = by_test (may_halt why) refl
 
 -- whatever the reason
 pub halts_cases : (P : back.View → Type 0) (why : Halt) (v : back.View)
-    → (v.stage ≡ back_stage.MapRing → P (record v { halted = Some why; stage = back_stage.Halted }))
+    → (is_unbound v.stage ≡ true → P (record v { halted = Some why; stage = unbound v.pages }))
     → (v.stage ≡ back_stage.Loop → P (give_up (record v { halted = Some why })))
     → P v → P (halts why v)
 halts_cases P why v unmapped looping none = halts_for_cases P why v (λ may. unmapped) (λ may. looping) none

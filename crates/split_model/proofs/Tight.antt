@@ -1,5 +1,5 @@
 -- Both ends keep to the entries of their ring, whatever happens to them.
-use Rattle.std.proofs.Common.{ℕ, ◌^◌, ◌<◌, List, [], ◌∷◌, refl, arith}
+use Rattle.std.proofs.Common.{ℕ, ◌^◌, ◌<◌, ◌≤◌, List, [], ◌∷◌, refl, arith}
 use Rattle.std.specs.Prelude.{Option, Some, None}
 use Rattle.std.proofs.lemmas.List.Elements.{All-nil}
 use Rattle.blk_base.specs.Options.{Options}
@@ -9,23 +9,24 @@ use Rattle.blk_front.specs.View as front
 use Rattle.blk_back.specs.Step as back_step
 use Rattle.blk_back.specs.View as back
 use Rattle.split_model.specs.World.{World, start_of}
-use Rattle.split_model.specs.Happening.{Happening, FrontMoves, BackMoves, JobMoves, Negotiates, FrontEnters, BackHalts, Submits, Notifies, Pokes, Dumps, Looks, Settles, happens, after, front_after, back_after, job_after, front_turn, back_turn, job_turn}
+use Rattle.split_model.specs.Happening.{Happening, FrontMoves, BackMoves, JobMoves, Negotiates, FrontEnters, BackAttaches, BackHalts, Submits, Notifies, Pokes, Dumps, Looks, Settles, happens, after, front_after, back_after, job_after, front_turn, back_turn, job_turn}
 use Rattle.split_model.proofs.FewFront.{IsShort, IsModest, step_modest, entered_modest, submit_modest}
-use Rattle.split_model.proofs.FewJobs.{HasRoom, back_room, halted_room, job_room}
+use Rattle.split_model.proofs.FewJobs.{HasRoom, back_room, attached_room, halted_room, job_room}
+use Rattle.split_model.proofs.Attaching.{attach_cases}
 
 pub record IsTight (w : World) : Type 0 where
   pub front : IsModest w.front
   pub back : HasRoom w.back
 
-pub tight_start : (config : Options) → config.start < 2 ^ 32 → IsTight (start_of config)
-tight_start config small = record {
-  front = record { room = omega arith; short = All-nil IsShort; ending = tt };
-  back = record { entries = refl; prod = small; cons = small; room = (omega arith, omega (arith, small)) };
+pub tight_start : (config : Options) → config.order ≤ 4 → config.start < 2 ^ 32 → IsTight (start_of config)
+tight_start config narrow small = record {
+  front = record { order = narrow; room = omega arith; short = All-nil IsShort; ending = tt };
+  back = record { entries = omega arith; prod = small; cons = small; room = refl };
 }
 
 -- what an end tells is no part of it
 untold_front : (v : front.View) → IsModest v → IsModest (record v { told = None })
-untold_front v m = record { room = m.room; short = m.short; ending = m.ending }
+untold_front v m = record { order = m.order; room = m.room; short = m.short; ending = m.ending }
 
 untold_back : (v : back.View) → HasRoom v → HasRoom (record v { told = None })
 untold_back v h = record { entries = h.entries; prod = h.prod; cons = h.cons; room = h.room }
@@ -48,6 +49,7 @@ tight_happens w BackMoves t = back_tight w (back_turn w Took) t
 tight_happens w (JobMoves number outcome) t = job_tight w number (job_turn w number outcome) t
 tight_happens w (Negotiates at move) t = record { front = t.front; back = t.back }
 tight_happens w (FrontEnters state) t = record { front = entered_modest state w.front t.front; back = t.back }
+tight_happens w (BackAttaches shape grefs port) t = record { front = t.front; back = attach_cases (λ v shown. HasRoom v) w shape grefs port (λ may layout. attached_room shape grefs port w.back may t.back) t.back }
 tight_happens w (BackHalts why) t = record { front = t.front; back = halted_room why w.back t.back }
 tight_happens w (Submits job) t = record { front = submit_modest w.front job t.front; back = t.back }
 tight_happens w (Notifies at) t = record { front = t.front; back = t.back }

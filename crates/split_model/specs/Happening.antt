@@ -1,10 +1,15 @@
 -- What may happen to the machine, what it makes of it, and the lines that it shows.
-use Rattle.std.specs.Prelude.{◌≡◌, ℕ, zero, suc, ◌+◌, ◌/◌, ◌%◌, Bool, ◌&&◌, nat_lt, List, [], ◌∷◌, ◌++◌, Option, Some, None, Result, Ok, Err, if◌then◌else◌}
+use Rattle.std.specs.Prelude.{◌≡◌, ℕ, zero, suc, ◌+◌, ◌*◌, ◌/◌, ◌%◌, ◌^◌, Bool, ◌&&◌, nat_lt, List, [], ◌∷◌, ◌++◌, Option, Some, None, Result, Ok, Err, if◌then◌else◌}
 use Rattle.blk_base.specs.declared.config.Job.{Job}
 use Rattle.blk_io.specs.Disk.{DiskSeen}
 use Rattle.blk_base.specs.declared.parts.End.{End}
 use Rattle.blk_base.specs.declared.parts.End.TheVariants as end
 use Rattle.blk_base.specs.declared.moves.BackMover.TheVariants as back_mover
+use Rattle.blk_base.specs.declared.moves.Mover.TheVariants as mover
+use Rattle.blk_base.specs.declared.moves.Move.{Move as Shown}
+use Rattle.blk_base.specs.declared.moves.Move.TheVariants as moves
+use Rattle.ring_words.specs.Shape.{Shape}
+use Rattle.key_directory.specs.Directory.{key_of}
 use Rattle.schedule_text.specs.declared.line.Line.{Line}
 use Rattle.schedule_text.specs.declared.line.Line.TheVariants.{Move, Submit, Refuse, Quiet, Busy, Unsettled, Poke, Word}
 use Rattle.event_channel.specs.Channels.{sent}
@@ -24,16 +29,17 @@ use Rattle.blk_back.specs.View as back
 use Rattle.blk_back.specs.Ask as back_ask
 use Rattle.blk_back.specs.Step as back_step
 use Rattle.split_model.specs.World.{World}
-use Rattle.split_model.specs.Keys.{KeyMove, negotiated, negotiated_lines}
+use Rattle.split_model.specs.Keys.{KeyMove, layout_path, is_layout, negotiated, negotiated_lines}
 use Rattle.split_model.specs.Shown.{front_lines, back_lines, halt_lines, state_lines, refusal_word}
 
--- a move of the front, of the back, or of the job of a number with what the disk answers it; what an end does with the keys; a state that its negotiation has the front enter, and a reason for which it has the back halt; a submission; a spurious event at an end's bound port; a word of the guest's memory overwritten by a hostile hand; a look at the words of the ring, at whether all is quiet, with what was found, and one when the rounds are over
+-- a move of the front, of the back, or of the job of a number with what the disk answers it; what an end does with the keys; a state that its negotiation has the front enter, the terms of its front that the back takes as it reads the key for the layout, and a reason for which its negotiation has it halt; a submission; a spurious event at an end's bound port; a word of the guest's memory overwritten by a hostile hand; a look at the words of the ring, at whether all is quiet, with what was found, and one when the rounds are over
 pub data Happening : Type 0 where
   FrontMoves : Happening
   BackMoves : Happening
   JobMoves : (number : ℕ) (outcome : Outcome) → Happening
   Negotiates : (at : End) (move : KeyMove) → Happening
   FrontEnters : (state : FrontState) → Happening
+  BackAttaches : (shape : Shape) (grefs : List ℕ) (port : ℕ) → Happening
   BackHalts : (why : Halt) → Happening
   Submits : (job : Job) → Happening
   Notifies : (at : End) → Happening
@@ -113,12 +119,23 @@ ring_lines pages place (suc count) = word_lines place (word_of pages (2 + place 
 abbrev pub enter_lines : FrontState → front.View → List Line
 enter_lines s v = if front_state.may_enter s v then state_lines s else []
 
+-- the back reads the key for the layout, and takes these terms: the layout is the one that the key names
+abbrev pub layout_text : World → Option (List ℕ)
+layout_text w = key_of w.under.keys.keys layout_path
+
+abbrev pub layout_read : World → Shown
+layout_read w = moves.GetKey mover.Back layout_path (layout_text w)
+
+abbrev pub attaches_at : World → Shape → List ℕ → Bool
+attaches_at w shape grefs = back_step.may_attach shape grefs w.back && is_layout shape.abi (layout_text w)
+
 abbrev pub happens : World → Happening → World
 happens w FrontMoves = front_after w (front_turn w)
 happens w BackMoves = back_after w (back_turn w Took)
 happens w (JobMoves number outcome) = job_after w number (job_turn w number outcome)
 happens w (Negotiates at move) = record { front = w.front; back = w.back; under = let h : Hypervisor = w.under in with_keys h (negotiated w.back.stage at move h.keys) }
 happens w (FrontEnters state) = record { front = front_state.enters state w.front; back = w.back; under = w.under }
+happens w (BackAttaches shape grefs port) = record { front = w.front; back = if attaches_at w shape grefs then back_step.attached shape grefs port w.back else w.back; under = w.under }
 happens w (BackHalts why) = record { front = w.front; back = back_step.halts why w.back; under = w.under }
 happens w (Submits job) = record { front = (front_submit.submit_of w.front job).1; back = w.back; under = w.under }
 happens w (Notifies at) = record { front = w.front; back = w.back; under = let h : Hypervisor = w.under in record h { channels = sent h.channels (other_end at) } }
@@ -133,11 +150,12 @@ lines_at w BackMoves = back_shows w (back_turn w Took)
 lines_at w (JobMoves number outcome) = job_shows w number (job_turn w number outcome)
 lines_at w (Negotiates at move) = let h : Hypervisor = w.under in negotiated_lines w.back.stage at move h.keys
 lines_at w (FrontEnters state) = enter_lines state w.front
+lines_at w (BackAttaches shape grefs port) = if attaches_at w shape grefs then Move (layout_read w) ∷ [] else []
 lines_at w (BackHalts why) = halt_lines w.back.halted (let b : back.View = back_step.halts why w.back in b.halted)
 lines_at w (Submits job) = submit_line job (front_submit.submit_of w.front job).0 ∷ []
 lines_at w (Notifies at) = []
 lines_at w (Pokes frame word value) = poke_lines frame word value
-lines_at w Dumps = ring_lines w.under.pages 0 1024
+lines_at w Dumps = ring_lines w.under.pages 0 (1024 * 2 ^ w.front.shape.order)
 lines_at w (Looks quiet) = (if quiet then Quiet else Busy) ∷ []
 lines_at w (Settles quiet) = (if quiet then Quiet else Unsettled) ∷ []
 

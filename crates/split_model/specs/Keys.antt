@@ -1,6 +1,8 @@
 -- What an end does with the keys of both (`io/xenbus.h`), what that makes of the directory, and the lines that it shows.
 use Rattle.std.specs.Prelude.{ℕ, Bool, true, false, not, ◌&&◌, ◌||◌, List, [], ◌∷◌, Option, Some, None, if◌then◌else◌, codes}
 use Rattle.std.specs.Str.{bytes_eq}
+use Rattle.blk_base.specs.declared.operation.Abi.{Abi}
+use Rattle.blk_base.specs.declared.operation.Abi.TheVariants.{X64, X32}
 use Rattle.blk_base.specs.declared.parts.End.{End}
 use Rattle.blk_base.specs.declared.parts.End.TheVariants as end
 use Rattle.blk_base.specs.declared.moves.Mover.{Mover}
@@ -13,6 +15,7 @@ use Rattle.key_directory.specs.Watches.{with_watch, next_watch, taken}
 use Rattle.hypervisor.specs.Act.{is_own_path}
 use Rattle.blk_back.specs.declared.stage.Stage.{Stage}
 use Rattle.blk_back.specs.declared.stage.Stage.TheVariants as stage
+use Rattle.blk_back.specs.Ask.{is_led}
 
 -- it reads a key, sets one, watches a path, or takes the watch that fired first
 pub data KeyMove : Type 0 where
@@ -25,12 +28,18 @@ abbrev pub mover_at : End → Mover
 mover_at end.Front = mover.Front
 mover_at end.Back = mover.Back
 
--- the front's key for the layout of entries (`protocol` of `io/blkif.h`), and the layout of 64-bit guests
-abbrev pub names_layout : List ℕ → Bool
-names_layout path = bytes_eq path (codes "/local/domain/1/device/vbd/51712/protocol")
+-- the front's key for the layout of entries (`protocol` of `io/blkif.h`), and whether its text names this one: that of 64-bit guests where there is no such key
+abbrev pub layout_path : List ℕ
+layout_path = codes "/local/domain/1/device/vbd/51712/protocol"
 
-abbrev pub is_x64_text : List ℕ → Bool
-is_x64_text text = bytes_eq text (codes "x86_64-abi")
+abbrev pub names_layout : List ℕ → Bool
+names_layout path = bytes_eq path layout_path
+
+abbrev pub is_layout : Abi → Option (List ℕ) → Bool
+is_layout X64 None = true
+is_layout X32 None = false
+is_layout X64 (Some text) = bytes_eq text (codes "x86_64-abi")
+is_layout X32 (Some text) = bytes_eq text (codes "x86_32-abi")
 
 -- the back's keys for what it offers beside reads and writes (`io/blkif.h`), and what they say where it offers nothing
 abbrev pub names_feature : List ℕ → Bool
@@ -44,9 +53,9 @@ names_feature path =
 abbrev pub is_zero_text : List ℕ → Bool
 is_zero_text text = bytes_eq text (codes "0")
 
--- an end sets keys under its own directory alone; no other layout is named yet, and no feature is offered
+-- an end sets keys under its own directory alone, and no feature is offered yet
 abbrev pub may_set : End → (path text : List ℕ) → Bool
-may_set at path text = is_own_path at path && (not (names_layout path) || is_x64_text text) && (not (names_feature path) || is_zero_text text)
+may_set at path text = is_own_path at path && (not (names_feature path) || is_zero_text text)
 
 -- the back is between two entries and two replies, each up to the end of its push: within one it makes no other move
 abbrev pub is_between : Stage → Bool
@@ -59,10 +68,15 @@ is_between (stage.ResponseEvent old) = false
 is_between stage.Send = false
 is_between s = true
 
--- an end may turn to its keys, as the back stands
-abbrev pub may_negotiate : Stage → End → Bool
-may_negotiate s end.Front = true
-may_negotiate s end.Back = is_between s
+-- the move reads the key for the layout
+abbrev pub reads_layout : KeyMove → Bool
+reads_layout (Gets path) = names_layout path
+reads_layout move = false
+
+-- an end may turn to its keys, as the back stands: the back reads the key for the layout only while it waits for the terms of its front
+abbrev pub may_negotiate : Stage → End → KeyMove → Bool
+may_negotiate s end.Front move = true
+may_negotiate s end.Back move = is_between s && (not (reads_layout move) || is_led s)
 
 abbrev pub keys_after : End → KeyMove → Directory → Directory
 keys_after at (Gets path) d = d
@@ -82,7 +96,7 @@ key_lines at TakesWatch d = watched_lines at (next_watch (watches_of d at))
 
 -- where the end may not turn to its keys nothing happens
 abbrev pub negotiated : Stage → End → KeyMove → Directory → Directory
-negotiated s at move d = if may_negotiate s at then keys_after at move d else d
+negotiated s at move d = if may_negotiate s at move then keys_after at move d else d
 
 abbrev pub negotiated_lines : Stage → End → KeyMove → Directory → List Line
-negotiated_lines s at move d = if may_negotiate s at then key_lines at move d else []
+negotiated_lines s at move d = if may_negotiate s at move then key_lines at move d else []

@@ -23,9 +23,9 @@ pub record AreHeld (table : GrantTable) (hands : List Mapping) : Type 0 where
 -- before the front made its port there is none
 abbrev pub IsPorted : Stage → ChannelState → Type 0
 IsPorted (stage.RingWord k) c = (c.made ≡ 0) × (c.ports ≡ [])
-IsPorted stage.RingFrame c = (c.made ≡ 0) × (c.ports ≡ [])
-IsPorted stage.RingFence c = (c.made ≡ 0) × (c.ports ≡ [])
-IsPorted stage.RingFlags c = (c.made ≡ 0) × (c.ports ≡ [])
+IsPorted (stage.RingFrame page) c = (c.made ≡ 0) × (c.ports ≡ [])
+IsPorted (stage.RingFence page) c = (c.made ≡ 0) × (c.ports ≡ [])
+IsPorted (stage.RingFlags page) c = (c.made ≡ 0) × (c.ports ≡ [])
 IsPorted stage.NewPort c = (c.made ≡ 0) × (c.ports ≡ [])
 IsPorted s c = Unit {0}
 

@@ -25,10 +25,11 @@ front_lines (Some (front_told.Answer id status)) = lines.Answer id status ∷ []
 front_lines (Some (front_told.Sector id index words)) = lines.Data id index words ∷ []
 front_lines (Some (front_told.Broken word)) = lines.Broken word ∷ []
 
--- the line of a state that the front enters; leaving shows none
+-- the line of a state that the front enters; an order that is agreed and leaving show none
 abbrev pub state_lines : FrontState → List Line
 state_lines state.Connected = lines.Ready ∷ []
 state_lines state.Closing = lines.Closing ∷ []
+state_lines (state.Agreed order) = []
 state_lines state.Leaving = []
 state_lines state.Closed = lines.Closed ∷ []
 state_lines (state.Broken word) = lines.Broken word ∷ []

@@ -1,3 +1,3 @@
 mod Settling
-mod Turns
+pub mod Turns
 mod Open

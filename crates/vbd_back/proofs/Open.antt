@@ -1,9 +1,10 @@
 -- An end of the ring whose port is bound stays past that, and so it keeps its turn.
-use Rattle.std.proofs.Common.{◌≡◌, ℕ, ◌+◌, Bool, true, false, if◌then◌else◌, [], ◌∷◌, ◌++◌, refl, sym, ap, ◌∙◌}
+use Rattle.std.proofs.Common.{◌≡◌, ℕ, ◌+◌, Bool, true, false, if◌then◌else◌, List, [], ◌∷◌, ◌++◌, refl, sym, ap, ◌∙◌}
 use Rattle.std.specs.Prelude.{Option, Some, None, ◌==◌}
 use Rattle.blk_base.specs.declared.parts.Mapping.{Mapping}
 use Rattle.blk_base.specs.declared.ask.BackAnswer.{BackAnswer}
 use Rattle.blk_base.specs.declared.ask.BackAnswer.TheVariants as answer
+use Rattle.ring_words.specs.Shape.{entry_words_of}
 use Rattle.ring_words.specs.Ring.{requests_of, overruns, notifies}
 use Rattle.back_jobs.specs.Jobs.{first_mapping}
 use Rattle.blk_back.specs.declared.stage.Reply.{Reply}
@@ -11,7 +12,7 @@ use Rattle.blk_back.specs.declared.stage.Stage.{Stage}
 use Rattle.blk_back.specs.declared.stage.Stage.TheVariants as stage
 use Rattle.blk_back.specs.View as ring
 use Rattle.blk_back.specs.Ask.{next_reply}
-use Rattle.blk_back.specs.Step.{giving_up, overrun, looked, loop_step, fetched, step_at, step_of}
+use Rattle.blk_back.specs.Step.{giving_up, unbound, bound, other_pages, overrun, looked, loop_step, fetched, step_at, step_of}
 use Rattle.xenbus_state.specs.declared.back.BackBusAsk.{BackBusAsk}
 use Rattle.xenbus_state.specs.declared.back.BackBusAsk.TheVariants as bus_ask
 use Rattle.vbd_back.specs.declared.turn.Turn.{Turn}
@@ -21,6 +22,7 @@ use Rattle.vbd_back.specs.Turn.{turn_at, turn_of}
 use Rattle.vbd_back.proofs.Turns.{waits}
 
 abbrev is_open : Stage → Bool
+is_open stage.InitWait = false
 is_open stage.MapRing = false
 is_open stage.Bind = false
 is_open s = true
@@ -37,6 +39,14 @@ giving_open : (m : Option Mapping) → is_open (giving_up m) ≡ true
 giving_open None = refl
 giving_open (Some m) = refl
 
+bound_open : (pages : List Mapping) → is_open (bound pages) ≡ true
+bound_open [] = refl
+bound_open (page ∷ pages) = refl
+
+unbound_open : (pages : List Mapping) → is_open (unbound pages) ≡ true
+unbound_open [] = refl
+unbound_open (page ∷ pages) = refl
+
 looked_open : (v : ring.View) (word : ℕ) (otherwise : ring.View) → is_open otherwise.stage ≡ true → is_open (looked v word otherwise).stage ≡ true
 looked_open v word otherwise h =
     either (overruns v.ring word) (overrun v word) (if word == v.ring.cons then otherwise else record v { seen = word; stage = stage.Loop })
@@ -52,25 +62,30 @@ loop_open v None (answer.Word word) h =
 loop_open v None given h = h
 
 opened : (s : Stage) (v : ring.View) (given : BackAnswer) → is_open v.stage ≡ true → is_open s ≡ true → is_open (step_at s v given).stage ≡ true
+opened stage.InitWait v given o h = absurd (cc)
 opened stage.MapRing v given o h = absurd (cc)
 opened stage.Bind v given o h = absurd (cc)
 opened stage.Loop v given o h = loop_open v (next_reply v) given o
-opened (stage.Fetch k) v (answer.Word word) o h = either (k == 27) (fetched v (v.entry ++ word ∷ [])) (record v { entry = v.entry ++ word ∷ []; stage = stage.Fetch (k + 1) }) refl refl
+opened (stage.Fetch k) v (answer.Word word) o h = either (k + 1 == entry_words_of v.shape.abi) (fetched v (v.entry ++ word ∷ [])) (record v { entry = v.entry ++ word ∷ []; stage = stage.Fetch (k + 1) }) refl refl
 opened (stage.Fetch k) v given o h = o
 opened (stage.ResponseEvent old) v (answer.Word event) o h = either_stage (notifies old v.ring.prod event) stage.Send stage.Loop refl refl
 opened (stage.ResponseEvent old) v given o h = o
 opened stage.LookAgain v (answer.Word word) o h = looked_open v word (record v { seen = word; stage = stage.Loop; asleep = true }) refl
 opened stage.LookAgain v given o h = o
 opened (stage.GiveUp m) v given o h = giving_open (first_mapping v.jobs.works)
+opened stage.UnmapRing v given o h = bound_open (other_pages v.pages)
+opened stage.UnmapUnbound v given o h = unbound_open (other_pages v.pages)
 opened stage.Halted v given o h = o
 opened s v given o h = refl
 
 open_at : (s : Stage) → turn_at bus_ask.Wait s ≡ turn.Ring → is_open s ≡ true
+open_at stage.InitWait t = absurd (cc)
 open_at stage.MapRing t = absurd (cc)
 open_at stage.Bind t = absurd (cc)
 open_at s t = refl
 
 turn_open : (s : Stage) → is_open s ≡ true → turn_at bus_ask.Wait s ≡ turn.Ring
+turn_open stage.InitWait o = absurd (cc)
 turn_open stage.MapRing o = absurd (cc)
 turn_open stage.Bind o = absurd (cc)
 turn_open s o = refl

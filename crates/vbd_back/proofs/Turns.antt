@@ -1,5 +1,5 @@
 -- Whose turn it is: what is asked and done then is what the backend asks and does.
-use Rattle.std.proofs.Common.{◌≡◌, Bool, true, false, if◌then◌else◌, List, refl, sym, subst, ap, ◌∙◌}
+use Rattle.std.proofs.Common.{◌≡◌, Bool, true, false, if◌then◌else◌, List, [], ◌∷◌, refl, sym, subst, ap, ◌∙◌}
 use Rattle.std.specs.Prelude.{Option, Some, None, is_some, ◌==◌}
 use Rattle.blk_base.specs.declared.parts.Mapping.{Mapping}
 use Rattle.blk_base.specs.declared.ask.BackAsk.{BackAsk}
@@ -16,16 +16,17 @@ use Rattle.blk_back.specs.View as ring
 use Rattle.blk_back.specs.Ask as ring_ask
 use Rattle.blk_back.specs.Step as step_ring
 use Rattle.blk_back.specs.Hands.{hands_of}
-use Rattle.blk_back.proofs.Hands.{hands_after, halted_hands}
+use Rattle.blk_back.proofs.Hands.{hands_after, halted_hands, attached_hands}
 use Rattle.xenbus_state.specs.declared.table.BackHalt.{BackHalt}
 use Rattle.xenbus_state.specs.declared.back.BackBusAsk.{BackBusAsk}
 use Rattle.xenbus_state.specs.declared.back.BackBusAsk.TheVariants as bus_ask
 use Rattle.xenbus_state.specs.BackView.{BackView}
+use Rattle.xenbus_state.specs.BackStep as bus_step
 use Rattle.vbd_back.specs.declared.turn.Turn.{Turn}
 use Rattle.vbd_back.specs.declared.turn.Turn.TheVariants as turn
 use Rattle.vbd_back.specs.View.{View, both}
 use Rattle.vbd_back.specs.Ask.{bus_ask_of, bus_moves, key_ask, ring_moves, ring_ask, ask_at, ask_of, IsAnswer}
-use Rattle.vbd_back.specs.Step.{ring_halt, ring_halted, bus_halted, settled, halt_of, spoken, woken, caught_up, ring_step, step_at, step_of, IsHeard, is_plain}
+use Rattle.vbd_back.specs.Step.{ring_halt, shape_read, reads_layout, ring_led, bus_halted, settled, halt_of, spoken, woken, caught_up, ring_step, step_at, step_of, IsHeard, is_plain}
 use Rattle.vbd_back.specs.Turn.{turn_left, turn_at, turn_of}
 use Rattle.vbd_back.proofs.Settling.{settled_waits}
 
@@ -58,11 +59,17 @@ either_none false x y p q = q
 loop_none : (v : ring.View) (r : Option Reply) → names_none (ring_ask.loop_ask v r) ≡ true
 loop_none v (Some r) = refl
 loop_none v None =
-    either_none v.asleep ask.Wait (if requests_of v.ring v.seen == 0 then ask.Read v.page 0 else ask.Read v.page (ring.slot_word v.ring.cons 0)) refl
-    (either_none (requests_of v.ring v.seen == 0) (ask.Read v.page 0) (ask.Read v.page (ring.slot_word v.ring.cons 0)) refl refl)
+    either_none v.asleep ask.Wait (if requests_of v.ring v.seen == 0 then ring_ask.index_ask v 0 else ring_ask.entry_ask v 0) refl
+    (either_none (requests_of v.ring v.seen == 0) (ring_ask.index_ask v 0) (ring_ask.entry_ask v 0) refl refl)
+
+unmap_none : (pages : List Mapping) → names_none (ring_ask.unmap_ask pages) ≡ true
+unmap_none [] = refl
+unmap_none (page ∷ pages) = refl
 
 none_at : (s : Stage) (v : ring.View) → names_none (ring_ask.ask_at s v) ≡ true
 none_at stage.Loop v = loop_none v (ring_ask.next_reply v)
+none_at stage.UnmapRing v = unmap_none v.pages
+none_at stage.UnmapUnbound v = unmap_none v.pages
 none_at s v = refl
 
 answered : (a : BackAsk) (given : BackAnswer) → names_none a ≡ true → IsAnswer a given → ring_ask.IsAnswer a given
@@ -89,11 +96,6 @@ heard_at (bus_ask.Bind port) stage.Bind v answer.Done r h = tt
 heard_at (bus_ask.Bind port) stage.Bind v answer.BindRefused r h = tt
 heard_at (bus_ask.Bind port) stage.Bind v x r h = absurd h
 heard_at (bus_ask.Bind port) s v x r h = absurd (cc)
-heard_at (bus_ask.Unmap m) stage.UnmapRing v answer.Done r h = tt
-heard_at (bus_ask.Unmap m) stage.UnmapRing v x r h = absurd h
-heard_at (bus_ask.Unmap m) stage.UnmapUnbound v answer.Done r h = tt
-heard_at (bus_ask.Unmap m) stage.UnmapUnbound v x r h = absurd h
-heard_at (bus_ask.Unmap m) s v x r h = absurd (cc)
 heard_at bus_ask.ClosePort stage.ClosePort v answer.Done r h = tt
 heard_at bus_ask.ClosePort stage.ClosePort v x r h = absurd h
 heard_at bus_ask.ClosePort s v x r h = absurd (cc)
@@ -115,6 +117,7 @@ pub waits : (v : View) → turn_of v ≡ turn.Ring → bus_ask_of v ≡ bus_ask.
 waits v t = waits_at (bus_moves (bus_ask_of v) v.ring.stage) (bus_ask_of v) v.ring.stage t
 
 moves_at : (s : Stage) → turn_left bus_ask.Wait s ≡ turn.Ring → ring_moves bus_ask.Wait s ≡ true
+moves_at stage.InitWait t = absurd (cc)
 moves_at stage.MapRing t = absurd (cc)
 moves_at stage.Bind t = absurd (cc)
 moves_at s t = refl
@@ -147,19 +150,20 @@ halted_none (Some why) b n = absurd (cc)
 pub rests : (v : View) (r : ring.View) → turn_of v ≡ turn.Ring → is_some r.halted ≡ false → caught_up r v.bus ≡ v.bus
 rests v r t n = ap (λ (b : BackView). settled r.stage b) (halted_none r.halted v.bus n) ∙ settled_waits r.stage v.bus (waits v t)
 
--- a key is no mapping, and a halt gives up none at once
+-- a key is no mapping; a halt gives up none at once, and terms that are taken map none
 key_hands : (a : BackBusAsk) (given : BackAnswer) (before after : List Mapping) → after ≡ before → HandsAfter (key_ask a) given before after
 key_hands bus_ask.Watch given before after e = e
 key_hands a given before after e = e
 
-halt_hands : (why : Option BackHalt) (r : ring.View) → hands_of (ring_halted why r) ≡ hands_of r
-halt_hands None r = refl
-halt_hands (Some why) r = halted_hands (ring_halt why) r
+led_hands : (why : Option BackHalt) (reads : Bool) (b : BackView) (r : ring.View) → hands_of (ring_led why reads b r) ≡ hands_of r
+led_hands (Some why) reads b r = halted_hands (ring_halt why) r
+led_hands None true b r = attached_hands (shape_read b) b.grefs b.terms.port r
+led_hands None false b r = refl
 
 -- what the backend and its jobs hold after an answer
 hands_by : (b m : Bool) (a : BackBusAsk) (v : View) (given : BackAnswer) → IsAnswer (if b then key_ask a else ring_ask m v) given
     → HandsAfter (if b then key_ask a else ring_ask m v) given (hands_of v.ring) (hands_of (if b then spoken v given else ring_step m a v given).ring)
-hands_by true m a v given h = key_hands a given (hands_of v.ring) (hands_of (spoken v given).ring) (halt_hands (halt_of v given) v.ring)
+hands_by true m a v given h = key_hands a given (hands_of v.ring) (hands_of (spoken v given).ring) (led_hands (halt_of v given) (reads_layout (bus_ask_of v)) (bus_step.step_of v.bus given) v.ring)
 hands_by false true a v given h = hands_after v.ring given (answered (ring_ask.ask_of v.ring) given (none_at v.ring.stage v.ring) h)
 hands_by false false a v given h = refl
 

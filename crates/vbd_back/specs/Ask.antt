@@ -72,6 +72,7 @@ ring_moves (bus_ask.Unmap m) stage.UnmapUnbound = true
 ring_moves (bus_ask.Unmap m) s = false
 ring_moves bus_ask.ClosePort stage.ClosePort = true
 ring_moves bus_ask.ClosePort s = false
+ring_moves a stage.InitWait = false
 ring_moves a stage.MapRing = false
 ring_moves a stage.Bind = false
 ring_moves a s = true

@@ -15,6 +15,8 @@ use Rattle.xenbus_state.specs.declared.back.BackBusAsk.{BackBusAsk}
 use Rattle.xenbus_state.specs.declared.back.BackBusAsk.TheVariants as bus_ask
 use Rattle.xenbus_state.specs.declared.table.BackHalt.{BackHalt}
 use Rattle.xenbus_state.specs.declared.table.BackHalt.TheVariants as bus_halt
+use Rattle.ring_words.specs.Shape.{Shape}
+use Rattle.xenbus_state.specs.declared.keys.FrontKey.TheVariants as key
 use Rattle.xenbus_state.specs.States.{state_number}
 use Rattle.xenbus_state.specs.Keys.{front_name}
 use Rattle.xenbus_state.specs.BackView.{BackView, stopped, unplugged}
@@ -33,10 +35,19 @@ ring_halt (bus_halt.BadOrder s) = halt.BadOrder (state_number s)
 ring_halt (bus_halt.BadPort port) = halt.BadPort port
 ring_halt (bus_halt.MapRefused gref status) = halt.MapRefused gref status
 
--- the end of the ring halts with the negotiation, and the negotiation with the end of the ring
-abbrev pub ring_halted : Option BackHalt → ring.View → ring.View
-ring_halted None r = r
-ring_halted (Some why) r = step_ring.halts (ring_halt why) r
+-- once the negotiation has read the layout of entries its terms are those of the front
+abbrev pub reads_layout : BackBusAsk → Bool
+reads_layout (bus_ask.GetKey key.Protocol) = true
+reads_layout ask = false
+
+abbrev pub shape_read : BackView → Shape
+shape_read b = record { abi = b.terms.abi; order = b.terms.order }
+
+-- the end of the ring halts with the negotiation, or takes the terms that it has read; and the negotiation halts with the end of the ring
+abbrev pub ring_led : Option BackHalt → (reads : Bool) → BackView → ring.View → ring.View
+ring_led (Some why) reads b r = step_ring.halts (ring_halt why) r
+ring_led None true b r = step_ring.attaches (shape_read b) b.grefs b.terms.port r
+ring_led None false b r = r
 
 abbrev pub bus_halted : Option Halt → BackView → BackView
 bus_halted None v = v
@@ -59,7 +70,7 @@ abbrev pub heard_by : ring.View → View → BackAnswer → View
 heard_by r v a = record { ring = r; bus = settled r.stage (bus.step_of v.bus a) }
 
 abbrev pub spoken : View → BackAnswer → View
-spoken v a = heard_by (ring_halted (halt_of v a) v.ring) v a
+spoken v a = heard_by (ring_led (halt_of v a) (reads_layout (bus_ask_of v)) (bus.step_of v.bus a) v.ring) v a
 
 -- a waiting back took its watch: it reads the other end's state next
 abbrev pub woken : BackView → BackAnswer → BackView
@@ -74,7 +85,7 @@ is_plain a = true
 abbrev pub followed : BackBusAsk → BackView → BackAnswer → BackView
 followed (bus_ask.Map gref) v a = bus.step_of v a
 followed (bus_ask.Bind port) v a = bus.step_of v a
-followed (bus_ask.Unmap m) v a = bus.step_of v a
+followed (bus_ask.Unmap m) v a = bus.step_of v answer.Done
 followed bus_ask.ClosePort v a = bus.step_of v a
 followed bus_ask.Wait v a = woken v a
 followed b v a = v
@@ -83,7 +94,6 @@ followed b v a = v
 abbrev pub IsHeard : BackBusAsk → BackAnswer → Type 0
 IsHeard (bus_ask.Map gref) a = bus_asks.IsAnswer (bus_ask.Map gref) a
 IsHeard (bus_ask.Bind port) a = bus_asks.IsAnswer (bus_ask.Bind port) a
-IsHeard (bus_ask.Unmap m) a = bus_asks.IsAnswer (bus_ask.Unmap m) a
 IsHeard bus_ask.ClosePort a = bus_asks.IsAnswer bus_ask.ClosePort a
 IsHeard b a = Unit {0}
 

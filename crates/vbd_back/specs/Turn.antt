@@ -13,6 +13,7 @@ use Rattle.vbd_back.specs.Ask.{bus_ask_of, bus_moves}
 
 -- by what the negotiation asks, and the stage of the ring's end
 abbrev pub turn_left : BackBusAsk → Stage → Turn
+turn_left bus_ask.Wait stage.InitWait = Either
 turn_left bus_ask.Wait stage.MapRing = Either
 turn_left bus_ask.Wait stage.Bind = Either
 turn_left bus_ask.Wait s = Ring

@@ -97,7 +97,7 @@ impl<'a> Endpoint<'a> for Backend {
         ensures value { result ≡ ask_of self.now }
         ensures within { StaysInPage result }
         ensures names { Names (hands_of self.now.ring) result }
-        ensures few { length (hands_of self.now.ring) ≤ 34 }
+        ensures few { length (hands_of self.now.ring) ≤ 529 }
     {
         // Most moves are of the ring's end, once its port is bound.
         let ask = self.ring.ask();

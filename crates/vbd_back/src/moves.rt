@@ -10,7 +10,7 @@ ghost use Rattle.vbd_back.specs.Step.{ring_halt, spoken, ring_step, step_of, IsH
 use crate::turn::Turn;
 use blk_back::{Back, Halt, Stage};
 use blk_base::{BackAnswer, Endpoint, ShortText};
-use xenbus_state::{BackBus, BackBusAsk, BackHalt};
+use xenbus_state::{BackBus, BackBusAsk, BackHalt, FrontKey};
 
 /// Tells the answer to what is asked, whosever turn it is.
 pub fn tell(turn: Turn, ring: &mut Back, bus: &mut BackBus, answer: &BackAnswer)
@@ -36,17 +36,24 @@ pub fn ring_moves(ring: &Back, bus: &BackBus) -> bool
         (BackBusAsk::UnmapOthers, stage) => matches!(stage, Stage::GiveUp(_)),
         (BackBusAsk::Unmap(_), stage) => matches!(stage, Stage::UnmapRing | Stage::UnmapUnbound),
         (BackBusAsk::ClosePort, stage) => matches!(stage, Stage::ClosePort),
-        (_, stage) => !matches!(stage, Stage::MapRing | Stage::Bind),
+        (_, stage) => !matches!(stage, Stage::InitWait | Stage::MapRing | Stage::Bind),
     }
 }
 
-// The negotiation was answered: where it halts, so does the ring's end.
+// The negotiation was answered: where it halts, so does the ring's end, and where it has read the layout
+// the ring's end takes the terms of the front.
 fn take_key(ring: &mut Back, bus: &mut BackBus, answer: &BackAnswer)
     requires { IsBusAnswer (bus_ask bus.old) answer.now }
     ensures { both ring.new bus.new ≡ spoken (both ring.old bus.old) answer.now }
 {
-    if let Some(why) = bus.tell(answer) {
-        ring.halt(ring_halt(why));
+    let reads_layout = matches!(bus.ask(), BackBusAsk::GetKey(FrontKey::Protocol));
+    match bus.tell(answer) {
+        Some(why) => ring.halt(ring_halt(why)),
+        None if reads_layout => {
+            let terms = bus.terms();
+            ring.attach(terms.abi, terms.order, bus.grefs(), terms.port);
+        }
+        None => {}
     }
     settle(bus, ring.stage());
 }
@@ -86,8 +93,11 @@ fn follow(bus: &mut BackBus, answer: &BackAnswer)
     ensures { bus.new ≡ followed (bus_ask bus.old) bus.old answer.now }
 {
     match bus.ask() {
-        BackBusAsk::Map(_) | BackBusAsk::Bind(_) | BackBusAsk::Unmap(_) | BackBusAsk::ClosePort => {
+        BackBusAsk::Map(_) | BackBusAsk::Bind(_) | BackBusAsk::ClosePort => {
             let _ = bus.tell(answer);
+        }
+        BackBusAsk::Unmap(_) => {
+            let _ = bus.tell(&BackAnswer::Done);
         }
         _ => wake(bus, answer),
     }

@@ -15,6 +15,13 @@ const RING: Mapping = Mapping {
     mode: Mode::ReadWrite,
 };
 
+// The second page of a ring of two.
+const SECOND: Mapping = Mapping {
+    number: 2,
+    gref: 9,
+    mode: Mode::ReadWrite,
+};
+
 const STATE: &str = "/local/domain/0/backend/vbd/1/51712/state";
 
 const FRONT_STATE: &str = "/local/domain/1/device/vbd/51712/state";
@@ -176,21 +183,28 @@ fn read(rt: &impl Abort, backend: &mut Backend) -> Result<(), OutOfMemory> {
     ] {
         gets(rt, backend, path, text)?;
     }
-    assert_eq!(rt;
-        ask(backend),
-        BackAsk::Map {
-            gref: 8,
-            mode: Mode::ReadWrite
-        }
-    );
+    assert_eq!(rt; ask(backend), maps(RING));
     Ok(())
+}
+
+// A page of the ring is mapped.
+fn maps(page: Mapping) -> BackAsk<'static> {
+    BackAsk::Map {
+        gref: page.gref,
+        mode: Mode::ReadWrite,
+    }
+}
+
+// It binds the port.
+fn binds(rt: &impl Abort, backend: &mut Backend) -> Result<(), OutOfMemory> {
+    assert_eq!(rt; ask(backend), BackAsk::Bind(1));
+    tell(backend, BackAnswer::Done)
 }
 
 // It maps the ring and binds the port.
 fn connect(rt: &impl Abort, backend: &mut Backend) -> Result<(), OutOfMemory> {
     tell(backend, BackAnswer::Mapped(RING))?;
-    assert_eq!(rt; ask(backend), BackAsk::Bind(1));
-    tell(backend, BackAnswer::Done)?;
+    binds(rt, backend)?;
     for (path, text) in [
         ("/local/domain/0/backend/vbd/1/51712/sectors", "8"),
         ("/local/domain/0/backend/vbd/1/51712/sector-size", "512"),
@@ -215,6 +229,36 @@ fn it_offers_and_waits_and_connects_as_the_front_says(rt: HostRuntime) -> Result
             word: 0
         }
     );
+    Ok(())
+}
+
+// It reads what a 32-bit front with a ring of two pages says.
+fn read_two(rt: &impl Abort, backend: &mut Backend) -> Result<(), OutOfMemory> {
+    watched(backend)?;
+    for (path, text) in [
+        (FRONT_STATE, "3"),
+        ("/local/domain/1/device/vbd/51712/ring-page-order", "1"),
+        ("/local/domain/1/device/vbd/51712/ring-ref0", "8"),
+        ("/local/domain/1/device/vbd/51712/ring-ref1", "9"),
+        ("/local/domain/1/device/vbd/51712/event-channel", "1"),
+        ("/local/domain/1/device/vbd/51712/protocol", "x86_32-abi"),
+        ("/local/domain/1/device/vbd/51712/feature-persistent", "0"),
+    ] {
+        gets(rt, backend, path, text)?;
+    }
+    Ok(())
+}
+
+#[test]
+fn both_pages_of_a_ring_are_mapped_before_its_port_is_bound(rt: HostRuntime) -> Result<(), Fail> {
+    let mut backend = backend(rt.alloc())?;
+    begin(&rt, &mut backend)?;
+    read_two(&rt, &mut backend)?;
+    assert_eq!(rt; ask(&backend), maps(RING));
+    tell(&mut backend, BackAnswer::Mapped(RING))?;
+    assert_eq!(rt; ask(&backend), maps(SECOND));
+    tell(&mut backend, BackAnswer::Mapped(SECOND))?;
+    binds(&rt, &mut backend)?;
     Ok(())
 }
 

@@ -28,7 +28,7 @@ pub fn turn_of(bus: &BackBus, ring: &Back) -> Turn
         return Turn::Keys;
     }
     match (ask, ring.stage()) {
-        (BackBusAsk::Wait, Stage::MapRing | Stage::Bind) => Turn::Either,
+        (BackBusAsk::Wait, Stage::InitWait | Stage::MapRing | Stage::Bind) => Turn::Either,
         (BackBusAsk::Wait, _) => Turn::Ring,
         _ => Turn::Either,
     }

@@ -4,6 +4,7 @@ use Rattle.std.specs.Prelude.{Option, Some, None, Result, Ok, Err, nat_lt, slice
 use Rattle.blk_base.specs.Distance.{distance_of}
 use Rattle.blk_base.specs.declared.ask.FrontAnswer.{FrontAnswer}
 use Rattle.blk_base.specs.declared.ask.FrontAnswer.TheVariants as answer
+use Rattle.ring_words.specs.Shape.{entry_words_of}
 use Rattle.ring_words.specs.Ring.{responses_of, notifies}
 use Rattle.blk_layout.specs.declared.response.Response.{Response}
 use Rattle.blk_layout.specs.Response.{response_of}
@@ -17,7 +18,7 @@ use Rattle.blk_front.specs.declared.stage.Stage.TheVariants as stage
 use Rattle.blk_front.specs.declared.told.Told.TheVariants as told
 use Rattle.blk_front.specs.View.{View, next_request}
 use Rattle.blk_front.specs.Submit.{is_connected}
-use Rattle.blk_front.specs.Step.{broken, looked, issue_stage, data_stage, granted, loop_step, issued, response_at, is_mapped, at, entry_of, finished, ended, revoked, sector_told, data_step, step_at}
+use Rattle.blk_front.specs.Step.{broken, looked, issue_stage, data_stage, granted, loop_step, issued, response_at, is_mapped, at, ring_left, entry_of, finished, ended, revoked, sector_told, data_step, step_at}
 
 abbrev IsMade : View → Type 0
 IsMade v = is_connected v.stage ≡ true
@@ -58,7 +59,7 @@ data_stage_stays (Some r) n = staged (nat_lt (n + 1) (words_in r)) (stage.Data (
 
 granted_stays : (v : View) (next : Option Request) (place : ℕ) → IsMade v → IsMade (granted next place v)
 granted_stays v None place h = h
-granted_stays v (Some r) place h = either (nat_lt (place + 1) (length r.frames.items)) (at (stage.GrantFrame (place + 1)) v) (record v { stage = stage.Slot 0; entry = entry_of r }) refl refl
+granted_stays v (Some r) place h = either (nat_lt (place + 1) (length r.frames.items)) (at (stage.GrantFrame (place + 1)) v) (record v { stage = stage.Slot 0; entry = entry_of v.shape.abi r }) refl refl
 
 revoked_stays : (v : View) (ending : Option Ending) (place : ℕ) → IsMade v → IsMade (revoked ending place v)
 revoked_stays v None place h = h
@@ -75,13 +76,13 @@ data_stays v (Some e) n word h =
 
 pub stays : (s : Stage) (v : View) (a : FrontAnswer) → IsMade v → is_connected s ≡ true → IsMade (step_at s v a)
 stays (stage.RingWord k) v a h c = absurd (cc)
-stays stage.RingFrame v a h c = absurd (cc)
-stays stage.RingFence v a h c = absurd (cc)
-stays stage.RingFlags v a h c = absurd (cc)
+stays (stage.RingFrame page) v a h c = absurd (cc)
+stays (stage.RingFence page) v a h c = absurd (cc)
+stays (stage.RingFlags page) v a h c = absurd (cc)
 stays stage.Loop v a h c = loop_stays v (next_request v) a h
 stays (stage.Data n) v a h c = data_stage_stays (next_request v) n
 stays (stage.GrantFlags place) v a h c = granted_stays v (next_request v) place h
-stays (stage.Slot k) v a h c = staged (k == 27) stage.Producer (stage.Slot (k + 1)) refl refl
+stays (stage.Slot k) v a h c = staged (k + 1 == entry_words_of v.shape.abi) stage.Producer (stage.Slot (k + 1)) refl refl
 stays (stage.RequestEvent old) v (answer.Word event) h c = staged (notifies old v.ring.prod event) stage.Send stage.Loop refl refl
 stays (stage.RequestEvent old) v a h c = h
 stays (stage.ResponseHigh low) v (answer.Word high) h c = refl
@@ -96,10 +97,10 @@ stays (stage.ReadData n) v (answer.Word word) h c = data_stays v v.ending n word
 stays (stage.ReadData n) v a h c = h
 stays stage.LookAgain v (answer.Word word) h c = looked_stays v word (record v { seen = word; stage = stage.Loop; asleep = true }) refl
 stays stage.LookAgain v a h c = h
-stays stage.RingRead v (answer.Word word) h c = either (is_mapped word) (broken word v) (at (stage.RingEnd word) v) refl refl
-stays stage.RingRead v a h c = h
-stays (stage.RingEnd before) v (answer.Word word) h c = either (word == before) (at stage.ClosePort v) (broken word v) refl refl
-stays (stage.RingEnd before) v a h c = h
+stays (stage.RingRead page) v (answer.Word word) h c = either (is_mapped word) (broken word v) (at (stage.RingEnd page word) v) refl refl
+stays (stage.RingRead page) v a h c = h
+stays (stage.RingEnd page before) v (answer.Word word) h c = either (word == before) (at (ring_left v page) v) (broken word v) (staged (nat_lt (page + 1) (2 ^ v.shape.order)) (stage.RingRead (page + 1)) stage.ClosePort refl refl) refl
+stays (stage.RingEnd page before) v a h c = h
 stays stage.Initialised v a h c = h
 stays stage.Left v a h c = h
 stays stage.Closed v a h c = h

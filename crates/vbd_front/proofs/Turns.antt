@@ -87,8 +87,8 @@ issue_of_ring r transfer.Read = tt
 loop_of_ring : (v : Ring) (next : Option Request) → IsOfRing (ring.loop_ask v next)
 loop_of_ring v (Some r) = issue_of_ring r r.transfer
 loop_of_ring v None =
-    let read = if responses_of v.ring v.seen == 0 then ask.Read ring_frame 2 else ask.Read (slot_frame v.ring.cons 0) (slot_word v.ring.cons 0) in
-    either (v.asleep || ring.is_through v) ask.Wait read tt (either (responses_of v.ring v.seen == 0) (ask.Read ring_frame 2) (ask.Read (slot_frame v.ring.cons 0) (slot_word v.ring.cons 0)) tt tt)
+    let read = if responses_of v.ring v.seen == 0 then ask.Read ring_frame 2 else ask.Read (slot_frame v.shape v.ring.cons 0) (slot_word v.shape v.ring.cons 0) in
+    either (v.asleep || ring.is_through v) ask.Wait read tt (either (responses_of v.ring v.seen == 0) (ask.Read ring_frame 2) (ask.Read (slot_frame v.shape v.ring.cons 0) (slot_word v.shape v.ring.cons 0)) tt tt)
 
 of_ring : (s : Stage) (v : Ring) → IsOfRing (ring.ask_at s v)
 of_ring stage.Loop v = loop_of_ring v (next_request v)
@@ -114,12 +114,12 @@ heard_at : (b : FrontBusAsk) (s : Stage) (v : Ring) (x : FrontAnswer) → ring_m
 heard_at (bus_ask.WriteRingWord word) (stage.RingWord k) v answer.Done m h = tt
 heard_at (bus_ask.WriteRingWord word) (stage.RingWord k) v x m h = absurd h
 heard_at (bus_ask.WriteRingWord word) s v x m h = absurd (cc)
-heard_at (bus_ask.Grant page) stage.RingFrame v answer.Done m h = tt
-heard_at (bus_ask.Grant page) stage.RingFrame v x m h = absurd h
-heard_at (bus_ask.Grant page) stage.RingFence v answer.Done m h = tt
-heard_at (bus_ask.Grant page) stage.RingFence v x m h = absurd h
-heard_at (bus_ask.Grant page) stage.RingFlags v answer.Done m h = tt
-heard_at (bus_ask.Grant page) stage.RingFlags v x m h = absurd h
+heard_at (bus_ask.Grant page) (stage.RingFrame k) v answer.Done m h = tt
+heard_at (bus_ask.Grant page) (stage.RingFrame k) v x m h = absurd h
+heard_at (bus_ask.Grant page) (stage.RingFence k) v answer.Done m h = tt
+heard_at (bus_ask.Grant page) (stage.RingFence k) v x m h = absurd h
+heard_at (bus_ask.Grant page) (stage.RingFlags k) v answer.Done m h = tt
+heard_at (bus_ask.Grant page) (stage.RingFlags k) v x m h = absurd h
 heard_at (bus_ask.Grant page) s v x m h = absurd (cc)
 heard_at bus_ask.NewPort stage.NewPort v (answer.Port port) m h = tt
 heard_at bus_ask.NewPort stage.NewPort v x m h = absurd h

@@ -1,5 +1,5 @@
 -- What an answer makes of the frontend.
-use Rattle.std.specs.Prelude.{Bool, true, false, List, [], ◌∷◌, ◌++◌, Option, Some, None, if◌then◌else◌}
+use Rattle.std.specs.Prelude.{ℕ, Bool, true, false, List, [], ◌∷◌, ◌++◌, Option, Some, None, if◌then◌else◌}
 use Rattle.blk_base.specs.declared.ask.FrontAnswer.{FrontAnswer}
 use Rattle.blk_base.specs.declared.ask.FrontAnswer.TheVariants as answer
 use Rattle.blk_front.specs.declared.stage.Stage.{Stage}
@@ -13,7 +13,7 @@ use Rattle.xenbus_state.specs.declared.front.FrontNews.{FrontNews}
 use Rattle.xenbus_state.specs.declared.front.FrontNews.TheVariants as news
 use Rattle.xenbus_state.specs.declared.front.FrontBusAsk.{FrontBusAsk}
 use Rattle.xenbus_state.specs.declared.front.FrontBusAsk.TheVariants as bus_ask
-use Rattle.xenbus_state.specs.FrontView.{FrontView, closed}
+use Rattle.xenbus_state.specs.FrontView.{FrontView, ring_order, closed}
 use Rattle.xenbus_state.specs.FrontAsk as bus_asks
 use Rattle.xenbus_state.specs.FrontStep as bus
 use Rattle.vbd_front.specs.View.{View, is_broken, is_unoccupied}
@@ -37,7 +37,7 @@ bus_after v a = bus_told (is_unoccupied v.ring) v.bus a
 abbrev pub news_of : View → FrontAnswer → Option FrontNews
 news_of v a = bus.news_of v.bus (is_unoccupied v.ring) a
 
--- the states that the end of the ring enters: the one that the negotiation comes to, and where it ends the ring's grants next, since the back is gone, it leaves
+-- the states that the end of the ring enters: the one that the negotiation comes to; where the ring is made next its order is agreed, and where its grants are ended next, since the back is gone, it leaves
 abbrev pub state_of_news : FrontNews → FrontState
 state_of_news news.Ready = state.Connected
 state_of_news news.Closing = state.Closing
@@ -48,12 +48,13 @@ abbrev pub states_of_news : Option FrontNews → List FrontState
 states_of_news None = []
 states_of_news (Some n) = state_of_news n ∷ []
 
-abbrev pub states_due : FrontBusAsk → List FrontState
-states_due (bus_ask.EndGrant page) = state.Leaving ∷ []
-states_due ask = []
+abbrev pub states_due : FrontBusAsk → (order : ℕ) → List FrontState
+states_due (bus_ask.WriteRingWord word) order = state.Agreed order ∷ []
+states_due (bus_ask.EndGrant page) order = state.Leaving ∷ []
+states_due ask order = []
 
-abbrev pub states_entered : Option FrontNews → FrontBusAsk → List FrontState
-states_entered n due = states_of_news n ++ states_due due
+abbrev pub states_entered : Option FrontNews → FrontBusAsk → (order : ℕ) → List FrontState
+states_entered n due order = states_of_news n ++ states_due due order
 
 abbrev pub all_entered : List FrontState → ring.View → ring.View
 all_entered [] r = r
@@ -66,7 +67,7 @@ news_told (Some n) r = if may_enter (state_of_news n) r then Some n else None
 
 -- the states that the end of the ring enters at an answer to the negotiation
 abbrev pub states_after : View → FrontAnswer → List FrontState
-states_after v a = states_entered (news_of v a) (bus_asks.ask_of (bus_after v a) (is_unoccupied v.ring))
+states_after v a = states_entered (news_of v a) (bus_asks.ask_of (bus_after v a) (is_unoccupied v.ring)) (ring_order (bus_after v a))
 
 -- the negotiation was answered
 abbrev pub spoken : View → FrontAnswer → View
@@ -77,11 +78,13 @@ abbrev pub woken : (broken idle : Bool) → FrontView → FrontAnswer → FrontV
 woken false idle v (answer.Watched path) = bus_told idle v (answer.Watched path)
 woken broken idle v a = v
 
--- what the negotiation learns of a move of the ring's end to a later stage: what it asked for is done, the last of several moves at a grant; or a watch was taken
+-- what the negotiation learns of a move of the ring's end to a later stage: what it asked for is done, the last of the moves at a page's grant; or a watch was taken
 abbrev pub followed : FrontBusAsk → (later : Stage) → (idle : Bool) → FrontView → FrontAnswer → FrontView
 followed (bus_ask.WriteRingWord word) later idle v a = bus_told idle v a
+followed (bus_ask.Grant page) (stage.RingFrame k) idle v a = bus_told idle v a
 followed (bus_ask.Grant page) stage.NewPort idle v a = bus_told idle v a
 followed bus_ask.NewPort later idle v a = bus_told idle v a
+followed (bus_ask.EndGrant page) (stage.RingRead k) idle v a = bus_told idle v answer.Done
 followed (bus_ask.EndGrant page) stage.ClosePort idle v a = bus_told idle v answer.Done
 followed bus_ask.ClosePort later idle v a = bus_told idle v a
 followed bus_ask.Wait later idle v a = woken (is_broken later) idle v a

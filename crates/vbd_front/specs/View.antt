@@ -1,5 +1,5 @@
 -- What contracts see of the frontend.
-use Rattle.std.specs.Prelude.{Bool, true, false, ◌&&◌, ◌==◌, Option, None}
+use Rattle.std.specs.Prelude.{Bool, true, false, ◌&&◌, ◌||◌, ◌==◌, Option, None}
 use Rattle.blk_base.specs.Options.{Options}
 use Rattle.blk_front.specs.View as ring
 use Rattle.blk_front.specs.declared.stage.Stage.{Stage}
@@ -30,8 +30,8 @@ abbrev pub is_still : Stage → Bool
 is_still (ring_stage.RingWord k) = true
 is_still ring_stage.Initialised = true
 is_still ring_stage.Loop = true
-is_still ring_stage.RingRead = true
-is_still (ring_stage.RingEnd seen) = true
+is_still (ring_stage.RingRead page) = true
+is_still (ring_stage.RingEnd page seen) = true
 is_still ring_stage.ClosePort = true
 is_still ring_stage.Left = true
 is_still ring_stage.Closed = true
@@ -46,11 +46,15 @@ abbrev pub rests : FrontBusAsk → Bool
 rests bus_ask.Wait = true
 rests ask = false
 
--- it is connected, closed or broken, and waits for an event or a watch
-abbrev pub is_idle : View → Bool
-is_idle v = rests (bus_ask_of v.bus (is_unoccupied v.ring)) && ring_is_idle v.ring
-
 -- a word that no honest back leaves was found
 abbrev pub is_broken : Stage → Bool
 is_broken (ring_stage.Broken word) = true
 is_broken s = false
+
+-- the negotiation waits: it has begun nothing, or its end of the ring is broken
+abbrev pub is_at_rest : View → Bool
+is_at_rest v = rests (bus_ask_of v.bus (is_unoccupied v.ring)) || is_broken v.ring.stage
+
+-- it is connected, closed or broken, and waits for an event or a watch
+abbrev pub is_idle : View → Bool
+is_idle v = is_at_rest v && ring_is_idle v.ring

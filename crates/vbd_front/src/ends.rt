@@ -1,10 +1,10 @@
 // Both of the front's ends.
-ghost use Rattle.std.specs.Prelude.{◌≡◌, ◌||◌, ◌≤◌, None, is_some, IfOk, true, false};
+ghost use Rattle.std.specs.Prelude.{◌≡◌, ◌||◌, ◌≤◌, ◌^◌, None, is_some, IfOk, true, false};
 ghost use Rattle.blk_front.specs.Ask.{ask_of as ring_ask_of, IsAnswer as IsRingAnswer};
 ghost use Rattle.blk_front.specs.Step.{step_of as ring_step_of};
 ghost use Rattle.blk_front.specs.Submit.{submit_of, unfinished, sectors_owed, is_idle as ring_is_idle};
 ghost use Rattle.xenbus_state.specs.FrontAsk.{IsAnswer as IsBusAnswer};
-ghost use Rattle.vbd_front.specs.View.{start_of, heard, is_still, is_unoccupied};
+ghost use Rattle.vbd_front.specs.View.{start_of, heard, is_still, is_broken, is_unoccupied};
 ghost use Rattle.vbd_front.specs.Ask.{bus_ask_of, ring_moves, ask_of, IsAnswer, StaysInMemory};
 ghost use Rattle.vbd_front.specs.Step.{spoken, ring_step, step_of, closes};
 ghost use Rattle.vbd_front.specs.Turn.{turn_of};
@@ -77,12 +77,15 @@ impl Ends {
             (FrontBusAsk::Grant(_), stage) => {
                 matches!(
                     stage,
-                    Stage::RingFrame | Stage::RingFence | Stage::RingFlags
+                    Stage::RingFrame(_) | Stage::RingFence(_) | Stage::RingFlags(_)
                 )
             }
             (FrontBusAsk::NewPort, stage) => matches!(stage, Stage::NewPort),
             (FrontBusAsk::EndGrant(_), stage) => {
-                matches!(stage, Stage::RingRead | Stage::RingEnd(_))
+                matches!(
+                    stage,
+                    Stage::RingRead(_) | Stage::RingEnd(..) | Stage::Broken(_)
+                )
             }
             (FrontBusAsk::ClosePort, stage) => matches!(stage, Stage::ClosePort),
             _ => self.ring.is_connected(),
@@ -130,7 +133,8 @@ impl Ends {
     {
         let idle = self.is_unoccupied();
         let news = news::tell(&mut self.bus, idle, answer);
-        self.news = news::enter(&mut self.ring, news, &self.bus.ask(idle));
+        let order = self.bus.ring_order();
+        self.news = news::enter(&mut self.ring, news, &self.bus.ask(idle), order);
     }
 
     // The ring's end has moved.
@@ -160,7 +164,7 @@ impl Ends {
     {
         let _ = self.bus.close();
         let news = Some(FrontNews::Closing);
-        self.news = news::enter(&mut self.ring, news, &FrontBusAsk::Wait);
+        self.news = news::enter(&mut self.ring, news, &FrontBusAsk::Wait, 0);
     }
 
     /// Hands the ring's end a request.
@@ -179,14 +183,29 @@ impl Ends {
         self.ring.idle()
     }
 
+    /// Whether the ring's end found a word that no honest back leaves.
+    pub fn is_broken(&self) -> bool
+        ensures { result ≡ is_broken self.now.ring.stage }
+    {
+        matches!(self.ring.stage(), Stage::Broken(_))
+    }
+
     /// How many requests are unfinished, and how many sectors they move.
     pub fn owed(&self) -> (u32, u64)
         ensures requests { result.0 ≡ unfinished self.now.ring }
         ensures sectors { result.1 ≡ sectors_owed self.now.ring }
-        ensures few { result.0 ≤ 32 }
-        ensures short { result.1 ≤ 2904 }
+        ensures few { result.0 ≤ 512 }
+        ensures short { result.1 ≤ 45144 }
     {
         self.ring.owed()
+    }
+
+    /// How many pages its ring has.
+    pub fn ring_pages(&self) -> u32
+        ensures value { result ≡ 2 ^ self.now.ring.shape.order }
+        ensures few { result ≤ 16 }
+    {
+        self.ring.pages()
     }
 
     /// Whether something is left to tell.
@@ -216,8 +235,8 @@ fn is_still(stage: Stage) -> bool
         Stage::RingWord(_)
             | Stage::Initialised
             | Stage::Loop
-            | Stage::RingRead
-            | Stage::RingEnd(_)
+            | Stage::RingRead(_)
+            | Stage::RingEnd(..)
             | Stage::ClosePort
             | Stage::Left
             | Stage::Closed

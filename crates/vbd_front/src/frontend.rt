@@ -1,5 +1,5 @@
 // The frontend.
-ghost use Rattle.std.specs.Prelude.{◌≡◌, ◌||◌, ◌≤◌, None, is_some, IfOk, IsOk, OnErr};
+ghost use Rattle.std.specs.Prelude.{◌≡◌, ◌||◌, ◌≤◌, ◌^◌, None, is_some, IfOk, IsOk, OnErr};
 ghost use Rattle.blk_front.specs.Submit.{submit_of, unfinished, sectors_owed};
 ghost use Rattle.vbd_front.specs.View.{start_of, heard, rests, is_idle};
 ghost use Rattle.vbd_front.specs.Ask.{ask_of, bus_ask_of, IsAnswer, StaysInMemory};
@@ -14,8 +14,8 @@ use std::alloc::Global;
 use std::marker::Model;
 use xenbus_state::{FrontBusAsk, FrontNews};
 
-/// The front end of a block device: its end of a ring of one page, which it makes, serves and gives
-/// up as the negotiation with the back asks for it. To contracts it is both ends; whose turn it is,
+/// The front end of a block device: its end of a ring, which it makes, serves and gives up
+/// as the negotiation with the back asks for it. To contracts it is both ends; whose turn it is,
 /// and the path and the text of a key that is asked for, are found where they may change. After `new`
 /// it takes no memory.
 #[derive(Drop)]
@@ -74,7 +74,7 @@ impl Frontend {
     pub fn idle(&self) -> bool
         ensures { result ≡ is_idle self.now }
     {
-        self.ends.ring_idle() && self.rests()
+        self.ends.ring_idle() && (self.rests() || self.ends.is_broken())
     }
 
     // Whether the negotiation asks for nothing.
@@ -92,10 +92,18 @@ impl Frontend {
     pub fn owed(&self) -> (u32, u64)
         ensures requests { result.0 ≡ unfinished self.now.ring }
         ensures sectors { result.1 ≡ sectors_owed self.now.ring }
-        ensures few { result.0 ≤ 32 }
-        ensures short { result.1 ≤ 2904 }
+        ensures few { result.0 ≤ 512 }
+        ensures short { result.1 ≤ 45144 }
     {
         self.ends.owed()
+    }
+
+    /// How many pages its ring has.
+    pub fn ring_pages(&self) -> u32
+        ensures value { result ≡ 2 ^ self.now.ring.shape.order }
+        ensures few { result ≤ 16 }
+    {
+        self.ends.ring_pages()
     }
 
     /// Whether something is left to tell.

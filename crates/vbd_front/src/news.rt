@@ -22,18 +22,30 @@ pub fn tell(bus: &mut FrontBus, idle: bool, answer: &FrontAnswer) -> Option<Fron
     news
 }
 
-/// The ring's end enters the state that the negotiation comes to, and leaves where the negotiation
-/// ends the ring's grants next; what of it is to be told.
-pub fn enter(ring: &mut Front, news: Option<FrontNews>, next: &FrontBusAsk) -> Option<FrontNews>
-    ensures ring { ring.new ≡ all_entered (states_entered news next.now) ring.old }
+/// The ring's end enters the state that the negotiation comes to; where the negotiation has the ring
+/// made next this order is agreed, and where it ends the ring's grants next the ring's end leaves.
+/// What of it is to be told.
+pub fn enter(
+    ring: &mut Front,
+    news: Option<FrontNews>,
+    next: &FrontBusAsk,
+    order: u32,
+) -> Option<FrontNews>
+    ensures ring { ring.new ≡ all_entered (states_entered news next.now order) ring.old }
     ensures told { result ≡ news_told news ring.old }
 {
     let told = match news {
         Some(news) if ring.enter(state_of(news)) => Some(news),
         _ => None,
     };
-    if let FrontBusAsk::EndGrant(_) = next {
-        ring.enter(FrontState::Leaving);
+    match next {
+        FrontBusAsk::WriteRingWord(_) => {
+            ring.enter(FrontState::Agreed(order));
+        }
+        FrontBusAsk::EndGrant(_) => {
+            ring.enter(FrontState::Leaving);
+        }
+        _ => {}
     }
     told
 }
@@ -58,10 +70,10 @@ pub fn follow(bus: &mut FrontBus, idle: bool, later: Stage, answer: &FrontAnswer
 {
     match (bus.ask(idle), later) {
         (FrontBusAsk::WriteRingWord(_) | FrontBusAsk::NewPort | FrontBusAsk::ClosePort, _)
-        | (FrontBusAsk::Grant(_), Stage::NewPort) => {
+        | (FrontBusAsk::Grant(_), Stage::RingFrame(_) | Stage::NewPort) => {
             tell(bus, idle, answer);
         }
-        (FrontBusAsk::EndGrant(_), Stage::ClosePort) => {
+        (FrontBusAsk::EndGrant(_), Stage::RingRead(_) | Stage::ClosePort) => {
             tell(bus, idle, &FrontAnswer::Done);
         }
         (FrontBusAsk::Wait, Stage::Broken(_)) => {}

@@ -1,5 +1,5 @@
 // A frontend over a back by hand, from its first watch to its first request, and to its end.
-ghost use Rattle.std.specs.Prelude.{IfSome};
+ghost use Rattle.std.specs.Prelude.{◌≤◌, IfSome};
 ghost use Rattle.vbd_front.specs.Ask.{IsAnswer};
 
 use crate::Frontend;
@@ -132,13 +132,20 @@ fn sees(rt: &impl Abort, front: &mut Frontend, state: &str) -> Result<(), Fail> 
     gets(rt, front, &[("state", state)])
 }
 
-// A frontend that has set its watch, over a disk of 8 sectors.
+// A frontend with a ring of one page that has set its watch, over a disk of 8 sectors.
 fn watching(rt: &impl Abort, alloc: Global) -> Result<Frontend, Fail> {
+    watching_of(rt, alloc, 0)
+}
+
+// The same, which wishes for a ring of this order.
+fn watching_of(rt: &impl Abort, alloc: Global, order: u32) -> Result<Frontend, Fail>
+    requires { order ≤ 4 }
+{
     let mut front = Frontend::new(
         alloc,
         &Config {
             abi: Abi::X64,
-            order: 0,
+            order,
             persistent: 0,
             indirect: 0,
             start: 7,
@@ -158,6 +165,11 @@ fn watching(rt: &impl Abort, alloc: Global) -> Result<Frontend, Fail> {
 
 // It reads what a back of state InitWait offers.
 fn reads_offer(rt: &impl Abort, front: &mut Frontend) -> Result<(), Fail> {
+    reads_offer_of(rt, front, "4")
+}
+
+// The same, where this is the greatest order of a ring that the back offers.
+fn reads_offer_of(rt: &impl Abort, front: &mut Frontend, order: &str) -> Result<(), Fail> {
     sees(rt, front, "2")?;
     gets(
         rt,
@@ -168,7 +180,7 @@ fn reads_offer(rt: &impl Abort, front: &mut Frontend) -> Result<(), Fail> {
             ("feature-discard", "0"),
             ("feature-persistent", "0"),
             ("feature-max-indirect-segments", "0"),
-            ("max-ring-page-order", "4"),
+            ("max-ring-page-order", order),
         ],
     )
 }
@@ -285,6 +297,15 @@ fn the_ring_is_published_and_waits_for_the_back(rt: HostRuntime) -> Result<(), F
     assert_eq!(rt; front.ask(), FrontAsk::Wait);
     assert!(rt; !front.idle());
     Ok(())
+}
+
+#[test]
+fn a_front_that_wishes_for_more_pages_has_as_many_as_are_offered(
+    rt: HostRuntime,
+) -> Result<(), Fail> {
+    let mut front = watching_of(&rt, rt.alloc(), 2)?;
+    reads_offer_of(&rt, &mut front, "0")?;
+    publishes(&rt, &mut front)
 }
 
 #[test]

@@ -1,24 +1,21 @@
 -- The machine is fit at the start and stays so.
-use Rattle.std.proofs.Common.{◌≡◌, ℕ, ◌+◌, Bool, true, false, true≢false, not, ◌&&◌, if◌then◌else◌, List, [], ◌∷◌, length, refl, sym, ap, ◌∙◌, arith}
+use Rattle.std.proofs.Common.{◌≡◌, ℕ, ◌+◌, Bool, true, false, true≢false, not, ◌&&◌, if◌then◌else◌, List, [], ◌∷◌, length, refl, sym, ap, ◌∙◌, subst}
 use Rattle.std.specs.Prelude.{Option, Some, None, Result, Err, nat_lt, nat_le, ◌==◌}
-use Rattle.std.proofs.lemmas.Bool.Decides.{nat_tests}
 use Rattle.blk_base.specs.Options.{Options}
 use Rattle.blk_base.specs.declared.config.Job.{Job}
-use Rattle.blk_base.specs.declared.operation.Abi.{Abi}
-use Rattle.blk_base.specs.declared.operation.Abi.TheVariants.{X64, X32}
 use Rattle.blk_base.specs.declared.parts.End.{End}
 use Rattle.blk_base.specs.declared.parts.End.TheVariants as end
 use Rattle.schedule_text.specs.declared.line.Line.{Line}
 use Rattle.hypervisor.specs.Hypervisor.{Hypervisor}
 use Rattle.xen_pages.specs.Pages.{with_word}
 use Rattle.hypervisor.specs.Act.{BackAct, Outcome, with_pages}
-use Rattle.ring_words.specs.Shape.{entries_of}
+use Rattle.ring_words.specs.Shape.{Shape, entries_of}
 use Rattle.blk_front.specs.declared.request.Wish.{Wish}
 use Rattle.blk_front.specs.declared.told.Refusal.{Refusal}
 use Rattle.blk_front.specs.declared.told.Refusal.TheVariants as refusal
 use Rattle.blk_front.specs.Pool.{taking}
 use Rattle.blk_front.specs.Request.{is_write, frames_for}
-use Rattle.blk_front.specs.View.{View, shape}
+use Rattle.blk_front.specs.View.{View}
 use Rattle.blk_front.specs.Ask.{is_through}
 use Rattle.blk_front.specs.Submit.{is_ready, unfinished, wish_of, submit_with, submit_one, submit_of}
 use Rattle.blk_back.specs.Step.{job_ask_of}
@@ -30,45 +27,37 @@ use Rattle.split_model.specs.Safe.{IsSafe}
 use Rattle.split_model.proofs.Safe.{safe_start, safe_happens}
 use Rattle.split_model.proofs.SafeFront.{submit_kept}
 use Rattle.split_model.proofs.SafeAnswers.{jobs_of}
+use Rattle.split_model.proofs.Narrow.{submit_shape}
+use Rattle.xenbus_state.specs.Offer.{facts_of}
+use Rattle.xenbus_state.proofs.BackTurns.{back_starts}
+use Rattle.vbd_back.specs.View.{offer}
 use Rattle.split_model.proofs.Overwriting.{poke_cases}
 use Rattle.vbd_model.specs.World.{World, start_of}
 use Rattle.vbd_model.specs.Happening.{Happening, FrontMoves, BackMoves, JobMoves, Closes, Submits, Notifies, Pokes, Dumps, Looks, Settles, happens, after}
-use Rattle.vbd_model.specs.Kind.{is_x64, are_carried}
-use Rattle.vbd_model.specs.Fit.{IsUnbound, IsFit}
+use Rattle.vbd_model.specs.Fit.{FrontOrdered, IsUnbound, has_terms, IsFit}
 use Rattle.vbd_laws.proofs.FitChannels.{IsUnported, job_leaves, notified}
 use Rattle.vbd_laws.proofs.FitFront.{fit_front_moves, fit_front_closes}
+use Rattle.vbd_laws.proofs.FitBackShares.{Terms, terms_in}
 use Rattle.vbd_laws.proofs.FitBack.{fit_back_moves, fit_back_closes}
 
--- the options that are carried out name the layout of 64-bit guests and a ring of one page
-first_two : (a b c d : Bool) → (a && b && c && d) ≡ true → (a ≡ true) × (b ≡ true)
-first_two true true c d all = (refl, refl)
-first_two true false c d all = absurd (true≢false (sym all))
-first_two false b c d all = absurd (true≢false (sym all))
-
-carried_layout : (abi : Abi) → is_x64 abi ≡ true → abi ≡ X64
-carried_layout X64 is = refl
-carried_layout X32 is = absurd (true≢false (sym is))
-
-carried_order : (order : ℕ) → (order == 0) ≡ true → order ≡ 0
-carried_order order is = grind (arith, nat_tests)
-
-pub fit_start : (config : Options) → are_carried config ≡ true → IsFit (start_of config)
-fit_start config carried =
-    let both = first_two (is_x64 config.abi) (config.order == 0) (config.persistent == 0) (config.indirect == 0) carried in
-    record {
-      safe = safe_start config;
-      layout = carried_layout config.abi both.0;
-      order = carried_order config.order both.1;
-      offers = refl;
-      front = (refl, refl, refl);
-      closing = λ whole. refl;
-      through = λ e. absurd (cc);
-      back = (refl, refl);
-      held = (refl, refl);
-      halted = refl;
-      unported = λ none. refl;
-      unbound = (refl, refl);
-    }
+pub fit_start : (config : Options) → IsFit (start_of config)
+fit_start config = record {
+  safe = safe_start config;
+  layout = refl;
+  ordered = refl;
+  offers = refl;
+  front = (refl, refl, refl);
+  closing = λ whole. refl;
+  through = λ e. absurd (cc);
+  back = (refl, refl);
+  held = (refl, refl);
+  pages = refl;
+  sound = back_starts offer (facts_of config);
+  halted = refl;
+  terms = λ has. absurd (true≢false (sym has));
+  unported = λ none. refl;
+  unbound = (refl, refl);
+}
 
 -- the machine with this of the rings
 abbrev with_rings : World → rings.World → World
@@ -77,23 +66,30 @@ with_rings w r = record { rings = r; front = w.front; back = w.back }
 -- no negotiation was told anything, and both ends of the ring stand where they did
 record IsLike (w : World) (r : rings.World) : Type 0 where
   front : r.front.stage ≡ w.rings.front.stage
+  shape : r.front.shape ≡ w.rings.front.shape
   closing : r.front.closing ≡ w.rings.front.closing
   through : is_through w.rings.front ≡ true → is_through r.front ≡ true
   back : r.back.stage ≡ w.rings.back.stage
   halted : r.back.halted ≡ w.rings.back.halted
+  terms : terms_in r.back ≡ terms_in w.rings.back
 
 fit_rings : (w : World) (r : rings.World) → IsFit w → IsSafe r → IsLike w r → IsUnported r.under.channels → IsUnbound w.rings.back.stage r.under.channels → IsFit (with_rings w r)
 fit_rings w r fit safe like unported unbound = record {
   safe = safe;
-  layout = fit.layout;
-  order = fit.order;
+  layout = ap (λ (s : Shape). s.abi) like.shape ∙ fit.layout;
+  ordered = subst (λ (s : Shape). FrontOrdered w.front.stage w.front s.order) (sym like.shape) fit.ordered;
   offers = fit.offers;
   front = rw like.front fit.front;
   closing = λ whole. like.closing ∙ fit.closing (ap is_broken (sym like.front) ∙ whole);
   through = λ e whole. like.through (fit.through e (ap is_broken (sym like.front) ∙ whole));
   back = rw like.back fit.back;
   held = rw like.back fit.held;
+  pages = ap (λ (t : Terms). t.3) like.terms ∙ fit.pages;
+  sound = fit.sound;
   halted = rw like.halted fit.halted;
+  terms = λ has on.
+      let have = fit.terms (ap has_terms (sym like.back) ∙ has) on in
+      record { shape = ap (λ (t : Terms). t.0) like.terms ∙ have.shape; grefs = ap (λ (t : Terms). t.1) like.terms ∙ have.grefs; port = ap (λ (t : Terms). t.2) like.terms ∙ have.port };
   unported = unported;
   unbound = rw like.back unbound;
 }
@@ -103,7 +99,7 @@ fit_job : (w : World) (k : ℕ) (outcome : Outcome) (act : Option BackAct) → I
 fit_job w k outcome None fit e safe = fit
 fit_job w k outcome (Some a) fit e safe =
     let same = job_leaves w.rings.under k (job_ask_of w.rings.back k) outcome a (jobs_of w.rings.back k) e in
-    fit_rings w (ring.job_after w.rings k (Some a)) fit safe (record { front = refl; closing = refl; through = λ is. is; back = refl; halted = refl }) (rw same.0 fit.unported) (rw same.0 fit.unbound)
+    fit_rings w (ring.job_after w.rings k (Some a)) fit safe (record { front = refl; shape = refl; closing = refl; through = λ is. is; back = refl; halted = refl; terms = refl }) (rw same.0 fit.unported) (rw same.0 fit.unbound)
 
 -- a submission leaves whether the front closes, and one that closes takes none
 either_closing : (b c : Bool) (x y : Result ℕ Refusal × View) → x.1.closing ≡ c → y.1.closing ≡ c → (if b then x else y).1.closing ≡ c
@@ -120,7 +116,7 @@ closing_one v (Some wish) =
     either_closing (is_write wish.transfer && v.read_only) v.closing _ _ refl
     (either_closing (nat_lt v.sectors (wish.sector + wish.count)) v.closing _ _ refl
     (either_closing (nat_lt 11 (frames_for wish.count)) v.closing _ _ refl
-    (either_closing (nat_le (entries_of shape.order) (unfinished v)) v.closing _ _ refl (closing_with v wish (taking (frames_for wish.count) v.pool [])))))
+    (either_closing (nat_le (entries_of v.shape.order) (unfinished v)) v.closing _ _ refl (closing_with v wish (taking (frames_for wish.count) v.pool [])))))
 
 closing_submit : (v : View) (job : Job) → (submit_of v job).1.closing ≡ v.closing
 closing_submit v job =
@@ -138,12 +134,12 @@ through_submit v job through = by_test (v.last == 4294967295) v.closing (both_tr
 fit_submit : (w : World) (job : Job) → IsFit w → IsFit (happens w (Submits job))
 fit_submit w job fit =
     fit_rings w (ring.happens w.rings (ring.Submits job)) fit (safe_happens w.rings (ring.Submits job) fit.safe)
-    (record { front = (submit_kept w.rings.front job).stage; closing = closing_submit w.rings.front job; through = through_submit w.rings.front job; back = refl; halted = refl }) fit.unported fit.unbound
+    (record { front = (submit_kept w.rings.front job).stage; shape = submit_shape w.rings.front job; closing = closing_submit w.rings.front job; through = through_submit w.rings.front job; back = refl; halted = refl; terms = refl }) fit.unported fit.unbound
 
 fit_notify : (w : World) (at : End) → IsFit w → IsFit (happens w (Notifies at))
 fit_notify w at fit =
     let channels = notified at w.rings.back.stage w.rings.under.channels fit.unported fit.unbound in
-    fit_rings w (ring.happens w.rings (ring.Notifies at)) fit (safe_happens w.rings (ring.Notifies at) fit.safe) (record { front = refl; closing = refl; through = λ is. is; back = refl; halted = refl }) channels.0 channels.1
+    fit_rings w (ring.happens w.rings (ring.Notifies at)) fit (safe_happens w.rings (ring.Notifies at) fit.safe) (record { front = refl; shape = refl; closing = refl; through = λ is. is; back = refl; halted = refl; terms = refl }) channels.0 channels.1
 
 -- the rings over this
 abbrev with_under : rings.World → Hypervisor → rings.World
@@ -152,7 +148,7 @@ with_under r under = record { front = r.front; back = r.back; under = under }
 fit_poke : (w : World) (frame word value : ℕ) → IsFit w → IsFit (happens w (Pokes frame word value))
 fit_poke w frame word value fit =
     poke_cases (λ (under : Hypervisor) (shown : List Line). IsSafe (with_under w.rings under) → IsFit (with_rings w (with_under w.rings under))) w.rings.under frame word value
-    (λ framed worded safe. fit_rings w (with_under w.rings (with_pages w.rings.under (with_word w.rings.under.pages frame word value))) fit safe (record { front = refl; closing = refl; through = λ is. is; back = refl; halted = refl }) fit.unported fit.unbound) (λ safe. fit) (safe_happens w.rings (ring.Pokes frame word value) fit.safe)
+    (λ framed worded safe. fit_rings w (with_under w.rings (with_pages w.rings.under (with_word w.rings.under.pages frame word value))) fit safe (record { front = refl; shape = refl; closing = refl; through = λ is. is; back = refl; halted = refl; terms = refl }) fit.unported fit.unbound) (λ safe. fit) (safe_happens w.rings (ring.Pokes frame word value) fit.safe)
 
 -- whatever happens
 pub fit_happens : (w : World) (h : Happening) → IsFit w → IsFit (happens w h)

@@ -11,12 +11,14 @@ use Rattle.blk_back.specs.declared.stage.Stage.{Stage}
 use Rattle.blk_back.specs.declared.stage.Stage.TheVariants as stage
 use Rattle.blk_back.specs.View.{View}
 use Rattle.blk_back.specs.Ask.{ask_at, loop_ask, next_reply, IsAnswer}
-use Rattle.blk_back.specs.Step.{giving_up, overrun, looked, loop_step, fetched, fetch_step, step_at, step_of}
+use Rattle.ring_words.specs.Shape.{entry_words_of}
+use Rattle.blk_back.specs.Step.{giving_up, unbound, bound, other_pages, overrun, looked, loop_step, fetched, fetch_step, step_at, step_of}
 use Rattle.vbd_model.specs.Fit.{is_serving}
 
 -- the ring's page was mapped and the port was bound, or either was refused
 abbrev pub is_past : Stage → Bool
 is_past stage.MapRing = false
+is_past stage.InitWait = false
 is_past stage.Bind = false
 is_past s = true
 
@@ -52,7 +54,7 @@ loop_serves v None answer.Event here = inl (ap is_serving here, refl)
 loop_serves v None x here = inl (ap is_serving here, refl)
 
 fetch_serves : (v : View) (k word : ℕ) → Serves v (fetch_step v k word)
-fetch_serves v k word = either (k == 27) v (fetched v (v.entry ++ word ∷ [])) (record v { entry = v.entry ++ word ∷ []; stage = stage.Fetch (k + 1) }) (inl (refl, refl)) (inl (refl, refl))
+fetch_serves v k word = either (k + 1 == entry_words_of v.shape.abi) v (fetched v (v.entry ++ word ∷ [])) (record v { entry = v.entry ++ word ∷ []; stage = stage.Fetch (k + 1) }) (inl (refl, refl)) (inl (refl, refl))
 
 notified_serves : (b : Bool) → is_serving (if b then stage.Send else stage.Loop) ≡ true
 notified_serves true = refl
@@ -70,6 +72,7 @@ serves_at stage.Send v x here p = inl (refl, refl)
 serves_at stage.StoreEvent v x here p = inl (refl, refl)
 serves_at stage.EventFence v x here p = inl (refl, refl)
 serves_at stage.LookAgain v (answer.Word word) here p = looked_serves v word (record v { seen = word; stage = stage.Loop; asleep = true }) (inl (refl, refl))
+serves_at stage.InitWait v x here p = absurd (true≢false (sym p))
 serves_at stage.MapRing v x here p = absurd (true≢false (sym p))
 serves_at stage.Bind v x here p = absurd (true≢false (sym p))
 serves_at (stage.GiveUp m) v x here p = absurd (true≢false (sym p))
@@ -92,18 +95,28 @@ served_past : (v u : View) → Serves v u → is_past u.stage ≡ true
 served_past v u (inl serves) = by_stage u.stage serves.0
   where
     by_stage : (s : Stage) → is_serving s ≡ true → is_past s ≡ true
+    by_stage stage.InitWait is = absurd (true≢false (sym is))
     by_stage stage.MapRing is = absurd (true≢false (sym is))
     by_stage stage.Bind is = absurd (true≢false (sym is))
     by_stage s is = refl
 served_past v u (inr ends) = gives_past u.stage ends.0
 
+pub bound_past : (pages : List Mapping) → is_past (bound pages) ≡ true
+bound_past [] = refl
+bound_past (page ∷ pages) = refl
+
+pub unbound_past : (pages : List Mapping) → is_past (unbound pages) ≡ true
+unbound_past [] = refl
+unbound_past (page ∷ pages) = refl
+
 past_at : (s : Stage) (v : View) (x : BackAnswer) → v.stage ≡ s → is_past s ≡ true → is_past (step_at s v x).stage ≡ true
+past_at stage.InitWait v x here p = absurd (true≢false (sym p))
 past_at stage.MapRing v x here p = absurd (true≢false (sym p))
 past_at stage.Bind v x here p = absurd (true≢false (sym p))
 past_at (stage.GiveUp m) v x here p = gives_past _ (given (first_mapping v.jobs.works))
-past_at stage.UnmapRing v x here p = refl
+past_at stage.UnmapRing v x here p = bound_past (other_pages v.pages)
 past_at stage.ClosePort v x here p = refl
-past_at stage.UnmapUnbound v x here p = refl
+past_at stage.UnmapUnbound v x here p = unbound_past (other_pages v.pages)
 past_at stage.Halted v x here p = ap is_past here
 past_at s v x here p = served_past v (step_at s v x) (serves_at s v x here refl)
 
@@ -117,6 +130,9 @@ loop_watched v (Some r) path here allowed = absurd allowed
 
 watched_at : (s : Stage) (v : View) (path : List ℕ) → v.stage ≡ s → is_serving s ≡ true → IsAnswer (ask_at s v) (answer.Watched path) → (step_at s v (answer.Watched path)).stage ≡ stage.Loop
 watched_at stage.Loop v path here p allowed = loop_watched v (next_reply v) path here allowed
+watched_at stage.InitWait v path here p allowed = absurd (true≢false (sym p))
+watched_at stage.UnmapRing v path here p allowed = absurd (true≢false (sym p))
+watched_at stage.UnmapUnbound v path here p allowed = absurd (true≢false (sym p))
 watched_at stage.Halted v path here p allowed = absurd (true≢false (sym p))
 watched_at s v path here p allowed = absurd allowed
 

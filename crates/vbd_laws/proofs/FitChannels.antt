@@ -1,6 +1,6 @@
 -- No event is pending where no port is made, nor at the back before it binds one.
-use Rattle.std.proofs.Common.{◌≡◌, ℕ, Bool, true, false, true≢false, ◌||◌, if◌then◌else◌, List, [], ◌∷◌, ◌++◌, length, map, refl, sym, ap, ◌∙◌, subst, arith, length-append}
-use Rattle.std.specs.Prelude.{Some, Result, Ok, Err, slice_set}
+use Rattle.std.proofs.Common.{◌≡◌, ℕ, ◌+◌, Bool, true, false, true≢false, ◌||◌, if◌then◌else◌, List, [], ◌∷◌, ◌++◌, length, map, refl, sym, ap, ◌∙◌, subst, arith, length-append}
+use Rattle.std.specs.Prelude.{Some, Result, Ok, Err, nat_lt, slice_set}
 use Rattle.std.specs.List.{list_any}
 use Rattle.std.proofs.lemmas.List.{length-set}
 use Rattle.std.proofs.lemmas.List.Folds.{list_any-append}
@@ -25,13 +25,13 @@ use Rattle.hypervisor.specs.Act.{FrontAct, BackAct, Outcome, front_act, back_act
 use Rattle.blk_back.specs.declared.stage.Stage.{Stage}
 use Rattle.blk_back.specs.declared.stage.Stage.TheVariants as stage
 use Rattle.blk_back.specs.View.{View}
-use Rattle.blk_back.specs.Ask.{ask_at, ask_of}
-use Rattle.blk_back.specs.Step.{step_at, step_of}
+use Rattle.blk_back.specs.Ask.{next_gref, ask_at, ask_of}
+use Rattle.blk_back.specs.Step.{unbound, step_at, step_of}
 use Rattle.split_model.specs.Happening.{other_end}
 use Rattle.split_model.proofs.SafeActs.{of_front, of_back, of_read, of_disk, front_wait, back_wait}
 use Rattle.split_model.proofs.SafeAnswers.{IsFronts, IsBacks, IsJobs}
 use Rattle.vbd_model.specs.Fit.{IsUnbound}
-use Rattle.vbd_laws.proofs.FitBackRing.{is_past, past_step}
+use Rattle.vbd_laws.proofs.FitBackRing.{is_past, unbound_past, past_step}
 
 -- no event is pending at a front that made no port
 abbrev pub IsUnported : ChannelState → Type 0
@@ -80,6 +80,7 @@ quiet_closed c was = (none_bound c.ports, was.1)
     none_bound (p ∷ ports) = none_bound ports
 
 unbound_as : (s : Stage) (c d : ChannelState) → (IsQuiet c → IsQuiet d) → IsUnbound s c → IsUnbound s d
+unbound_as stage.InitWait c d into was = into was
 unbound_as stage.MapRing c d into was = into was
 unbound_as stage.Bind c d into was = into was
 unbound_as s c d into was = tt
@@ -146,26 +147,33 @@ unported_back h ask o a own was e =
 
 -- past its port's bind nothing is said of the back's channels
 pub past_unbound : (s : Stage) (c : ChannelState) → is_past s ≡ true → IsUnbound s c
+past_unbound stage.InitWait c past = absurd (true≢false (sym past))
 past_unbound stage.MapRing c past = absurd (true≢false (sym past))
 past_unbound stage.Bind c past = absurd (true≢false (sym past))
 past_unbound s c past = tt
 
-map_unbound : (v : View) (h : Hypervisor) (verdict : Result ℕ MapRefusal) → IsQuiet h.channels
-    → let a = map_act h back_mover.Back 8 ReadWrite verdict in IsUnbound (step_at stage.MapRing v a.answer).stage a.under.channels
-map_unbound v h (Ok frame) was = was
-map_unbound v h (Err refusal) was = tt
+mapped_unbound : (again : Bool) (c : ChannelState) → IsQuiet c → IsUnbound (if again then stage.MapRing else stage.Bind) c
+mapped_unbound true c was = was
+mapped_unbound false c was = was
 
-bind_unbound : (v : View) (h : Hypervisor) (state : PortState) → let a = bind_act h 1 state in IsUnbound (step_at stage.Bind v a.answer).stage a.under.channels
-bind_unbound v h port.Unbound = tt
-bind_unbound v h port.Closed = tt
-bind_unbound v h port.Bound = tt
+map_unbound : (v : View) (h : Hypervisor) (gref : ℕ) (verdict : Result ℕ MapRefusal) → IsQuiet h.channels
+    → let a = map_act h back_mover.Back gref ReadWrite verdict in IsUnbound (step_at stage.MapRing v a.answer).stage a.under.channels
+map_unbound v h gref (Ok frame) was = mapped_unbound (nat_lt (length v.pages + 1) (length v.grefs)) h.channels was
+map_unbound v h gref (Err refusal) was = past_unbound (unbound v.pages) h.channels (unbound_past v.pages)
+
+bind_unbound : (v : View) (h : Hypervisor) (p : ℕ) (state : PortState) → let a = bind_act h p state in IsUnbound (step_at stage.Bind v a.answer).stage a.under.channels
+bind_unbound v h p port.Unbound = tt
+bind_unbound v h p port.Closed = past_unbound (unbound v.pages) h.channels (unbound_past v.pages)
+bind_unbound v h p port.Bound = past_unbound (unbound v.pages) h.channels (unbound_past v.pages)
 
 unbound_at : (s : Stage) (v : View) (h : Hypervisor) (o : Outcome) (a : BackAct) → v.stage ≡ s → IsUnbound s h.channels → back_act h back_mover.Back (ask_at s v) o ≡ Some a
     → IsUnbound (step_at s v a.answer).stage a.under.channels
+unbound_at stage.InitWait v h o a here was e =
+    rw here (back_wait (λ (x : BackAct). IsQuiet x.under.channels) h back_mover.Back a (was.0, refl) (λ path. was) e)
 unbound_at stage.MapRing v h o a here was e =
-    of_back (λ (x : BackAct). IsUnbound (step_at stage.MapRing v x.answer).stage x.under.channels) _ a (map_unbound v h (verdict_at h.pages 8 ReadWrite) was) e
+    of_back (λ (x : BackAct). IsUnbound (step_at stage.MapRing v x.answer).stage x.under.channels) _ a (map_unbound v h (next_gref v) (verdict_at h.pages (next_gref v) ReadWrite) was) e
 unbound_at stage.Bind v h o a here was e =
-    of_back (λ (x : BackAct). IsUnbound (step_at stage.Bind v x.answer).stage x.under.channels) _ a (bind_unbound v h (state_of h.channels 1)) e
+    of_back (λ (x : BackAct). IsUnbound (step_at stage.Bind v x.answer).stage x.under.channels) _ a (bind_unbound v h v.port (state_of h.channels v.port)) e
 unbound_at s v h o a here was e =
     past_unbound (step_at s v a.answer).stage a.under.channels (subst (λ (t : Stage). is_past (step_at t v a.answer).stage ≡ true) here (past_step v a.answer (ap is_past here)))
 

@@ -7,10 +7,15 @@ use Rattle.blk_base.specs.declared.ask.FrontAsk.TheVariants as front_ask
 use Rattle.blk_base.specs.declared.ask.FrontAnswer.{FrontAnswer}
 use Rattle.hypervisor.specs.Act.{FrontAct, front_act}
 use Rattle.blk_front.specs.declared.state.FrontState.{FrontState}
+use Rattle.blk_front.specs.declared.state.FrontState.TheVariants as enter
+use Rattle.blk_front.specs.State.{in_state, enters}
 use Rattle.blk_front.specs.View as ends
+use Rattle.ring_words.specs.Shape.{Shape}
+use Rattle.split_model.proofs.Shapes.{step_shape}
+use Rattle.split_model.proofs.States.{enters_cases}
 use Rattle.blk_front.specs.Ask as front_ring
 use Rattle.xenbus_state.specs.declared.front.FrontNews.{FrontNews}
-use Rattle.xenbus_state.specs.FrontView.{FrontView, closed}
+use Rattle.xenbus_state.specs.FrontView.{FrontView, ring_order, closed}
 use Rattle.xenbus_state.specs.FrontAsk as bus_asks
 use Rattle.split_model.specs.World as rings
 use Rattle.split_model.specs.Happening as ring
@@ -36,21 +41,40 @@ abbrev with_front : World → rings.World → FrontView → World
 with_front w r u = record { rings = r; front = u; back = w.back }
 
 pub front_fits : (w : World) → IsFit w → FrontFits w.front w.rings.front
-front_fits w fit = record { goes = fit.front; closing = fit.closing; through = fit.through }
+front_fits w fit = record { goes = fit.front; closing = fit.closing; through = fit.through; ordered = fit.ordered }
+
+-- a state that the front's end of the ring enters leaves its layout
+enters_abi : (s : FrontState) (f : ends.View) → (enters s f).shape.abi ≡ f.shape.abi
+enters_abi s f = enters_cases (λ (x : ends.View) shown. x.shape.abi ≡ f.shape.abi) s f (λ may. by_state s) refl
+  where
+    by_state : (s : FrontState) → (in_state s f).shape.abi ≡ f.shape.abi
+    by_state (enter.Agreed order) = refl
+    by_state enter.Connected = refl
+    by_state enter.Closing = refl
+    by_state enter.Leaving = refl
+    by_state enter.Closed = refl
+    by_state (enter.Broken word) = refl
+
+all_abi : (states : List FrontState) (f : ends.View) → (front_step.all_entered states f).shape.abi ≡ f.shape.abi
+all_abi [] f = refl
+all_abi (s ∷ states) f = all_abi states (enters s f) ∙ enters_abi s f
 
 -- the front's negotiation was told something, and its end of the ring was left to it; the back stands as it did
-fit_front : (w : World) (r : rings.World) (u : FrontView) → IsFit w → IsSafe r → Terms w.front u → FrontFits u r.front → r.back ≡ w.rings.back
+fit_front : (w : World) (r : rings.World) (u : FrontView) → IsFit w → IsSafe r → Terms w.front u → r.front.shape.abi ≡ w.rings.front.shape.abi → FrontFits u r.front → r.back ≡ w.rings.back
     → IsUnported r.under.channels → IsUnbound w.rings.back.stage r.under.channels → IsFit (with_front w r u)
-fit_front w r u fit safe terms fits same unported unbound = record {
+fit_front w r u fit safe terms abi fits same unported unbound = record {
   safe = safe;
-  layout = terms.abi ∙ fit.layout;
-  order = terms.order ∙ fit.order;
+  layout = abi ∙ (fit.layout ∙ sym terms.abi);
+  ordered = fits.ordered;
   offers = fit.offers;
   front = fits.goes;
   closing = fits.closing;
   through = fits.through;
   back = rw same fit.back;
   held = rw same fit.held;
+  pages = rw same fit.pages;
+  sound = fit.sound;
+  terms = rw same fit.terms;
   halted = rw same fit.halted;
   unported = unported;
   unbound = rw same unbound;
@@ -69,8 +93,9 @@ spoken_fits : (w : World) (x : FrontAnswer) → IsFit w → front.speaks (front_
     → FrontFits (front_step.bus_after (frontend_of w) x) (front_step.all_entered (front_step.states_after (frontend_of w) x) w.rings.front)
 spoken_fits w x fit says allowed =
     let idle : Bool = front_view.is_unoccupied w.rings.front in
-    subst (λ (f : ends.View). FrontFits (front_step.bus_after (frontend_of w) x) f)
-    (sym (entered_both (front_step.news_of (frontend_of w) x) (front_step.states_due (bus_asks.ask_of (front_step.bus_after (frontend_of w) x) idle)) w.rings.front))
+    let u : FrontView = front_step.bus_after (frontend_of w) x in
+    subst (λ (f : ends.View). FrontFits u f)
+    (sym (entered_both (front_step.news_of (frontend_of w) x) (front_step.states_due (bus_asks.ask_of u idle) (ring_order u)) w.rings.front))
     (spoken_settles w.front w.rings.front x idle (unoccupied w.rings.front) (front_fits w fit) says allowed)
 
 -- what the front's move makes of the machine, by what it is to the ring's machine, what it asked and what an answer makes of it
@@ -84,7 +109,7 @@ fit_keys w states u fit terms fits =
     let entered = all_enter states keyed in
     subst (λ (r : rings.World). IsFit (with_front w r u)) (sym entered)
     (fit_front w (record keyed { front = front_step.all_entered states w.rings.front }) u fit
-    (subst (λ (r : rings.World). IsSafe r) entered (safe_after (front_says w states) w.rings fit.safe)) terms fits refl fit.unported fit.unbound)
+    (subst (λ (r : rings.World). IsSafe r) entered (safe_after (front_says w states) w.rings fit.safe)) terms (all_abi states w.rings.front) fits refl fit.unported fit.unbound)
 
 -- its negotiation speaks
 fit_says : (w : World) (a : FrontAct) → IsFit w → front_turn w ≡ Some a → front.speaks (front_asks w) ≡ true
@@ -101,11 +126,11 @@ fit_moves w a fit quiet moves e =
     let own = fronts_at w.rings.under.channels w.rings.front.stage w.rings.front fit.safe.ported in
     let moved : ring.after (ring.FrontMoves ∷ []) w.rings ≡ ring.front_after w.rings (Some a) = ap (λ (act : Option FrontAct). ring.front_after w.rings act) e in
     let v : front_view.View = front_step.ring_step true (front_asks w) (frontend_of w) a.answer in
-    let fits = ring_fits w.front w.rings.front a.answer fit.order (front_fits w fit) quiet moves (front_answered w.rings.under w.rings.front a e) in
+    let fits = ring_fits w.front w.rings.front a.answer (front_fits w fit) quiet moves (front_answered w.rings.under w.rings.front a e) in
     subst (λ (r : rings.World). IsFit (with_front w r v.bus)) (sym moved)
     (fit_front w (ring.front_after w.rings (Some a)) v.bus fit (subst (λ (r : rings.World). IsSafe r) moved (safe_after (ring.FrontMoves ∷ []) w.rings fit.safe))
     (terms_followed (front_asks w) v.ring.stage w.front (front_view.is_unoccupied w.rings.front) a.answer)
-    (record { goes = fits.goes; closing = fits.closing; through = fits.through }) refl
+    (ap (λ (s : Shape). s.abi) (step_shape w.rings.front a.answer)) (record { goes = fits.goes; closing = fits.closing; through = fits.through; ordered = fits.ordered }) refl
     (unported_front w.rings.under w.rings.under.channels (front_ring.ask_of w.rings.front) a own fit.unported e)
     (unbound_front w.rings.back.stage w.rings.under w.rings.under.channels (front_ring.ask_of w.rings.front) a own fit.unbound e))
 
@@ -141,4 +166,4 @@ fit_front_moves w fit = fit_turn w (front_turn w) fit refl
 pub fit_front_closes : (w : World) → IsFit w → IsFit (happens w (Closes end.Front))
 fit_front_closes w fit =
     fit_front w (ring.after (closes_does end.Front) w.rings) (closed w.front) fit (safe_after (closes_does end.Front) w.rings fit.safe) (terms_closed w.front)
-    (close_fits w.front w.rings.front (front_fits w fit)) refl fit.unported fit.unbound
+    (enters_abi enter.Closing w.rings.front) (close_fits w.front w.rings.front (front_fits w fit)) refl fit.unported fit.unbound

@@ -1,6 +1,6 @@
 -- The front's negotiation goes on with its end of the ring, as the other end's keys are read and its own are set, and the end of the ring enters the states that it comes to.
-use Rattle.std.proofs.Common.{◌≡◌, ℕ, Bool, true, false, true≢false, ◌&&◌, if◌then◌else◌, List, [], inl, refl, sym, ap, ◌∙◌, subst, arith}
-use Rattle.std.specs.Prelude.{Option, Some, None, IsSome, length, ◌==◌}
+use Rattle.std.proofs.Common.{◌≡◌, ℕ, ◌≤◌, Bool, true, false, true≢false, ◌&&◌, if◌then◌else◌, List, [], inl, refl, sym, ap, ◌∙◌, subst, arith}
+use Rattle.std.specs.Prelude.{Option, Some, None, IsSome, length, min, nat_le, ◌==◌}
 use Rattle.std.proofs.lemmas.Bool.Decides.{nat_tests}
 use Rattle.line_text.proofs.Both.{both_true}
 use Rattle.blk_base.specs.declared.ask.FrontAnswer.TheVariants as answer
@@ -11,26 +11,27 @@ use Rattle.blk_front.specs.declared.state.FrontState.TheVariants as enter
 use Rattle.blk_front.specs.View as ends
 use Rattle.blk_front.specs.Ask.{is_through}
 use Rattle.blk_front.specs.Submit.{is_ready}
-use Rattle.blk_front.specs.State.{is_open, is_made, enters}
+use Rattle.blk_front.specs.State.{is_open, is_made, in_state, enters}
 use Rattle.xenbus_state.specs.declared.state.BusState.{BusState}
 use Rattle.xenbus_state.specs.declared.state.BusState.TheVariants as state
 use Rattle.xenbus_state.specs.declared.stage.FrontStage.{FrontStage}
 use Rattle.xenbus_state.specs.declared.stage.FrontStage.TheVariants as stage
 use Rattle.xenbus_state.specs.declared.front.FrontBusAsk.{FrontBusAsk}
 use Rattle.xenbus_state.specs.declared.front.FrontBusAsk.TheVariants as ask
-use Rattle.xenbus_state.specs.FrontView.{FrontView}
+use Rattle.xenbus_state.specs.FrontView.{FrontView, ring_order}
 use Rattle.xenbus_state.specs.FrontAsk.{leaving, closing_stage, due_at, due, ask_at, ask_of}
 use Rattle.xenbus_state.specs.FrontStep.{at, after_grants, step_at}
 use Rattle.split_model.proofs.States.{enters_cases}
 use Rattle.vbd_front.specs.View.{is_still, is_unoccupied, is_broken}
 use Rattle.vbd_front.specs.Step.{settled_at, settled, states_due, all_entered}
-use Rattle.vbd_model.specs.Fit.{is_ending_ring, FrontRests, FrontGoesWith}
+use Rattle.vbd_model.specs.Fit.{IsEndingPage, FrontRests, FrontGoesWith, OpenOrdered, FrontOrdered}
 
--- the negotiation goes with the end of the ring, closes with it, and wrote Closing only with no request left
+-- the negotiation goes with the end of the ring, closes with it, wrote Closing only with no request left, and knows the order of the ring
 pub record FrontFits (v : FrontView) (f : ends.View) : Type 0 where
   pub goes : FrontGoesWith v.stage v f.stage
   pub closing : is_broken f.stage ≡ false → f.closing ≡ v.closing
   pub through : v.state ≡ state.Closing → is_broken f.stage ≡ false → is_through f ≡ true
+  pub ordered : FrontOrdered v.stage v f.shape.order
 
 -- where nothing of a request is left, a front that closes is through, and its end of the ring is at nothing
 still_whole : (s : Ring) → is_still s ≡ true → is_broken s ≡ false
@@ -69,8 +70,8 @@ ready_made : (r : Ring) → is_ready r ≡ true → is_still r ≡ true → is_m
 ready_made ring.Loop ready still = refl
 ready_made (ring.RingWord k) ready still = absurd (true≢false (sym ready))
 ready_made ring.Initialised ready still = absurd (true≢false (sym ready))
-ready_made ring.RingRead ready still = absurd (true≢false (sym ready))
-ready_made (ring.RingEnd seen) ready still = absurd (true≢false (sym ready))
+ready_made (ring.RingRead page) ready still = absurd (true≢false (sym ready))
+ready_made (ring.RingEnd page seen) ready still = absurd (true≢false (sym ready))
 ready_made ring.ClosePort ready still = absurd (true≢false (sym ready))
 ready_made ring.Left ready still = absurd (true≢false (sym ready))
 ready_made ring.Closed ready still = absurd (true≢false (sym ready))
@@ -106,76 +107,93 @@ rests_open state.Closing false (Some p) r rests = made_open r rests
     made_open r made = absurd (true≢false (sym made))
 rests_open state.Closing true (Some p) r rests = ending_open r rests
   where
-    ending_open : (r : Ring) → is_ending_ring r ≡ true → is_open r ≡ true
-    ending_open ring.RingRead ending = refl
-    ending_open (ring.RingEnd seen) ending = refl
-    ending_open r ending = absurd (true≢false (sym ending))
+    ending_open : (r : Ring) → IsEndingPage 0 r → is_open r ≡ true
+    ending_open (ring.RingRead page) ending = refl
+    ending_open (ring.RingEnd page seen) ending = refl
+    ending_open r ending = absurd ending
 rests_open own gone port r rests = absurd rests
 
 pub open_whole : (r : Ring) → is_open r ≡ true → is_broken r ≡ false
 open_whole (ring.Broken word) is = absurd (true≢false (sym is))
 open_whole r is = refl
 
--- once its negotiation is settled they fit, where the end of the ring left if that is due
+-- once its negotiation is settled they fit, where the order of the ring was agreed if the ring is begun, and its end left if that is due
 abbrev pub Settles : Bool → FrontView → ends.View → Type 0
-Settles idle u f = FrontFits (settled idle u) (all_entered (states_due (ask_of (settled idle u) idle)) f)
+Settles idle u f = FrontFits (settled idle u) (all_entered (states_due (ask_of (settled idle u) idle) (ring_order (settled idle u))) f)
 
-abbrev is_ending : FrontBusAsk → Bool
-is_ending (ask.EndGrant page) = true
-is_ending ask.EndOtherGrants = true
-is_ending a = false
+abbrev leads : FrontBusAsk → Bool
+leads (ask.WriteRingWord word) = true
+leads (ask.EndGrant page) = true
+leads ask.EndOtherGrants = true
+leads a = false
 
-settled_plain : (a : FrontBusAsk) (idle : Bool) (u : FrontView) → is_ending a ≡ false → settled_at a idle u ≡ u
+settled_plain : (a : FrontBusAsk) (idle : Bool) (u : FrontView) → leads a ≡ false → settled_at a idle u ≡ u
 settled_plain ask.EndOtherGrants idle u plain = absurd (true≢false plain)
 settled_plain a idle u plain = refl
 
-due_plain : (a : FrontBusAsk) → is_ending a ≡ false → states_due a ≡ []
-due_plain (ask.EndGrant page) plain = absurd (true≢false plain)
-due_plain a plain = refl
+due_plain : (a : FrontBusAsk) (order : ℕ) → leads a ≡ false → states_due a order ≡ []
+due_plain (ask.WriteRingWord word) order plain = absurd (true≢false plain)
+due_plain (ask.EndGrant page) order plain = absurd (true≢false plain)
+due_plain a order plain = refl
 
--- nothing of the ring is ended next
-settles_plain : (idle : Bool) (u : FrontView) (f : ends.View) → is_ending (ask_of u idle) ≡ false → FrontFits u f → Settles idle u f
+-- nothing of the ring is begun or ended next
+settles_plain : (idle : Bool) (u : FrontView) (f : ends.View) → leads (ask_of u idle) ≡ false → FrontFits u f → Settles idle u f
 settles_plain idle u f plain fits =
-    subst (λ (t : FrontView). FrontFits t (all_entered (states_due (ask_of t idle)) f)) (sym (settled_plain (ask_of u idle) idle u plain))
-    (subst (λ (states : List FrontState). FrontFits u (all_entered states f)) (sym (due_plain (ask_of u idle) plain)) fits)
+    subst (λ (t : FrontView). FrontFits t (all_entered (states_due (ask_of t idle) (ring_order t)) f)) (sym (settled_plain (ask_of u idle) idle u plain))
+    (subst (λ (states : List FrontState). FrontFits u (all_entered states f)) (sym (due_plain (ask_of u idle) (ring_order u) plain)) fits)
 
--- its grant is
+-- its first grant is ended
 settles_ending : (idle : Bool) (u : FrontView) (f : ends.View) → ask_of u idle ≡ ask.EndGrant 0 → FrontFits u (enters enter.Leaving f) → Settles idle u f
 settles_ending idle u f e fits =
     let same : settled idle u ≡ u = ap (λ (a : FrontBusAsk). settled_at a idle u) e in
-    subst (λ (t : FrontView). FrontFits t (all_entered (states_due (ask_of t idle)) f)) (sym same)
-    (subst (λ (a : FrontBusAsk). FrontFits u (all_entered (states_due a) f)) (sym e) fits)
+    subst (λ (t : FrontView). FrontFits t (all_entered (states_due (ask_of t idle) (ring_order t)) f)) (sym same)
+    (subst (λ (a : FrontBusAsk). FrontFits u (all_entered (states_due a (ring_order u)) f)) (sym e) fits)
+
+-- the ring is begun: its order is agreed, which is no greater than the front wished
+no_greater : (order offered : ℕ) → nat_le (min order offered) order ≡ true
+no_greater order offered = let least : min order offered ≤ order = omega arith in grind (arith, nat_tests)
+
+pub settles_begun : (u : FrontView) (f : ends.View) → u.stage ≡ stage.RingWord 0 → u.state ≡ state.Initialising → u.port ≡ None → f.stage ≡ ring.RingWord 0 → f.shape.order ≡ u.order
+    → (is_broken f.stage ≡ false → f.closing ≡ u.closing) → FrontFits u (enters (enter.Agreed (ring_order u)) f)
+settles_begun u f here own port at_stage wished closing =
+    let agreed : enters (enter.Agreed (ring_order u)) f ≡ in_state (enter.Agreed (ring_order u)) f = rw (at_stage, wished, no_greater u.order u.features.order) refl in
+    subst (λ (x : ends.View). FrontFits u x) (sym agreed) (record {
+      goes = rw here (own, omega arith, at_stage, port);
+      closing = closing;
+      through = λ e. let none : state.Initialising ≡ state.Closing = sym own ∙ e in absurd (cc);
+      ordered = rw here refl;
+    })
 
 pub rests_due : (u : FrontView) (idle c : Bool) → u.stage ≡ stage.Rest → (u.closing && idle) ≡ c → due u idle ≡ (if c then closing_stage u.state u else stage.Rest)
 rests_due u idle c here e = rw (here, e) refl
 
-unmade : (r : Ring) → is_ending_ring r ≡ true → is_made r ≡ false
-unmade ring.RingRead ending = refl
-unmade (ring.RingEnd seen) ending = refl
-unmade r ending = absurd (true≢false (sym ending))
+unmade : (r : Ring) → IsEndingPage 0 r → is_made r ≡ false
+unmade (ring.RingRead page) ending = refl
+unmade (ring.RingEnd page seen) ending = refl
+unmade r ending = absurd ending
 
 -- a front that rests
 pub settles_rest : (idle : Bool) (u : FrontView) (f : ends.View) → u.stage ≡ stage.Rest → (idle ≡ true → is_still f.stage ≡ true) → FrontRests u.state u.gone u.port f.stage → FrontFits u f → Settles idle u f
 settles_rest idle u f here still rests fits = by_test (u.closing && idle) refl
   where
     leaves : (gone : Bool) (port : Option ℕ) → due u idle ≡ leaving gone port → FrontRests state.Closing gone port f.stage → Settles idle u f
-    leaves false port e rests = settles_plain idle u f (ap (λ (d : FrontStage). is_ending (ask_at d u)) e) fits
+    leaves false port e rests = settles_plain idle u f (ap (λ (d : FrontStage). leads (ask_at d u)) e) fits
     leaves true None e rests = absurd rests
     leaves true (Some p) e rests =
         settles_ending idle u f (ap (λ (d : FrontStage). ask_at d u) e)
         (enters_cases (λ (x : ends.View) shown. FrontFits u x) enter.Leaving f (λ may. absurd (true≢false (sym (both_true (is_through f) (is_made f.stage) may).1 ∙ unmade f.stage rests))) fits)
 
     by_test : (c : Bool) → (u.closing && idle) ≡ c → Settles idle u f
-    by_test false e = settles_plain idle u f (ap (λ (d : FrontStage). is_ending (ask_at d u)) (rests_due u idle false here e)) fits
+    by_test false e = settles_plain idle u f (ap (λ (d : FrontStage). leads (ask_at d u)) (rests_due u idle false here e)) fits
     by_test true e =
         closing_cases (λ (d : FrontStage). due u idle ≡ d → Settles idle u f) u f.stage (still (both_true u.closing idle e).1) rests
-        (λ first due_is. settles_plain idle u f (ap (λ (d : FrontStage). is_ending (ask_at d u)) due_is) fits)
+        (λ first due_is. settles_plain idle u f (ap (λ (d : FrontStage). leads (ask_at d u)) due_is) fits)
         (λ is ending due_is. leaves u.gone u.port due_is ending) (rests_due u idle true here e)
 
 -- a front that wrote Closing, and reads now that the back is gone or read it before
 pub settles_closing : (idle : Bool) (u : FrontView) (f : ends.View) → u.stage ≡ stage.Rest → u.state ≡ state.Closing → u.closing ≡ true → idle ≡ true → IsUnoccupied f → f.closing ≡ true
-    → FrontRests state.Closing false u.port f.stage → Settles idle u f
-settles_closing idle u f here own closing is_idle free closes rests = by_gone u.gone u.port refl refl rests
+    → OpenOrdered u.port (ring_order u) f.shape.order → FrontRests state.Closing false u.port f.stage → Settles idle u f
+settles_closing idle u f here own closing is_idle free closes ordered rests = by_gone u.gone u.port refl refl rests
   where
     through : is_through f ≡ true
     through = rw (closes, free.none) refl
@@ -183,19 +201,22 @@ settles_closing idle u f here own closing is_idle free closes rests = by_gone u.
     asks : (gone : Bool) (port : Option ℕ) → u.gone ≡ gone → u.port ≡ port → due u idle ≡ leaving gone port
     asks gone port g p = rests_due u idle true here (rw (closing, is_idle) refl) ∙ rw (own, g, p) refl
 
-    fits : (t : FrontView) (x : ends.View) → FrontGoesWith t.stage t x.stage → t.closing ≡ true → x.closing ≡ true → is_through x ≡ true → FrontFits t x
-    fits t x goes t_closing x_closing x_through = record { goes = goes; closing = λ whole. x_closing ∙ sym t_closing; through = λ e whole. x_through }
+    fits : (t : FrontView) (x : ends.View) → FrontGoesWith t.stage t x.stage → t.closing ≡ true → x.closing ≡ true → is_through x ≡ true → FrontOrdered t.stage t x.shape.order → FrontFits t x
+    fits t x goes t_closing x_closing x_through t_ordered = record { goes = goes; closing = λ whole. x_closing ∙ sym t_closing; through = λ e whole. x_through; ordered = t_ordered }
+
+    rest_ordered : FrontOrdered u.stage u f.shape.order
+    rest_ordered = rw (here, own) ordered
 
     by_gone : (gone : Bool) (port : Option ℕ) → u.gone ≡ gone → u.port ≡ port → FrontRests state.Closing false port f.stage → Settles idle u f
-    by_gone false port g p rests = settles_plain idle u f (ap (λ (d : FrontStage). is_ending (ask_at d u)) (asks false port g p)) (fits u f (rw here (inl (rw (own, g, p) rests))) closing closes through)
+    by_gone false port g p rests = settles_plain idle u f (ap (λ (d : FrontStage). leads (ask_at d u)) (asks false port g p)) (fits u f (rw here (inl (rw (own, g, p) rests))) closing closes through rest_ordered)
     by_gone true None g p rests =
         let last = asks true None g p in
         let ended : settled idle u ≡ record u { stage = stage.WriteState state.Closed } =
         ap (λ (d : FrontStage). settled_at (ask_at d u) idle u) last ∙ (ap (λ (d : FrontStage). step_at d (at d u) idle answer.Done) last ∙ ap (λ (o : Option ℕ). record u { stage = after_grants o }) p)
         in
-        subst (λ (t : FrontView). FrontFits t (all_entered (states_due (ask_of t idle)) f)) (sym ended)
-        (fits (record u { stage = stage.WriteState state.Closed }) f (own, rw rests refl, p) closing closes through)
+        subst (λ (t : FrontView). FrontFits t (all_entered (states_due (ask_of t idle) (ring_order t)) f)) (sym ended)
+        (fits (record u { stage = stage.WriteState state.Closed }) f (own, rw rests refl, p) closing closes through ordered)
     by_gone true (Some port) g p rests =
-        let left : enters enter.Leaving f ≡ record f { stage = ring.RingRead } = rw (closes, free.none, rests) refl in
+        let left : enters enter.Leaving f ≡ record f { stage = ring.RingRead 0 } = rw (closes, free.none, rests) refl in
         settles_ending idle u f (ap (λ (d : FrontStage). ask_at d u) (asks true (Some port) g p))
-        (subst (λ (x : ends.View). FrontFits u x) (sym left) (fits u (record f { stage = ring.RingRead }) (rw here (inl (rw (own, g, p) refl))) closing closes through))
+        (subst (λ (x : ends.View). FrontFits u x) (sym left) (fits u (record f { stage = ring.RingRead 0 }) (rw here (inl (rw (own, g, p) refl))) closing closes through rest_ordered))

@@ -1,5 +1,5 @@
 -- A front that is asked to close begins to, with its end of the ring.
-use Rattle.std.proofs.Common.{◌≡◌, Bool, true, false, true≢false, not, ◌&&◌, ◌||◌, if◌then◌else◌, inl, inr, refl, sym, ap, ◌∙◌, subst}
+use Rattle.std.proofs.Common.{◌≡◌, ℕ, Bool, true, false, true≢false, not, ◌&&◌, ◌||◌, if◌then◌else◌, inl, inr, refl, sym, ap, ◌∙◌, subst}
 use Rattle.blk_front.specs.declared.stage.Stage.{Stage as Ring}
 use Rattle.blk_front.specs.declared.stage.Stage.TheVariants as ring
 use Rattle.blk_front.specs.declared.state.FrontState.TheVariants as enter
@@ -10,16 +10,21 @@ use Rattle.xenbus_state.specs.declared.stage.FrontStage.{FrontStage}
 use Rattle.xenbus_state.specs.declared.stage.FrontStage.TheVariants as stage
 use Rattle.xenbus_state.specs.FrontView.{FrontView, closed, is_broken as is_broken_bus}
 use Rattle.vbd_front.specs.View.{is_broken}
-use Rattle.vbd_model.specs.Fit.{IsGranting, FrontGoesWith}
+use Rattle.vbd_model.specs.Fit.{IsEndingPage, IsGranting, FrontGoesWith, FrontOrdered}
 use Rattle.vbd_laws.proofs.FitFrontBus.{FrontFits, rests_open}
 use Rattle.vbd_laws.proofs.FitFrontSpoken.{begun_fits}
 
 -- an end of the ring that isn't broken is open, until it is closed
-granting_open : (r : Ring) → IsGranting r → is_open r ≡ true
-granting_open ring.RingFrame is = refl
-granting_open ring.RingFence is = refl
-granting_open ring.RingFlags is = refl
-granting_open r is = absurd is
+granting_open : (page : ℕ) (r : Ring) → IsGranting page r → is_open r ≡ true
+granting_open page (ring.RingFrame k) is = refl
+granting_open page (ring.RingFence k) is = refl
+granting_open page (ring.RingFlags k) is = refl
+granting_open page r is = absurd is
+
+ending_open : (page : ℕ) (r : Ring) → IsEndingPage page r → is_open r ≡ true
+ending_open page (ring.RingRead k) is = refl
+ending_open page (ring.RingEnd k seen) is = refl
+ending_open page r is = absurd is
 
 bare_open : (r : Ring) → is_bare r ≡ true → is_open r ≡ true
 bare_open (ring.RingWord k) bare = refl
@@ -32,7 +37,8 @@ goes_open stage.Rest v r goes closing whole = elim goes [ inl rests ↦ rests_op
 goes_open stage.ReadState v r goes closing whole = rests_open v.state v.gone v.port r goes
 goes_open (stage.ReadFeature key) v r goes closing whole = ap is_open goes.1
 goes_open (stage.RingWord word) v r goes closing whole = ap is_open goes.2
-goes_open (stage.Grant page) v r goes closing whole = granting_open r goes.2
+goes_open (stage.Grant page) v r goes closing whole = granting_open page r goes.1
+goes_open (stage.EndGrant page) v r goes closing whole = elim goes.1 [ inl is ↦ ending_open page r is | inr is ↦ absurd (true≢false (sym is ∙ whole)) ]
 goes_open stage.NewPort v r goes closing whole = ap is_open goes.1
 goes_open (stage.Publish key) v r goes closing whole = ap is_open goes.1
 goes_open (stage.ReadFact key) v r goes closing whole = ap is_open goes.1
@@ -53,6 +59,16 @@ goes_closing (stage.WriteState state.Connected) v r goes = goes
 goes_closing (stage.WriteState state.Closed) v r goes = goes
 goes_closing (stage.WriteState own) v r goes = absurd goes
 goes_closing b v r goes = goes
+
+ordered_closing : (b : FrontStage) (v : FrontView) (n : ℕ) → FrontOrdered b v n → FrontOrdered b (record v { closing = true }) n
+ordered_closing stage.Start v n ordered = ordered
+ordered_closing (stage.ReadFeature key) v n ordered = ordered
+ordered_closing (stage.RingWord word) v n ordered = ordered
+ordered_closing (stage.Grant page) v n ordered = ordered
+ordered_closing stage.NewPort v n ordered = ordered
+ordered_closing stage.Rest v n ordered = ordered
+ordered_closing stage.ReadState v n ordered = ordered
+ordered_closing b v n ordered = ordered
 
 unopened : (r : Ring) → is_broken r ≡ true → is_open r ≡ false
 unopened (ring.Broken word) is = refl
@@ -89,11 +105,11 @@ close_fits v f h = by_test (v.closing || is_broken_bus v.stage) refl
     begins closing true is =
         let stays : enters enter.Closing f ≡ f = rw (begins_no_more f true is (λ e. absurd (true≢false e))) refl in
         subst (λ (x : ends.View). FrontFits (record v { closing = true }) x) (sym stays)
-        (record { goes = goes_closing v.stage v f.stage h.goes; closing = λ whole. absurd (true≢false (sym is ∙ whole)); through = λ e whole. absurd (true≢false (sym is ∙ whole)) })
+        (record { goes = goes_closing v.stage v f.stage h.goes; closing = λ whole. absurd (true≢false (sym is ∙ whole)); through = λ e whole. absurd (true≢false (sym is ∙ whole)); ordered = ordered_closing v.stage v f.shape.order h.ordered })
     begins closing false whole =
         let opened = goes_open v.stage v f.stage h.goes closing whole in
         let begun : enters enter.Closing f ≡ record f { closing = true } = rw (h.closing whole ∙ closing, opened) refl in
-        subst (λ (x : ends.View). FrontFits (record v { closing = true }) x) (sym begun) (begun_fits v (record v { closing = true }) f opened (goes_closing v.stage v f.stage h.goes) refl refl h)
+        subst (λ (x : ends.View). FrontFits (record v { closing = true }) x) (sym begun) (begun_fits v (record v { closing = true }) f opened (goes_closing v.stage v f.stage h.goes) refl refl (ordered_closing v.stage v f.shape.order h.ordered) h)
 
     by_test : (c : Bool) → (v.closing || is_broken_bus v.stage) ≡ c → FrontFits (if c then v else record v { closing = true }) (enters enter.Closing f)
     by_test true e = same (may_enter enter.Closing f) refl (closes_once v f h e)

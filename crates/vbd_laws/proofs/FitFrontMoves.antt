@@ -1,6 +1,6 @@
 -- The front's negotiation goes on with its end of the ring, as that moves.
-use Rattle.std.proofs.Common.{◌≡◌, ℕ, ◌+◌, ◌<◌, Bool, true, false, true≢false, ◌||◌, ◌&&◌, if◌then◌else◌, List, [], ◌∷◌, inl, inr, refl, sym, ap, ◌∙◌, subst, arith}
-use Rattle.std.specs.Prelude.{Option, Some, None, ◌-◌, ◌==◌, ◌⊎◌, length, min, slice_get}
+use Rattle.std.proofs.Common.{◌≡◌, ℕ, ◌+◌, ◌^◌, ◌<◌, Bool, true, false, true≢false, ◌||◌, ◌&&◌, if◌then◌else◌, List, [], ◌∷◌, inl, inr, refl, sym, ap, ◌∙◌, subst, arith}
+use Rattle.std.specs.Prelude.{Option, Some, None, IsSome, ◌-◌, ◌==◌, ◌⊎◌, nat_lt, length, slice_get}
 use Rattle.std.proofs.lemmas.Bool.Decides.{nat_tests}
 use Rattle.line_text.proofs.Both.{both_true}
 use Rattle.blk_base.specs.declared.ask.FrontAsk.{FrontAsk}
@@ -11,8 +11,10 @@ use Rattle.blk_front.specs.declared.request.Request.{Request}
 use Rattle.blk_front.specs.declared.stage.Stage.{Stage as Ring}
 use Rattle.blk_front.specs.declared.stage.Stage.TheVariants as ring
 use Rattle.blk_front.specs.View as ends
+use Rattle.ring_words.specs.Shape.{Shape}
+use Rattle.split_model.proofs.Shapes.{step_shape}
 use Rattle.blk_front.specs.Ask.{is_through, loop_ask, ask_at as ring_ask_at, IsAnswer}
-use Rattle.blk_front.specs.Step.{at as ring_at, broken as ring_broken, loop_step, is_mapped, step_at as ring_step_at, step_of as ring_step_of}
+use Rattle.blk_front.specs.Step.{at as ring_at, broken as ring_broken, loop_step, is_mapped, ring_left, step_at as ring_step_at, step_of as ring_step_of}
 use Rattle.blk_front.specs.Submit.{ending_of, is_ready, is_connected}
 use Rattle.blk_front.specs.State.{is_made}
 use Rattle.xenbus_state.specs.declared.state.BusState.{BusState}
@@ -20,32 +22,34 @@ use Rattle.xenbus_state.specs.declared.state.BusState.TheVariants as state
 use Rattle.xenbus_state.specs.declared.stage.FrontStage.{FrontStage}
 use Rattle.xenbus_state.specs.declared.stage.FrontStage.TheVariants as stage
 use Rattle.xenbus_state.specs.declared.front.FrontBusAsk.TheVariants as ask
-use Rattle.xenbus_state.specs.FrontView.{FrontView}
+use Rattle.xenbus_state.specs.FrontView.{FrontView, ring_order}
 use Rattle.xenbus_state.specs.FrontAsk.{leaving, due, ask_at, ask_of}
 use Rattle.xenbus_state.specs.FrontStep.{at, step_at}
 use Rattle.vbd_front.specs.View.{is_still, is_unoccupied, is_broken}
 use Rattle.vbd_front.specs.Ask.{speaks, ring_moves}
 use Rattle.vbd_front.specs.Step.{settled, bus_told, woken, followed, waited}
-use Rattle.vbd_model.specs.Fit.{is_ending_ring, FrontRests, IsGranting, FrontGoesWith}
+use Rattle.vbd_model.specs.Fit.{IsEndingPage, FrontRests, IsGranting, FrontGoesWith, OpenOrdered, RestsOrdered, FrontOrdered}
 use Rattle.vbd_laws.proofs.FitFrontRing.{up_step, closing_step, through_step, broken_step}
 use Rattle.vbd_laws.proofs.FitFrontBus.{FrontFits, unoccupied, due_cases, closing_cases, rests_due}
-use Rattle.vbd_laws.proofs.FitFrontSpoken.{fits_at, whole_rests}
+use Rattle.vbd_laws.proofs.FitFrontSpoken.{fits_at, whole_rests, whole_ordered}
 
 -- the negotiation goes on with the end of the ring, and neither writes a state nor begins to close
-record Follows (v u : FrontView) (r : Ring) : Type 0 where
+record Follows (v u : FrontView) (r : Ring) (n : ℕ) : Type 0 where
   goes : FrontGoesWith u.stage u r
   closing : u.closing ≡ v.closing
   own : u.state ≡ v.state
+  ordered : FrontOrdered u.stage u n
 
-abbrev FollowsTo : FrontView → Ring → FrontView → Type 0
-FollowsTo v r u = Follows v u r
+abbrev FollowsTo : FrontView → Ring → ℕ → FrontView → Type 0
+FollowsTo v r n u = Follows v u r n
 
 -- so they fit after a move of the end of the ring
-follows_fit : (v u : FrontView) (f : ends.View) (x : FrontAnswer) → FrontFits v f → Follows v u (ring_step_of f x).stage → FrontFits u (ring_step_of f x)
+follows_fit : (v u : FrontView) (f : ends.View) (x : FrontAnswer) → FrontFits v f → Follows v u (ring_step_of f x).stage f.shape.order → FrontFits u (ring_step_of f x)
 follows_fit v u f x h follows = record {
   goes = follows.goes;
   closing = λ whole. closing_step f x ∙ (h.closing (before whole) ∙ sym follows.closing);
   through = λ e whole. through_step f x (h.through (sym follows.own ∙ e) (before whole));
+  ordered = subst (λ (s : Shape). FrontOrdered u.stage u s.order) (sym (step_shape f x)) follows.ordered;
 }
   where
     before : is_broken (ring_step_of f x).stage ≡ false → is_broken f.stage ≡ false
@@ -60,79 +64,101 @@ told_at : (d : FrontStage) (v : FrontView) (idle : Bool) (x : FrontAnswer) → d
 told_at d v idle x e = ap (λ (s : FrontStage). settled idle (step_at s (at s v) idle x)) e
 
 -- a watch that is taken has a front that rests read the other end's state
-woken_follows : (broken : Bool) (v : FrontView) (idle : Bool) (x : FrontAnswer) (r : Ring) → v.stage ≡ stage.Rest → due v idle ≡ stage.Rest
-    → FrontRests v.state v.gone v.port r ⊎ (is_broken r ≡ true) → (broken ≡ false → is_broken r ≡ false) → Follows v (woken broken idle v x) r
-woken_follows broken v idle x r here e rests whole = by_answer broken x rests whole
+woken_follows : (broken : Bool) (v : FrontView) (idle : Bool) (x : FrontAnswer) (r : Ring) (n : ℕ) → v.stage ≡ stage.Rest → due v idle ≡ stage.Rest → RestsOrdered v.state v.port v.order (ring_order v) n
+    → FrontRests v.state v.gone v.port r ⊎ (is_broken r ≡ true) → (broken ≡ false → is_broken r ≡ false) → Follows v (woken broken idle v x) r n
+woken_follows broken v idle x r n here e ordered rests whole = by_answer broken x rests whole
   where
-    still : FrontRests v.state v.gone v.port r ⊎ (is_broken r ≡ true) → Follows v v r
-    still rests = record { goes = rw here rests; closing = refl; own = refl }
+    still : FrontRests v.state v.gone v.port r ⊎ (is_broken r ≡ true) → Follows v v r n
+    still rests = record { goes = rw here rests; closing = refl; own = refl; ordered = rw here ordered }
 
-    reads : (path : List ℕ) → FrontRests v.state v.gone v.port r ⊎ (is_broken r ≡ true) → is_broken r ≡ false → Follows v (bus_told idle v (answer.Watched path)) r
-    reads path (inl rests) whole = subst (FollowsTo v r) (sym (told_at stage.Rest v idle (answer.Watched path) e)) (record { goes = rests; closing = refl; own = refl })
+    reads : (path : List ℕ) → FrontRests v.state v.gone v.port r ⊎ (is_broken r ≡ true) → is_broken r ≡ false → Follows v (bus_told idle v (answer.Watched path)) r n
+    reads path (inl rests) whole = subst (FollowsTo v r n) (sym (told_at stage.Rest v idle (answer.Watched path) e)) (record { goes = rests; closing = refl; own = refl; ordered = ordered })
     reads path (inr is) whole = absurd (true≢false (sym is ∙ whole))
 
-    by_answer : (broken : Bool) (x : FrontAnswer) → FrontRests v.state v.gone v.port r ⊎ (is_broken r ≡ true) → (broken ≡ false → is_broken r ≡ false) → Follows v (woken broken idle v x) r
+    by_answer : (broken : Bool) (x : FrontAnswer) → FrontRests v.state v.gone v.port r ⊎ (is_broken r ≡ true) → (broken ≡ false → is_broken r ≡ false) → Follows v (woken broken idle v x) r n
     by_answer false (answer.Watched path) rests whole = reads path rests (whole refl)
     by_answer false x rests whole = still rests
     by_answer true x rests whole = still rests
 
--- a word of the ring was written: the next one is, or the page is granted
-word_follows : (word : ℕ) (v : FrontView) (idle : Bool) (f : ends.View) (x : FrontAnswer) → due v idle ≡ stage.RingWord word → v.state ≡ state.Initialising → word < 16 → v.port ≡ None
-    → IsAnswer (ring_ask_at (ring.RingWord word) f) x → Follows v (bus_told idle v x) (ring_step_at (ring.RingWord word) f x).stage
-word_follows word v idle f answer.Done e own low port allowed = subst (FollowsTo v _) (sym (told_at (stage.RingWord word) v idle answer.Done e)) (by_test (word == 15) refl)
+-- a word of the ring was written: the next one is, or its first page is granted
+word_follows : (word : ℕ) (v : FrontView) (idle : Bool) (f : ends.View) (x : FrontAnswer) → due v idle ≡ stage.RingWord word → v.state ≡ state.Initialising → word < 16 → v.port ≡ None → f.shape.order ≡ ring_order v
+    → IsAnswer (ring_ask_at (ring.RingWord word) f) x → Follows v (bus_told idle v x) (ring_step_at (ring.RingWord word) f x).stage f.shape.order
+word_follows word v idle f answer.Done e own low port agreed allowed = subst (FollowsTo v _ _) (sym (told_at (stage.RingWord word) v idle answer.Done e)) (by_test (word == 15) refl)
   where
     by_test : (last : Bool) → (word == 15) ≡ last
-        → Follows v (settled idle (at (if last then stage.Grant 0 else stage.RingWord (word + 1)) v)) (if last then ring.RingFrame else ring.RingWord (word + 1))
-    by_test true t = record { goes = (own, refl, tt, port); closing = refl; own = refl }
-    by_test false t = record { goes = (own, grind (arith, nat_tests), refl, port); closing = refl; own = refl }
-word_follows word v idle f x e own low port allowed = absurd allowed
+        → Follows v (settled idle (at (if last then stage.Grant 0 else stage.RingWord (word + 1)) v)) (if last then ring.RingFrame 0 else ring.RingWord (word + 1)) f.shape.order
+    by_test true t = record { goes = (own, refl, port); closing = refl; own = refl; ordered = agreed }
+    by_test false t = record { goes = (own, grind (arith, nat_tests), refl, port); closing = refl; own = refl; ordered = agreed }
+word_follows word v idle f x e own low port agreed allowed = absurd allowed
 
--- a front that wishes a ring of one page has one, whatever the back offers
-least : (n : ℕ) → min 0 n ≡ 0
-least n = omega arith
+-- three moves make a page's grant: then the next one is granted, or the port is made
+grant_follows : (page : ℕ) (s : Ring) (v : FrontView) (idle : Bool) (f : ends.View) (x : FrontAnswer) → v.stage ≡ stage.Grant page → due v idle ≡ stage.Grant page → v.state ≡ state.Initialising → v.port ≡ None
+    → f.shape.order ≡ ring_order v → IsGranting page s → IsAnswer (ring_ask_at s f) x → Follows v (followed (ask.Grant page) (ring_step_at s f x).stage idle v x) (ring_step_at s f x).stage f.shape.order
+grant_follows page (ring.RingFrame k) v idle f x here e own port agreed is allowed = record { goes = rw here (own, is, port); closing = refl; own = refl; ordered = rw here agreed }
+grant_follows page (ring.RingFence k) v idle f x here e own port agreed is allowed = record { goes = rw here (own, is, port); closing = refl; own = refl; ordered = rw here agreed }
+grant_follows page (ring.RingFlags k) v idle f answer.Done here e own port agreed is allowed = by_test (nat_lt (k + 1) (2 ^ f.shape.order)) refl
+  where
+    told : (more : Bool) → nat_lt (k + 1) (2 ^ f.shape.order) ≡ more → bus_told idle v answer.Done ≡ settled idle (at (if more then stage.Grant (page + 1) else stage.NewPort) v)
+    told more m =
+        told_at (stage.Grant page) v idle answer.Done e
+        ∙ ap (λ (b : Bool). settled idle (at (if b then stage.Grant (page + 1) else stage.NewPort) v)) (sym (ap (λ (n : ℕ). nat_lt (n + 1) (2 ^ ring_order v)) is) ∙ (sym (ap (λ (n : ℕ). nat_lt (k + 1) (2 ^ n)) agreed) ∙ m))
 
--- three moves make a grant, which is the only one of a ring of order 0
-grant_follows : (s : Ring) (v : FrontView) (idle : Bool) (f : ends.View) (x : FrontAnswer) → v.stage ≡ stage.Grant 0 → due v idle ≡ stage.Grant 0 → v.state ≡ state.Initialising → v.order ≡ 0 → v.port ≡ None → IsGranting s
-    → IsAnswer (ring_ask_at s f) x → Follows v (followed (ask.Grant 0) (ring_step_at s f x).stage idle v x) (ring_step_at s f x).stage
-grant_follows ring.RingFrame v idle f x here e own order port is allowed = record { goes = rw here (own, refl, tt, port); closing = refl; own = refl }
-grant_follows ring.RingFence v idle f x here e own order port is allowed = record { goes = rw here (own, refl, tt, port); closing = refl; own = refl }
-grant_follows ring.RingFlags v idle f answer.Done here e own order port is allowed =
-    let granted : step_at (stage.Grant 0) (at (stage.Grant 0) v) idle answer.Done ≡ at stage.NewPort v = rw (order, least v.features.order) refl in
-    subst (FollowsTo v _) (sym (told_at (stage.Grant 0) v idle answer.Done e ∙ ap (λ (u : FrontView). settled idle u) granted)) (record { goes = (own, refl, port); closing = refl; own = refl })
-grant_follows ring.RingFlags v idle f x here e own order port is allowed = absurd allowed
-grant_follows s v idle f x here e own order port is allowed = absurd is
+    by_test : (more : Bool) → nat_lt (k + 1) (2 ^ f.shape.order) ≡ more
+        → let s : Ring = (if more then ring.RingFrame (k + 1) else ring.NewPort) in Follows v (followed (ask.Grant page) s idle v answer.Done) s f.shape.order
+    by_test true m = subst (FollowsTo v _ _) (sym (told true m)) (record { goes = (own, ap (λ (n : ℕ). n + 1) is, port); closing = refl; own = refl; ordered = agreed })
+    by_test false m = subst (FollowsTo v _ _) (sym (told false m)) (record { goes = (own, refl, port); closing = refl; own = refl; ordered = agreed })
+grant_follows page (ring.RingFlags k) v idle f x here e own port agreed is allowed = absurd allowed
+grant_follows page s v idle f x here e own port agreed is allowed = absurd is
 
 -- the port was made: the terms are published
-port_follows : (v : FrontView) (idle : Bool) (f : ends.View) (x : FrontAnswer) → due v idle ≡ stage.NewPort → v.state ≡ state.Initialising → IsAnswer (ring_ask_at ring.NewPort f) x → Follows v (bus_told idle v x) ring.Initialised
-port_follows v idle f (answer.Port port) e own allowed =
-    subst (FollowsTo v ring.Initialised) (sym (told_at stage.NewPort v idle (answer.Port port) e)) (record { goes = (own, refl, refl); closing = refl; own = refl })
-port_follows v idle f x e own allowed = absurd allowed
+port_follows : (v : FrontView) (idle : Bool) (f : ends.View) (x : FrontAnswer) → due v idle ≡ stage.NewPort → v.state ≡ state.Initialising → f.shape.order ≡ ring_order v → IsAnswer (ring_ask_at ring.NewPort f) x
+    → Follows v (bus_told idle v x) ring.Initialised f.shape.order
+port_follows v idle f (answer.Port port) e own agreed allowed =
+    subst (FollowsTo v ring.Initialised _) (sym (told_at stage.NewPort v idle (answer.Port port) e)) (record { goes = (own, refl, refl); closing = refl; own = refl; ordered = agreed })
+port_follows v idle f x e own agreed allowed = absurd allowed
 
--- the ring's grant is ended in two moves, or the ring breaks
-end_follows : (s : Ring) (v : FrontView) (idle : Bool) (f : ends.View) (x : FrontAnswer) (p : ℕ) → v.stage ≡ stage.Rest → due v idle ≡ stage.EndGrant 0 → v.state ≡ state.Closing → v.gone ≡ true → v.port ≡ Some p → v.order ≡ 0
-    → is_ending_ring s ≡ true → IsAnswer (ring_ask_at s f) x → Follows v (followed (ask.EndGrant 0) (ring_step_at s f x).stage idle v x) (ring_step_at s f x).stage
-end_follows ring.RingRead v idle f (answer.Word word) p here e own gone port order is allowed = by_test (is_mapped word)
+-- a page's grant is ended in two moves, or the ring breaks: then the next one's is, or the port is closed
+end_follows : (page : ℕ) (s : Ring) (v : FrontView) (idle : Bool) (f : ends.View) (x : FrontAnswer) (p : ℕ) → due v idle ≡ stage.EndGrant page → v.state ≡ state.Closing → v.port ≡ Some p → f.shape.order ≡ ring_order v
+    → FrontOrdered v.stage v f.shape.order → ((r : Ring) → IsEndingPage page r ⊎ (is_broken r ≡ true) → FrontGoesWith v.stage v r)
+    → IsEndingPage page s → IsAnswer (ring_ask_at s f) x → Follows v (followed (ask.EndGrant page) (ring_step_at s f x).stage idle v x) (ring_step_at s f x).stage f.shape.order
+end_follows page (ring.RingRead k) v idle f (answer.Word word) p e own port agreed ordered still is allowed = by_test (is_mapped word)
   where
-    by_test : (b : Bool) → let x : ends.View = (if b then ring_broken word f else ring_at (ring.RingEnd word) f) in Follows v (followed (ask.EndGrant 0) x.stage idle v (answer.Word word)) x.stage
-    by_test true = record { goes = rw here (inr refl); closing = refl; own = refl }
-    by_test false = record { goes = rw here (inl (rw (own, gone, port) refl)); closing = refl; own = refl }
-end_follows (ring.RingEnd seen) v idle f (answer.Word word) p here e own gone port order is allowed = by_test (word == seen)
+    by_test : (b : Bool) → let x : ends.View = (if b then ring_broken word f else ring_at (ring.RingEnd k word) f) in Follows v (followed (ask.EndGrant page) x.stage idle v (answer.Word word)) x.stage f.shape.order
+    by_test true = record { goes = still (ring.Broken word) (inr refl); closing = refl; own = refl; ordered = ordered }
+    by_test false = record { goes = still (ring.RingEnd k word) (inl is); closing = refl; own = refl; ordered = ordered }
+end_follows page (ring.RingEnd k seen) v idle f (answer.Word word) p e own port agreed ordered still is allowed = by_test (word == seen)
   where
-    by_test : (b : Bool) → let x : ends.View = (if b then ring_at ring.ClosePort f else ring_broken word f) in Follows v (followed (ask.EndGrant 0) x.stage idle v (answer.Word word)) x.stage
-    by_test true =
-        let ended : step_at (stage.EndGrant 0) (at (stage.EndGrant 0) v) idle answer.Done ≡ at stage.EndOtherGrants v = rw (order, least v.features.order) refl in
+    told : (more : Bool) → nat_lt (k + 1) (2 ^ f.shape.order) ≡ more → bus_told idle v answer.Done ≡ settled idle (at (if more then stage.EndGrant (page + 1) else stage.EndOtherGrants) v)
+    told more m =
+        told_at (stage.EndGrant page) v idle answer.Done e
+        ∙ ap (λ (b : Bool). settled idle (at (if b then stage.EndGrant (page + 1) else stage.EndOtherGrants) v)) (sym (ap (λ (n : ℕ). nat_lt (n + 1) (2 ^ ring_order v)) is) ∙ (sym (ap (λ (n : ℕ). nat_lt (k + 1) (2 ^ n)) agreed) ∙ m))
+
+    left : (more : Bool) → nat_lt (k + 1) (2 ^ f.shape.order) ≡ more
+        → let s : Ring = (if more then ring.RingRead (k + 1) else ring.ClosePort) in Follows v (followed (ask.EndGrant page) s idle v (answer.Word word)) s f.shape.order
+    left true m = subst (FollowsTo v _ _) (sym (told true m)) (record { goes = (own, inl (ap (λ (n : ℕ). n + 1) is), rw port refl); closing = refl; own = refl; ordered = rw port agreed })
+    left false m =
         let settles : settled idle (at stage.EndOtherGrants v) ≡ at stage.ClosePort v = rw port refl in
-        subst (FollowsTo v ring.ClosePort) (sym (told_at (stage.EndGrant 0) v idle answer.Done e ∙ (ap (λ (u : FrontView). settled idle u) ended ∙ settles)))
-        (record { goes = (own, refl, rw port refl); closing = refl; own = refl })
-    by_test false = record { goes = rw here (inr refl); closing = refl; own = refl }
-end_follows ring.RingRead v idle f x p here e own gone port order is allowed = absurd allowed
-end_follows (ring.RingEnd seen) v idle f x p here e own gone port order is allowed = absurd allowed
-end_follows s v idle f x p here e own gone port order is allowed = absurd (true≢false (sym is))
+        subst (FollowsTo v ring.ClosePort _) (sym (told false m ∙ settles)) (record { goes = (own, refl, rw port refl); closing = refl; own = refl; ordered = rw port agreed })
+
+    by_test : (b : Bool) → let x : ends.View = (if b then ring_at (ring_left f k) f else ring_broken word f) in Follows v (followed (ask.EndGrant page) x.stage idle v (answer.Word word)) x.stage f.shape.order
+    by_test true = left (nat_lt (k + 1) (2 ^ f.shape.order)) refl
+    by_test false = record { goes = still (ring.Broken word) (inr refl); closing = refl; own = refl; ordered = ordered }
+end_follows page (ring.RingRead k) v idle f x p e own port agreed ordered still is allowed = absurd allowed
+end_follows page (ring.RingEnd k seen) v idle f x p e own port agreed ordered still is allowed = absurd allowed
+end_follows page s v idle f x p e own port agreed ordered still is allowed = absurd is
+
+-- an end of the ring that is broken stays so, and the negotiation learns no more
+broken_ends : (page : ℕ) (s : Ring) (v : FrontView) (idle : Bool) (f : ends.View) (x : FrontAnswer) → v.stage ≡ stage.EndGrant page → f.stage ≡ s → v.state ≡ state.Closing → IsSome v.port → FrontOrdered v.stage v f.shape.order
+    → is_broken s ≡ true → Follows v (followed (ask.EndGrant page) (ring_step_at s f x).stage idle v x) (ring_step_at s f x).stage f.shape.order
+broken_ends page (ring.Broken word) v idle f x here at_stage own port ordered is =
+    rw at_stage (record { goes = rw here (own, inr refl, port); closing = refl; own = refl; ordered = ordered })
+broken_ends page s v idle f x here at_stage own port ordered is = absurd (true≢false (sym is))
 
 -- the port was closed
-closed_follows : (v : FrontView) (idle : Bool) (f : ends.View) (x : FrontAnswer) → due v idle ≡ stage.ClosePort → v.state ≡ state.Closing → IsAnswer (ring_ask_at ring.ClosePort f) x → Follows v (bus_told idle v x) ring.Left
+closed_follows : (v : FrontView) (idle : Bool) (f : ends.View) (x : FrontAnswer) → due v idle ≡ stage.ClosePort → v.state ≡ state.Closing → IsAnswer (ring_ask_at ring.ClosePort f) x
+    → Follows v (bus_told idle v x) ring.Left f.shape.order
 closed_follows v idle f answer.Done e own allowed =
-    subst (FollowsTo v ring.Left) (sym (told_at stage.ClosePort v idle answer.Done e)) (record { goes = (own, refl, refl); closing = refl; own = refl })
+    subst (FollowsTo v ring.Left _) (sym (told_at stage.ClosePort v idle answer.Done e)) (record { goes = (own, refl, refl); closing = refl; own = refl; ordered = tt })
 closed_follows v idle f x e own allowed = absurd allowed
 
 -- a front that is through waits in its loop
@@ -187,16 +213,16 @@ rests_on state.Closing true port f x moves rests through left allowed = absurd (
 rests_on own gone port f x moves rests through left allowed = absurd rests
 
 -- where a front that leaves rests nothing of a request is left, so that it ends its grant next
-ending_unoccupied : (f : ends.View) → is_ending_ring f.stage ≡ true → is_through f ≡ true → is_unoccupied f ≡ true
+ending_unoccupied : (f : ends.View) → IsEndingPage 0 f.stage → is_through f ≡ true → is_unoccupied f ≡ true
 ending_unoccupied f ending through = by_stage f.stage ending
   where
     none : length f.requests ≡ 0
     none = let zero = (both_true f.closing (length f.requests == 0) through).1 in grind (arith, nat_tests)
 
-    by_stage : (s : Ring) → is_ending_ring s ≡ true → (length f.requests + ending_of s == 0 && is_still s) ≡ true
-    by_stage ring.RingRead is = rw none refl
-    by_stage (ring.RingEnd seen) is = rw none refl
-    by_stage s is = absurd (true≢false (sym is))
+    by_stage : (s : Ring) → IsEndingPage 0 s → (length f.requests + ending_of s == 0 && is_still s) ≡ true
+    by_stage (ring.RingRead page) is = rw none refl
+    by_stage (ring.RingEnd page seen) is = rw none refl
+    by_stage s is = absurd is
 
 leaves_next : (v : FrontView) (f : ends.View) → v.stage ≡ stage.Rest → is_broken f.stage ≡ false → FrontFits v f → v.state ≡ state.Closing → v.gone ≡ true → due v (is_unoccupied f) ≡ stage.EndGrant 0
 leaves_next v f here whole h own gone = by_port v.port refl (subst (λ (g : Bool). FrontRests state.Closing g v.port f.stage) gone (subst (λ (s : BusState). FrontRests s v.gone v.port f.stage) own (whole_rests v f here whole h)))
@@ -211,19 +237,19 @@ leaves_next v f here whole h own gone = by_port v.port refl (subst (λ (g : Bool
         rests_due v (is_unoccupied f) true here (rw (closing, idle) refl) ∙ rw (own, gone, p) refl
 
 -- one that is closed or broken reads it no more
-over_follows : (b : FrontStage) (broken : Bool) (v : FrontView) (idle : Bool) (x : FrontAnswer) (r : Ring) → v.stage ≡ b → due v idle ≡ b → ((path : List ℕ) → settled idle (step_at b (at b v) idle (answer.Watched path)) ≡ at b v)
-    → Follows v v r → Follows v (woken broken idle v x) r
-over_follows b true v idle x r here e same unmoved = unmoved
-over_follows b false v idle (answer.Watched path) r here e same unmoved =
-    subst (FollowsTo v r) (sym (told_at b v idle (answer.Watched path) e ∙ (same path ∙ ap (λ (s : FrontStage). at s v) (sym here)))) unmoved
-over_follows b false v idle x r here e same unmoved = unmoved
+over_follows : (b : FrontStage) (broken : Bool) (v : FrontView) (idle : Bool) (x : FrontAnswer) (r : Ring) (n : ℕ) → v.stage ≡ b → due v idle ≡ b
+    → ((path : List ℕ) → settled idle (step_at b (at b v) idle (answer.Watched path)) ≡ at b v) → Follows v v r n → Follows v (woken broken idle v x) r n
+over_follows b true v idle x r n here e same unmoved = unmoved
+over_follows b false v idle (answer.Watched path) r n here e same unmoved =
+    subst (FollowsTo v r n) (sym (told_at b v idle (answer.Watched path) e ∙ (same path ∙ ap (λ (s : FrontStage). at s v) (sym here)))) unmoved
+over_follows b false v idle x r n here e same unmoved = unmoved
 
 -- its end of the ring moves while the front rests
 rest_follows : (v : FrontView) (f : ends.View) (x : FrontAnswer) → v.stage ≡ stage.Rest → due v (is_unoccupied f) ≡ stage.Rest → FrontFits v f → is_connected f.stage ≡ true → IsAnswer (ring_ask_at f.stage f) x
-    → Follows v (woken (is_broken (ring_step_of f x).stage) (is_unoccupied f) v x) (ring_step_of f x).stage
+    → Follows v (woken (is_broken (ring_step_of f x).stage) (is_unoccupied f) v x) (ring_step_of f x).stage f.shape.order
 rest_follows v f x here e h moves allowed =
     let goes : FrontGoesWith stage.Rest v f.stage = rw here at h.goes in
-    woken_follows (is_broken (ring_step_of f x).stage) v (is_unoccupied f) x (ring_step_of f x).stage here e (by_test (is_broken f.stage) refl) (λ whole. whole)
+    woken_follows (is_broken (ring_step_of f x).stage) v (is_unoccupied f) x (ring_step_of f x).stage f.shape.order here e (rw here at h.ordered) (by_test (is_broken f.stage) refl) (λ whole. whole)
   where
     by_test : (b : Bool) → is_broken f.stage ≡ b → FrontRests v.state v.gone v.port (ring_step_of f x).stage ⊎ (is_broken (ring_step_of f x).stage ≡ true)
     by_test true is = inr (broken_step f x is)
@@ -231,53 +257,68 @@ rest_follows v f x here e h moves allowed =
         rests_on v.state v.gone v.port f x moves (whole_rests v f here whole h) (λ own. h.through own whole) (λ own gone. let ends : stage.Rest ≡ stage.EndGrant 0 = sym e ∙ leaves_next v f here whole h own gone in absurd (cc)) allowed
 
 -- and while the negotiation asks it to make the ring, or to give it up
-begun_follows : (b : FrontStage) (s : Ring) (v : FrontView) (idle : Bool) (f : ends.View) (x : FrontAnswer) → v.stage ≡ b → f.stage ≡ s → due v idle ≡ b → v.order ≡ 0 → FrontGoesWith b v s
-    → (b ≡ stage.Rest → Follows v (followed ask.Wait (ring_step_at s f x).stage idle v x) (ring_step_at s f x).stage)
-    → speaks (ask_at b v) ≡ false → ring_moves (ask_at b v) s ≡ true → IsAnswer (ring_ask_at s f) x → Follows v (followed (ask_at b v) (ring_step_at s f x).stage idle v x) (ring_step_at s f x).stage
-begun_follows stage.Rest s v idle f x here at_stage e order goes rests quiet moves allowed = rests refl
-begun_follows (stage.RingWord word) s v idle f x here at_stage e order goes rests quiet moves allowed = rw goes.2 (word_follows word v idle f x e goes.0 goes.1 goes.3 (rw goes.2 at allowed))
-begun_follows (stage.Grant page) s v idle f x here at_stage e order goes rests quiet moves allowed =
-    let first : stage.Grant page ≡ stage.Grant 0 = ap (λ (p : ℕ). stage.Grant p) goes.1 in
-    rw goes.1 (grant_follows s v idle f x (here ∙ first) (e ∙ first) goes.0 order goes.3 goes.2 allowed)
-begun_follows stage.NewPort s v idle f x here at_stage e order goes rests quiet moves allowed = rw goes.1 (port_follows v idle f x e goes.0 (rw goes.1 at allowed))
-begun_follows stage.ClosePort s v idle f x here at_stage e order goes rests quiet moves allowed = rw goes.1 (closed_follows v idle f x e goes.0 (rw goes.1 at allowed))
-begun_follows stage.Closed s v idle f x here at_stage e order goes rests quiet moves allowed =
-    rw goes.1 (over_follows stage.Closed (is_broken f.stage) v idle x f.stage here e (λ path. refl) (record { goes = rw here (goes.0, at_stage ∙ goes.1, goes.2); closing = refl; own = refl }))
-begun_follows (stage.Broken word) s v idle f x here at_stage e order goes rests quiet moves allowed =
+begun_follows : (b : FrontStage) (s : Ring) (v : FrontView) (idle : Bool) (f : ends.View) (x : FrontAnswer) → v.stage ≡ b → f.stage ≡ s → due v idle ≡ b → FrontOrdered b v f.shape.order → FrontGoesWith b v s
+    → (b ≡ stage.Rest → Follows v (followed ask.Wait (ring_step_at s f x).stage idle v x) (ring_step_at s f x).stage f.shape.order) → speaks (ask_at b v) ≡ false → ring_moves (ask_at b v) s ≡ true
+    → IsAnswer (ring_ask_at s f) x → Follows v (followed (ask_at b v) (ring_step_at s f x).stage idle v x) (ring_step_at s f x).stage f.shape.order
+begun_follows stage.Rest s v idle f x here at_stage e ordered goes rests quiet moves allowed = rests refl
+begun_follows (stage.RingWord word) s v idle f x here at_stage e ordered goes rests quiet moves allowed =
+    rw goes.2 (word_follows word v idle f x e goes.0 goes.1 goes.3 ordered (rw goes.2 at allowed))
+begun_follows (stage.Grant page) s v idle f x here at_stage e ordered goes rests quiet moves allowed = grant_follows page s v idle f x here e goes.0 goes.2 ordered goes.1 allowed
+begun_follows stage.NewPort s v idle f x here at_stage e ordered goes rests quiet moves allowed = rw goes.1 (port_follows v idle f x e goes.0 ordered (rw goes.1 at allowed))
+begun_follows (stage.EndGrant page) s v idle f x here at_stage e ordered goes rests quiet moves allowed = by_port v.port refl goes.2 ordered goes.1
+  where
+    by_port : (port : Option ℕ) → v.port ≡ port → IsSome port → OpenOrdered port (ring_order v) f.shape.order → IsEndingPage page s ⊎ (is_broken s ≡ true)
+        → Follows v (followed (ask.EndGrant page) (ring_step_at s f x).stage idle v x) (ring_step_at s f x).stage f.shape.order
+    by_port None p some agreed ending = absurd (true≢false (sym some))
+    by_port (Some n) p some agreed (inl is) =
+        end_follows page s v idle f x n e goes.0 p agreed (rw (here, p) agreed) (λ r ending. let next : FrontGoesWith (stage.EndGrant page) v r = (goes.0, ending, goes.2) in rw here next) is allowed
+    by_port (Some n) p some agreed (inr is) = broken_ends page s v idle f x here at_stage goes.0 goes.2 (rw (here, p) agreed) is
+begun_follows stage.ClosePort s v idle f x here at_stage e ordered goes rests quiet moves allowed = rw goes.1 (closed_follows v idle f x e goes.0 (rw goes.1 at allowed))
+begun_follows stage.Closed s v idle f x here at_stage e ordered goes rests quiet moves allowed =
+    rw goes.1 (over_follows stage.Closed (is_broken f.stage) v idle x f.stage f.shape.order here e (λ path. refl)
+    (record { goes = rw here (goes.0, at_stage ∙ goes.1, goes.2); closing = refl; own = refl; ordered = rw here ordered }))
+begun_follows (stage.Broken word) s v idle f x here at_stage e ordered goes rests quiet moves allowed =
     let is : is_broken (ring_step_at s f x).stage ≡ true = subst (λ (t : Ring). is_broken (ring_step_at t f x).stage ≡ true) at_stage (broken_step f x (ap is_broken at_stage ∙ goes)) in
-    subst (λ (b : Bool). Follows v (woken b idle v x) (ring_step_at s f x).stage) (sym is) (record { goes = rw here is; closing = refl; own = refl })
-begun_follows stage.Start s v idle f x here at_stage e order goes rests quiet moves allowed = absurd (true≢false quiet)
-begun_follows stage.ReadState s v idle f x here at_stage e order goes rests quiet moves allowed = absurd (true≢false quiet)
-begun_follows (stage.ReadFeature key) s v idle f x here at_stage e order goes rests quiet moves allowed = absurd (true≢false quiet)
-begun_follows (stage.Publish key) s v idle f x here at_stage e order goes rests quiet moves allowed = absurd (true≢false quiet)
-begun_follows (stage.ReadFact key) s v idle f x here at_stage e order goes rests quiet moves allowed = absurd (true≢false quiet)
-begun_follows (stage.WriteState own) s v idle f x here at_stage e order goes rests quiet moves allowed = absurd (true≢false quiet)
-begun_follows b s v idle f x here at_stage e order goes rests quiet moves allowed = absurd goes
+    subst (λ (b : Bool). Follows v (woken b idle v x) (ring_step_at s f x).stage f.shape.order) (sym is) (record { goes = rw here is; closing = refl; own = refl; ordered = rw here ordered })
+begun_follows stage.Start s v idle f x here at_stage e ordered goes rests quiet moves allowed = absurd (true≢false quiet)
+begun_follows stage.ReadState s v idle f x here at_stage e ordered goes rests quiet moves allowed = absurd (true≢false quiet)
+begun_follows (stage.ReadFeature key) s v idle f x here at_stage e ordered goes rests quiet moves allowed = absurd (true≢false quiet)
+begun_follows (stage.Publish key) s v idle f x here at_stage e ordered goes rests quiet moves allowed = absurd (true≢false quiet)
+begun_follows (stage.ReadFact key) s v idle f x here at_stage e ordered goes rests quiet moves allowed = absurd (true≢false quiet)
+begun_follows (stage.WriteState own) s v idle f x here at_stage e ordered goes rests quiet moves allowed = absurd (true≢false quiet)
+begun_follows b s v idle f x here at_stage e ordered goes rests quiet moves allowed = absurd goes
 
 -- a move of the ring's end, which its negotiation leaves it
-pub ring_fits : (v : FrontView) (f : ends.View) (x : FrontAnswer) → v.order ≡ 0 → FrontFits v f → speaks (ask_of v (is_unoccupied f)) ≡ false → ring_moves (ask_of v (is_unoccupied f)) f.stage ≡ true
+pub ring_fits : (v : FrontView) (f : ends.View) (x : FrontAnswer) → FrontFits v f → speaks (ask_of v (is_unoccupied f)) ≡ false → ring_moves (ask_of v (is_unoccupied f)) f.stage ≡ true
     → IsAnswer (ring_ask_at f.stage f) x → FrontFits (followed (ask_of v (is_unoccupied f)) (ring_step_of f x).stage (is_unoccupied f) v x) (ring_step_of f x)
-ring_fits v f x order h quiet moves allowed =
+ring_fits v f x h quiet moves allowed =
     follows_fit v _ f x h
     (due_cases (λ (d : FrontStage). due v idle ≡ d → Moves d) v idle
-    (λ e quiet moves. begun_follows v.stage f.stage v idle f x refl refl e order h.goes (λ here. rest_follows v f x here (e ∙ here) h (rests here moves) allowed) quiet moves allowed)
+    (λ e quiet moves. begun_follows v.stage f.stage v idle f x refl refl e h.ordered h.goes (λ here. rest_follows v f x here (e ∙ here) h (rests here moves) allowed) quiet moves allowed)
     (λ here closing is_idle.
     let is = unoccupied f is_idle in
-    closing_cases (λ (d : FrontStage). due v idle ≡ d → Moves d) v f.stage is.still (whole_rests v f here is.whole h) (λ first e quiet. absurd (true≢false quiet)) (λ own ending. leaves here own v.gone v.port refl refl ending)) refl quiet moves)
+    closing_cases (λ (d : FrontStage). due v idle ≡ d → Moves d) v f.stage is.still (whole_rests v f here is.whole h) (λ first e quiet. absurd (true≢false quiet))
+    (λ own ending. leaves here own is.whole v.gone v.port refl refl ending)) refl quiet moves)
   where
     idle : Bool
     idle = is_unoccupied f
 
     Moves : FrontStage → Type 0
-    Moves d = speaks (ask_at d v) ≡ false → ring_moves (ask_at d v) f.stage ≡ true → Follows v (followed (ask_at d v) (ring_step_of f x).stage idle v x) (ring_step_of f x).stage
+    Moves d = speaks (ask_at d v) ≡ false → ring_moves (ask_at d v) f.stage ≡ true → Follows v (followed (ask_at d v) (ring_step_of f x).stage idle v x) (ring_step_of f x).stage f.shape.order
 
     rests : v.stage ≡ stage.Rest → ring_moves (ask_at v.stage v) f.stage ≡ true → is_connected f.stage ≡ true
     rests here moves = rw here at moves
 
-    leaves : v.stage ≡ stage.Rest → v.state ≡ state.Closing → (gone : Bool) (port : Option ℕ) → v.gone ≡ gone → v.port ≡ port → FrontRests state.Closing gone port f.stage → due v idle ≡ leaving gone port → Moves (leaving gone port)
-    leaves here own false port g p ending e quiet moves = rest_follows v f x here e h moves allowed
-    leaves here own true None g p ending e quiet moves = absurd ending
-    leaves here own true (Some n) g p ending e quiet moves = end_follows f.stage v idle f x n here e own g p order ending allowed
+    leaves : v.stage ≡ stage.Rest → v.state ≡ state.Closing → is_broken f.stage ≡ false → (gone : Bool) (port : Option ℕ) → v.gone ≡ gone → v.port ≡ port → FrontRests state.Closing gone port f.stage
+        → due v idle ≡ leaving gone port → Moves (leaving gone port)
+    leaves here own whole false port g p ending e quiet moves = rest_follows v f x here e h moves allowed
+    leaves here own whole true None g p ending e quiet moves = absurd ending
+    leaves here own whole true (Some n) g p ending e quiet moves =
+        let agreed = whole_ordered v f here whole h in end_follows 0 f.stage v idle f x n e own p (rw p at agreed) h.ordered rested ending allowed
+      where
+        rested : (r : Ring) → IsEndingPage 0 r ⊎ (is_broken r ≡ true) → FrontGoesWith v.stage v r
+        rested r (inl is) = rw here (inl (rw (own, g, p) is))
+        rested r (inr is) = rw here (inr is)
 
 -- the negotiation waits where the ring's end has no move
 pub wait_fits : (v : FrontView) (f : ends.View) (x : FrontAnswer) → FrontFits v f → speaks (ask_of v (is_unoccupied f)) ≡ false → ring_moves (ask_of v (is_unoccupied f)) f.stage ≡ false
@@ -293,25 +334,25 @@ wait_fits v f x h quiet still =
     idle = is_unoccupied f
 
     Waits : FrontStage → Type 0
-    Waits d = speaks (ask_at d v) ≡ false → ring_moves (ask_at d v) f.stage ≡ false → Follows v (waited (ask_at d v) idle v x) f.stage
+    Waits d = speaks (ask_at d v) ≡ false → ring_moves (ask_at d v) f.stage ≡ false → Follows v (waited (ask_at d v) idle v x) f.stage f.shape.order
 
-    kept : Follows v (waited (ask_of v idle) idle v x) f.stage → FrontFits (waited (ask_of v idle) idle v x) f
-    kept follows = fits_at v _ f follows.goes follows.closing follows.own h
+    kept : Follows v (waited (ask_of v idle) idle v x) f.stage f.shape.order → FrontFits (waited (ask_of v idle) idle v x) f
+    kept follows = fits_at v _ f follows.goes follows.closing follows.own follows.ordered h
 
-    unmoved : Follows v v f.stage
-    unmoved = record { goes = h.goes; closing = refl; own = refl }
+    unmoved : Follows v v f.stage f.shape.order
+    unmoved = record { goes = h.goes; closing = refl; own = refl; ordered = h.ordered }
 
     whole : (r : Ring) → is_connected r ≡ false → is_broken r ≡ false
     whole (ring.Broken word) still = absurd (true≢false still)
     whole r still = refl
 
-    rests : v.stage ≡ stage.Rest → due v idle ≡ stage.Rest → is_connected f.stage ≡ false → Follows v (woken false idle v x) f.stage
-    rests here e still = let is = whole f.stage still in woken_follows false v idle x f.stage here e (inl (whole_rests v f here is h)) (λ none. is)
+    rests : v.stage ≡ stage.Rest → due v idle ≡ stage.Rest → is_connected f.stage ≡ false → Follows v (woken false idle v x) f.stage f.shape.order
+    rests here e still = let is = whole f.stage still in woken_follows false v idle x f.stage f.shape.order here e (rw here at h.ordered) (inl (whole_rests v f here is h)) (λ none. is)
 
     begun : (b : FrontStage) → v.stage ≡ b → due v idle ≡ b → FrontGoesWith b v f.stage → Waits b
     begun stage.Rest here e goes quiet still = rests here e still
-    begun stage.Closed here e goes quiet still = over_follows stage.Closed false v idle x f.stage here e (λ path. refl) unmoved
-    begun (stage.Broken word) here e goes quiet still = over_follows (stage.Broken word) false v idle x f.stage here e (λ path. refl) unmoved
+    begun stage.Closed here e goes quiet still = over_follows stage.Closed false v idle x f.stage f.shape.order here e (λ path. refl) unmoved
+    begun (stage.Broken word) here e goes quiet still = over_follows (stage.Broken word) false v idle x f.stage f.shape.order here e (λ path. refl) unmoved
     begun b here e goes quiet still = unmoved
 
     leaves : v.stage ≡ stage.Rest → (gone : Bool) (port : Option ℕ) → due v idle ≡ leaving gone port → Waits (leaving gone port)

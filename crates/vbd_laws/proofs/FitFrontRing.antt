@@ -7,6 +7,7 @@ use Rattle.blk_base.specs.Distance.{distance_of}
 use Rattle.blk_base.specs.declared.ask.FrontAnswer.{FrontAnswer}
 use Rattle.blk_base.specs.declared.ask.FrontAnswer.TheVariants as answer
 use Rattle.ring_words.specs.Ring.{responses_of, notifies}
+use Rattle.ring_words.specs.Shape.{entry_words_of}
 use Rattle.blk_layout.specs.declared.response.Response.{Response}
 use Rattle.blk_layout.specs.Response.{response_of}
 use Rattle.blk_front.specs.declared.stage.Stage.{Stage}
@@ -17,7 +18,7 @@ use Rattle.blk_front.specs.declared.request.Transfer.{Transfer}
 use Rattle.blk_front.specs.declared.request.Transfer.TheVariants as transfer
 use Rattle.blk_front.specs.Request.{has_data, words_in}
 use Rattle.blk_front.specs.View.{View, next_request}
-use Rattle.blk_front.specs.Step.{at, broken, looked, issue_stage, data_stage, granted, loop_step, found_at, issued, response_at, is_mapped, ended, revoked, sector_told, data_step, step_at, step_of}
+use Rattle.blk_front.specs.Step.{at, broken, looked, issue_stage, data_stage, granted, loop_step, found_at, issued, response_at, is_mapped, ended, revoked, ring_granted, ring_left, sector_told, data_step, step_at, step_of}
 use Rattle.blk_front.specs.declared.told.Told.TheVariants as told
 use Rattle.blk_front.specs.Ask.{is_through}
 use Rattle.blk_front.specs.Submit.{is_ready}
@@ -119,17 +120,19 @@ data_steps v (Some e) n word here =
     either (nat_lt (n + 1) (words_in e.request)) (stage.ReadData n) v _ _ (told_steps (stage.ReadData n) (stage.ReadData (n + 1)) v e n _ refl) (told_steps (stage.ReadData n) stage.Loop v e n _ refl)
 
 steps_at : (s : Stage) (v : View) (x : FrontAnswer) → v.stage ≡ s → Steps s v (step_at s v x)
-steps_at (stage.RingWord k) v x here = makes (stage.RingWord k) v (if k == 15 then stage.RingFrame else stage.RingWord (k + 1)) refl
-steps_at stage.RingFrame v x here = makes stage.RingFrame v stage.RingFence refl
-steps_at stage.RingFence v x here = makes stage.RingFence v stage.RingFlags refl
-steps_at stage.RingFlags v x here = makes stage.RingFlags v stage.NewPort refl
+steps_at (stage.RingWord k) v x here = makes (stage.RingWord k) v (if k == 15 then stage.RingFrame 0 else stage.RingWord (k + 1)) refl
+steps_at (stage.RingFrame page) v x here = makes (stage.RingFrame page) v (stage.RingFence page) refl
+steps_at (stage.RingFence page) v x here = makes (stage.RingFence page) v (stage.RingFlags page) refl
+steps_at (stage.RingFlags page) v x here = makes (stage.RingFlags page) v (ring_granted v page) refl
 steps_at stage.NewPort v x here = makes stage.NewPort v stage.Initialised refl
 steps_at stage.Loop v x here = loop_steps v (next_request v) x here
 steps_at (stage.Data n) v x here = goes_to (stage.Data n) v (data_stage (next_request v) n) (data_stage_up (next_request v) n)
 steps_at (stage.GrantFrame place) v x here = (refl, λ none. none, λ up. refl)
 steps_at (stage.GrantFence place) v x here = (refl, λ none. none, λ up. refl)
 steps_at (stage.GrantFlags place) v x here = granted_steps v (next_request v) place here
-steps_at (stage.Slot k) v x here = goes_to (stage.Slot k) v (if k == 27 then stage.Producer else stage.Slot (k + 1)) (either_stage (k == 27) stage.Producer (stage.Slot (k + 1)) refl refl)
+steps_at (stage.Slot k) v x here =
+    let last = k + 1 == entry_words_of v.shape.abi in
+    goes_to (stage.Slot k) v (if last then stage.Producer else stage.Slot (k + 1)) (either_stage last stage.Producer (stage.Slot (k + 1)) refl refl)
 steps_at stage.Producer v x here = (refl, λ none. none, λ up. refl)
 steps_at (stage.ProducerFence old) v x here = (refl, λ none. none, λ up. refl)
 steps_at (stage.RequestEvent old) v (answer.Word event) here =
@@ -146,10 +149,11 @@ steps_at (stage.ReadData n) v (answer.Word word) here = data_steps v v.ending n 
 steps_at stage.StoreEvent v x here = (refl, λ none. none, λ up. refl)
 steps_at stage.EventFence v x here = (refl, λ none. none, λ up. refl)
 steps_at stage.LookAgain v (answer.Word word) here = looked_steps stage.LookAgain v word (record v { seen = word; stage = stage.Loop; asleep = true }) (refl, λ none. none, λ up. refl)
-steps_at stage.RingRead v (answer.Word word) here =
-    either (is_mapped word) stage.RingRead v (broken word v) (at (stage.RingEnd word) v) (broken_steps stage.RingRead v word) (makes stage.RingRead v (stage.RingEnd word) refl)
-steps_at (stage.RingEnd before) v (answer.Word word) here =
-    either (word == before) (stage.RingEnd before) v (at stage.ClosePort v) (broken word v) (makes (stage.RingEnd before) v stage.ClosePort refl) (broken_steps (stage.RingEnd before) v word)
+steps_at (stage.RingRead page) v (answer.Word word) here =
+    either (is_mapped word) (stage.RingRead page) v (broken word v) (at (stage.RingEnd page word) v) (broken_steps (stage.RingRead page) v word) (makes (stage.RingRead page) v (stage.RingEnd page word) refl)
+steps_at (stage.RingEnd page before) v (answer.Word word) here =
+    either (word == before) (stage.RingEnd page before) v (at (ring_left v page) v) (broken word v) (makes (stage.RingEnd page before) v (ring_left v page) refl)
+    (broken_steps (stage.RingEnd page before) v word)
 steps_at stage.ClosePort v x here = makes stage.ClosePort v stage.Left refl
 steps_at s v x here = stays s v here
 

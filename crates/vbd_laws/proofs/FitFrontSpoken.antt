@@ -1,5 +1,5 @@
 -- What an answer to the front's negotiation makes of it and of its end of the ring.
-use Rattle.std.proofs.Common.{◌≡◌, ℕ, Bool, true, false, true≢false, inl, inr, refl, sym, ap, ◌∙◌, subst, arith}
+use Rattle.std.proofs.Common.{◌≡◌, ℕ, Bool, true, false, true≢false, inl, inr, refl, sym, ap, ◌∙◌, subst}
 use Rattle.std.specs.Prelude.{Option, Some, None, IsSome, length, ◌==◌}
 use Rattle.line_text.proofs.Both.{both_true}
 use Rattle.blk_base.specs.declared.ask.FrontAnswer.{FrontAnswer}
@@ -28,8 +28,8 @@ use Rattle.xenbus_state.proofs.FrontKeeps.{action_suits}
 use Rattle.vbd_front.specs.View.{is_still, is_broken}
 use Rattle.vbd_front.specs.Ask.{speaks}
 use Rattle.vbd_front.specs.Step.{states_of_news, all_entered}
-use Rattle.vbd_model.specs.Fit.{FrontRests, FrontGoesWith}
-use Rattle.vbd_laws.proofs.FitFrontBus.{FrontFits, IsUnoccupied, due_cases, closing_cases, rests_open, open_whole, Settles, settles_rest, settles_closing}
+use Rattle.vbd_model.specs.Fit.{FrontRests, FrontGoesWith, OpenOrdered, RestsOrdered, FrontOrdered}
+use Rattle.vbd_laws.proofs.FitFrontBus.{FrontFits, IsUnoccupied, due_cases, closing_cases, rests_open, open_whole, Settles, settles_begun, settles_rest, settles_closing}
 
 -- the front leaves, once the back is gone, only where no request is left
 abbrev LeavesIdle : Bool → FrontAction → Type 0
@@ -67,14 +67,19 @@ action_leaves own closing idle (Some other) = tt
 action_leaves own closing idle None = tt
 
 -- they fit at this stage, where the end of the ring is opened
-pub fits_at : (v u : FrontView) (f : ends.View) → FrontGoesWith u.stage u f.stage → u.closing ≡ v.closing → u.state ≡ v.state → FrontFits v f → FrontFits u f
-fits_at v u f goes closing own h = record { goes = goes; closing = λ whole. h.closing whole ∙ sym closing; through = λ e whole. h.through (sym own ∙ e) whole }
+pub fits_at : (v u : FrontView) (f : ends.View) → FrontGoesWith u.stage u f.stage → u.closing ≡ v.closing → u.state ≡ v.state → FrontOrdered u.stage u f.shape.order → FrontFits v f → FrontFits u f
+fits_at v u f goes closing own ordered h = record { goes = goes; closing = λ whole. h.closing whole ∙ sym closing; through = λ e whole. h.through (sym own ∙ e) whole; ordered = ordered }
+
+-- one that rests before it has made a ring has no port
+pub rests_ordered : (own : BusState) (gone : Bool) (port : Option ℕ) (r : Ring) (wished agreed order : ℕ) → FrontRests own gone port r → RestsOrdered own port wished agreed order → OpenOrdered port agreed order
+rests_ordered state.Initialising gone port r wished agreed order rests ordered = rw rests.1 tt
+rests_ordered own gone port r wished agreed order rests ordered = ordered
 
 -- a word breaks both
-breaks : (word : ℕ) (v : FrontView) (f : ends.View) → is_open f.stage ≡ true → FrontFits (broken word v) (enters (enter.Broken word) f)
-breaks word v f opened =
+breaks : (word : ℕ) (v : FrontView) (f : ends.View) → is_open f.stage ≡ true → OpenOrdered v.port (ring_order v) f.shape.order → FrontFits (broken word v) (enters (enter.Broken word) f)
+breaks word v f opened ordered =
     let entered : enters (enter.Broken word) f ≡ record f { stage = ring.Broken word } = rw opened refl in
-    subst (λ (x : ends.View). FrontFits (broken word v) x) (sym entered) (record { goes = refl; closing = λ whole. absurd (true≢false whole); through = λ e whole. absurd (true≢false whole) })
+    subst (λ (x : ends.View). FrontFits (broken word v) x) (sym entered) (record { goes = refl; closing = λ whole. absurd (true≢false whole); through = λ e whole. absurd (true≢false whole); ordered = ordered })
 
 -- both begin to close
 begun : (P : ends.View → Type 0) (c : Bool) (f : ends.View) → f.closing ≡ c → is_open f.stage ≡ true → P (record f { closing = true }) → P (all_entered (states_of_news (closing_news c)) f)
@@ -82,17 +87,19 @@ begun P true f closing opened holds = let same : record f { closing = true } ≡
 begun P false f closing opened holds = let entered : enters enter.Closing f ≡ record f { closing = true } = rw (closing, opened) refl in subst P (sym entered) holds
 
 -- and fit, as before, at a stage that the close leaves
-pub begun_fits : (v u : FrontView) (f : ends.View) → is_open f.stage ≡ true → FrontGoesWith u.stage u f.stage → u.closing ≡ true → u.state ≡ v.state → FrontFits v f → FrontFits u (record f { closing = true })
-begun_fits v u f opened goes closing own h = record {
+pub begun_fits : (v u : FrontView) (f : ends.View) → is_open f.stage ≡ true → FrontGoesWith u.stage u f.stage → u.closing ≡ true → u.state ≡ v.state → FrontOrdered u.stage u f.shape.order → FrontFits v f
+    → FrontFits u (record f { closing = true })
+begun_fits v u f opened goes closing own ordered h = record {
   goes = goes;
   closing = λ whole. sym closing;
   through = λ e whole. (both_true f.closing (length f.requests == 0) (h.through (sym own ∙ e) whole)).1;
+  ordered = ordered;
 }
 
 -- the back's state was read
 acted_settles : (act : FrontAction) (v : FrontView) (f : ends.View) (idle : Bool) → SuitsFront v.state act → LeavesIdle idle act → (idle ≡ true → IsUnoccupied f) → FrontFits v f → FrontRests v.state v.gone v.port f.stage
-    → Settles idle (acted act v) (all_entered (states_of_news (action_news act v.closing)) f)
-acted_settles act v f idle suits leaves free h rests = by_act act suits leaves
+    → RestsOrdered v.state v.port v.order (ring_order v) f.shape.order → Settles idle (acted act v) (all_entered (states_of_news (action_news act v.closing)) f)
+acted_settles act v f idle suits leaves free h rests ordered = by_act act suits leaves
   where
     opened : is_open f.stage ≡ true
     opened = rests_open v.state v.gone v.port f.stage rests
@@ -104,13 +111,13 @@ acted_settles act v f idle suits leaves free h rests = by_act act suits leaves
     still e = let is = free e in is.still
 
     rested : FrontRests v.state true v.port f.stage → Settles idle (acted action.Leave v) (record f { closing = true })
-    rested kept = settles_rest idle (acted action.Leave v) (record f { closing = true }) refl still kept (begun_fits v (acted action.Leave v) f opened (inl kept) refl refl h)
+    rested kept = settles_rest idle (acted action.Leave v) (record f { closing = true }) refl still kept (begun_fits v (acted action.Leave v) f opened (inl kept) refl refl ordered h)
 
     gone : (own : BusState) (was : Bool) (port : Option ℕ) → v.state ≡ own → v.gone ≡ was → v.port ≡ port → idle ≡ true → FrontRests own was port f.stage
         → Settles idle (acted action.Leave v) (record f { closing = true })
     gone state.Closing false port is g p e rests =
         let was = free e in
-        settles_closing idle (acted action.Leave v) (record f { closing = true }) refl is refl e (record { none = was.none; still = was.still; whole = was.whole }) refl (rw p rests)
+        settles_closing idle (acted action.Leave v) (record f { closing = true }) refl is refl e (record { none = was.none; still = was.still; whole = was.whole }) refl (rw is at ordered) (rw p rests)
     gone state.Closing true port is g p e rests = rested (rw (is, p) rests)
     gone state.Initialising was port is g p e rests = rested (rw (is, p) rests)
     gone state.Initialised was port is g p e rests = rested (rw (is, p) rests)
@@ -118,64 +125,64 @@ acted_settles act v f idle suits leaves free h rests = by_act act suits leaves
     gone own was port is g p e rests = absurd rests
 
     by_act : (act : FrontAction) → SuitsFront v.state act → LeavesIdle idle act → Settles idle (acted act v) (all_entered (states_of_news (action_news act v.closing)) f)
-    by_act action.Nothing suits leaves = settles_rest idle (acted action.Nothing v) f refl still rests (fits_at v (acted action.Nothing v) f (inl rests) refl refl h)
-    by_act action.Publish suits leaves = fits_at v (acted action.Publish v) f (let here = rw suits at rests in (suits, here.0, here.1)) refl refl h
-    by_act action.Connect suits leaves = fits_at v (acted action.Connect v) f (let here = rw suits at rests in (suits, here.0, here.1)) refl refl h
+    by_act action.Nothing suits leaves = settles_rest idle (acted action.Nothing v) f refl still rests (fits_at v (acted action.Nothing v) f (inl rests) refl refl ordered h)
+    by_act action.Publish suits leaves = fits_at v (acted action.Publish v) f (let here = rw suits at rests in (suits, here.0, here.1)) refl refl (rw suits at ordered) h
+    by_act action.Connect suits leaves = fits_at v (acted action.Connect v) f (let here = rw suits at rests in (suits, here.0, here.1)) refl refl (rw suits at ordered) h
     by_act action.Close suits leaves =
         begun (λ (x : ends.View). Settles idle (acted action.Close v) x) v.closing f same_closing opened
-        (settles_rest idle (acted action.Close v) (record f { closing = true }) refl still rests (begun_fits v (acted action.Close v) f opened (inl rests) refl refl h))
+        (settles_rest idle (acted action.Close v) (record f { closing = true }) refl still rests (begun_fits v (acted action.Close v) f opened (inl rests) refl refl ordered h))
     by_act action.CloseAndConnect suits leaves =
         begun (λ (x : ends.View). Settles idle (acted action.CloseAndConnect v) x) v.closing f same_closing opened
-        (begun_fits v (acted action.CloseAndConnect v) f opened (let here = rw suits at rests in (suits, here.0, here.1)) refl refl h)
+        (begun_fits v (acted action.CloseAndConnect v) f opened (let here = rw suits at rests in (suits, here.0, here.1)) refl refl (rw suits at ordered) h)
     by_act action.Leave suits leaves = begun (λ (x : ends.View). Settles idle (acted action.Leave v) x) v.closing f same_closing opened (gone v.state v.gone v.port refl refl refl leaves rests)
-    by_act (action.Break word) suits leaves = breaks word v f opened
+    by_act (action.Break word) suits leaves = breaks word v f opened (rests_ordered v.state v.gone v.port f.stage v.order (ring_order v) f.shape.order rests ordered)
 
 -- a key of the back was read
-feature_settles : (k : BackKey) (n : Option ℕ) (v : FrontView) (f : ends.View) (idle : Bool) → v.state ≡ state.Initialising → f.stage ≡ ring.RingWord 0 → v.port ≡ None → FrontFits v f
+feature_settles : (k : BackKey) (n : Option ℕ) (v : FrontView) (f : ends.View) (idle : Bool) → v.state ≡ state.Initialising → f.stage ≡ ring.RingWord 0 → v.port ≡ None → f.shape.order ≡ v.order → FrontFits v f
     → Settles idle (feature_step k n v) (all_entered (states_of_news (read_news n)) f)
-feature_settles k None v f idle own here port h = breaks 9 v f (ap is_open here)
-feature_settles k (Some n) v f idle own here port h = by_next (next_feature k)
+feature_settles k None v f idle own here port wished h = breaks 9 v f (ap is_open here) (rw port tt)
+feature_settles k (Some n) v f idle own here port wished h = by_next (next_feature k)
   where
     by_next : (next : Option BackKey) → Settles idle (record (feature_step k (Some n) v) { stage = after_feature next }) f
-    by_next (Some k) = fits_at v _ f (own, here, port) refl refl h
-    by_next None = fits_at v _ f (own, omega arith, here, port) refl refl h
+    by_next (Some k) = fits_at v _ f (own, here, port) refl refl wished h
+    by_next None = settles_begun _ f refl own port here wished h.closing
 
-fact_settles : (k : BackKey) (n : Option ℕ) (v : FrontView) (f : ends.View) (idle : Bool) → v.state ≡ state.Initialised → f.stage ≡ ring.Initialised → IsSome v.port → FrontFits v f
+fact_settles : (k : BackKey) (n : Option ℕ) (v : FrontView) (f : ends.View) (idle : Bool) → v.state ≡ state.Initialised → f.stage ≡ ring.Initialised → IsSome v.port → OpenOrdered v.port (ring_order v) f.shape.order → FrontFits v f
     → Settles idle (fact_step k n v) (all_entered (states_of_news (read_news n)) f)
-fact_settles k None v f idle own here port h = breaks 9 v f (ap is_open here)
-fact_settles k (Some n) v f idle own here port h = by_next (next_fact k)
+fact_settles k None v f idle own here port ordered h = breaks 9 v f (ap is_open here) ordered
+fact_settles k (Some n) v f idle own here port ordered h = by_next (next_fact k)
   where
     by_next : (next : Option BackKey) → Settles idle (record (fact_step k (Some n) v) { stage = after_fact next }) f
-    by_next (Some k) = fits_at v _ f (own, here, port) refl refl h
-    by_next None = fits_at v _ f (own, here, port) refl refl h
+    by_next (Some k) = fits_at v _ f (own, here, port) refl refl ordered h
+    by_next None = fits_at v _ f (own, here, port) refl refl ordered h
 
-published_settles : (next : Option FrontKey) (v : FrontView) (f : ends.View) (idle : Bool) → v.state ≡ state.Initialising → f.stage ≡ ring.Initialised → IsSome v.port → FrontFits v f
+published_settles : (next : Option FrontKey) (v : FrontView) (f : ends.View) (idle : Bool) → v.state ≡ state.Initialising → f.stage ≡ ring.Initialised → IsSome v.port → OpenOrdered v.port (ring_order v) f.shape.order → FrontFits v f
     → Settles idle (at (after_published next) v) f
-published_settles (Some k) v f idle own here port h = fits_at v _ f (own, here, port) refl refl h
-published_settles None v f idle own here port h = fits_at v _ f (own, here, port) refl refl h
+published_settles (Some k) v f idle own here port ordered h = fits_at v _ f (own, here, port) refl refl ordered h
+published_settles None v f idle own here port ordered h = fits_at v _ f (own, here, port) refl refl ordered h
 
 -- its own state was written
-connects_settles : (v : FrontView) (f : ends.View) (idle : Bool) → f.stage ≡ ring.Initialised → IsSome v.port → FrontFits v f
+connects_settles : (v : FrontView) (f : ends.View) (idle : Bool) → f.stage ≡ ring.Initialised → IsSome v.port → OpenOrdered v.port (ring_order v) f.shape.order → FrontFits v f
     → Settles idle (record v { state = state.Connected; stage = stage.Rest }) (enters enter.Connected f)
-connects_settles v f idle here port h =
+connects_settles v f idle here port ordered h =
     let entered : enters enter.Connected f ≡ record f { stage = ring.Loop } = rw here refl in
     subst (λ (x : ends.View). Settles idle (record v { state = state.Connected; stage = stage.Rest }) x) (sym entered)
     (settles_rest idle (record v { state = state.Connected; stage = stage.Rest }) (record f { stage = ring.Loop }) refl (λ e. refl) (refl, port)
-    (record { goes = inl (refl, port); closing = λ whole. h.closing (rw here refl); through = λ e whole. absurd (cc) }))
+    (record { goes = inl (refl, port); closing = λ whole. h.closing (rw here refl); through = λ e whole. absurd (cc); ordered = ordered }))
 
 bare_whole : (r : Ring) → is_bare r ≡ true → is_broken r ≡ false
 bare_whole (ring.Broken word) bare = absurd (true≢false (sym bare))
 bare_whole r bare = refl
 
-closes_settles : (v : FrontView) (f : ends.View) (idle : Bool) → v.state ≡ state.Closing → is_bare f.stage ≡ true → FrontFits v f
+closes_settles : (v : FrontView) (f : ends.View) (idle : Bool) → v.state ≡ state.Closing → is_bare f.stage ≡ true → OpenOrdered v.port (ring_order v) f.shape.order → FrontFits v f
     → Settles idle (record v { state = state.Closed; stage = stage.Closed }) (enters enter.Closed f)
-closes_settles v f idle own bare h =
+closes_settles v f idle own bare ordered h =
     let whole = bare_whole f.stage bare in
     let through = h.through own whole in
     let closing = sym (h.closing whole) ∙ (both_true f.closing (length f.requests == 0) through).0 in
     let entered : enters enter.Closed f ≡ record f { stage = ring.Closed } = rw (through, bare) refl in
     subst (λ (x : ends.View). Settles idle (record v { state = state.Closed; stage = stage.Closed }) x) (sym entered)
-    (record { goes = (refl, refl, closing); closing = λ e. h.closing whole; through = λ e. absurd (cc) })
+    (record { goes = (refl, refl, closing); closing = λ e. h.closing whole; through = λ e. absurd (cc); ordered = ordered })
 
 -- what was begun was answered
 abbrev Told : FrontStage → FrontView → ends.View → FrontAnswer → Bool → Type 0
@@ -186,24 +193,24 @@ told_settles : (d : FrontStage) (v : FrontView) (f : ends.View) (x : FrontAnswer
 told_settles stage.Start v f answer.Done idle free h says allowed =
     let goes = h.goes in
     let rests : FrontRests v.state v.gone v.port f.stage = rw goes.0 (goes.1, goes.2) in
-    settles_rest idle (at stage.Rest v) f refl (λ e. ap is_still goes.1) rests (fits_at (at stage.Start v) (at stage.Rest v) f (inl rests) refl refl h)
+    settles_rest idle (at stage.Rest v) f refl (λ e. ap is_still goes.1) rests (fits_at (at stage.Start v) (at stage.Rest v) f (inl rests) refl refl (rw goes.0 h.ordered) h)
 told_settles stage.ReadState v f (answer.Key text) idle free h says allowed =
     acted_settles (front_action v.state v.closing idle (state_read text)) (at stage.ReadState v) f idle (action_suits v.state v.closing idle (state_read text))
-    (action_leaves v.state v.closing idle (state_read text)) free h h.goes
+    (action_leaves v.state v.closing idle (state_read text)) free h h.goes h.ordered
 told_settles (stage.ReadFeature k) v f (answer.Key text) idle free h says allowed =
-    let goes = h.goes in feature_settles k (count_read text) (at (stage.ReadFeature k) v) f idle goes.0 goes.1 goes.2 h
+    let goes = h.goes in feature_settles k (count_read text) (at (stage.ReadFeature k) v) f idle goes.0 goes.1 goes.2 h.ordered h
 told_settles (stage.Publish k) v f answer.Done idle free h says allowed =
-    let goes = h.goes in published_settles (next_published (ring_order v) k) (at (stage.Publish k) v) f idle goes.0 goes.1 goes.2 h
+    let goes = h.goes in published_settles (next_published (ring_order v) k) (at (stage.Publish k) v) f idle goes.0 goes.1 goes.2 h.ordered h
 told_settles (stage.ReadFact k) v f (answer.Key text) idle free h says allowed =
-    let goes = h.goes in fact_settles k (fact_read k text) (at (stage.ReadFact k) v) f idle goes.0 goes.1 goes.2 h
+    let goes = h.goes in fact_settles k (fact_read k text) (at (stage.ReadFact k) v) f idle goes.0 goes.1 goes.2 h.ordered h
 told_settles (stage.WriteState state.Initialised) v f answer.Done idle free h says allowed =
     let goes = h.goes in
     let u : FrontView = record v { state = state.Initialised; stage = stage.Rest } in
-    settles_rest idle u f refl (λ e. ap is_still goes.1) (goes.1, goes.2) (record { goes = inl (goes.1, goes.2); closing = h.closing; through = λ e. absurd (cc) })
+    settles_rest idle u f refl (λ e. ap is_still goes.1) (goes.1, goes.2) (record { goes = inl (goes.1, goes.2); closing = h.closing; through = λ e. absurd (cc); ordered = h.ordered })
 told_settles (stage.WriteState state.Connected) v f answer.Done idle free h says allowed =
-    let goes = h.goes in connects_settles (at (stage.WriteState state.Connected) v) f idle goes.1 goes.2 h
+    let goes = h.goes in connects_settles (at (stage.WriteState state.Connected) v) f idle goes.1 goes.2 h.ordered h
 told_settles (stage.WriteState state.Closed) v f answer.Done idle free h says allowed =
-    let goes = h.goes in closes_settles (at (stage.WriteState state.Closed) v) f idle goes.0 goes.1 h
+    let goes = h.goes in closes_settles (at (stage.WriteState state.Closed) v) f idle goes.0 goes.1 h.ordered h
 told_settles (stage.WriteState own) v f answer.Done idle free h says allowed = absurd h.goes
 told_settles stage.Start v f x idle free h says allowed = absurd allowed
 told_settles stage.ReadState v f x idle free h says allowed = absurd allowed
@@ -214,15 +221,20 @@ told_settles (stage.WriteState own) v f x idle free h says allowed = absurd allo
 told_settles d v f x idle free h says allowed = absurd (true≢false (sym says))
 
 -- a closing front without unfinished requests says that it closes
-says_settles : (v : FrontView) (f : ends.View) (x : FrontAnswer) (idle : Bool) → v.closing ≡ true → idle ≡ true → IsUnoccupied f → FrontFits v f → FrontRests state.Closing false v.port f.stage
-    → IsAnswer (ask_at (stage.WriteState state.Closing) v) x → Told (stage.WriteState state.Closing) v f x idle
-says_settles v f answer.Done idle closing is_idle free h rests allowed =
-    settles_closing idle (record v { state = state.Closing; stage = stage.Rest }) f refl refl closing is_idle free (h.closing free.whole ∙ closing) rests
-says_settles v f x idle closing is_idle free h rests allowed = absurd allowed
+says_settles : (v : FrontView) (f : ends.View) (x : FrontAnswer) (idle : Bool) → v.closing ≡ true → idle ≡ true → IsUnoccupied f → FrontFits v f → OpenOrdered v.port (ring_order v) f.shape.order
+    → FrontRests state.Closing false v.port f.stage → IsAnswer (ask_at (stage.WriteState state.Closing) v) x → Told (stage.WriteState state.Closing) v f x idle
+says_settles v f answer.Done idle closing is_idle free h ordered rests allowed =
+    settles_closing idle (record v { state = state.Closing; stage = stage.Rest }) f refl refl closing is_idle free (h.closing free.whole ∙ closing) ordered rests
+says_settles v f x idle closing is_idle free h ordered rests allowed = absurd allowed
 
 -- a front that rests goes with a whole end of the ring where nothing of a request is left
 pub whole_rests : (v : FrontView) (f : ends.View) → v.stage ≡ stage.Rest → is_broken f.stage ≡ false → FrontFits v f → FrontRests v.state v.gone v.port f.stage
 whole_rests v f here whole h = let goes : FrontGoesWith stage.Rest v f.stage = rw here at h.goes in elim goes [ inl rests ↦ rests | inr is ↦ absurd (true≢false (sym is ∙ whole)) ]
+
+pub whole_ordered : (v : FrontView) (f : ends.View) → v.stage ≡ stage.Rest → is_broken f.stage ≡ false → FrontFits v f → OpenOrdered v.port (ring_order v) f.shape.order
+whole_ordered v f here whole h =
+    let ordered : RestsOrdered v.state v.port v.order (ring_order v) f.shape.order = rw here at h.ordered in
+    rests_ordered v.state v.gone v.port f.stage v.order (ring_order v) f.shape.order (whole_rests v f here whole h) ordered
 
 -- the negotiation was answered
 pub spoken_settles : (v : FrontView) (f : ends.View) (x : FrontAnswer) (idle : Bool) → (idle ≡ true → IsUnoccupied f) → FrontFits v f → speaks (ask_of v idle) ≡ true → IsAnswer (ask_of v idle) x
@@ -232,7 +244,7 @@ spoken_settles v f x idle free h =
     (λ here closing is_idle.
     let is = free is_idle in
     closing_cases (λ (d : FrontStage). speaks (ask_at d v) ≡ true → IsAnswer (ask_at d v) x → Told d v f x idle) v f.stage is.still (whole_rests v f here is.whole h)
-    (λ rests says. says_settles v f x idle closing is_idle is h rests) (λ own ending. leaves v.gone v.port))
+    (λ rests says. says_settles v f x idle closing is_idle is h (whole_ordered v f here is.whole h) rests) (λ own ending. leaves v.gone v.port))
   where
     leaves : (gone : Bool) (port : Option ℕ) → speaks (ask_at (leaving gone port) v) ≡ true → IsAnswer (ask_at (leaving gone port) v) x → Told (leaving gone port) v f x idle
     leaves false port says allowed = absurd (true≢false (sym says))

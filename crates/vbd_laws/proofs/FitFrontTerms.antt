@@ -73,8 +73,10 @@ terms_woken broken v idle x = same_terms v
 
 pub terms_followed : (b : FrontBusAsk) (s : Ring) (v : FrontView) (idle : Bool) (x : FrontAnswer) → Terms v (followed b s idle v x)
 terms_followed (ask.WriteRingWord word) s v idle x = terms_told v idle x
+terms_followed (ask.Grant page) (ring.RingFrame k) v idle x = terms_told v idle x
 terms_followed (ask.Grant page) ring.NewPort v idle x = terms_told v idle x
 terms_followed ask.NewPort s v idle x = terms_told v idle x
+terms_followed (ask.EndGrant page) (ring.RingRead k) v idle x = terms_told v idle answer.Done
 terms_followed (ask.EndGrant page) ring.ClosePort v idle x = terms_told v idle answer.Done
 terms_followed ask.ClosePort s v idle x = terms_told v idle x
 terms_followed ask.Wait s v idle x = terms_woken (is_broken s) v idle x

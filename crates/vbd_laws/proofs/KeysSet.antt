@@ -1,9 +1,8 @@
--- Each key that a negotiation sets it may set: it lies under the end's own directory, the layout is that of 64-bit guests, and no feature is offered.
+-- Each key that a negotiation sets it may set: it lies under the end's own directory, and no feature is offered.
 use Rattle.std.proofs.Common.{◌≡◌, ℕ, Bool, true, false, true≢false, if◌then◌else◌, List, [], ◌∷◌, inl, inr, refl, sym, ap, ◌∙◌, arith, decimal}
-use Rattle.std.specs.Prelude.{Option, Some, None}
+use Rattle.std.specs.Prelude.{Option, Some, None, ◌⊎◌}
 use Rattle.line_text.proofs.Both.{both_true}
 use Rattle.std.proofs.lemmas.Fmt.{decimal_digit}
-use Rattle.blk_base.specs.declared.operation.Abi.TheVariants.{X64}
 use Rattle.blk_base.specs.declared.parts.End.TheVariants as end
 use Rattle.blk_base.specs.declared.parts.Mapping.{Mapping}
 use Rattle.event_channel.specs.Channels.{ChannelState}
@@ -37,19 +36,19 @@ use Rattle.split_model.specs.Safe.{IsPorted}
 use Rattle.vbd_front.specs.Ask as front
 use Rattle.vbd_back.specs.Ask as back
 use Rattle.vbd_back.specs.View.{offer}
-use Rattle.vbd_front.specs.View.{is_unoccupied}
-use Rattle.vbd_model.specs.Fit.{is_ending_ring, FrontRests, IsGranting, FrontGoesWith, IsGivingUp, IsUnmapping, BackGoesWith, IsUnbound}
+use Rattle.vbd_front.specs.View.{is_unoccupied, is_broken}
+use Rattle.vbd_model.specs.Fit.{IsEndingPage, FrontRests, IsGranting, FrontGoesWith, IsGivingUp, IsUnmapping, BackGoesWith, IsUnbound}
 use Rattle.vbd_laws.proofs.FitFrontBus.{FrontFits, unoccupied, due_cases, closing_cases}
 use Rattle.vbd_laws.proofs.FitFrontSpoken.{whole_rests}
 use Rattle.vbd_laws.proofs.FitBackRing.{is_past}
 
-pub front_may_set : (v : FrontView) (k : FrontKey) → v.abi ≡ X64 → may_set end.Front (path_under end.Front (front_name k)) (text_of (front_value (terms_of v) k)) ≡ true
-front_may_set v front_key.RingPageOrder layout = refl
-front_may_set v front_key.RingRef layout = refl
-front_may_set v (front_key.RingRefOf page) layout = refl
-front_may_set v front_key.EventChannel layout = refl
-front_may_set v front_key.Protocol layout = rw layout refl
-front_may_set v front_key.FeaturePersistent layout = refl
+pub front_may_set : (v : FrontView) (k : FrontKey) → may_set end.Front (path_under end.Front (front_name k)) (text_of (front_value (terms_of v) k)) ≡ true
+front_may_set v front_key.RingPageOrder = refl
+front_may_set v front_key.RingRef = refl
+front_may_set v (front_key.RingRefOf page) = refl
+front_may_set v front_key.EventChannel = refl
+front_may_set v front_key.Protocol = refl
+front_may_set v front_key.FeaturePersistent = refl
 
 -- a feature that isn't offered says 0
 nothing : is_zero_text (decimal 0) ≡ true
@@ -81,12 +80,12 @@ abbrev pub BackMaySet : BackBusAsk → Type 0
 BackMaySet (back_ask.SetKey key value) = may_set end.Back (path_under end.Back (back_name key)) (text_of value) ≡ true
 BackMaySet a = Unit {0}
 
-front_sets_at : (b : FrontStage) (v : FrontView) → v.abi ≡ X64 → FrontMaySet (front_bus.ask_at b v)
-front_sets_at (front_stage.Publish key) v layout = front_may_set v key layout
-front_sets_at b v layout = tt
+front_sets_at : (b : FrontStage) (v : FrontView) → FrontMaySet (front_bus.ask_at b v)
+front_sets_at (front_stage.Publish key) v = front_may_set v key
+front_sets_at b v = tt
 
-pub front_sets : (v : FrontView) (idle : Bool) → v.abi ≡ X64 → FrontMaySet (front_bus.ask_of v idle)
-front_sets v idle layout = front_sets_at (front_bus.due v idle) v layout
+pub front_sets : (v : FrontView) (idle : Bool) → FrontMaySet (front_bus.ask_of v idle)
+front_sets v idle = front_sets_at (front_bus.due v idle) v
 
 unmap_sets : (v : BackView) → BackMaySet (back_bus.unmap_ask v.pages)
 unmap_sets v = by_pages v.pages
@@ -109,19 +108,28 @@ back_sets v offers = by_test (back_bus.says_closing v)
     by_test false = back_sets_at v.stage v offers
 
 -- where neither the front's negotiation nor its end of the ring has the move, the ring isn't made
-granting : (r : FrontRing) → IsGranting r → is_connected r ≡ false
-granting front_ring.RingFrame is = refl
-granting front_ring.RingFence is = refl
-granting front_ring.RingFlags is = refl
-granting r is = absurd is
+granting : (page : ℕ) (r : FrontRing) → IsGranting page r → is_connected r ≡ false
+granting page (front_ring.RingFrame k) is = refl
+granting page (front_ring.RingFence k) is = refl
+granting page (front_ring.RingFlags k) is = refl
+granting page r is = absurd is
+
+-- one that ends its grants, or broke as it did, has the move
+ending_moves : (page : ℕ) (r : FrontRing) → IsEndingPage page r ⊎ (is_broken r ≡ true) → front.ring_moves (front_ask.EndGrant page) r ≡ true
+ending_moves page (front_ring.RingRead k) is = refl
+ending_moves page (front_ring.RingEnd k seen) is = refl
+ending_moves page (front_ring.Broken word) is = refl
+ending_moves page r (inl is) = absurd is
+ending_moves page r (inr is) = absurd (true≢false (sym is))
 
 unconnected_at : (b : FrontStage) (v : FrontView) (r : FrontRing) → FrontGoesWith b v r → front.speaks (front_bus.ask_at b v) ≡ false → front.ring_moves (front_bus.ask_at b v) r ≡ false → is_connected r ≡ false
 unconnected_at front_stage.Rest v r goes quiet still = still
 unconnected_at front_stage.Closed v r goes quiet still = still
 unconnected_at (front_stage.Broken word) v r goes quiet still = still
 unconnected_at (front_stage.RingWord word) v r goes quiet still = ap is_connected goes.2
-unconnected_at (front_stage.Grant page) v r goes quiet still = granting r goes.2
+unconnected_at (front_stage.Grant page) v r goes quiet still = granting page r goes.1
 unconnected_at front_stage.NewPort v r goes quiet still = ap is_connected goes.1
+unconnected_at (front_stage.EndGrant page) v r goes quiet still = absurd (true≢false (sym (ending_moves page r goes.1) ∙ still))
 unconnected_at front_stage.ClosePort v r goes quiet still = absurd (true≢false (sym (ap (front.ring_moves front_ask.ClosePort) goes.1) ∙ still))
 unconnected_at front_stage.Start v r goes quiet still = absurd (true≢false quiet)
 unconnected_at front_stage.ReadState v r goes quiet still = absurd (true≢false quiet)
@@ -136,12 +144,7 @@ unconnected_leaving : (gone : Bool) (port : Option ℕ) (v : FrontView) (r : Fro
     → front.ring_moves (front_bus.ask_at (front_bus.leaving gone port) v) r ≡ false → is_connected r ≡ false
 unconnected_leaving false port v r rests quiet still = still
 unconnected_leaving true None v r rests quiet still = absurd rests
-unconnected_leaving true (Some p) v r rests quiet still = by_stage r rests still
-  where
-    by_stage : (r : FrontRing) → is_ending_ring r ≡ true → front.ring_moves (front_ask.EndGrant 0) r ≡ false → is_connected r ≡ false
-    by_stage front_ring.RingRead ending still = absurd (true≢false still)
-    by_stage (front_ring.RingEnd seen) ending still = absurd (true≢false still)
-    by_stage r ending still = absurd (true≢false (sym ending))
+unconnected_leaving true (Some p) v r rests quiet still = absurd (true≢false (sym (ending_moves 0 r (inl rests)) ∙ still))
 
 unconnected : (v : FrontView) (f : ends.View) → FrontFits v f → front.speaks (front_bus.ask_of v (is_unoccupied f)) ≡ false → front.ring_moves (front_bus.ask_of v (is_unoccupied f)) f.stage ≡ false → is_connected f.stage ≡ false
 unconnected v f fits =
@@ -155,9 +158,9 @@ unconnected v f fits =
 
 unported : (r : FrontRing) (c : ChannelState) → is_connected r ≡ false → IsPorted r c → c.ports ≡ []
 unported (front_ring.RingWord k) c unmade ported = ported.1
-unported front_ring.RingFrame c unmade ported = ported.1
-unported front_ring.RingFence c unmade ported = ported.1
-unported front_ring.RingFlags c unmade ported = ported.1
+unported (front_ring.RingFrame page) c unmade ported = ported.1
+unported (front_ring.RingFence page) c unmade ported = ported.1
+unported (front_ring.RingFlags page) c unmade ported = ported.1
 unported front_ring.NewPort c unmade ported = ported.1
 unported r c unmade ported = absurd (true≢false unmade)
 
@@ -168,6 +171,7 @@ front_unpending v f c fits ported none quiet still = none (unported f.stage c (u
 
 -- where neither the back's negotiation nor its end of the ring has the move, no port is bound
 unbound_free : (r : BackRing) → back.ring_moves back_ask.Wait r ≡ false → is_past r ≡ false
+unbound_free back_ring.InitWait still = refl
 unbound_free back_ring.MapRing still = refl
 unbound_free back_ring.Bind still = refl
 unbound_free r still = absurd (true≢false still)
@@ -190,7 +194,7 @@ unpast_at back_stage.UnmapOthers v r goes quiet still = absurd (true≢false (sy
 unpast_at back_stage.UnmapPage v r goes quiet still = absurd (true≢false (sym (unmapping_moves r v.pages goes) ∙ still))
 unpast_at back_stage.ClosePort v r goes quiet still = absurd (true≢false (sym (ap (back.ring_moves back_ask.ClosePort) goes) ∙ still))
 unpast_at back_stage.Halted v r goes quiet still = absurd (true≢false (sym (ap (back.ring_moves back_ask.Wait) goes.1) ∙ still))
-unpast_at back_stage.MapPage v r goes quiet still = elim goes.1 [ inl first ↦ ap is_past first | inr next ↦ ap is_past next ]
+unpast_at back_stage.MapPage v r goes quiet still = ap is_past goes.1
 unpast_at back_stage.Bind v r goes quiet still = ap is_past goes.1
 unpast_at (back_stage.Publish key) v r goes quiet still = absurd (true≢false quiet)
 unpast_at (back_stage.WriteState own) v r goes quiet still = absurd (true≢false quiet)
@@ -207,11 +211,13 @@ unpast v r goes = by_test (back_bus.says_closing v)
     by_test false quiet still = unpast_at v.stage v r goes quiet still
 
 unpast_unpending : (r : BackRing) (c : ChannelState) → is_past r ≡ false → IsUnbound r c → c.back_pending ≡ false
+unpast_unpending back_ring.InitWait c before unbound = unbound.1
 unpast_unpending back_ring.MapRing c before unbound = unbound.1
 unpast_unpending back_ring.Bind c before unbound = unbound.1
 unpast_unpending r c before unbound = absurd (true≢false before)
 
 unpast_between : (r : BackRing) → is_past r ≡ false → is_between r ≡ true
+unpast_between back_ring.InitWait before = refl
 unpast_between back_ring.MapRing before = refl
 unpast_between back_ring.Bind before = refl
 unpast_between r before = absurd (true≢false before)

@@ -7,8 +7,10 @@ pub mod FitFrontTerms
 pub mod FitBackRing
 pub mod FitBackBus
 pub mod FitBackMoves
+pub mod FitBackShares
 pub mod FitChannels
 pub mod MovesTurns
+pub mod MovesAttached
 pub mod FitFront
 pub mod FitBack
 pub mod Fit
@@ -20,11 +22,13 @@ pub mod NegotiatedRun
 pub mod NegotiatedFront
 pub mod NegotiatedBack
 pub mod NegotiatedRests
-pub mod NegotiatedKept
-pub mod NegotiatedWay
-pub mod NegotiatedMaps
 pub mod ServedTexts
 pub mod ServedFront
+pub mod NegotiatedAgreed
+pub mod NegotiatedKept
+pub mod NegotiatedEarly
+pub mod NegotiatedWay
+pub mod NegotiatedMaps
 pub mod ServedBack
 pub mod ServedPossible
 pub mod ServedHonest

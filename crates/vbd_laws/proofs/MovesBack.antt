@@ -23,13 +23,20 @@ use Rattle.blk_back.specs.Ask as back_ring
 use Rattle.line_text.proofs.Both.{both_true}
 use Rattle.xenbus_state.specs.declared.table.BackHalt.{BackHalt}
 use Rattle.xenbus_state.specs.States.{state_number}
-use Rattle.xenbus_state.specs.Keys.{back_name, path_under}
+use Rattle.xenbus_state.specs.Keys.{front_name, back_name, path_under}
+use Rattle.xenbus_state.specs.declared.keys.FrontKey.{FrontKey}
+use Rattle.xenbus_state.specs.declared.keys.FrontKey.TheVariants as key
+use Rattle.xenbus_state.specs.declared.stage.BackStage.{BackStage}
+use Rattle.xenbus_state.specs.declared.stage.BackStage.TheVariants as bus_stage
+use Rattle.xenbus_state.specs.BackStep.{step_of}
+use Rattle.blk_back.specs.Ask.{is_led}
+use Rattle.blk_base.specs.declared.moves.Move.{Move as Shown}
 use Rattle.xenbus_state.specs.Values.{text_of}
 use Rattle.xenbus_state.specs.declared.back.BackBusAsk.{BackBusAsk}
 use Rattle.xenbus_state.specs.declared.back.BackBusAsk.TheVariants as back_bus
 use Rattle.xenbus_state.specs.BackView.{BackView}
 use Rattle.split_model.specs.World as rings
-use Rattle.split_model.specs.Keys.{KeyMove, Sets, TakesWatch, may_set, is_between, watched_lines, key_lines, keys_after, negotiated, negotiated_lines}
+use Rattle.split_model.specs.Keys.{KeyMove, Gets, Sets, TakesWatch, may_set, is_between, reads_layout, may_negotiate, watched_lines, key_lines, keys_after, negotiated, negotiated_lines}
 use Rattle.split_model.specs.Happening as ring
 use Rattle.split_model.specs.Shown.{back_lines, halt_lines}
 use Rattle.split_model.proofs.SafeActs.{of_back, back_event, back_watch, made_back}
@@ -38,12 +45,12 @@ use Rattle.vbd_back.specs.View as back_view
 use Rattle.vbd_back.specs.Ask as back
 use Rattle.vbd_back.specs.Step as back_step
 use Rattle.vbd_model.specs.World.{World, backend_of}
-use Rattle.vbd_model.specs.Happening.{BackMoves, back_key, halted_at, reasons_of, back_does, back_turn, back_bus_after, DiskGoes}
-use Rattle.vbd_model.specs.Fit.{IsFit}
+use Rattle.vbd_model.specs.Happening.{BackMoves, back_key, halted_at, reasons_of, attaches, back_does, back_turn, back_bus_after, DiskGoes}
+use Rattle.vbd_model.specs.Fit.{BackGoesWith, IsFit}
 use Rattle.vbd_laws.specs.Moves.{IsBackMove, IsNoMove}
-use Rattle.vbd_laws.proofs.FitBack.{all_halt}
+use Rattle.vbd_laws.proofs.MovesAttached.{halted_only, all_halt, IsSaid, asks_layout, layout_asked, not_led, taken}
 use Rattle.vbd_laws.proofs.KeysSet.{BackMaySet, back_state_set, back_sets, back_unpending, back_turns}
-use Rattle.vbd_laws.proofs.MovesTurns.{back_asks, back_says, back_cases, quiet_back, waits_quiet, back_speaks}
+use Rattle.vbd_laws.proofs.MovesTurns.{back_asks, back_says, back_learns, back_takes, back_cases, quiet_back, waits_quiet, back_speaks}
 use Rattle.vbd_laws.proofs.MovesFront.{still_taken}
 
 -- the rings after this, and its lines, are as the answer makes them
@@ -72,55 +79,86 @@ abbrev Keyed : World → KeyMove → BackAct → Type 0
 Keyed w move a = (ring.happens w.rings (ring.Negotiates end.Back move) ≡ over w a.under) × (ring.lines_at w.rings (ring.Negotiates end.Back move) ≡ lines.Move a.shown ∷ [])
 
 -- between two entries and two replies the back may turn to its keys
-turns : (s : Stage) (move : KeyMove) (d : Directory) → is_between s ≡ true
+turns : (s : Stage) (move : KeyMove) (d : Directory) → may_negotiate s end.Back move ≡ true
     → (negotiated s end.Back move d ≡ keys_after end.Back move d) × (negotiated_lines s end.Back move d ≡ key_lines end.Back move d)
-turns s move d between = (rw between refl, rw between refl)
+turns s move d may = (rw may refl, rw may refl)
 
 -- a key that may be set is
 sets : (path text : List ℕ) (d : Directory) → may_set end.Back path text ≡ true
     → (keys_after end.Back (Sets path text) d ≡ written d path text) × (key_lines end.Back (Sets path text) d ≡ lines.Move (moves.SetKey mover.Back path text) ∷ [])
 sets path text d may = (rw may refl, rw may refl)
 
-turned : (w : World) (move : KeyMove) (d : Directory) (ls : List Line) → is_between w.rings.back.stage ≡ true → keys_after end.Back move w.rings.under.keys ≡ d → key_lines end.Back move w.rings.under.keys ≡ ls
+turned : (w : World) (move : KeyMove) (d : Directory) (ls : List Line) → may_negotiate w.rings.back.stage end.Back move ≡ true → keys_after end.Back move w.rings.under.keys ≡ d → key_lines end.Back move w.rings.under.keys ≡ ls
     → (ring.happens w.rings (ring.Negotiates end.Back move) ≡ over w (with_keys w.rings.under d)) × (ring.lines_at w.rings (ring.Negotiates end.Back move) ≡ ls)
-turned w move d ls between keys shown =
-    let may = turns w.rings.back.stage move w.rings.under.keys between in (ap (λ (k : Directory). over w (with_keys w.rings.under k)) (may.0 ∙ keys), may.1 ∙ shown)
+turned w move d ls turn keys shown =
+    let may = turns w.rings.back.stage move w.rings.under.keys turn in (ap (λ (k : Directory). over w (with_keys w.rings.under k)) (may.0 ∙ keys), may.1 ∙ shown)
 
-back_set : (w : World) (path text : List ℕ) → is_between w.rings.back.stage ≡ true → may_set end.Back path text ≡ true
+back_set : (w : World) (path text : List ℕ) → may_negotiate w.rings.back.stage end.Back (Sets path text) ≡ true → may_set end.Back path text ≡ true
     → (ring.happens w.rings (ring.Negotiates end.Back (Sets path text)) ≡ over w (with_keys w.rings.under (written w.rings.under.keys path text)))
     × (ring.lines_at w.rings (ring.Negotiates end.Back (Sets path text)) ≡ lines.Move (moves.SetKey mover.Back path text) ∷ [])
-back_set w path text between may = let set = sets path text w.rings.under.keys may in turned w (Sets path text) _ _ between set.0 set.1
+back_set w path text turn may = let set = sets path text w.rings.under.keys may in turned w (Sets path text) _ _ turn set.0 set.1
 
-keyed : (ask : BackBusAsk) (w : World) (a : BackAct) → is_between w.rings.back.stage ≡ true → BackMaySet ask → back.speaks ask ≡ true → back_act w.rings.under back_mover.Back (back.key_ask ask) Took ≡ Some a
-    → Keyed w (back_key ask) a
-keyed back_bus.Watch w a between may is e = of_back (λ (x : BackAct). Keyed w (back_key back_bus.Watch) x) _ a (turned w (back_key back_bus.Watch) _ _ between refl refl) e
-keyed back_bus.GetState w a between may is e = of_back (λ (x : BackAct). Keyed w (back_key back_bus.GetState) x) _ a (turned w (back_key back_bus.GetState) _ _ between refl refl) e
-keyed (back_bus.GetKey key) w a between may is e = of_back (λ (x : BackAct). Keyed w (back_key (back_bus.GetKey key)) x) _ a (turned w (back_key (back_bus.GetKey key)) _ _ between refl refl) e
-keyed (back_bus.SetKey key value) w a between may is e =
-    of_back (λ (x : BackAct). Keyed w (back_key (back_bus.SetKey key value)) x) _ a (back_set w (path_under end.Back (back_name key)) (text_of value) between may) e
-keyed (back_bus.SetState s) w a between may is e =
-    of_back (λ (x : BackAct). Keyed w (back_key (back_bus.SetState s)) x) _ a (back_set w back.own_state (decimal (state_number s)) between (back_state_set (decimal (state_number s)))) e
-keyed ask w a between may is e = absurd (true≢false (sym is))
+-- a key that names no layout may be read between two steps, and the layout where it is waited for
+may_read : (k : FrontKey) (s : Stage) → is_between s ≡ true → (k ≡ key.Protocol → is_led s ≡ true) → may_negotiate s end.Back (Gets (path_under end.Front (front_name k))) ≡ true
+may_read key.Protocol s between led = rw (between, led refl) refl
+may_read key.RingPageOrder s between led = rw between refl
+may_read (key.RingRefOf page) s between led = rw between refl
+may_read key.RingRef s between led = rw between refl
+may_read key.EventChannel s between led = rw between refl
+may_read key.FeaturePersistent s between led = rw between refl
+
+may_turn : (move : KeyMove) (s : Stage) → is_between s ≡ true → reads_layout move ≡ false → may_negotiate s end.Back move ≡ true
+may_turn move s between plain = rw (between, plain) refl
+
+keyed : (ask : BackBusAsk) (w : World) (a : BackAct) → is_between w.rings.back.stage ≡ true → (ask ≡ back_bus.GetKey key.Protocol → is_led w.rings.back.stage ≡ true) → BackMaySet ask → back.speaks ask ≡ true
+    → back_act w.rings.under back_mover.Back (back.key_ask ask) Took ≡ Some a → Keyed w (back_key ask) a
+keyed back_bus.Watch w a between led may is e = of_back (λ (x : BackAct). Keyed w (back_key back_bus.Watch) x) _ a (turned w (back_key back_bus.Watch) _ _ (may_turn (back_key back_bus.Watch) w.rings.back.stage between refl) refl refl) e
+keyed back_bus.GetState w a between led may is e = of_back (λ (x : BackAct). Keyed w (back_key back_bus.GetState) x) _ a (turned w (back_key back_bus.GetState) _ _ (may_turn (back_key back_bus.GetState) w.rings.back.stage between refl) refl refl) e
+keyed (back_bus.GetKey k) w a between led may is e =
+    of_back (λ (x : BackAct). Keyed w (back_key (back_bus.GetKey k)) x) _ a (turned w (back_key (back_bus.GetKey k)) _ _ (may_read k w.rings.back.stage between (λ same. led (ap back_bus.GetKey same))) refl refl) e
+keyed (back_bus.SetKey k value) w a between led may is e =
+    of_back (λ (x : BackAct). Keyed w (back_key (back_bus.SetKey k value)) x) _ a (back_set w (path_under end.Back (back_name k)) (text_of value) (may_turn (Sets (path_under end.Back (back_name k)) (text_of value)) w.rings.back.stage between refl) may) e
+keyed (back_bus.SetState s) w a between led may is e =
+    of_back (λ (x : BackAct). Keyed w (back_key (back_bus.SetState s)) x) _ a (back_set w back.own_state (decimal (state_number s)) (may_turn (Sets back.own_state (decimal (state_number s))) w.rings.back.stage between refl) (back_state_set (decimal (state_number s)))) e
+keyed ask w a between led may is e = absurd (true≢false (sym is))
 
 -- a halt tells nothing, and shows its line
-halted_told : (reason : Option BackHalt) (b : back_ends.View) → (back_step.ring_halted reason b).told ≡ b.told
+halted_told : (reason : Option BackHalt) (b : back_ends.View) → (halted_only reason b).told ≡ b.told
 halted_told None b = refl
 halted_told (Some why) b = halts_cases (λ (x : back_ends.View). x.told ≡ b.told) (back_step.ring_halt why) b (λ here. refl) (λ here. refl) refl
 
-halted_lines : (reason : Option BackHalt) (r : rings.World) → ring.lines_of (map ring.BackHalts (reasons_of reason)) r ≡ halt_lines r.back.halted (let b : back_ends.View = back_step.ring_halted reason r.back in b.halted)
+halted_lines : (reason : Option BackHalt) (r : rings.World) → ring.lines_of (map ring.BackHalts (reasons_of reason)) r ≡ halt_lines r.back.halted (let b : back_ends.View = halted_only reason r.back in b.halted)
 halted_lines None r = sym (halts_no_more r.back.halted)
 halted_lines (Some why) r = append-nil _
 
 -- the negotiation speaks
-says : (w : World) (a : BackAct) → w.rings.back.told ≡ None → Keyed w (back_key (back_asks w)) a
+says : (w : World) (a : BackAct) → w.rings.back.told ≡ None → IsSaid w a → attaches w (back_learns w) ≡ false → Keyed w (back_key (back_asks w)) a
     → Moved w a (back_says w (reasons_of (back_step.halt_of (backend_of w) a.answer))) (back_step.spoken (backend_of w) a.answer)
-says w a told is =
+says w a told said untaken is =
     let reason : Option BackHalt = back_step.halt_of (backend_of w) a.answer in
-    let halted : back_ends.View = back_step.ring_halted reason w.rings.back in
-    let quiet : halted.told ≡ None = halted_told reason w.rings.back ∙ told in (
+    let halted : back_ends.View = halted_only reason w.rings.back in
+    let quiet : halted.told ≡ None = halted_told reason w.rings.back ∙ told in
+    subst (λ (y : back_ends.View). Moved w a (back_says w (reasons_of reason)) (back_step.heard_by y (backend_of w) a.answer)) (sym (not_led w a said untaken)) (
       ap (λ (r : rings.World). ring.after (map ring.BackHalts (reasons_of reason)) r) is.0 ∙ (all_halt reason (over w a.under) ∙ ap (λ (b : back_ends.View). record (over w a.under) { back = b }) (quiet_ring halted quiet)),
       ap (λ (ls : List Line). ls ++ ring.lines_of (map ring.BackHalts (reasons_of reason)) (ring.happens w.rings (ring.Negotiates end.Back (back_key (back_asks w))))) is.1
           ∙ ap (λ (ls : List Line). lines.Move a.shown ∷ ls) (halted_lines reason _ ∙ sym (ap (λ t. back_lines t a.answer ++ halt_lines w.rings.back.halted halted.halted) quiet)),
+    )
+
+-- the layout is read, and its end of the ring takes the terms
+attached : (w : World) (a : BackAct) → w.rings.back.told ≡ None → back_turn w ≡ Some a → back.bus_moves (back_asks w) w.rings.back.stage ≡ true → attaches w (back_learns w) ≡ true
+    → Moves w a (back_takes (back_learns w)) (back.key_ask (back_asks w)) (λ x. back_step.spoken (backend_of w) x)
+attached w a told turn does takes e =
+    let took = taken w a (record { turn = turn; moves = does }) takes in
+    let acts : back_act w.rings.under back_mover.Back (back.key_ask (back_bus.GetKey key.Protocol)) Took ≡ Some a =
+    ap (λ (ask : BackBusAsk). back_act w.rings.under back_mover.Back (back.key_ask ask) Took) (sym (layout_asked w.back took.reads)) ∙ e in
+    let same : (a.under ≡ w.rings.under) × (a.shown ≡ ring.layout_read w.rings) = of_back (λ (x : BackAct). (x.under ≡ w.rings.under) × (x.shown ≡ ring.layout_read w.rings)) _ a (refl, refl) acts in
+    let y : back_ends.View = back_step.ring_led (back_step.halt_of (backend_of w) a.answer) (back_step.reads_layout (back_asks w)) (step_of w.back a.answer) w.rings.back in
+    let quiet : y.told ≡ None = ap (λ (b : back_ends.View). b.told) took.led ∙ told in
+    let running : y.halted ≡ w.rings.back.halted = ap (λ (b : back_ends.View). b.halted) took.led in (
+      took.after ∙ (ap (λ (b : back_ends.View). record w.rings { back = b }) (quiet_ring y quiet) ∙ ap (λ (h : Hypervisor). record (over w h) { back = record y { told = None } }) (sym same.0)),
+      ap (λ (yes : Bool). (if yes then lines.Move (ring.layout_read w.rings) ∷ [] else []) ++ []) took.goes
+          ∙ (ap (λ (m : Shown). lines.Move m ∷ []) (sym same.1)
+          ∙ ap (λ (ls : List Line). lines.Move a.shown ∷ ls) (sym (ap (λ t. back_lines t a.answer ++ halt_lines w.rings.back.halted y.halted) quiet ∙ (ap (λ (h : Option Halt). halt_lines w.rings.back.halted h) running ∙ halts_no_more w.rings.back.halted)))),
     )
 
 -- its end of the ring moves
@@ -132,7 +170,7 @@ takes : (w : World) (a : BackAct) (next : Option (List ℕ)) → w.rings.back.to
     → back_watched w.rings.under next ≡ Some a → Moved w a (ring.Negotiates end.Back TakesWatch ∷ []) (back_step.ring_step false (back_asks w) (backend_of w) a.answer)
 takes w a None told between first e = absurd (none-some a e)
 takes w a (Some path) told between first e =
-    let is = turned w TakesWatch _ _ between refl (ap (λ (n : Option (List ℕ)). watched_lines end.Back n) first) in
+    let is = turned w TakesWatch _ _ (may_turn TakesWatch w.rings.back.stage between refl) refl (ap (λ (n : Option (List ℕ)). watched_lines end.Back n) first) in
     of_back (λ (x : BackAct). Moved w x (ring.Negotiates end.Back TakesWatch ∷ []) (back_step.ring_step false (back_asks w) (backend_of w) x.answer)) (back_watch w.rings.under path) a (
       is.0 ∙ ap (λ (b : back_ends.View). record (over w (back_watch w.rings.under path).under) { back = b }) (quiet_ring w.rings.back told),
       ap (λ (ls : List Line). ls ++ []) is.1
@@ -160,14 +198,21 @@ waited w a fit quiet still e =
 pub back_sets_asked : (w : World) → IsFit w → BackMaySet (back_asks w)
 back_sets_asked w fit = back_sets w.back fit.offers
 
+-- the layout is read while the end of the ring waits for it
+waits_for_layout : (w : World) → IsFit w → back_asks w ≡ back_bus.GetKey key.Protocol → is_led w.rings.back.stage ≡ true
+waits_for_layout w fit asked =
+    let here = (asks_layout w.back (ap back_step.reads_layout asked)).1 in
+    let goes : BackGoesWith (bus_stage.ReadKey key.Protocol) w.back.state w.rings.back.stage = subst (λ (b : BackStage). BackGoesWith b w.back.state w.rings.back.stage) here fit.back in
+    ap is_led goes.1
+
 goes : (w : World) (a : BackAct) → IsFit w → back_turn w ≡ Some a → Moved w a (back_does w) (back_step.step_of (backend_of w) a.answer)
 goes w a fit turn =
     back_cases (Moves w a) w
-    (λ does e.
+    (λ does untaken e.
     subst (λ (act : Option BackAct). Moved w a (back_says w (halted_at w act)) (back_step.spoken (backend_of w) a.answer)) (sym turn)
-    (says w a fit.safe.back_told
-    (keyed (back_asks w) w a (back_turns (back_asks w) w.rings.back.stage does) (back_sets_asked w fit) (both_true (back.speaks (back_asks w)) (back.is_between w.rings.back.stage) does).0 e)))
-    (λ quiet does. moved w a) (waited w a fit) turn
+    (says w a fit.safe.back_told (record { turn = turn; moves = does }) untaken
+    (keyed (back_asks w) w a (back_turns (back_asks w) w.rings.back.stage does) (waits_for_layout w fit) (back_sets_asked w fit) (both_true (back.speaks (back_asks w)) (back.is_between w.rings.back.stage) does).0 e)))
+    (attached w a fit.safe.back_told turn) (λ quiet does. moved w a) (waited w a fit) turn
 
 -- no disk is called
 abbrev CallsNone : World → DiskSeen → List ring.Happening → BackAsk → (BackAnswer → back_view.View) → Type 0
@@ -178,7 +223,7 @@ halts_disk [] r d = refl
 halts_disk (why ∷ reasons) r d = (d, refl, halts_disk reasons (ring.happens r (ring.BackHalts why)) d)
 
 calls_none : (w : World) (d : DiskSeen) → DiskGoes w BackMoves d d
-calls_none w d = back_cases (CallsNone w d) w (λ does. (d, refl, halts_disk (halted_at w (back_turn w)) _ d)) (λ quiet does. (d, refl, refl)) (λ quiet still. (d, refl, refl))
+calls_none w d = back_cases (CallsNone w d) w (λ does untaken. (d, refl, halts_disk (halted_at w (back_turn w)) _ d)) (λ does takes. (d, refl, refl)) (λ quiet does. (d, refl, refl)) (λ quiet still. (d, refl, refl))
 
 -- the machine with this of the rings, and of the back's negotiation
 abbrev with_back : World → rings.World → BackView → World
@@ -206,7 +251,7 @@ unwatched h (Some path) e = absurd (none-some _ (sym e))
 takes_none : (w : World) → is_between w.rings.back.stage ≡ true → watch_next w.rings.under end.Back ≡ None
     → (ring.after (ring.Negotiates end.Back TakesWatch ∷ []) w.rings ≡ w.rings) × (ring.lines_of (ring.Negotiates end.Back TakesWatch ∷ []) w.rings ≡ [])
 takes_none w between none =
-    let may = turns w.rings.back.stage TakesWatch w.rings.under.keys between in (
+    let may = turns w.rings.back.stage TakesWatch w.rings.under.keys (may_turn TakesWatch w.rings.back.stage between refl) in (
       ap (λ (d : Directory). over w (with_keys w.rings.under d)) (may.0 ∙ still_taken w.rings.under.keys end.Back none),
       ap (λ (ls : List Line). ls ++ []) (may.1 ∙ ap (λ (n : Option (List ℕ)). watched_lines end.Back n) none),
     )
@@ -221,7 +266,8 @@ waits_still w fit quiet still e =
 
 still : (w : World) → IsFit w → Still w (back_does w) (back.ask_of (backend_of w)) (λ x. back_step.step_of (backend_of w) x)
 still w fit =
-    back_cases (Still w) w (λ does e. absurd (back_speaks w.rings.under (back_asks w) (both_true (back.speaks (back_asks w)) (back.is_between w.rings.back.stage) does).0 e))
+    back_cases (Still w) w (λ does untaken e. absurd (back_speaks w.rings.under (back_asks w) (both_true (back.speaks (back_asks w)) (back.is_between w.rings.back.stage) does).0 e))
+    (λ does takes e. absurd (back_speaks w.rings.under (back_asks w) (both_true (back.speaks (back_asks w)) (back.is_between w.rings.back.stage) does).0 e))
     (λ quiet does e. (ap (λ (act : Option BackAct). ring.back_after w.rings act) e, ap (λ (act : Option BackAct). ring.back_shows w.rings act ++ []) e))
     (waits_still w fit)
 

@@ -29,7 +29,7 @@ use Rattle.xenbus_state.specs.declared.front.FrontBusAsk.TheVariants as front_bu
 use Rattle.xenbus_state.specs.States.{state_number}
 use Rattle.xenbus_state.specs.Keys.{front_name, path_under}
 use Rattle.xenbus_state.specs.Values.{text_of}
-use Rattle.xenbus_state.specs.FrontView.{FrontView, closed}
+use Rattle.xenbus_state.specs.FrontView.{FrontView, ring_order, closed}
 use Rattle.xenbus_state.specs.FrontAsk as bus_asks
 use Rattle.split_model.specs.World as rings
 use Rattle.split_model.specs.Keys.{KeyMove, Sets, TakesWatch, may_set, watched_lines}
@@ -103,19 +103,25 @@ entered_told : (states : List FrontState) (f : front_ends.View) → (front_step.
 entered_told [] f = refl
 entered_told (s ∷ states) f = entered_told states (enters s f) ∙ (entered_kept s f).told
 
-due_lines : (due : FrontBusAsk) (r : rings.World) → ring.lines_of (map ring.FrontEnters (front_step.states_due due)) r ≡ []
-due_lines (front_bus.EndGrant page) r = by_test (may_enter enter.Leaving r.front)
+due_lines : (due : FrontBusAsk) (order : ℕ) (r : rings.World) → ring.lines_of (map ring.FrontEnters (front_step.states_due due order)) r ≡ []
+due_lines (front_bus.WriteRingWord word) order r = by_test (may_enter (enter.Agreed order) r.front)
+  where
+    by_test : (b : Bool) → (if b then state_lines (enter.Agreed order) else []) ++ [] ≡ []
+    by_test true = refl
+    by_test false = refl
+due_lines (front_bus.EndGrant page) order r = by_test (may_enter enter.Leaving r.front)
   where
     by_test : (b : Bool) → (if b then state_lines enter.Leaving else []) ++ [] ≡ []
     by_test true = refl
     by_test false = refl
-due_lines due r = refl
+due_lines due order r = refl
 
-entered_lines : (news : Option FrontNews) (due : FrontBusAsk) (r : rings.World) → ring.lines_of (map ring.FrontEnters (front_step.states_entered news due)) r ≡ news_lines (front_step.news_told news r.front)
-entered_lines None due r = due_lines due r
-entered_lines (Some n) due r =
+entered_lines : (news : Option FrontNews) (due : FrontBusAsk) (order : ℕ) (r : rings.World)
+    → ring.lines_of (map ring.FrontEnters (front_step.states_entered news due order)) r ≡ news_lines (front_step.news_told news r.front)
+entered_lines None due order r = due_lines due order r
+entered_lines (Some n) due order r =
     let s : FrontState = front_step.state_of_news n in
-    ap (λ (ls : List Line). ring.enter_lines s r.front ++ ls) (due_lines due (ring.happens r (ring.FrontEnters s))) ∙ (append-nil (ring.enter_lines s r.front) ∙ by_test (may_enter s r.front))
+    ap (λ (ls : List Line). ring.enter_lines s r.front ++ ls) (due_lines due order (ring.happens r (ring.FrontEnters s))) ∙ (append-nil (ring.enter_lines s r.front) ∙ by_test (may_enter s r.front))
   where
     by_test : (b : Bool) → (if b then state_lines (front_step.state_of_news n) else []) ≡ news_lines (if b then Some n else None)
     by_test true = refl
@@ -131,7 +137,7 @@ says w a told is =
       ap (λ (r : rings.World). ring.after (map ring.FrontEnters states) r) is.0
           ∙ (all_enter states (over w a.under) ∙ ap (λ (f : front_ends.View). record (over w a.under) { front = f }) (quiet_ring (front_step.all_entered states w.rings.front) quiet)),
       ap (λ (ls : List Line). ls ++ ring.lines_of (map ring.FrontEnters states) (ring.happens w.rings (ring.Negotiates end.Front (front_key (front_asks w))))) is.1
-          ∙ ap (λ (ls : List Line). lines.Move a.shown ∷ ls) (entered_lines (front_step.news_of (frontend_of w) a.answer) due _
+          ∙ ap (λ (ls : List Line). lines.Move a.shown ∷ ls) (entered_lines (front_step.news_of (frontend_of w) a.answer) due (ring_order (front_step.bus_after (frontend_of w) a.answer)) _
           ∙ sym (ap (λ t. front_lines t ++ news_lines (front_step.news_told (front_step.news_of (frontend_of w) a.answer) w.rings.front)) quiet)),
     )
 
@@ -164,7 +170,7 @@ waited w a fit quiet still e =
 
 -- each key that the negotiation sets it may set
 pub front_sets_asked : (w : World) → IsFit w → FrontMaySet (front_asks w)
-front_sets_asked w fit = front_sets w.front (front_view.is_unoccupied w.rings.front) fit.layout
+front_sets_asked w fit = front_sets w.front (front_view.is_unoccupied w.rings.front)
 
 goes : (w : World) (a : FrontAct) → IsFit w → front_turn w ≡ Some a → Moved w a (front_does w) (front_step.step_of (frontend_of w) a.answer)
 goes w a fit turn =

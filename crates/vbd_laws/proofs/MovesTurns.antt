@@ -1,5 +1,5 @@
 -- A move of an end is one of three: its negotiation speaks, its end of the ring has the move, or both wait.
-use Rattle.std.proofs.Common.{◌≡◌, ◌≢◌, Bool, true, false, true≢false, if◌then◌else◌, List, [], ◌∷◌, map, refl, sym, ◌∙◌}
+use Rattle.std.proofs.Common.{◌≡◌, ◌≢◌, Bool, true, false, true≢false, ◌&&◌, if◌then◌else◌, List, [], ◌∷◌, map, refl, sym, ap, ◌∙◌, subst}
 use Rattle.std.specs.Prelude.{Some, None}
 use Rattle.std.proofs.lemmas.Option.{none-some}
 use Rattle.blk_base.specs.declared.parts.End.TheVariants as end
@@ -22,6 +22,7 @@ use Rattle.xenbus_state.specs.declared.front.FrontBusAsk.{FrontBusAsk}
 use Rattle.xenbus_state.specs.declared.front.FrontBusAsk.TheVariants as front_bus
 use Rattle.xenbus_state.specs.declared.back.BackBusAsk.{BackBusAsk}
 use Rattle.xenbus_state.specs.declared.back.BackBusAsk.TheVariants as back_bus
+use Rattle.xenbus_state.specs.BackView.{BackView}
 use Rattle.xenbus_state.specs.FrontAsk as front_bus_ends
 use Rattle.xenbus_state.specs.BackAsk as back_bus_ends
 use Rattle.split_model.specs.Keys.{TakesWatch}
@@ -34,7 +35,7 @@ use Rattle.vbd_back.specs.View as back_view
 use Rattle.vbd_back.specs.Ask as back
 use Rattle.vbd_back.specs.Step as back_step
 use Rattle.vbd_model.specs.World.{World, frontend_of, backend_of}
-use Rattle.vbd_model.specs.Happening.{front_key, back_key, front_turn, back_turn, entered_at, halted_at, front_enters, back_halts, front_does, back_does}
+use Rattle.vbd_model.specs.Happening.{front_key, back_key, front_turn, back_turn, entered_at, halted_at, front_enters, back_halts, back_bus_after, is_none, attaches, back_negotiates, front_does, back_does}
 
 -- what each negotiation asks
 abbrev pub front_asks : World → FrontBusAsk
@@ -49,6 +50,13 @@ front_says w states = ring.Negotiates end.Front (front_key (front_asks w)) ∷ m
 
 abbrev pub back_says : World → List Halt → List ring.Happening
 back_says w reasons = ring.Negotiates end.Back (back_key (back_asks w)) ∷ map ring.BackHalts reasons
+
+-- what the back's negotiation knows after its act, and its end of the ring takes these terms
+abbrev pub back_learns : World → BackView
+back_learns w = back_bus_after w (back_turn w)
+
+abbrev pub back_takes : BackView → List ring.Happening
+back_takes b = ring.BackAttaches (back_step.shape_read b) b.grefs b.terms.port ∷ []
 
 -- what is true of each kind of move of the front is true of its move: of what it is to the ring's machine, of what it asks, and of what an answer makes of it
 pub front_cases : (P : List ring.Happening → FrontAsk → (FrontAnswer → front_view.View) → Type 0) (w : World)
@@ -70,21 +78,39 @@ front_cases P w spoken moved waited = by_test (front.speaks (front_asks w)) (fro
 
 -- and of the back
 pub back_cases : (P : List ring.Happening → BackAsk → (BackAnswer → back_view.View) → Type 0) (w : World)
-    → (back.bus_moves (back_asks w) w.rings.back.stage ≡ true → P (back_says w (halted_at w (back_turn w))) (back.key_ask (back_asks w)) (λ x. back_step.spoken (backend_of w) x))
+    → (back.bus_moves (back_asks w) w.rings.back.stage ≡ true → attaches w (back_learns w) ≡ false
+    → P (back_says w (halted_at w (back_turn w))) (back.key_ask (back_asks w)) (λ x. back_step.spoken (backend_of w) x))
+    → (back.bus_moves (back_asks w) w.rings.back.stage ≡ true → attaches w (back_learns w) ≡ true
+    → P (back_takes (back_learns w)) (back.key_ask (back_asks w)) (λ x. back_step.spoken (backend_of w) x))
     → (back.bus_moves (back_asks w) w.rings.back.stage ≡ false → back.ring_moves (back_asks w) w.rings.back.stage ≡ true
     → P (ring.BackMoves ∷ []) (back_ring.ask_of w.rings.back) (λ x. back_step.ring_step true (back_asks w) (backend_of w) x))
     → (back.bus_moves (back_asks w) w.rings.back.stage ≡ false → back.ring_moves (back_asks w) w.rings.back.stage ≡ false
     → P (back_says w []) back_ask.Wait (λ x. back_step.ring_step false (back_asks w) (backend_of w) x))
     → P (back_does w) (back.ask_of (backend_of w)) (λ x. back_step.step_of (backend_of w) x)
-back_cases P w spoken moved waited = by_test (back.bus_moves (back_asks w) w.rings.back.stage) (back.ring_moves (back_asks w) w.rings.back.stage) refl refl
+back_cases P w spoken attached moved waited = by_test (back.bus_moves (back_asks w) w.rings.back.stage) (back.ring_moves (back_asks w) w.rings.back.stage) refl refl
   where
+    b : BackView
+    b = back_learns w
+
+    takes_terms : (says : Bool) → Bool
+    takes_terms says = says && back_step.reads_layout (back_asks w) && is_none (halted_at w (back_turn w)) && ring.attaches_at w.rings (back_step.shape_read b) b.grefs
+
+    with_halts : (says : Bool) (ask : BackAsk) (step : BackAnswer → back_view.View) → back.bus_moves (back_asks w) w.rings.back.stage ≡ says
+        → P (ring.Negotiates end.Back (back_key (back_asks w)) ∷ back_halts says w) ask step → P (back_negotiates false w b) ask step
+    with_halts says ask step e holds = subst (λ (s : Bool). P (ring.Negotiates end.Back (back_key (back_asks w)) ∷ back_halts s w) ask step) (sym e) holds
+
+    says_so : (takes : Bool) → back.bus_moves (back_asks w) w.rings.back.stage ≡ true → takes_terms true ≡ takes
+        → P (back_negotiates takes w b) (back.key_ask (back_asks w)) (λ x. back_step.spoken (backend_of w) x)
+    says_so true says e = attached says (ap takes_terms says ∙ e)
+    says_so false says e = with_halts true _ _ says (spoken says (ap takes_terms says ∙ e))
+
     by_test : (says moves : Bool) → back.bus_moves (back_asks w) w.rings.back.stage ≡ says → back.ring_moves (back_asks w) w.rings.back.stage ≡ moves
-        → P (if (if says then false else moves) then ring.BackMoves ∷ [] else ring.Negotiates end.Back (back_key (back_asks w)) ∷ back_halts says w)
+        → P (if (if says then false else moves) then ring.BackMoves ∷ [] else back_negotiates (takes_terms says) w b)
         (if says then back.key_ask (back_asks w) else back.ring_ask moves (backend_of w))
         (λ x. if says then back_step.spoken (backend_of w) x else back_step.ring_step moves (back_asks w) (backend_of w) x)
-    by_test true moves says does = spoken says
+    by_test true moves says does = says_so (takes_terms true) says refl
     by_test false true says does = moved says does
-    by_test false false says does = waited says does
+    by_test false false says does = with_halts false _ _ says (waited says does)
 
 -- a front that doesn't speak may only take its watch
 pub quiet_front : (a : FrontBusAsk) → front.speaks a ≡ false → front_key a ≡ TakesWatch
@@ -105,6 +131,7 @@ quiet_back a quiet = refl
 
 -- where the back's negotiation and its end of the ring wait, the negotiation doesn't speak: one that does leaves the move to an end that is within a step
 within : (s : BackRing) → back.is_between s ≡ false → back.ring_moves back_bus.Wait s ≡ true
+within back_ring_stage.InitWait mid = absurd (true≢false mid)
 within back_ring_stage.MapRing mid = absurd (true≢false mid)
 within back_ring_stage.Bind mid = absurd (true≢false mid)
 within s mid = refl

@@ -1,5 +1,5 @@
 -- A move of the back is a move of the negotiation, or two, or none, where no map and no bind is refused.
-use Rattle.std.proofs.Common.{◌⊎◌, inl, inr, ◌≡◌, ◌∙◌, ap, sym, subst, ℕ, ◌^◌, ◌<◌, Bool, true, false, true≢false, ◌&&◌, if◌then◌else◌, List, [], ◌∷◌, length, refl, arith}
+use Rattle.std.proofs.Common.{◌⊎◌, inl, inr, ◌≡◌, ◌∙◌, ap, sym, subst, ℕ, ◌<◌, Bool, true, false, true≢false, ◌&&◌, if◌then◌else◌, List, [], ◌∷◌, length, refl, arith}
 use Rattle.std.specs.Prelude.{Option, Some, None, is_some, Result, Ok, Err}
 use Rattle.blk_base.specs.declared.parts.End.TheVariants as end
 use Rattle.blk_base.specs.declared.parts.Mapping.{Mapping}
@@ -31,10 +31,8 @@ use Rattle.xenbus_state.specs.declared.stage.BackStage.{BackStage}
 use Rattle.xenbus_state.specs.declared.stage.BackStage.TheVariants as stage
 use Rattle.xenbus_state.specs.declared.back.BackBusAsk.{BackBusAsk}
 use Rattle.xenbus_state.specs.declared.back.BackBusAsk.TheVariants as bus_ask
-use Rattle.xenbus_state.specs.FrontView.{FrontView, ring_order, pages_of}
-use Rattle.negotiation_laws.proofs.Granting.{maps_after_grants}
 use Rattle.xenbus_state.specs.BackView.{BackView, is_halting, halted}
-use Rattle.xenbus_state.specs.BackAsk.{ask_of, ask_at, says_closing, next_gref, unmap_ask}
+use Rattle.xenbus_state.specs.BackAsk.{ask_of, ask_at, says_closing, unmap_ask}
 use Rattle.xenbus_state.specs.BackStep.{step_of, step_at, after_state, last_state, giving_up, other_pages}
 use Rattle.split_model.proofs.SafeActs.{of_back, back_takes}
 use Rattle.split_model.proofs.SafeAnswers.{IsBacks, backs_of}
@@ -167,14 +165,14 @@ module _ (n : Negotiation) (h : Hypervisor) (kept : n.keys ≡ h.keys) (j : Reac
   told_done : (b : BackBusAsk) (page : Mapping) (x : BackAnswer) → ask_of n.back ≡ b → x ≡ back_answered b page n.keys → back_done b n.keys ≡ n.keys → Reached (with_back n (step_of n.back x) h.keys)
   told_done b page x asks heard done = told_reached n b page x h.keys asks heard (sym kept ∙ sym done) j
 
-  map_follows : (gref : ℕ) (verdict : Result ℕ MapRefusal) → ask_of n.back ≡ bus_ask.Map gref → Follows n (bus_ask.Map gref) (map_act h back_mover.Back 8 ReadWrite verdict)
-  map_follows gref (Ok frame) asks given = told_done (bus_ask.Map gref) _ _ asks refl refl
-  map_follows gref (Err refusal) asks given = absurd given
+  map_follows : (gref own : ℕ) (verdict : Result ℕ MapRefusal) → ask_of n.back ≡ bus_ask.Map gref → Follows n (bus_ask.Map gref) (map_act h back_mover.Back own ReadWrite verdict)
+  map_follows gref own (Ok frame) asks given = told_done (bus_ask.Map gref) _ _ asks refl refl
+  map_follows gref own (Err refusal) asks given = absurd given
 
-  bind_follows : (p : ℕ) (s : PortState) → ask_of n.back ≡ bus_ask.Bind p → Follows n (bus_ask.Bind p) (bind_act h 1 s)
-  bind_follows p port.Unbound asks given = told_done (bus_ask.Bind p) a_page answer.Done asks refl refl
-  bind_follows p port.Closed asks given = absurd given
-  bind_follows p port.Bound asks given = absurd given
+  bind_follows : (p own : ℕ) (s : PortState) → ask_of n.back ≡ bus_ask.Bind p → Follows n (bus_ask.Bind p) (bind_act h own s)
+  bind_follows p own port.Unbound asks given = told_done (bus_ask.Bind p) a_page answer.Done asks refl refl
+  bind_follows p own port.Closed asks given = absurd given
+  bind_follows p own port.Bound asks given = absurd given
 
   leaves_follows : (a : BackAct) → Leaves h a → Reached (with_back n n.back a.under.keys)
   leaves_follows a leaves = still_reached n h a.under.keys kept leaves.keys j
@@ -190,22 +188,27 @@ module _ (n : Negotiation) (h : Hypervisor) (kept : n.keys ≡ h.keys) (j : Reac
   push_leaves r a ring_stage.Send within e = of_back (Leaves h) _ a (record { unwatched = tt; keys = refl }) e
   push_leaves r a s within e = absurd (true≢false within)
 
+  -- a page that was mapped is given up
+  unmaps_follow : (m : Mapping) (pages : List Mapping) (a : BackAct) → ask_of n.back ≡ bus_ask.Unmap m → 0 < length pages → back_act h back_mover.Back (ring_ask.unmap_ask pages) Took ≡ Some a → Follows n (bus_ask.Unmap m) a
+  unmaps_follow m [] a asks some e = absurd (omega arith)
+  unmaps_follow m (page ∷ pages) a asks some e = of_back (Follows n (bus_ask.Unmap m)) _ a (λ given. told_done (bus_ask.Unmap m) a_page answer.Done asks refl refl) e
+
   -- what its end of the ring did is told it where it asked for that
-  ring_follows : (r : ring.View) (a : BackAct) (b : BackBusAsk) (s : Stage) → ask_of n.back ≡ b → r.stage ≡ s → bus_moves b s ≡ false → ring_moves b s ≡ true → IsBacks (ring_ask.ask_at s r)
+  ring_follows : (r : ring.View) (a : BackAct) (b : BackBusAsk) (s : Stage) → ask_of n.back ≡ b → r.stage ≡ s → bus_moves b s ≡ false → ring_moves b s ≡ true → (IsUnmapping s → 0 < length r.pages) → IsBacks (ring_ask.ask_at s r)
       → back_act h back_mover.Back (ring_ask.ask_at s r) Took ≡ Some a → Follows n b a
-  ring_follows r a bus_ask.Wait s asks here quiet moves own e = λ given. waits_reached n h a kept asks (quiet_act h (ring_ask.ask_at s r) a own e) j
-  ring_follows r a (bus_ask.Map gref) ring_stage.MapRing asks here quiet moves own e = of_back (Follows n (bus_ask.Map gref)) _ a (map_follows gref (verdict_at h.pages 8 ReadWrite) asks) e
-  ring_follows r a (bus_ask.Bind p) ring_stage.Bind asks here quiet moves own e = of_back (Follows n (bus_ask.Bind p)) _ a (bind_follows p (state_of h.channels 1) asks) e
-  ring_follows r a (bus_ask.Unmap m) ring_stage.UnmapRing asks here quiet moves own e = of_back (Follows n (bus_ask.Unmap m)) _ a (λ given. told_done (bus_ask.Unmap m) a_page answer.Done asks refl refl) e
-  ring_follows r a (bus_ask.Unmap m) ring_stage.UnmapUnbound asks here quiet moves own e = of_back (Follows n (bus_ask.Unmap m)) _ a (λ given. told_done (bus_ask.Unmap m) a_page answer.Done asks refl refl) e
-  ring_follows r a bus_ask.ClosePort ring_stage.ClosePort asks here quiet moves own e = of_back (Follows n bus_ask.ClosePort) _ a (λ given. told_done bus_ask.ClosePort a_page answer.Done asks refl refl) e
-  ring_follows r a bus_ask.UnmapOthers (ring_stage.GiveUp m) asks here quiet moves own e = of_back (Follows n bus_ask.UnmapOthers) _ a (λ given. still_reached n h h.keys kept refl j) e
-  ring_follows r a bus_ask.Watch s asks here quiet moves own e = λ given. leaves_follows a (push_leaves r a s quiet e)
-  ring_follows r a bus_ask.GetState s asks here quiet moves own e = λ given. leaves_follows a (push_leaves r a s quiet e)
-  ring_follows r a (bus_ask.GetKey key) s asks here quiet moves own e = λ given. leaves_follows a (push_leaves r a s quiet e)
-  ring_follows r a (bus_ask.SetState own) s asks here quiet moves backs e = λ given. leaves_follows a (push_leaves r a s quiet e)
-  ring_follows r a (bus_ask.SetKey key value) s asks here quiet moves own e = λ given. leaves_follows a (push_leaves r a s quiet e)
-  ring_follows r a b s asks here quiet moves own e = absurd (true≢false (sym moves))
+  ring_follows r a bus_ask.Wait s asks here quiet moves some own e = λ given. waits_reached n h a kept asks (quiet_act h (ring_ask.ask_at s r) a own e) j
+  ring_follows r a (bus_ask.Map gref) ring_stage.MapRing asks here quiet moves some own e = of_back (Follows n (bus_ask.Map gref)) _ a (map_follows gref (ring_ask.next_gref r) (verdict_at h.pages (ring_ask.next_gref r) ReadWrite) asks) e
+  ring_follows r a (bus_ask.Bind p) ring_stage.Bind asks here quiet moves some own e = of_back (Follows n (bus_ask.Bind p)) _ a (bind_follows p r.port (state_of h.channels r.port) asks) e
+  ring_follows r a (bus_ask.Unmap m) ring_stage.UnmapRing asks here quiet moves some own e = unmaps_follow m r.pages a asks (some tt) e
+  ring_follows r a (bus_ask.Unmap m) ring_stage.UnmapUnbound asks here quiet moves some own e = unmaps_follow m r.pages a asks (some tt) e
+  ring_follows r a bus_ask.ClosePort ring_stage.ClosePort asks here quiet moves some own e = of_back (Follows n bus_ask.ClosePort) _ a (λ given. told_done bus_ask.ClosePort a_page answer.Done asks refl refl) e
+  ring_follows r a bus_ask.UnmapOthers (ring_stage.GiveUp m) asks here quiet moves some own e = of_back (Follows n bus_ask.UnmapOthers) _ a (λ given. still_reached n h h.keys kept refl j) e
+  ring_follows r a bus_ask.Watch s asks here quiet moves some own e = λ given. leaves_follows a (push_leaves r a s quiet e)
+  ring_follows r a bus_ask.GetState s asks here quiet moves some own e = λ given. leaves_follows a (push_leaves r a s quiet e)
+  ring_follows r a (bus_ask.GetKey key) s asks here quiet moves some own e = λ given. leaves_follows a (push_leaves r a s quiet e)
+  ring_follows r a (bus_ask.SetState own) s asks here quiet moves some backs e = λ given. leaves_follows a (push_leaves r a s quiet e)
+  ring_follows r a (bus_ask.SetKey key value) s asks here quiet moves some own e = λ given. leaves_follows a (push_leaves r a s quiet e)
+  ring_follows r a b s asks here quiet moves some own e = absurd (true≢false (sym moves))
 
 -- a halting negotiation goes on halting
 state_halting : (s : BusState) → is_halting (stage.WriteState s) ≡ true → is_halting (after_state s) ≡ true
@@ -252,7 +255,7 @@ woken_halting v x is = is
 followed_halting : (b : BackBusAsk) (v : BackView) (x : BackAnswer) → is_halting v.stage ≡ true → is_halting (followed b v x).stage ≡ true
 followed_halting (bus_ask.Map gref) v x is = told_halting v x is
 followed_halting (bus_ask.Bind p) v x is = told_halting v x is
-followed_halting (bus_ask.Unmap m) v x is = told_halting v x is
+followed_halting (bus_ask.Unmap m) v x is = told_halting v answer.Done is
 followed_halting bus_ask.ClosePort v x is = told_halting v x is
 followed_halting bus_ask.Wait v x is = woken_halting v x is
 followed_halting b v x is = is
@@ -266,11 +269,12 @@ halted_same (Some why) v is = by_test (is_halting v.stage) (is refl)
     by_test true e = refl
     by_test false e = absurd (true≢false (sym e))
 
--- where neither moves, the negotiation waits, or has mapped the only page of a ring that it takes for a larger one
+-- where neither moves the negotiation waits
 abbrev IsStuck : BackBusAsk → Stage → Type 0
-IsStuck b r = (b ≡ bus_ask.Wait) ⊎ ((gref : ℕ) × (b ≡ bus_ask.Map gref) × (r ≡ ring_stage.Bind))
+IsStuck b r = b ≡ bus_ask.Wait
 
 speaks_ring : (b : BackBusAsk) (r : Stage) → speaks b ≡ true → is_between r ≡ false → ring_moves b r ≡ true
+speaks_ring b ring_stage.InitWait says within = absurd (true≢false within)
 speaks_ring b ring_stage.MapRing says within = absurd (true≢false within)
 speaks_ring b ring_stage.Bind says within = absurd (true≢false within)
 speaks_ring bus_ask.Watch r says within = refl
@@ -296,12 +300,8 @@ unmapping_moves m ring_stage.UnmapUnbound is = refl
 unmapping_moves m r is = absurd is
 
 unmap_stuck : (pages : List Mapping) (r : Stage) → IsUnmapping r → ring_moves (unmap_ask pages) r ≡ false → IsStuck (unmap_ask pages) r
-unmap_stuck [] r is still = inl refl
+unmap_stuck [] r is still = refl
 unmap_stuck (m ∷ pages) r is still = moves_stuck (bus_ask.Unmap m) r (unmapping_moves m r is) still
-
-map_stuck : (gref : ℕ) (r : Stage) → (r ≡ ring_stage.MapRing) ⊎ (r ≡ ring_stage.Bind) → ring_moves (bus_ask.Map gref) r ≡ false → IsStuck (bus_ask.Map gref) r
-map_stuck gref r (inl here) still = moves_stuck (bus_ask.Map gref) r (rw here refl) still
-map_stuck gref r (inr here) still = inr (gref, refl, here)
 
 stuck_at : (s : BackStage) (v : BackView) (r : Stage) → BackGoesWith s v.state r → bus_moves (ask_at s v) r ≡ false → ring_moves (ask_at s v) r ≡ false → IsStuck (ask_at s v) r
 stuck_at (stage.Publish k) v r fits quiet still = says_stuck (ask_at (stage.Publish k) v) r refl quiet still
@@ -310,9 +310,9 @@ stuck_at stage.Watch v r fits quiet still = says_stuck (ask_at stage.Watch v) r 
 stuck_at stage.ReadState v r fits quiet still = says_stuck (ask_at stage.ReadState v) r refl quiet still
 stuck_at (stage.ReadKey k) v r fits quiet still = says_stuck (ask_at (stage.ReadKey k) v) r refl quiet still
 stuck_at (stage.PublishFact k) v r fits quiet still = says_stuck (ask_at (stage.PublishFact k) v) r refl quiet still
-stuck_at stage.Rest v r fits quiet still = inl refl
-stuck_at stage.Halted v r fits quiet still = inl refl
-stuck_at stage.MapPage v r fits quiet still = map_stuck (next_gref v) r fits.1 still
+stuck_at stage.Rest v r fits quiet still = refl
+stuck_at stage.Halted v r fits quiet still = refl
+stuck_at stage.MapPage v r fits quiet still = moves_stuck (ask_at stage.MapPage v) r (rw fits.1 refl) still
 stuck_at stage.Bind v r fits quiet still = moves_stuck (ask_at stage.Bind v) r (rw fits.1 refl) still
 stuck_at stage.UnmapOthers v r fits quiet still = moves_stuck bus_ask.UnmapOthers r (giving_moves r fits) still
 stuck_at stage.UnmapPage v r fits quiet still = unmap_stuck v.pages r fits still
@@ -329,18 +329,11 @@ both_first : (p q : Bool) → (p && q) ≡ true → p ≡ true
 both_first true q e = refl
 both_first false q e = e
 
--- the ring has one page, so no more is mapped
-one_page : (v : FrontView) → v.order ≡ 0 → pages_of v ≡ 1
-one_page v e = let least : ring_order v ≡ 0 = omega (arith, e) in ap (λ (n : ℕ). 2 ^ n) least
-
-maps_no_more : (w : World) (gref : ℕ) → IsFit w → Joined w → ask_of w.back ≡ bus_ask.Map gref → w.rings.back.stage ≡ ring_stage.Bind → ⊥
-maps_no_more w gref fit j asks here =
-    let maps = maps_after_grants j.run gref (subst (λ (n : Negotiation). ask_of n.back ≡ bus_ask.Map gref) (sym j.stands) asks) in
-    let few : length w.back.pages < pages_of w.front = subst (λ (n : Negotiation). length n.back.pages < pages_of n.front) j.stands maps.page in
-    let one = one_page w.front fit.order in
-    let holds = subst (λ (r : Stage). BackHolds r (length w.back.pages) w.back.bound) here fit.held in
-    let mapped = holds.0 in
-    omega arith
+-- a back that unmaps a page of the ring has one
+unmapping_some : (s : Stage) (order pages : ℕ) (bound : Bool) → BackHolds s order pages bound → IsUnmapping s → 0 < pages
+unmapping_some ring_stage.UnmapRing order pages bound held is = held.0
+unmapping_some ring_stage.UnmapUnbound order pages bound held is = held.0
+unmapping_some s order pages bound held is = absurd is
 
 -- so the negotiation goes on as a run
 module _ (w : World) (a : BackAct) (fit : IsFit w) (j : Joined w) (given : IsGiven a.answer) where
@@ -361,14 +354,13 @@ module _ (w : World) (a : BackAct) (fit : IsFit w) (j : Joined w) (given : IsGiv
       → back_act w.rings.under back_mover.Back (ring_ask.ask_of w.rings.back) Took ≡ Some a → GoesTo (backend_step.ring_moved b (ring_step.step_of w.rings.back a.answer) v a.answer)
   moved_to mine quiet moves unhalted e =
       let later : ring.View = ring_step.step_of w.rings.back a.answer in
-      let told = ring_follows n w.rings.under refl j w.rings.back a b w.rings.back.stage refl refl quiet moves (backs_of w.rings.back) e given in
+      let told = ring_follows n w.rings.under refl j w.rings.back a b w.rings.back.stage refl refl quiet moves (λ is. subst (λ (pages : List Mapping). 0 < length pages) (sym fit.pages) (unmapping_some w.rings.back.stage w.back.terms.order (length w.back.pages) w.back.bound fit.held is)) (backs_of w.rings.back) e given in
       let same = halted_same later.halted (followed b w.back a.answer) (λ some. followed_halting b w.back a.answer (sym fit.halted ∙ (ap is_some (sym (unhalted mine)) ∙ some))) in
       subst (λ (u : BackView). Reached (with_back n (settled later.stage u) a.under.keys)) (sym same) (settled_reached later.stage (with_back n (followed b w.back a.answer) a.under.keys) told)
 
   waited_to : IsStuck b w.rings.back.stage → back_act w.rings.under back_mover.Back ask.Wait Took ≡ Some a → GoesTo (backend_step.ring_step false b v a.answer)
-  waited_to (inl asks) e =
+  waited_to asks e =
       subst (λ (c : BackBusAsk). Reached (with_back n (waited c w.back a.answer) a.under.keys)) (sym asks) (waits_reached n w.rings.under a refl asks (quiet_act w.rings.under ask.Wait a tt e) j)
-  waited_to (inr stuck) e = absurd (maps_no_more w stuck.0 fit j stuck.1 stuck.2)
 
 abbrev Moves : World → BackAct → BackAsk → View → Type 0
 Moves w a asked after = back_act w.rings.under back_mover.Back asked Took ≡ Some a → Reached (with_back (negotiation_of w) after.bus a.under.keys)

@@ -1,5 +1,5 @@
 -- A move of the front is a move of the negotiation, or two, or none.
-use Rattle.std.proofs.Common.{◌⊎◌, inl, inr, ◌≡◌, ◌∙◌, ap, sym, subst, ℕ, ◌+◌, ◌≤◌, Bool, true, false, true≢false, ◌&&◌, if◌then◌else◌, List, refl, arith}
+use Rattle.std.proofs.Common.{◌⊎◌, inl, inr, ◌≡◌, ◌∙◌, ap, sym, subst, ℕ, ◌+◌, ◌^◌, ◌≤◌, Bool, true, false, true≢false, ◌&&◌, if◌then◌else◌, List, refl, arith}
 use Rattle.std.specs.Prelude.{Option, Some, None, nat_lt, ◌==◌, length}
 use Rattle.std.proofs.lemmas.Bool.Decides.{nat_tests}
 use Rattle.blk_base.specs.declared.parts.End.TheVariants as end
@@ -13,6 +13,7 @@ use Rattle.hypervisor.specs.Hypervisor.{Hypervisor}
 use Rattle.hypervisor.specs.Act.{FrontAct, front_act}
 use Rattle.blk_front.specs.declared.stage.Stage.{Stage}
 use Rattle.blk_front.specs.declared.stage.Stage.TheVariants as ring_stage
+use Rattle.ring_words.specs.Shape.{entry_words_of}
 use Rattle.blk_front.specs.View as ring
 use Rattle.blk_front.specs.Ask as ring_ask
 use Rattle.blk_front.specs.Step as ring_step
@@ -44,7 +45,7 @@ use Rattle.event_channel.specs.Channels.{ChannelState}
 use Rattle.split_model.specs.Safe.{IsPorted}
 use Rattle.negotiation_laws.specs.Happening.{FrontMoves}
 use Rattle.vbd_laws.proofs.NegotiatedRun.{negotiation_of, Reached, Joined, reached_one, reached_as}
-use Rattle.vbd_model.specs.Fit.{is_ending_ring, FrontRests, IsGranting, FrontGoesWith, IsFit}
+use Rattle.vbd_model.specs.Fit.{IsEndingPage, FrontRests, IsGranting, FrontGoesWith, IsFit}
 use Rattle.split_model.proofs.SafeActs.{of_front, front_takes}
 use Rattle.split_model.proofs.SafeAnswers.{AsksNoKey, fronts_no_key}
 use Rattle.negotiation_laws.specs.Negotiation.{Negotiation, front_woken, front_answered, front_done, front_moved}
@@ -152,17 +153,17 @@ granted_whole r None place p = p
 granted_whole r (Some q) place p = either_view (nat_lt (place + 1) (length q.frames.items)) _ _ refl refl
 
 watched_whole : (s : Stage) (r : ring.View) (path : List ℕ) → r.stage ≡ s → is_broken s ≡ false → is_broken (ring_step.step_at s r (answer.Watched path)).stage ≡ false
-watched_whole (ring_stage.RingWord k) r path here p = either_whole (k == 15) ring_stage.RingFrame (ring_stage.RingWord (k + 1)) refl refl
-watched_whole ring_stage.RingFrame r path here p = refl
-watched_whole ring_stage.RingFence r path here p = refl
-watched_whole ring_stage.RingFlags r path here p = refl
+watched_whole (ring_stage.RingWord k) r path here p = either_whole (k == 15) (ring_stage.RingFrame 0) (ring_stage.RingWord (k + 1)) refl refl
+watched_whole (ring_stage.RingFrame page) r path here p = refl
+watched_whole (ring_stage.RingFence page) r path here p = refl
+watched_whole (ring_stage.RingFlags page) r path here p = either_whole (nat_lt (page + 1) (2 ^ r.shape.order)) (ring_stage.RingFrame (page + 1)) ring_stage.NewPort refl refl
 watched_whole ring_stage.NewPort r path here p = refl
 watched_whole ring_stage.Loop r path here p = loop_whole r (ring.next_request r) path (rw here refl)
 watched_whole (ring_stage.Data n) r path here p = data_whole (ring.next_request r) n
 watched_whole (ring_stage.GrantFrame place) r path here p = refl
 watched_whole (ring_stage.GrantFence place) r path here p = refl
 watched_whole (ring_stage.GrantFlags place) r path here p = granted_whole r (ring.next_request r) place (rw here refl)
-watched_whole (ring_stage.Slot k) r path here p = either_whole (k == 27) ring_stage.Producer (ring_stage.Slot (k + 1)) refl refl
+watched_whole (ring_stage.Slot k) r path here p = either_whole (k + 1 == entry_words_of r.shape.abi) ring_stage.Producer (ring_stage.Slot (k + 1)) refl refl
 watched_whole ring_stage.Producer r path here p = refl
 watched_whole (ring_stage.ProducerFence old) r path here p = refl
 watched_whole ring_stage.Send r path here p = refl
@@ -209,15 +210,27 @@ module _ (f : View) (n : Negotiation) (h : Hypervisor) (a : FrontAct) (same : n.
   still : Goes (is_unoccupied f.ring) n (with_front n f.bus h.keys)
   still = still_goes n h f.bus (is_unoccupied f.ring) h.keys same kept refl
 
-  ended_goes : (b : Bool) (word page : ℕ) (x : FrontAnswer) → bus_ask_of f ≡ bus_ask.EndGrant page
-      → Goes (is_unoccupied f.ring) n (with_front n (followed (bus_ask.EndGrant page) (if b then ring_step.at ring_stage.ClosePort f.ring else ring_step.broken word f.ring).stage (is_unoccupied f.ring) f.bus x) h.keys)
-  ended_goes true word page x asks = told_done (bus_ask.EndGrant page) answer.Done 0 (omega arith) asks refl refl
-  ended_goes false word page x asks = still
+  left_goes : (more : Bool) (k page : ℕ) (x : FrontAnswer) → bus_ask_of f ≡ bus_ask.EndGrant page
+      → Goes (is_unoccupied f.ring) n (with_front n (followed (bus_ask.EndGrant page) (if more then ring_stage.RingRead (k + 1) else ring_stage.ClosePort) (is_unoccupied f.ring) f.bus x) h.keys)
+  left_goes true k page x asks = told_done (bus_ask.EndGrant page) answer.Done 0 (omega arith) asks refl refl
+  left_goes false k page x asks = told_done (bus_ask.EndGrant page) answer.Done 0 (omega arith) asks refl refl
 
-  read_goes : (b : Bool) (word page : ℕ) (x : FrontAnswer)
-      → Goes (is_unoccupied f.ring) n (with_front n (followed (bus_ask.EndGrant page) (if b then ring_step.broken word f.ring else ring_step.at (ring_stage.RingEnd word) f.ring).stage (is_unoccupied f.ring) f.bus x) h.keys)
-  read_goes true word page x = still
-  read_goes false word page x = still
+  ended_goes : (b : Bool) (word k page : ℕ) (x : FrontAnswer) → bus_ask_of f ≡ bus_ask.EndGrant page
+      → let r : ring.View = (if b then ring_step.at (ring_step.ring_left f.ring k) f.ring else ring_step.broken word f.ring) in
+      Goes (is_unoccupied f.ring) n (with_front n (followed (bus_ask.EndGrant page) r.stage (is_unoccupied f.ring) f.bus x) h.keys)
+  ended_goes true word k page x asks = left_goes (nat_lt (k + 1) (2 ^ f.ring.shape.order)) k page x asks
+  ended_goes false word k page x asks = still
+
+  read_goes : (b : Bool) (word k page : ℕ) (x : FrontAnswer)
+      → let r : ring.View = (if b then ring_step.broken word f.ring else ring_step.at (ring_stage.RingEnd k word) f.ring) in
+      Goes (is_unoccupied f.ring) n (with_front n (followed (bus_ask.EndGrant page) r.stage (is_unoccupied f.ring) f.bus x) h.keys)
+  read_goes true word k page x = still
+  read_goes false word k page x = still
+
+  granted_goes : (more : Bool) (k page : ℕ) → bus_ask_of f ≡ bus_ask.Grant page
+      → Goes (is_unoccupied f.ring) n (with_front n (followed (bus_ask.Grant page) (if more then ring_stage.RingFrame (k + 1) else ring_stage.NewPort) (is_unoccupied f.ring) f.bus answer.Done) h.keys)
+  granted_goes true k page asks = told_done (bus_ask.Grant page) answer.Done 0 (omega arith) asks refl refl
+  granted_goes false k page asks = told_done (bus_ask.Grant page) answer.Done 0 (omega arith) asks refl refl
 
   ring_goes : (b : FrontBusAsk) (s : Stage) → bus_ask_of f ≡ b → f.ring.stage ≡ s → speaks b ≡ false → ring_moves b s ≡ true → is_broken s ≡ false → (b ≡ bus_ask.EndOtherGrants → ⊥) → (s ≡ ring_stage.NewPort → h.channels.made ≡ 0) → AsksNoKey (ring_ask.ask_at s f.ring)
       → front_act h (ring_ask.ask_at s f.ring) ≡ Some a → RingGoes f n b s a
@@ -226,18 +239,21 @@ module _ (f : View) (n : Negotiation) (h : Hypervisor) (a : FrontAct) (same : n.
       (λ path heard. rw heard (watched_whole s f.ring path here whole))
   ring_goes (bus_ask.WriteRingWord word) (ring_stage.RingWord k) asks here quiet moves whole keeps unmade own e =
       of_front (RingGoes f n (bus_ask.WriteRingWord word) (ring_stage.RingWord k)) _ a (told_done (bus_ask.WriteRingWord word) answer.Done 0 (omega arith) asks refl refl) e
-  ring_goes (bus_ask.Grant page) ring_stage.RingFrame asks here quiet moves whole keeps unmade own e =
-      of_front (RingGoes f n (bus_ask.Grant page) ring_stage.RingFrame) _ a still e
-  ring_goes (bus_ask.Grant page) ring_stage.RingFence asks here quiet moves whole keeps unmade own e =
-      of_front (RingGoes f n (bus_ask.Grant page) ring_stage.RingFence) _ a still e
-  ring_goes (bus_ask.Grant page) ring_stage.RingFlags asks here quiet moves whole keeps unmade own e =
-      of_front (RingGoes f n (bus_ask.Grant page) ring_stage.RingFlags) _ a (told_done (bus_ask.Grant page) answer.Done 0 (omega arith) asks refl refl) e
+  ring_goes (bus_ask.Grant page) (ring_stage.RingFrame k) asks here quiet moves whole keeps unmade own e =
+      of_front (RingGoes f n (bus_ask.Grant page) (ring_stage.RingFrame k)) _ a still e
+  ring_goes (bus_ask.Grant page) (ring_stage.RingFence k) asks here quiet moves whole keeps unmade own e =
+      of_front (RingGoes f n (bus_ask.Grant page) (ring_stage.RingFence k)) _ a still e
+  ring_goes (bus_ask.Grant page) (ring_stage.RingFlags k) asks here quiet moves whole keeps unmade own e =
+      of_front (RingGoes f n (bus_ask.Grant page) (ring_stage.RingFlags k)) _ a (granted_goes (nat_lt (k + 1) (2 ^ f.ring.shape.order)) k page asks) e
   ring_goes bus_ask.NewPort ring_stage.NewPort asks here quiet moves whole keeps unmade own e =
       of_front (RingGoes f n bus_ask.NewPort ring_stage.NewPort) _ a (told_done bus_ask.NewPort (answer.Port (h.channels.made + 1)) (h.channels.made + 1) (let none = unmade refl in omega arith) asks refl refl) e
-  ring_goes (bus_ask.EndGrant page) ring_stage.RingRead asks here quiet moves whole keeps unmade own e =
-      of_front (RingGoes f n (bus_ask.EndGrant page) ring_stage.RingRead) _ a (read_goes (ring_step.is_mapped (word_of h.pages 0 16)) (word_of h.pages 0 16) page (answer.Word (word_of h.pages 0 16))) e
-  ring_goes (bus_ask.EndGrant page) (ring_stage.RingEnd seen) asks here quiet moves whole keeps unmade own e =
-      of_front (RingGoes f n (bus_ask.EndGrant page) (ring_stage.RingEnd seen)) _ a (ended_goes (word_of h.pages 0 16 == seen) (word_of h.pages 0 16) page (answer.Word (word_of h.pages 0 16)) asks) e
+  ring_goes (bus_ask.EndGrant page) (ring_stage.RingRead k) asks here quiet moves whole keeps unmade own e =
+      let word : ℕ = word_of h.pages (ring.entry_frame (ring.ring_page_frame k)) (ring.entry_word (ring.ring_page_frame k)) in
+      of_front (RingGoes f n (bus_ask.EndGrant page) (ring_stage.RingRead k)) _ a (read_goes (ring_step.is_mapped word) word k page (answer.Word word)) e
+  ring_goes (bus_ask.EndGrant page) (ring_stage.RingEnd k seen) asks here quiet moves whole keeps unmade own e =
+      let word : ℕ = word_of h.pages (ring.entry_frame (ring.ring_page_frame k)) (ring.entry_word (ring.ring_page_frame k)) in
+      of_front (RingGoes f n (bus_ask.EndGrant page) (ring_stage.RingEnd k seen)) _ a (ended_goes (word == seen) word k page (answer.Word word) asks) e
+  ring_goes (bus_ask.EndGrant page) (ring_stage.Broken word) asks here quiet moves whole keeps unmade own e = absurd (true≢false whole)
   ring_goes bus_ask.ClosePort ring_stage.ClosePort asks here quiet moves whole keeps unmade own e =
       of_front (RingGoes f n bus_ask.ClosePort ring_stage.ClosePort) _ a (told_done bus_ask.ClosePort answer.Done 0 (omega arith) asks refl refl) e
   ring_goes bus_ask.EndOtherGrants s asks here quiet moves whole keeps unmade own e = absurd (keeps refl)
@@ -257,10 +273,14 @@ wait_quiet r = record { waits = λ quiet still. refl; keeps = λ e. cc }
 moves_quiet : (b : FrontBusAsk) (r : Stage) → ring_moves b r ≡ true → (b ≡ bus_ask.EndOtherGrants → ⊥) → Quiet b r
 moves_quiet b r moves keeps = record { waits = λ quiet still. absurd (true≢false (sym moves ∙ still)); keeps = keeps }
 
-ending_moves : (page : ℕ) (r : Stage) → is_ending_ring r ≡ true → ring_moves (bus_ask.EndGrant page) r ≡ true
-ending_moves page ring_stage.RingRead is = refl
-ending_moves page (ring_stage.RingEnd seen) is = refl
-ending_moves page r is = absurd (true≢false (sym is))
+ending_moves : (page : ℕ) (r : Stage) → IsEndingPage page r → ring_moves (bus_ask.EndGrant page) r ≡ true
+ending_moves page (ring_stage.RingRead k) is = refl
+ending_moves page (ring_stage.RingEnd k seen) is = refl
+ending_moves page r is = absurd is
+
+ends_whole : (page : ℕ) (r : Stage) → IsEndingPage page r ⊎ (is_broken r ≡ true) → is_broken r ≡ false → IsEndingPage page r
+ends_whole page r (inl is) whole = is
+ends_whole page r (inr broken) whole = absurd (true≢false (sym broken ∙ whole))
 
 leaving_quiet : (gone : Bool) (port : Option ℕ) (v : FrontView) (r : Stage) → FrontRests state.Closing gone port r → Quiet (ask_at (leaving gone port) v) r
 leaving_quiet false None v r fits = wait_quiet r
@@ -285,10 +305,10 @@ rests_whole : (v : FrontView) (r : Stage) → FrontRests v.state v.gone v.port r
 rests_whole v r (inl fits) whole = fits
 rests_whole v r (inr broken) whole = absurd (true≢false (sym broken ∙ whole))
 
-granting_moves : (page : ℕ) (r : Stage) → IsGranting r → ring_moves (bus_ask.Grant page) r ≡ true
-granting_moves page ring_stage.RingFrame is = refl
-granting_moves page ring_stage.RingFence is = refl
-granting_moves page ring_stage.RingFlags is = refl
+granting_moves : (page : ℕ) (r : Stage) → IsGranting page r → ring_moves (bus_ask.Grant page) r ≡ true
+granting_moves page (ring_stage.RingFrame k) is = refl
+granting_moves page (ring_stage.RingFence k) is = refl
+granting_moves page (ring_stage.RingFlags k) is = refl
 granting_moves page r is = absurd is
 
 quiet_at : (s : FrontStage) (v : FrontView) (r : Stage) (idle : Bool) → FrontGoesWith s v r → is_broken r ≡ false → Quiet (ask_at (due_at s v idle) v) r
@@ -300,7 +320,8 @@ quiet_at (stage.ReadFact key) v r idle fits whole = says_quiet (bus_ask.GetKey k
 quiet_at (stage.Publish key) v r idle fits whole = says_quiet (ask_at (stage.Publish key) v) r refl
 quiet_at (stage.WriteState own) v r idle fits whole = says_quiet (bus_ask.SetState own) r refl
 quiet_at (stage.RingWord word) v r idle fits whole = moves_quiet (bus_ask.WriteRingWord word) r (rw fits.2 refl) (λ e. cc)
-quiet_at (stage.Grant page) v r idle fits whole = moves_quiet (bus_ask.Grant page) r (granting_moves page r fits.2) (λ e. cc)
+quiet_at (stage.Grant page) v r idle fits whole = moves_quiet (bus_ask.Grant page) r (granting_moves page r fits.1) (λ e. cc)
+quiet_at (stage.EndGrant page) v r idle fits whole = moves_quiet (bus_ask.EndGrant page) r (ending_moves page r (ends_whole page r fits.1 whole)) (λ e. cc)
 quiet_at stage.NewPort v r idle fits whole = moves_quiet bus_ask.NewPort r (rw fits.1 refl) (λ e. cc)
 quiet_at stage.ClosePort v r idle fits whole = moves_quiet bus_ask.ClosePort r (rw fits.1 refl) (λ e. cc)
 quiet_at stage.Closed v r idle fits whole = wait_quiet r
@@ -326,10 +347,10 @@ made_idle ring_stage.Initialised is = record { still = refl; ended = refl }
 made_idle ring_stage.Loop is = record { still = refl; ended = refl }
 made_idle r is = absurd (true≢false (sym is))
 
-ending_idle : (r : Stage) → is_ending_ring r ≡ true → IsIdleRing r
-ending_idle ring_stage.RingRead is = record { still = refl; ended = refl }
-ending_idle (ring_stage.RingEnd seen) is = record { still = refl; ended = refl }
-ending_idle r is = absurd (true≢false (sym is))
+ending_idle : (page : ℕ) (r : Stage) → IsEndingPage page r → IsIdleRing r
+ending_idle page (ring_stage.RingRead k) is = record { still = refl; ended = refl }
+ending_idle page (ring_stage.RingEnd k seen) is = record { still = refl; ended = refl }
+ending_idle page r is = absurd is
 
 bare_idle : (r : Stage) → is_bare r ≡ true → IsIdleRing r
 bare_idle (ring_stage.RingWord k) is = record { still = refl; ended = refl }
@@ -339,7 +360,7 @@ bare_idle r is = absurd (true≢false (sym is))
 rests_idle : (gone : Bool) (port : Option ℕ) (r : Stage) → FrontRests state.Closing gone port r → IsIdleRing r
 rests_idle false None r fits = rw fits (record { still = refl; ended = refl })
 rests_idle false (Some p) r fits = made_idle r fits
-rests_idle true (Some p) r fits = ending_idle r fits
+rests_idle true (Some p) r fits = ending_idle 0 r fits
 rests_idle true None r fits = absurd fits
 
 closing_rests : (v : FrontView) (r : Stage) → v.state ≡ state.Closing → FrontRests v.state v.gone v.port r → IsIdleRing r
@@ -359,6 +380,7 @@ closing_idle (stage.WriteState state.Initialised) v r fits e whole = early_not v
 closing_idle (stage.WriteState state.Connected) v r fits e whole = later_not v.state fits.0 e
 closing_idle (stage.WriteState state.Closed) v r fits e whole = bare_idle r fits.1
 closing_idle (stage.WriteState own) v r fits e whole = absurd fits
+closing_idle (stage.EndGrant page) v r fits e whole = ending_idle page r (ends_whole page r fits.1 whole)
 closing_idle stage.ClosePort v r fits e whole = rw fits.1 (record { still = refl; ended = refl })
 closing_idle stage.Closed v r fits e whole = last_not v.state fits.0 e
 closing_idle (stage.Broken word) v r fits e whole = absurd (true≢false (sym fits ∙ whole))
@@ -376,7 +398,7 @@ closing_unoccupied w fit whole e =
     none_left w.rings.front.closing (length w.rings.front.requests) (ending_of w.rings.front.stage) (is_still w.rings.front.stage) (fit.through e whole) idle.ended idle.still
 
 -- a move writes a state only where the negotiation asks for that
-abbrev Keeps : FrontStage → FrontView → FrontView → Type 0
+abbrev pub Keeps : FrontStage → FrontView → FrontView → Type 0
 Keeps s v u = (u.state ≡ v.state) ⊎ ((own : BusState) × (s ≡ stage.WriteState own) × (u.state ≡ own))
 
 acted_keeps : (s : FrontStage) (act : FrontAction) (v : FrontView) → Keeps s v (acted act v)
@@ -396,7 +418,7 @@ fact_keeps : (s : FrontStage) (k : BackKey) (n : Option ℕ) (v : FrontView) →
 fact_keeps s k None v = inl refl
 fact_keeps s k (Some n) v = inl refl
 
-step_keeps : (s : FrontStage) (v : FrontView) (idle : Bool) (x : FrontAnswer) → Keeps s v (bus_step.step_at s v idle x)
+pub step_keeps : (s : FrontStage) (v : FrontView) (idle : Bool) (x : FrontAnswer) → Keeps s v (bus_step.step_at s v idle x)
 step_keeps stage.Rest v idle (answer.Watched path) = inl refl
 step_keeps stage.ReadState v idle (answer.Key text) = acted_keeps stage.ReadState (front_action v.state v.closing idle (state_read text)) v
 step_keeps (stage.ReadFeature k) v idle (answer.Key text) = feature_keeps (stage.ReadFeature k) k (count_read text) v

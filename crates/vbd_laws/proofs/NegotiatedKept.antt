@@ -1,5 +1,5 @@
 -- What the run of the negotiation says of the machine at a moment: of its maps, of the states that the front enters, and of the back's halts.
-use Rattle.std.proofs.Common.{inl, inr, ◌≡◌, ◌∙◌, ap, sym, subst, ℕ, ◌^◌, ◌<◌, Bool, true, false, true≢false, List, [], ◌∷◌, ◌++◌, length, refl, arith, if◌then◌else◌}
+use Rattle.std.proofs.Common.{◌⊎◌, inl, inr, ◌≡◌, ◌∙◌, ap, sym, subst, ℕ, Bool, true, false, true≢false, List, [], ◌∷◌, ◌++◌, refl, if◌then◌else◌}
 use Rattle.std.specs.Prelude.{Option, Some, None, IsSome, is_some}
 use Rattle.std.specs.List.{AllByRecursion}
 use Rattle.blk_base.specs.declared.parts.Mapping.{Mapping}
@@ -11,7 +11,6 @@ use Rattle.blk_front.specs.declared.state.FrontState.{FrontState}
 use Rattle.blk_front.specs.declared.state.FrontState.TheVariants as entered
 use Rattle.blk_front.specs.Submit.{is_connected, is_ready}
 use Rattle.blk_front.specs.State.{is_made}
-use Rattle.xenbus_state.specs.Values.{ring_gref}
 use Rattle.xenbus_state.specs.declared.state.BusState.{BusState}
 use Rattle.xenbus_state.specs.declared.state.BusState.TheVariants as state
 use Rattle.xenbus_state.specs.declared.stage.FrontStage.{FrontStage}
@@ -24,38 +23,47 @@ use Rattle.xenbus_state.specs.declared.front.FrontNews.{FrontNews}
 use Rattle.xenbus_state.specs.declared.front.FrontNews.TheVariants as news
 use Rattle.xenbus_state.specs.declared.back.BackBusAsk.TheVariants as bus_ask
 use Rattle.xenbus_state.specs.Tables.{is_connected as bus_connected}
-use Rattle.xenbus_state.specs.FrontView.{FrontView, pages_of}
+use Rattle.xenbus_state.specs.FrontView.{FrontView, ring_order}
 use Rattle.xenbus_state.specs.FrontAsk as front_asks
 use Rattle.xenbus_state.specs.FrontStep.{news_of}
 use Rattle.xenbus_state.specs.BackView.{BackView}
 use Rattle.xenbus_state.specs.BackAsk.{says_closing, unmap_ask, ask_at, ask_of}
 use Rattle.negotiation_laws.specs.Negotiation.{Negotiation}
-use Rattle.negotiation_laws.specs.Laws.{grefs_of, IsLeaving, IsHalted}
+use Rattle.negotiation_laws.specs.Laws.{IsLeaving, IsHalted}
 use Rattle.negotiation_laws.proofs.Granting.{maps_after_grants, connects_to_connected}
-use Rattle.negotiation_laws.proofs.Found.{maps_by_terms}
 use Rattle.vbd_front.specs.View as front_view
 use Rattle.vbd_front.specs.Ask as front
 use Rattle.vbd_front.specs.Step as front_step
 use Rattle.vbd_model.specs.World.{World, frontend_of}
 use Rattle.vbd_model.specs.Happening.{front_turn}
-use Rattle.vbd_model.specs.Fit.{is_ending_ring, FrontRests, FrontGoesWith, IsFit}
+use Rattle.vbd_model.specs.Fit.{IsEndingPage, FrontRests, FrontGoesWith, IsFit}
 use Rattle.vbd_laws.proofs.ServedFront as fronts
-use Rattle.vbd_laws.proofs.ServedFront.{IsNewsAt, news_is, one_page}
+use Rattle.vbd_laws.proofs.ServedFront.{IsNewsAt, news_is}
 use Rattle.vbd_laws.proofs.NegotiatedRun.{Reached, Joined, negotiation_of, breaks_at, leaves_at}
 use Rattle.vbd_laws.proofs.NegotiatedFront.{front_goes, Told, keys_told, closing_unoccupied}
 
 -- a ring that passed a test which none fails to pass that is being made is made
-connected_by : (test : FrontRing → Bool) → ((k : ℕ) → test (front_ring.RingWord k) ≡ false) → test front_ring.RingFrame ≡ false → test front_ring.RingFence ≡ false → test front_ring.RingFlags ≡ false → test front_ring.NewPort ≡ false
-    → (r : FrontRing) → test r ≡ true → is_connected r ≡ true
+connected_by : (test : FrontRing → Bool) → ((k : ℕ) → test (front_ring.RingWord k) ≡ false) → ((page : ℕ) → test (front_ring.RingFrame page) ≡ false) → ((page : ℕ) → test (front_ring.RingFence page) ≡ false)
+    → ((page : ℕ) → test (front_ring.RingFlags page) ≡ false) → test front_ring.NewPort ≡ false → (r : FrontRing) → test r ≡ true → is_connected r ≡ true
 connected_by test words frame fence flags port (front_ring.RingWord k) is = absurd (true≢false (sym is ∙ words k))
-connected_by test words frame fence flags port front_ring.RingFrame is = absurd (true≢false (sym is ∙ frame))
-connected_by test words frame fence flags port front_ring.RingFence is = absurd (true≢false (sym is ∙ fence))
-connected_by test words frame fence flags port front_ring.RingFlags is = absurd (true≢false (sym is ∙ flags))
+connected_by test words frame fence flags port (front_ring.RingFrame page) is = absurd (true≢false (sym is ∙ frame page))
+connected_by test words frame fence flags port (front_ring.RingFence page) is = absurd (true≢false (sym is ∙ fence page))
+connected_by test words frame fence flags port (front_ring.RingFlags page) is = absurd (true≢false (sym is ∙ flags page))
 connected_by test words frame fence flags port front_ring.NewPort is = absurd (true≢false (sym is ∙ port))
 connected_by test words frame fence flags port r is = refl
 
 broken_connected : (r : FrontRing) → front_view.is_broken r ≡ true → is_connected r ≡ true
-broken_connected r is = connected_by front_view.is_broken (λ k. refl) refl refl refl refl r is
+broken_connected r is = connected_by front_view.is_broken (λ k. refl) (λ page. refl) (λ page. refl) (λ page. refl) refl r is
+
+-- and so is one whose grants are being ended
+ending_connected : (page : ℕ) (r : FrontRing) → IsEndingPage page r → is_connected r ≡ true
+ending_connected page (front_ring.RingRead k) fits = refl
+ending_connected page (front_ring.RingEnd k seen) fits = refl
+ending_connected page r fits = absurd fits
+
+left_connected : (page : ℕ) (r : FrontRing) → IsEndingPage page r ⊎ (front_view.is_broken r ≡ true) → is_connected r ≡ true
+left_connected page r (inl ending) = ending_connected page r ending
+left_connected page r (inr broken) = broken_connected r broken
 
 unported : {A : Type 0} (port : Option ℕ) → port ≡ None → IsSome port → A
 unported port none some = absurd (true≢false (sym some ∙ ap is_some none))
@@ -64,10 +72,10 @@ unported port none some = absurd (true≢false (sym some ∙ ap is_some none))
 port_rests : (own : BusState) (gone : Bool) (port : Option ℕ) (r : FrontRing) → FrontRests own gone port r → IsSome port → is_connected r ≡ true
 port_rests state.Initialising gone port r fits some = unported port fits.1 some
 port_rests state.Initialised gone port r fits some = ap is_connected fits.0
-port_rests state.Connected gone port r fits some = connected_by is_ready (λ k. refl) refl refl refl refl r fits.0
+port_rests state.Connected gone port r fits some = connected_by is_ready (λ k. refl) (λ page. refl) (λ page. refl) (λ page. refl) refl r fits.0
 port_rests state.Closing false None r fits some = absurd (true≢false (sym some))
-port_rests state.Closing false (Some p) r fits some = connected_by is_made (λ k. refl) refl refl refl refl r fits
-port_rests state.Closing true (Some p) r fits some = connected_by is_ending_ring (λ k. refl) refl refl refl refl r fits
+port_rests state.Closing false (Some p) r fits some = connected_by is_made (λ k. refl) (λ page. refl) (λ page. refl) (λ page. refl) refl r fits
+port_rests state.Closing true (Some p) r fits some = ending_connected 0 r fits
 port_rests state.Closing true None r fits some = absurd fits
 port_rests own gone port r fits some = absurd fits
 
@@ -78,7 +86,7 @@ port_connected bus.Rest v r (inr broken) some = broken_connected r broken
 port_connected bus.ReadState v r fits some = port_rests v.state v.gone v.port r fits some
 port_connected (bus.ReadFeature key) v r fits some = unported v.port fits.2 some
 port_connected (bus.RingWord word) v r fits some = unported v.port fits.3 some
-port_connected (bus.Grant page) v r fits some = unported v.port fits.3 some
+port_connected (bus.Grant page) v r fits some = unported v.port fits.2 some
 port_connected bus.NewPort v r fits some = unported v.port fits.2 some
 port_connected (bus.Publish key) v r fits some = ap is_connected fits.1
 port_connected (bus.ReadFact key) v r fits some = ap is_connected fits.1
@@ -86,6 +94,7 @@ port_connected (bus.WriteState state.Initialised) v r fits some = ap is_connecte
 port_connected (bus.WriteState state.Connected) v r fits some = ap is_connected fits.1
 port_connected (bus.WriteState state.Closed) v r fits some = unported v.port fits.2 some
 port_connected (bus.WriteState own) v r fits some = absurd fits
+port_connected (bus.EndGrant page) v r fits some = left_connected page r fits.1
 port_connected bus.ClosePort v r fits some = ap is_connected fits.1
 port_connected bus.Closed v r fits some = ap is_connected fits.1
 port_connected (bus.Broken word) v r fits some = broken_connected r fits
@@ -126,35 +135,24 @@ asks_bind v port e = by_test (says_closing v) e
     by_test true e = absurd (cc)
     by_test false e = binds_at v.stage v port e
 
--- what the back finds as it maps: the reference of the ring's only page, and the front's port; and the front has made both
+-- what the back finds as it maps: the front's first port; and the front has made its ring and its port
 pub record Finds (w : World) (gref : ℕ) : Type 0 where
-  pub first : gref ≡ 8
   pub port : w.back.terms.port ≡ 1
-  pub pages : length w.back.grefs ≡ 1
   pub made : is_connected w.rings.front.stage ≡ true
-
-only_gref : (n gref : ℕ) → n < 1 → gref ≡ ring_gref n → gref ≡ 8
-only_gref n gref few e = omega arith
 
 pub finds_now : (w : World) (gref : ℕ) → IsFit w → fronts.Speaks w.front → Joined w → ask_of w.back ≡ bus_ask.Map gref → Finds w gref
 finds_now w gref fit speaks j asks =
     let before = subst (λ (n : Negotiation). ask_of n.back ≡ bus_ask.Map gref) (sym j.stands) asks in
     let maps = maps_after_grants j.run gref before in
-    let terms = maps_by_terms j.run gref before in
-    let one : pages_of w.front ≡ 1 = ap (λ (n : ℕ). 2 ^ n) (one_page w.front fit.order) in
-    let few = subst (λ (n : Negotiation). length n.back.pages < pages_of n.front) j.stands maps.page in
-    let next = subst (λ (n : Negotiation). gref ≡ ring_gref (length n.back.pages)) j.stands maps.next in
     let port = subst (λ (n : Negotiation). n.front.port ≡ Some n.back.terms.port) j.stands maps.port in
-    let grefs = subst (λ (n : Negotiation). n.back.grefs ≡ grefs_of (pages_of n.front)) j.stands terms.1 in
     record {
-      first = only_gref (length w.back.pages) gref (subst (λ (n : ℕ). length w.back.pages < n) one few) next;
       port = subst fronts.IsFirstPort port speaks.port;
-      pages = ap length (grefs ∙ ap grefs_of one);
       made = port_connected w.front.stage w.front w.rings.front.stage fit.front (subst (λ (p : Option ℕ). IsSome p) (sym port) refl);
     }
 
 -- when the front's end of the ring enters a state: it is connected to a connected back, and leaves and is closed after the back; it is never broken
 abbrev pub IsTimely : World → FrontState → Type 0
+IsTimely w (entered.Agreed order) = Unit {0}
 IsTimely w entered.Connected = bus_connected w.back.state ≡ true
 IsTimely w entered.Closing = Unit {0}
 IsTimely w entered.Leaving = IsHalted w.back
@@ -200,11 +198,12 @@ module _ (w : World) (a : FrontAct) (fit : IsFit w) (whole : front_view.is_broke
       subst (λ (s : Bool). Reached (record { front = (if s then front_step.spoken (frontend_of w) a.answer else front_step.ring_step (front.ring_moves b w.rings.front.stage) b (frontend_of w) a.answer).bus; back = w.back; keys = a.under.keys })) says
       (front_goes w a fit whole j turn)
 
-  due_timely : (c : FrontBusAsk) → front_asks.ask_of after idle ≡ c → AllByRecursion (IsTimely w) (front_step.states_due c)
-  due_timely (front_ask.EndGrant page) e = (leaves_at (record { front = after; back = w.back; keys = a.under.keys }) idle reached (subst IsLeaving (sym e) tt), tt)
-  due_timely c e = tt
+  due_timely : (c : FrontBusAsk) (order : ℕ) → front_asks.ask_of after idle ≡ c → AllByRecursion (IsTimely w) (front_step.states_due c order)
+  due_timely (front_ask.WriteRingWord word) order e = (tt, tt)
+  due_timely (front_ask.EndGrant page) order e = (leaves_at (record { front = after; back = w.back; keys = a.under.keys }) idle reached (subst IsLeaving (sym e) tt), tt)
+  due_timely c order e = tt
 
   pub states_timely : AllByRecursion (IsTimely w) (front_step.states_after (frontend_of w) a.answer)
   states_timely =
-      both_all (IsTimely w) (front_step.states_of_news (news_of w.front idle a.answer)) (front_step.states_due (front_asks.ask_of after idle))
-      (news_timely (news_of w.front idle a.answer) refl (news_is w.front idle a.answer)) (due_timely (front_asks.ask_of after idle) refl)
+      both_all (IsTimely w) (front_step.states_of_news (news_of w.front idle a.answer)) (front_step.states_due (front_asks.ask_of after idle) (ring_order after))
+      (news_timely (news_of w.front idle a.answer) refl (news_is w.front idle a.answer)) (due_timely (front_asks.ask_of after idle) (ring_order after) refl)

@@ -1,5 +1,7 @@
 -- The back's end of the ring maps and binds what its negotiation read of the front's terms.
-use Rattle.std.proofs.Common.{◌⊎◌, inl, inr, ◌≡◌, ◌∙◌, ap, sym, subst, ℕ, true, true≢false}
+use Rattle.std.proofs.Common.{inl, inr, ◌≡◌, ◌∙◌, ap, sym, subst, ℕ, ◌<◌, List, length, Bool, true, false, refl, arith, if◌then◌else◌}
+use Rattle.std.specs.Prelude.{slice_index, slice_index_or}
+use Rattle.blk_base.specs.declared.parts.Mapping.{Mapping}
 use Rattle.blk_base.specs.declared.ask.BackAsk.TheVariants as ring_ask
 use Rattle.blk_base.specs.declared.parts.Mode.TheVariants.{ReadWrite}
 use Rattle.blk_front.specs.Submit.{is_connected}
@@ -7,56 +9,75 @@ use Rattle.blk_back.specs.declared.stage.Stage.{Stage as BackRing}
 use Rattle.blk_back.specs.declared.stage.Stage.TheVariants as ring
 use Rattle.blk_back.specs.Ask as ring_asks
 use Rattle.xenbus_state.specs.declared.back.BackBusAsk.TheVariants as bus_ask
+use Rattle.xenbus_state.specs.declared.state.BusState.TheVariants as state
 use Rattle.xenbus_state.specs.declared.stage.BackStage.{BackStage}
 use Rattle.xenbus_state.specs.declared.stage.BackStage.TheVariants as bus
-use Rattle.xenbus_state.specs.BackAsk.{ask_of}
+use Rattle.xenbus_state.specs.BackView.{BackView, is_halting}
+use Rattle.xenbus_state.specs.BackAsk.{ask_of, ask_at, says_closing, next_gref}
+use Rattle.xenbus_state.specs.BackSound.{IsPlaced}
 use Rattle.vbd_model.specs.World.{World}
-use Rattle.vbd_model.specs.Fit.{BackGoesWith, IsFit}
+use Rattle.vbd_model.specs.Fit.{BackGoesWith, HaveTerms, has_terms, IsFit}
 use Rattle.vbd_laws.specs.Served.{GoesByTheTerms}
-use Rattle.vbd_laws.proofs.FitBackRing.{is_past}
 use Rattle.vbd_laws.proofs.ServedFront as fronts
 use Rattle.vbd_laws.proofs.NegotiatedKept.{finds_now, asks_map, asks_bind}
-use Rattle.vbd_laws.proofs.NegotiatedWay.{IsOnItsWay}
+use Rattle.vbd_laws.proofs.NegotiatedEarly.{IsOnItsWay}
 
--- what its end of the ring maps, and that the front has made it
-abbrev MapsSo : World → ℕ → Type 0
-MapsSo w gref = (ring_asks.ask_of w.rings.back ≡ ring_ask.Map gref ReadWrite) × (is_connected w.rings.front.stage ≡ true)
+-- a reference that is there is read alike with a default
+index_same : (xs : List ℕ) (i : ℕ) → i < length xs → slice_index_or xs i 0 ≡ slice_index xs i
+index_same xs i low = grind (arith)
 
-past_not : {A : Type 0} (r : BackRing) → is_past r ≡ true → (r ≡ ring.MapRing) ⊎ (r ≡ ring.Bind) → A
-past_not r past (inl e) = absurd (true≢false (sym past ∙ ap is_past e))
-past_not r past (inr e) = absurd (true≢false (sym past ∙ ap is_past e))
+-- what its end of the ring maps, as the negotiation asks for the next reference
+next_same : (v : BackView) (gref : ℕ) → v.stage ≡ bus.MapPage → ask_of v ≡ bus_ask.Map gref → next_gref v ≡ gref
+next_same v gref here asks = by_test (says_closing v) asks
+  where
+    at_page : ask_at v.stage v ≡ bus_ask.Map (next_gref v)
+    at_page = ap (λ (s : BackStage). ask_at s v) here
 
-not_both : {A : Type 0} (s : BackStage) → s ≡ bus.MapPage → s ≡ bus.Bind → A
-not_both s e f = absurd (cc)
+    by_test : (b : Bool) → (if b then bus_ask.SetState state.Closing else ask_at v.stage v) ≡ bus_ask.Map gref → next_gref v ≡ gref
+    by_test true e = absurd (cc)
+    by_test false e = let same : bus_ask.Map (next_gref v) ≡ bus_ask.Map gref = sym at_page ∙ e in cc
 
-not_yet : {A : Type 0} (r : BackRing) → r ≡ ring.MapRing → r ≡ ring.Bind → A
-not_yet r e f = absurd (cc)
+halted_not : {A : Type 0} (r : BackRing) → r ≡ ring.Halted → r ≡ ring.MapRing → A
+halted_not r e f = absurd (cc)
 
 module _ (w : World) (fit : IsFit w) (speaks : fronts.Speaks w.front) where
   -- as the ring's end stands there
-  map_goes : (gref : ℕ) → ask_of w.back ≡ bus_ask.Map gref → (w.rings.back.stage ≡ ring.MapRing) ⊎ (w.rings.back.stage ≡ ring.Bind)
+  map_goes : (gref : ℕ) → ask_of w.back ≡ bus_ask.Map gref → w.rings.back.stage ≡ ring.MapRing
   map_goes gref asks = (subst (λ (s : BackStage). BackGoesWith s w.back.state w.rings.back.stage) (asks_map w.back gref asks) fit.back).1
 
   bind_goes : (port : ℕ) → ask_of w.back ≡ bus_ask.Bind port → w.rings.back.stage ≡ ring.Bind
   bind_goes port asks = (subst (λ (s : BackStage). BackGoesWith s w.back.state w.rings.back.stage) (asks_bind w.back port asks).0 fit.back).1
 
-  maps_so : IsOnItsWay w → (gref : ℕ) → ask_of w.back ≡ bus_ask.Map gref → MapsSo w gref
-  maps_so (inl b) gref asks =
-      let finds = finds_now w gref fit speaks b.joined asks in
-      (ap (λ (r : BackRing). ring_asks.ask_at r w.rings.back) b.ring ∙ ap (λ (n : ℕ). ring_ask.Map n ReadWrite) (sym finds.first), finds.made)
-  maps_so (inr (inl b)) gref asks = not_both w.back.stage (asks_map w.back gref asks) b.stage
-  maps_so (inr (inr (inl h))) gref asks = past_not w.rings.back.stage (ap is_past h.ring) (map_goes gref asks)
-  maps_so (inr (inr (inr p))) gref asks = past_not w.rings.back.stage p.past (map_goes gref asks)
+  -- it has the terms that the negotiation read
+  terms_at : (s : BackStage) (r : BackRing) → w.back.stage ≡ s → w.rings.back.stage ≡ r → has_terms r ≡ true → is_halting s ≡ false → HaveTerms w.rings.back w.back
+  terms_at s r at stands has unhalted = fit.terms (ap has_terms stands ∙ has) (ap is_halting at ∙ unhalted)
 
-  binds_so : IsOnItsWay w → (port : ℕ) → ask_of w.back ≡ bus_ask.Bind port → ring_asks.ask_of w.rings.back ≡ ring_ask.Bind port
-  binds_so (inl b) port asks = not_yet w.rings.back.stage b.ring (bind_goes port asks)
-  binds_so (inr (inl b)) port asks = ap (λ (r : BackRing). ring_asks.ask_at r w.rings.back) b.ring ∙ ap (λ (n : ℕ). ring_ask.Bind n) (sym b.port ∙ (asks_bind w.back port asks).1)
-  binds_so (inr (inr (inl h))) port asks = past_not w.rings.back.stage (ap is_past h.ring) (inr (bind_goes port asks))
-  binds_so (inr (inr (inr p))) port asks = past_not w.rings.back.stage p.past (inr (bind_goes port asks))
+  maps_so : (gref : ℕ) → ask_of w.back ≡ bus_ask.Map gref → ring_asks.ask_of w.rings.back ≡ ring_ask.Map gref ReadWrite
+  maps_so gref asks =
+      let here = asks_map w.back gref asks in
+      let stands = map_goes gref asks in
+      let terms = terms_at bus.MapPage ring.MapRing here stands refl refl in
+      let placed = subst (λ (s : BackStage). IsPlaced s w.back) here fit.sound.placed in
+      let low : length w.back.pages < length w.back.grefs = subst (λ (n : ℕ). length w.back.pages < n) (sym placed.2) placed.3 in
+      let next : ring_asks.next_gref w.rings.back ≡ gref =
+      ap (λ (xs : List ℕ). slice_index_or xs (length w.rings.back.pages) 0) terms.grefs ∙ ap (λ (ps : List Mapping). slice_index_or w.back.grefs (length ps) 0) fit.pages
+      ∙ index_same w.back.grefs (length w.back.pages) low ∙ next_same w.back gref here asks
+      in
+      ap (λ (r : BackRing). ring_asks.ask_at r w.rings.back) stands ∙ ap (λ (n : ℕ). ring_ask.Map n ReadWrite) next
+
+  binds_so : (port : ℕ) → ask_of w.back ≡ bus_ask.Bind port → ring_asks.ask_of w.rings.back ≡ ring_ask.Bind port
+  binds_so port asks =
+      let is = asks_bind w.back port asks in
+      let stands = bind_goes port asks in
+      let terms = terms_at bus.Bind ring.Bind is.0 stands refl refl in
+      ap (λ (r : BackRing). ring_asks.ask_at r w.rings.back) stands ∙ ap (λ (n : ℕ). ring_ask.Bind n) (terms.port ∙ is.1)
+
+  -- and the front has made it
+  made_so : IsOnItsWay w → (gref : ℕ) → ask_of w.back ≡ bus_ask.Map gref → is_connected w.rings.front.stage ≡ true
+  made_so (inl b) gref asks = (finds_now w gref fit speaks b.joined asks).made
+  made_so (inr (inl b)) gref asks = b.made
+  made_so (inr (inr (inl h))) gref asks = halted_not w.rings.back.stage h.ring (map_goes gref asks)
+  made_so (inr (inr (inr p))) gref asks = p.made
 
   pub goes_by_terms : IsOnItsWay w → GoesByTheTerms w
-  goes_by_terms way = record {
-    maps = λ gref asks. (maps_so way gref asks).0;
-    made = λ gref asks. (maps_so way gref asks).1;
-    binds = binds_so way;
-  }
+  goes_by_terms way = record { maps = maps_so; made = made_so way; binds = binds_so }

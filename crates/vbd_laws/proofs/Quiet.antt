@@ -1,5 +1,5 @@
 -- Where all is quiet, before a hostile hand first overwrites a word, both ends have written the same state last, and Closed only as the front closes, and the directory of keys says so.
-use Rattle.std.proofs.Common.{◌⊎◌, inl, inr, ◌≡◌, ◌∙◌, ap, sym, subst, ◌+◌, ◌==◌, ◌&&◌, ℕ, Bool, true, false, true≢false, List, [], ◌∷◌, ◌++◌, map, length, refl, if◌then◌else◌}
+use Rattle.std.proofs.Common.{◌⊎◌, inl, inr, ◌≡◌, ◌∙◌, ap, sym, subst, ◌+◌, ◌==◌, ◌&&◌, ◌||◌, ℕ, Bool, true, false, true≢false, List, [], ◌∷◌, ◌++◌, map, length, refl, if◌then◌else◌}
 use Rattle.std.specs.Prelude.{Option, Some}
 use Rattle.std.specs.Fmt.{digits}
 use Rattle.std.proofs.lemmas.Bool.{or_parts}
@@ -39,14 +39,14 @@ use Rattle.vbd_front.specs.View as front_view
 use Rattle.vbd_front.specs.Ask as front
 use Rattle.vbd_back.specs.View as back_view
 use Rattle.vbd_back.specs.Ask as back
-use Rattle.vbd_model.specs.World.{World, start_of, is_quiet}
-use Rattle.vbd_model.specs.Happening.{Happening, FrontMoves, BackMoves, Closes, Looks, Settles, front_turn, back_turn, entered_at, halted_at, front_key, back_key, closes_does, is_fronts_ring, is_backs_ring, does, after}
+use Rattle.vbd_model.specs.World.{World, start_of, frontend_of, is_quiet}
+use Rattle.vbd_model.specs.Happening.{Happening, FrontMoves, BackMoves, Closes, Looks, Settles, front_turn, back_turn, entered_at, halted_at, front_key, back_key, closes_does, is_fronts_ring, is_backs_ring, attaches, back_negotiates, does, after}
 use Rattle.vbd_model.specs.Fit.{FrontRests, FrontGoesWith, IsFit}
 use Rattle.vbd_model.specs.Possible.{IsPossible}
 use Rattle.vbd_laws.specs.Quiet.{IsUnpoked, HaveBoth, StatesAgree, StatesAgreeAtQuiet, RingsAgreed}
-use Rattle.vbd_laws.proofs.MovesTurns.{front_asks, back_asks}
+use Rattle.vbd_laws.proofs.MovesTurns.{front_asks, back_asks, back_learns}
 use Rattle.vbd_laws.proofs.NegotiatedRun.{Reached, negotiation_of}
-use Rattle.vbd_laws.proofs.ServedHonest.{Honest, honest_start, honest_after, all_of}
+use Rattle.vbd_laws.proofs.ServedHonest.{Honest, whole_now, honest_start, honest_after, all_of}
 
 -- at rest both ends of the negotiation agree, or the front waits for its requests; and the directory says their states
 abbrev AgreesAt : (idle : Bool) → Negotiation → Type 0
@@ -66,6 +66,11 @@ front_waits b e = absurd (true≢false (sym e))
 back_waits : (b : BackBusAsk) → back_view.rests b ≡ true → b ≡ back_ask.Wait
 back_waits back_ask.Wait e = refl
 back_waits b e = absurd (true≢false (sym e))
+
+-- a front whose end of the ring isn't broken is at rest as its negotiation rests
+unbroken_rests : (rests broken : Bool) → (rests || broken) ≡ true → broken ≡ false → rests ≡ true
+unbroken_rests true broken at whole = refl
+unbroken_rests false broken at whole = absurd (true≢false (sym at ∙ whole))
 
 -- a front without requests, in its loop or closed, is unoccupied
 still_at : (requests : List Request) (s : Stage) → requests ≡ [] → (s ≡ front_ring.Loop) ⊎ (s ≡ front_ring.Closed) → (length requests + front_submit.ending_of s == 0 && front_view.is_still s) ≡ true
@@ -103,6 +108,7 @@ closed_closes (stage.WriteState state.Initialised) v r goes own whole = differs 
 closed_closes (stage.WriteState state.Connected) v r goes own whole = differs v.state state.Initialised own goes.0 refl
 closed_closes (stage.WriteState state.Closed) v r goes own whole = differs v.state state.Closing own goes.0 refl
 closed_closes (stage.WriteState s) v r goes own whole = absurd goes
+closed_closes (stage.EndGrant page) v r goes own whole = differs v.state state.Closing own goes.0 refl
 closed_closes stage.ClosePort v r goes own whole = differs v.state state.Closing own goes.0 refl
 closed_closes stage.Closed v r goes own whole = goes.2
 closed_closes (stage.Broken word) v r goes own whole = absurd (true≢false (sym goes ∙ whole))
@@ -112,18 +118,19 @@ module _ (config : Options) (w : World) (honest : Honest config w) (quiet : is_q
   abbrev idle : Bool
   idle = front_view.is_unoccupied w.rings.front
 
-  all : ((front_view.rests (front_asks w) && back_view.rests (back_asks w)) ≡ true) × (rings.is_quiet w.rings ≡ true)
-  all = both_true (front_view.rests (front_asks w) && back_view.rests (back_asks w)) (rings.is_quiet w.rings) quiet
+  all : ((front_view.is_at_rest (frontend_of w) && back_view.rests (back_asks w)) ≡ true) × (rings.is_quiet w.rings ≡ true)
+  all = both_true (front_view.is_at_rest (frontend_of w) && back_view.rests (back_asks w)) (rings.is_quiet w.rings) quiet
 
   is_idle : idle ≡ true
   is_idle = let rest : IsIdleRing w.rings = quiet_rests config w.rings all.1 honest.standing in still_at w.rings.front.requests w.rings.front.stage rest.no_request rest.front_at
 
   at_rest : IsAtRest idle (negotiation_of w)
   at_rest =
-      let both = both_true (front_view.rests (front_asks w)) (back_view.rests (back_asks w)) all.0 in
+      let both = both_true (front_view.is_at_rest (frontend_of w)) (back_view.rests (back_asks w)) all.0 in
+      let rests = unbroken_rests (front_view.rests (front_asks w)) (front_view.is_broken w.rings.front.stage) both.0 (whole_now config w.rings honest.standing) in
       let parts : AreQuiet (front_submit.is_idle w.rings.front) (back_ring.is_idle w.rings.back) (has_to_take w.rings.under end.Front) (has_to_take w.rings.under end.Back) = all_quiet _ _ _ _ all.1 in
       record {
-        front_waits = front_waits (front_asks w) both.0;
+        front_waits = front_waits (front_asks w) rests;
         back_waits = back_waits (back_asks w) both.1;
         front_taken = (or_parts (is_pending w.rings.under.channels end.Front) (has_pending w.rings.under.keys.front) parts.no_front).1;
         back_taken = (or_parts (is_pending w.rings.under.channels end.Back) (has_pending w.rings.under.keys.back) parts.no_back).1;
@@ -179,6 +186,12 @@ move_agreed true speaks move at key tell told v is agreed = (is, tt)
 move_agreed false true move at key tell told v is agreed = (tt, told_agreed tell told (ring.happens v (ring.Negotiates at key)) agreed)
 move_agreed false false move at key tell told v is agreed = (tt, tt)
 
+back_agreed : (w : World) (moves takes : Bool) → AreAgreed (if moves then ring.BackMoves ∷ [] else back_negotiates takes w (back_learns w)) w.rings
+back_agreed w true takes = (tt, tt)
+back_agreed w false true = (tt, tt)
+back_agreed w false false =
+    move_agreed false (back.bus_moves (back_asks w) w.rings.back.stage) ring.BackMoves end.Back (back_key (back_asks w)) ring.BackHalts (halted_at w (back_turn w)) w.rings tt (λ s u. tt)
+
 closes_agreed : (at : End) (v : rings.World) → AreAgreed (closes_does at) v
 closes_agreed end.Front v = (tt, tt)
 closes_agreed end.Back v = tt
@@ -186,8 +199,7 @@ closes_agreed end.Back v = tt
 agreed_at : (config : Options) (w : World) (h : Happening) → IsUnpoked h → Honest config w → IsPossible w h → AreAgreed (does w h) w.rings
 agreed_at config w FrontMoves unpoked honest is =
     move_agreed (is_fronts_ring w) (front.speaks (front_asks w)) ring.FrontMoves end.Front (front_key (front_asks w)) ring.FrontEnters (entered_at w (front_turn w)) w.rings tt (λ s u. tt)
-agreed_at config w BackMoves unpoked honest is =
-    move_agreed (is_backs_ring w) (back.bus_moves (back_asks w) w.rings.back.stage) ring.BackMoves end.Back (back_key (back_asks w)) ring.BackHalts (halted_at w (back_turn w)) w.rings tt (λ s u. tt)
+agreed_at config w BackMoves unpoked honest is = back_agreed w (is_backs_ring w) (attaches w (back_learns w))
 agreed_at config w (Closes at) unpoked honest is = closes_agreed at w.rings
 agreed_at config w (Looks quiet) unpoked honest is = (λ e. alike w (quiet_agrees config w honest (is e)), tt)
 agreed_at config w (Settles quiet) unpoked honest is = (λ e. alike w (quiet_agrees config w honest (is e)), tt)

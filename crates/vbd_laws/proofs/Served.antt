@@ -8,7 +8,7 @@ use Rattle.vbd_laws.proofs.ServedPossible.{Stands, stands_start, stands_on, all_
 use Rattle.vbd_laws.proofs.ServedHonest.{honest_start, all_served}
 
 pub rings_possible : RingsPossible
-rings_possible config hs carried options are = all_possible hs (start_of config) (stands_start config carried options) are
+rings_possible config hs carried options are = all_possible hs (start_of config) (stands_start config options) are
 
 pub rings_served : RingsServed
 rings_served config hs carried options are = all_served config hs (start_of config) (honest_start config carried options) are
@@ -20,5 +20,5 @@ stands_after (h ∷ hs) w stands = stands_after hs (happens w h) (stands_on w h 
 
 pub ring_goes_by_terms : RingGoesByTheTerms
 ring_goes_by_terms config hs carried options =
-    let stands = stands_after hs (start_of config) (stands_start config carried options) in
+    let stands = stands_after hs (start_of config) (stands_start config options) in
     goes_by_terms (after hs (start_of config)) stands.fit stands.front stands.way

@@ -1,7 +1,9 @@
--- What the back's negotiation says is of the grammar: its disk has sectors of 64 bits, and it reads the reference of one of 16 pages.
-use Rattle.std.proofs.Common.{◌≡◌, sym, subst, ℕ, ◌+◌, ◌^◌, ◌<◌, ◌≤◌, ◌==◌, Bool, true, false, List, [], ◌∷◌, length, refl, arith, if◌then◌else◌}
+-- What the back's negotiation says is of the grammar: its disk has sectors of 64 bits, it reads the reference of one of 16 pages, and what it reads has 32 bits.
+use Rattle.std.proofs.Common.{◌≡◌, sym, subst, ℕ, zero, suc, ◌+◌, ◌-◌, ◌*◌, ◌&&◌, ◌++◌, All, ◌^◌, ◌<◌, ◌≤◌, ◌==◌, Bool, true, false, List, [], ◌∷◌, length, refl, arith, if◌then◌else◌}
 use Rattle.std.specs.Prelude.{Option, Some, None, nat_lt, nat_le}
+use Rattle.std.specs.List.{AllByRecursion}
 use Rattle.std.specs.Option.{option_map}
+use Rattle.std.proofs.lemmas.Option.{same_Some, none-some}
 use Rattle.std.proofs.lemmas.Bool.Decides.{nat_tests}
 use Rattle.blk_base.specs.declared.parts.Mapping.{Mapping}
 use Rattle.blk_base.specs.declared.ask.BackAnswer.{BackAnswer}
@@ -25,7 +27,7 @@ use Rattle.xenbus_state.specs.declared.table.BackHalt.{BackHalt}
 use Rattle.xenbus_state.specs.declared.table.BackHalt.TheVariants as bus_halt
 use Rattle.xenbus_state.specs.States.{state_read, state_number}
 use Rattle.xenbus_state.specs.Keys.{front_name}
-use Rattle.xenbus_state.specs.Numbers.{number_of}
+use Rattle.xenbus_state.specs.Numbers.{is_digit, number_after, number_in, number_of}
 use Rattle.xenbus_state.specs.Tables.{back_action, is_connected, bad_order, front_gone}
 use Rattle.xenbus_state.specs.Programs.{next_feature, next_fact, after_page}
 use Rattle.xenbus_state.specs.Reading.{count_read}
@@ -39,7 +41,7 @@ use Rattle.line_text.specs.Texts.{is_key_name}
 use Rattle.blk_back.specs.declared.told.Halt.{Halt}
 use Rattle.blk_back.specs.declared.stage.Stage.{Stage as BackRing}
 use Rattle.blk_back.specs.declared.stage.Stage.TheVariants as ring
-use Rattle.machine_pipeline.specs.Allowed.{IsSpelled, IsSaid}
+use Rattle.machine_pipeline.specs.Allowed.{IsSpelled, IsSaid, AreSaid}
 use Rattle.vbd_back.specs.View.{View, offer}
 use Rattle.vbd_back.specs.Ask as back
 use Rattle.vbd_back.specs.Step as back_step
@@ -56,10 +58,12 @@ IsPlain s = Unit {0}
 pub record Speaks (v : BackView) : Type 0 where
   pub sectors : v.disk.sectors < 2 ^ 64
   pub order : v.terms.order ≤ 4
+  pub grefs : AllByRecursion (λ (gref : ℕ). gref < 2 ^ 32) v.grefs
+  pub port : v.terms.port < 2 ^ 32
   pub stage : IsPlain v.stage
 
 at_speaks : (s : BackStage) (v : BackView) → IsPlain s → Speaks v → Speaks (record v { stage = s })
-at_speaks s v p h = record { sectors = h.sectors; order = h.order; stage = p }
+at_speaks s v p h = record { sectors = h.sectors; order = h.order; grefs = h.grefs; port = h.port; stage = p }
 
 feature_plain : (k : Option BackKey) → IsPlain (after_feature k)
 feature_plain None = tt
@@ -89,6 +93,46 @@ acted_speaks action.Nothing v h = at_speaks bus.Rest v tt h
 acted_speaks action.Connect v h = at_speaks (bus.ReadKey key.RingPageOrder) v tt h
 acted_speaks (action.Halt reason) v h = at_speaks bus.UnmapOthers v tt h
 
+-- a number that is read has 32 bits
+after_small : (limit n m : ℕ) (text : List ℕ) → n ≤ limit → number_after limit n text ≡ Some m → m ≤ limit
+unfolding number_after
+after_small limit n m [] few e = subst (λ (k : ℕ). k ≤ limit) (same_Some n m e) few
+after_small limit n m (c ∷ text) few e = by_test (is_digit c && nat_le (n * 10 + (c - 48)) limit) refl (λ few. after_small limit (n * 10 + (c - 48)) m text few) e
+  where
+    within : (a b : Bool) → (a && b) ≡ true → b ≡ true
+    within true b both = both
+    within false b both = absurd (cc)
+
+    by_test : (b : Bool) → (is_digit c && nat_le (n * 10 + (c - 48)) limit) ≡ b
+        → (n * 10 + (c - 48) ≤ limit → number_after limit (n * 10 + (c - 48)) text ≡ Some m → m ≤ limit) → (if b then number_after limit (n * 10 + (c - 48)) text else None) ≡ Some m → m ≤ limit
+    by_test true is later f =
+        let low = within (is_digit c) (nat_le (n * 10 + (c - 48)) limit) is in
+        let next : n * 10 + (c - 48) ≤ limit = grind (arith, nat_tests) in
+        later next f
+    by_test false is later f = absurd (none-some m f)
+
+in_small : (most limit m : ℕ) (text : List ℕ) → number_in most limit text ≡ Some m → m ≤ limit
+unfolding number_in
+in_small most limit m text e = by_test (nat_lt 0 (length text) && nat_le (length text) most) e
+  where
+    by_test : (b : Bool) → (if b then number_after limit 0 text else None) ≡ Some m → m ≤ limit
+    by_test true f = after_small limit 0 m text (omega arith) f
+    by_test false f = absurd (none-some m f)
+
+number_small : (m : ℕ) (text : List ℕ) → number_of text ≡ Some m → m < 2 ^ 32
+number_small m text e = let few = in_small 10 4294967295 m text e in omega arith
+
+with_gref_small : (gref : ℕ) (grefs : List ℕ) → gref < 2 ^ 32 → AllByRecursion (λ (g : ℕ). g < 2 ^ 32) grefs → AllByRecursion (λ (g : ℕ). g < 2 ^ 32) (grefs ++ gref ∷ [])
+with_gref_small gref [] low are = (low, tt)
+with_gref_small gref (g ∷ grefs) low are = (are.0, with_gref_small gref grefs low are.1)
+
+number_speaks : (g : ℕ → BackView) (text : List ℕ) (v : BackView) → ((x : ℕ) → x < 2 ^ 32 → Speaks (g x)) → Speaks v → Speaks (kept_or_halted (option_map g (number_of text)) v)
+number_speaks g text v each h = by_number (number_of text) refl
+  where
+    by_number : (n : Option ℕ) → number_of text ≡ n → Speaks (kept_or_halted (option_map g n) v)
+    by_number None e = at_speaks bus.UnmapOthers v tt h
+    by_number (Some x) e = each x (number_small x text e)
+
 -- a key that is read
 kept_speaks : {A : Type 0} (g : A → BackView) (n : Option A) (v : BackView) → ((x : A) → Speaks (g x)) → Speaks v → Speaks (kept_or_halted (option_map g n) v)
 kept_speaks g None v each h = at_speaks bus.UnmapOthers v tt h
@@ -99,7 +143,7 @@ order_speaks None v h = at_speaks bus.UnmapOthers v tt h
 order_speaks (Some n) v h = by_test (nat_le n 4) refl
   where
     by_test : (b : Bool) → nat_le n 4 ≡ b → Speaks (kept_or_halted (option_map (with_order v (key.RingRefOf 0)) (if b then Some n else None)) v)
-    by_test true e = let few : n ≤ 4 = grind (arith, nat_tests) in record { sectors = h.sectors; order = few; stage = omega arith }
+    by_test true e = let few : n ≤ 4 = grind (arith, nat_tests) in record { sectors = h.sectors; order = few; grefs = h.grefs; port = h.port; stage = omega arith }
     by_test false e = at_speaks bus.UnmapOthers v tt h
 
 page_plain : (order page : ℕ) → order ≤ 4 → IsPlain (bus.ReadKey (after_page order page))
@@ -117,41 +161,41 @@ only_speaks true v h = at_speaks (bus.ReadKey key.RingRef) v tt h
 only_speaks false v h = at_speaks bus.UnmapOthers v tt h
 
 key_speaks : (k : FrontKey) (text : Option (List ℕ)) (v : BackView) → Speaks v → Speaks (kept_or_halted (key_read k text v) v)
-key_speaks key.RingPageOrder None v h = record { sectors = h.sectors; order = omega arith; stage = tt }
+key_speaks key.RingPageOrder None v h = record { sectors = h.sectors; order = omega arith; grefs = h.grefs; port = h.port; stage = tt }
 key_speaks key.RingPageOrder (Some text) v h = order_speaks (number_of text) v h
 key_speaks (key.RingRefOf page) None v h = only_speaks (v.terms.order == 0) v h
 key_speaks (key.RingRefOf page) (Some text) v h =
-    kept_speaks (with_gref v (after_page v.terms.order page)) (number_of text) v (λ gref. record { sectors = h.sectors; order = h.order; stage = page_plain v.terms.order page h.order }) h
+    number_speaks (with_gref v (after_page v.terms.order page)) text v (λ gref low. record { sectors = h.sectors; order = h.order; grefs = with_gref_small gref v.grefs low h.grefs; port = h.port; stage = page_plain v.terms.order page h.order }) h
 key_speaks key.RingRef None v h = at_speaks bus.UnmapOthers v tt h
-key_speaks key.RingRef (Some text) v h = kept_speaks (with_gref v key.EventChannel) (number_of text) v (λ gref. record { sectors = h.sectors; order = h.order; stage = tt }) h
+key_speaks key.RingRef (Some text) v h = number_speaks (with_gref v key.EventChannel) text v (λ gref low. record { sectors = h.sectors; order = h.order; grefs = with_gref_small gref v.grefs low h.grefs; port = h.port; stage = tt }) h
 key_speaks key.EventChannel None v h = at_speaks bus.UnmapOthers v tt h
-key_speaks key.EventChannel (Some text) v h = kept_speaks (with_port v) (number_of text) v (λ port. record { sectors = h.sectors; order = h.order; stage = tt }) h
-key_speaks key.Protocol text v h = kept_speaks (with_layout v) (layout_read text) v (λ abi. record { sectors = h.sectors; order = h.order; stage = tt }) h
-key_speaks key.FeaturePersistent text v h = kept_speaks (with_persistent v) (count_read text) v (λ n. record { sectors = h.sectors; order = h.order; stage = tt }) h
+key_speaks key.EventChannel (Some text) v h = number_speaks (with_port v) text v (λ port low. record { sectors = h.sectors; order = h.order; grefs = h.grefs; port = low; stage = tt }) h
+key_speaks key.Protocol text v h = kept_speaks (with_layout v) (layout_read text) v (λ abi. record { sectors = h.sectors; order = h.order; grefs = h.grefs; port = h.port; stage = tt }) h
+key_speaks key.FeaturePersistent text v h = kept_speaks (with_persistent v) (count_read text) v (λ n. record { sectors = h.sectors; order = h.order; grefs = h.grefs; port = h.port; stage = tt }) h
 
 step_speaks : (s : BackStage) (v : BackView) (a : BackAnswer) → Speaks v → Speaks (step_at s v a)
 step_speaks (bus.Publish k) v answer.Done h = at_speaks (after_feature (next_feature k)) v (feature_plain (next_feature k)) h
-step_speaks (bus.WriteState s) v answer.Done h = record { sectors = h.sectors; order = h.order; stage = state_plain s }
+step_speaks (bus.WriteState s) v answer.Done h = record { sectors = h.sectors; order = h.order; grefs = h.grefs; port = h.port; stage = state_plain s }
 step_speaks bus.Watch v answer.Done h = at_speaks bus.Rest v tt h
 step_speaks bus.Rest v (answer.Watched path) h = at_speaks bus.ReadState v tt h
 step_speaks bus.ReadState v (answer.Key text) h = acted_speaks (back_action v.state v.unplugged (state_read text)) v h
 step_speaks (bus.ReadKey k) v (answer.Key text) h = key_speaks k text v h
 step_speaks bus.MapPage v (answer.Mapped page) h =
-    record { sectors = h.sectors; order = h.order; stage = either_plain (nat_lt (length v.pages + 1) (length v.grefs)) bus.MapPage bus.Bind tt tt }
+    record { sectors = h.sectors; order = h.order; grefs = h.grefs; port = h.port; stage = either_plain (nat_lt (length v.pages + 1) (length v.grefs)) bus.MapPage bus.Bind tt tt }
 step_speaks bus.MapPage v (answer.MapRefused status) h = at_speaks bus.UnmapOthers v tt h
-step_speaks bus.Bind v answer.Done h = record { sectors = h.sectors; order = h.order; stage = tt }
+step_speaks bus.Bind v answer.Done h = record { sectors = h.sectors; order = h.order; grefs = h.grefs; port = h.port; stage = tt }
 step_speaks bus.Bind v answer.BindRefused h = at_speaks bus.UnmapOthers v tt h
 step_speaks (bus.PublishFact k) v answer.Done h = at_speaks (after_fact (next_fact k)) v (fact_plain (next_fact k)) h
 step_speaks bus.UnmapOthers v answer.Done h = at_speaks (giving_up v.pages v.bound v.state) v (up_plain v.pages v.bound v.state) h
-step_speaks bus.UnmapPage v answer.Done h = record { sectors = h.sectors; order = h.order; stage = up_plain (other_pages v.pages) v.bound v.state }
-step_speaks bus.ClosePort v answer.Done h = record { sectors = h.sectors; order = h.order; stage = tt }
+step_speaks bus.UnmapPage v answer.Done h = record { sectors = h.sectors; order = h.order; grefs = h.grefs; port = h.port; stage = up_plain (other_pages v.pages) v.bound v.state }
+step_speaks bus.ClosePort v answer.Done h = record { sectors = h.sectors; order = h.order; grefs = h.grefs; port = h.port; stage = tt }
 step_speaks s v a h = h
 
 told_speaks : (v : BackView) (a : BackAnswer) → Speaks v → Speaks (step_of v a)
 told_speaks v a h = by_test (says_closing v)
   where
     by_test : (b : Bool) → Speaks (if b then record v { state = state.Closing } else step_at v.stage v a)
-    by_test true = record { sectors = h.sectors; order = h.order; stage = h.stage }
+    by_test true = record { sectors = h.sectors; order = h.order; grefs = h.grefs; port = h.port; stage = h.stage }
     by_test false = step_speaks v.stage v a h
 
 stopped_speaks : (v : BackView) → Speaks v → Speaks (stopped v)
@@ -179,7 +223,7 @@ module _ (P : BackView → Type 0) (told : (v : BackView) (a : BackAnswer) → P
   followed_is : (b : BackBusAsk) (v : BackView) (a : BackAnswer) → P v → P (back_step.followed b v a)
   followed_is (back_ask.Map gref) v a p = told v a p
   followed_is (back_ask.Bind port) v a p = told v a p
-  followed_is (back_ask.Unmap m) v a p = told v a p
+  followed_is (back_ask.Unmap m) v a p = told v answer.Done p
   followed_is back_ask.ClosePort v a p = told v a p
   followed_is back_ask.Wait v a p = woken_is v a p
   followed_is b v a p = p
@@ -207,13 +251,22 @@ back_speaks w h = by_act (back_turn w)
     by_act None = h
     by_act (Some a) = step_is Speaks told_speaks stopped_speaks (backend_of w) a.answer h
 
+-- the terms that its end of the ring takes have 32 bits
+all_at : (grefs : List ℕ) → AllByRecursion (λ (gref : ℕ). gref < 2 ^ 32) grefs → All (λ (gref : ℕ). gref < 2 ^ 32) grefs
+all_at [] are k d low = absurd (omega arith)
+all_at (g ∷ grefs) are zero d low = are.0
+all_at (g ∷ grefs) are (suc k) d low = all_at grefs are.1 k d (omega arith)
+
+pub terms_said : (v : BackView) → Speaks v → AreSaid v.grefs v.terms.port
+terms_said v h = (all_at v.grefs h.grefs, h.port)
+
 -- a close of it
 pub unplugged_speaks : (v : BackView) → Speaks v → Speaks (unplugged v)
 unplugged_speaks v h = by_test (is_halting v.stage)
   where
     by_test : (b : Bool) → Speaks (if b then v else record v { unplugged = true })
     by_test true = h
-    by_test false = record { sectors = h.sectors; order = h.order; stage = h.stage }
+    by_test false = record { sectors = h.sectors; order = h.order; grefs = h.grefs; port = h.port; stage = h.stage }
 
 -- what it does with the keys
 info_text : (read_only : Bool) → (if read_only then 4 else 0) < 2 ^ 64

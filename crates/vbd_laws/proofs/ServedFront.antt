@@ -1,6 +1,8 @@
--- What the front's negotiation says is of the grammar: its port is the first, and its ring has one page.
-use Rattle.std.proofs.Common.{◌≡◌, refl, sym, subst, ℕ, ◌+◌, ◌^◌, ◌<◌, ◌==◌, ◌&&◌, ◌||◌, Bool, true, false, List, arith, if◌then◌else◌}
+-- What the front's negotiation says is of the grammar: its port is the first, and its ring has at most 16 pages.
+use Rattle.std.proofs.Common.{◌≡◌, refl, ℕ, ◌+◌, ◌^◌, ◌<◌, ◌≤◌, ◌==◌, ◌&&◌, ◌||◌, Bool, true, false, List, arith, if◌then◌else◌}
 use Rattle.std.specs.Prelude.{Option, Some, None, nat_lt, unwrap_or}
+use Rattle.std.proofs.Math.Nat.{pow-le-pow_right}
+use Rattle.std.proofs.lemmas.Bool.Decides.{nat_tests}
 use Rattle.blk_base.specs.declared.ask.FrontAnswer.{FrontAnswer}
 use Rattle.blk_base.specs.declared.ask.FrontAnswer.TheVariants as answer
 use Rattle.blk_base.specs.declared.ask.FrontAsk.{FrontAsk}
@@ -24,7 +26,7 @@ use Rattle.xenbus_state.specs.declared.front.FrontNews.{FrontNews}
 use Rattle.xenbus_state.specs.declared.front.FrontNews.TheVariants as news
 use Rattle.xenbus_state.specs.States.{state_read}
 use Rattle.xenbus_state.specs.Tables.{front_action, on_offer, on_connected, on_closing, on_gone}
-use Rattle.xenbus_state.specs.Programs.{next_feature, next_fact, first_published, next_published}
+use Rattle.xenbus_state.specs.Programs.{next_feature, next_fact, first_published, after_page, next_published}
 use Rattle.xenbus_state.specs.Reading.{count_read, fact_read}
 use Rattle.xenbus_state.specs.FrontView.{FrontView, ring_order, pages_of, is_broken, closed}
 use Rattle.xenbus_state.specs.FrontAsk.{due, due_at, leaving, closing_stage, ask_at, ask_of}
@@ -40,26 +42,26 @@ use Rattle.vbd_front.specs.Step as front_step
 use Rattle.vbd_model.specs.World.{World, frontend_of}
 use Rattle.vbd_model.specs.Happening.{front_key, front_turn, front_bus_after}
 use Rattle.vbd_model.specs.Fit.{IsFit}
-use Rattle.vbd_laws.proofs.ServedTexts.{number_text, front_state_path, back_state_path, back_path, ring_path, port_path, layout_path, persistent_path, layout_text, flag_text, state_text}
+use Rattle.vbd_laws.proofs.ServedTexts.{number_text, front_state_path, back_state_path, back_path, ring_path, order_path, page_path, port_path, layout_path, persistent_path, layout_text, flag_text, state_text}
 
--- its port is the first that was made, and it publishes a ring of one page
+-- its port is the first that was made, and it publishes at most 16 pages
 abbrev pub IsFirstPort : Option ℕ → Type 0
 IsFirstPort None = Unit {0}
 IsFirstPort (Some port) = port ≡ 1
 
 abbrev pub IsPlain : FrontStage → Type 0
-IsPlain (bus.Publish key.RingPageOrder) = ⊥
-IsPlain (bus.Publish (key.RingRefOf page)) = ⊥
+IsPlain (bus.Publish (key.RingRefOf page)) = page < 16
 IsPlain s = Unit {0}
 
 pub record Speaks (v : FrontView) : Type 0 where
+  pub order : v.order ≤ 4
   pub port : IsFirstPort v.port
   pub stage : IsPlain v.stage
 
--- a port that it is told is the first, of a ring of one page
-abbrev pub TellsFirst : FrontView → FrontAnswer → Type 0
-TellsFirst v (answer.Port port) = (port ≡ 1) × (v.order ≡ 0)
-TellsFirst v a = Unit {0}
+-- a port that it is told is the first
+abbrev pub TellsFirst : FrontAnswer → Type 0
+TellsFirst (answer.Port port) = port ≡ 1
+TellsFirst a = Unit {0}
 
 either_plain : (b : Bool) (s t : FrontStage) → IsPlain s → IsPlain t → IsPlain (if b then s else t)
 either_plain true s t p q = p
@@ -78,30 +80,30 @@ due_plain : (s : FrontStage) (v : FrontView) (idle : Bool) → IsPlain s → IsP
 due_plain bus.Rest v idle p = either_plain (v.closing && idle) (closing_stage v.state v) bus.Rest (closing_plain v.state v) tt
 due_plain s v idle p = p
 
-acted_speaks : (act : FrontAction) (v : FrontView) → IsFirstPort v.port → Speaks (acted act v)
-acted_speaks action.Nothing v p = record { port = p; stage = tt }
-acted_speaks action.Publish v p = record { port = p; stage = tt }
-acted_speaks action.Connect v p = record { port = p; stage = tt }
-acted_speaks action.Close v p = record { port = p; stage = tt }
-acted_speaks action.CloseAndConnect v p = record { port = p; stage = tt }
-acted_speaks action.Leave v p = record { port = p; stage = tt }
-acted_speaks (action.Break word) v p = record { port = p; stage = tt }
+acted_speaks : (act : FrontAction) (v : FrontView) → v.order ≤ 4 → IsFirstPort v.port → Speaks (acted act v)
+acted_speaks action.Nothing v o p = record { order = o; port = p; stage = tt }
+acted_speaks action.Publish v o p = record { order = o; port = p; stage = tt }
+acted_speaks action.Connect v o p = record { order = o; port = p; stage = tt }
+acted_speaks action.Close v o p = record { order = o; port = p; stage = tt }
+acted_speaks action.CloseAndConnect v o p = record { order = o; port = p; stage = tt }
+acted_speaks action.Leave v o p = record { order = o; port = p; stage = tt }
+acted_speaks (action.Break word) v o p = record { order = o; port = p; stage = tt }
 
 feature_plain : (k : Option BackKey) → IsPlain (after_feature k)
 feature_plain None = tt
 feature_plain (Some k) = tt
 
-feature_speaks : (k : BackKey) (n : Option ℕ) (v : FrontView) → IsFirstPort v.port → Speaks (feature_step k n v)
-feature_speaks k None v p = record { port = p; stage = tt }
-feature_speaks k (Some n) v p = record { port = p; stage = feature_plain (next_feature k) }
+feature_speaks : (k : BackKey) (n : Option ℕ) (v : FrontView) → v.order ≤ 4 → IsFirstPort v.port → Speaks (feature_step k n v)
+feature_speaks k None v o p = record { order = o; port = p; stage = tt }
+feature_speaks k (Some n) v o p = record { order = o; port = p; stage = feature_plain (next_feature k) }
 
 fact_plain : (k : Option BackKey) → IsPlain (after_fact k)
 fact_plain None = tt
 fact_plain (Some k) = tt
 
-fact_speaks : (k : BackKey) (n : Option ℕ) (v : FrontView) → IsFirstPort v.port → Speaks (fact_step k n v)
-fact_speaks k None v p = record { port = p; stage = tt }
-fact_speaks k (Some n) v p = record { port = p; stage = fact_plain (next_fact k) }
+fact_speaks : (k : BackKey) (n : Option ℕ) (v : FrontView) → v.order ≤ 4 → IsFirstPort v.port → Speaks (fact_step k n v)
+fact_speaks k None v o p = record { order = o; port = p; stage = tt }
+fact_speaks k (Some n) v o p = record { order = o; port = p; stage = fact_plain (next_fact k) }
 
 grants_plain : (port : Option ℕ) → IsPlain (after_grants port)
 grants_plain None = tt
@@ -111,48 +113,63 @@ state_plain : (s : BusState) → IsPlain (after_state s)
 state_plain state.Closed = tt
 state_plain s = tt
 
-pub one_page : (v : FrontView) → v.order ≡ 0 → ring_order v ≡ 0
-one_page v e = omega arith
+first_plain : (order : ℕ) → IsPlain (bus.Publish (first_published order))
+first_plain order = by_test (order == 0)
+  where
+    by_test : (single : Bool) → IsPlain (bus.Publish (if single then key.RingRef else key.RingPageOrder))
+    by_test true = tt
+    by_test false = tt
 
-first_plain : (order : ℕ) → order ≡ 0 → IsPlain (bus.Publish (first_published order))
-first_plain order e = subst (λ (n : ℕ). IsPlain (bus.Publish (first_published n))) (sym e) tt
+-- a ring has at most 16 pages
+page_plain : (order page : ℕ) → order ≤ 4 → IsPlain (bus.Publish (after_page order page))
+page_plain order page few = by_test (nat_lt (page + 1) (2 ^ order)) refl
+  where
+    by_test : (b : Bool) → nat_lt (page + 1) (2 ^ order) ≡ b → IsPlain (bus.Publish (if b then key.RingRefOf (page + 1) else key.EventChannel))
+    by_test true e =
+        let less : page + 1 < 2 ^ order = grind (arith, nat_tests) in
+        let most : 2 ^ order ≤ 2 ^ 4 = pow-le-pow_right (omega arith) few in
+        omega arith
+    by_test false e = tt
 
-published_plain : (k : FrontKey) (order : ℕ) → IsPlain (bus.Publish k) → IsPlain (after_published (next_published order k))
-published_plain key.RingPageOrder order p = absurd p
-published_plain (key.RingRefOf page) order p = absurd p
-published_plain key.RingRef order p = tt
-published_plain key.EventChannel order p = tt
-published_plain key.Protocol order p = tt
-published_plain key.FeaturePersistent order p = tt
+published_plain : (k : FrontKey) (order : ℕ) → order ≤ 4 → IsPlain (after_published (next_published order k))
+published_plain key.RingPageOrder order few = omega arith
+published_plain (key.RingRefOf page) order few = page_plain order page few
+published_plain key.RingRef order few = tt
+published_plain key.EventChannel order few = tt
+published_plain key.Protocol order few = tt
+published_plain key.FeaturePersistent order few = tt
 
-after_plain : (s : FrontStage) (v : FrontView) → IsPlain s → IsPlain (after s v)
-after_plain bus.Start v p = tt
-after_plain (bus.RingWord word) v p = either_plain (word == 15) (bus.Grant 0) (bus.RingWord (word + 1)) tt tt
-after_plain (bus.Grant page) v p = either_plain (nat_lt (page + 1) (pages_of v)) (bus.Grant (page + 1)) bus.NewPort tt tt
-after_plain (bus.Publish k) v p = published_plain k (ring_order v) p
-after_plain (bus.EndGrant page) v p = either_plain (nat_lt (page + 1) (pages_of v)) (bus.EndGrant (page + 1)) bus.EndOtherGrants tt tt
-after_plain bus.EndOtherGrants v p = grants_plain v.port
-after_plain s v p = p
+few_orders : (v : FrontView) → v.order ≤ 4 → ring_order v ≤ 4
+few_orders v o = let least : ring_order v ≤ v.order = omega arith in omega arith
 
-step_speaks : (s : FrontStage) (v : FrontView) (idle : Bool) (a : FrontAnswer) → TellsFirst v a → IsFirstPort v.port → IsPlain s → Speaks (step_at s (at s v) idle a)
-step_speaks bus.Rest v idle (answer.Watched path) told p q = record { port = p; stage = tt }
-step_speaks bus.ReadState v idle (answer.Key text) told p q = acted_speaks (front_action v.state v.closing idle (state_read text)) (at bus.ReadState v) p
-step_speaks (bus.ReadFeature k) v idle (answer.Key text) told p q = feature_speaks k (count_read text) (at (bus.ReadFeature k) v) p
-step_speaks bus.NewPort v idle (answer.Port port) told p q = record { port = told.0; stage = first_plain (ring_order v) (one_page v told.1) }
-step_speaks (bus.ReadFact k) v idle (answer.Key text) told p q = fact_speaks k (fact_read k text) (at (bus.ReadFact k) v) p
-step_speaks (bus.WriteState s) v idle answer.Done told p q = record { port = p; stage = state_plain s }
-step_speaks bus.ClosePort v idle answer.Done told p q = record { port = tt; stage = tt }
-step_speaks s v idle answer.Done told p q = record { port = p; stage = after_plain s (at s v) q }
-step_speaks s v idle a told p q = record { port = p; stage = q }
+after_plain : (s : FrontStage) (v : FrontView) → v.order ≤ 4 → IsPlain s → IsPlain (after s v)
+after_plain bus.Start v o p = tt
+after_plain (bus.RingWord word) v o p = either_plain (word == 15) (bus.Grant 0) (bus.RingWord (word + 1)) tt tt
+after_plain (bus.Grant page) v o p = either_plain (nat_lt (page + 1) (pages_of v)) (bus.Grant (page + 1)) bus.NewPort tt tt
+after_plain (bus.Publish k) v o p = published_plain k (ring_order v) (few_orders v o)
+after_plain (bus.EndGrant page) v o p = either_plain (nat_lt (page + 1) (pages_of v)) (bus.EndGrant (page + 1)) bus.EndOtherGrants tt tt
+after_plain bus.EndOtherGrants v o p = grants_plain v.port
+after_plain s v o p = p
 
-one_speaks : (v : FrontView) (idle : Bool) (a : FrontAnswer) → TellsFirst v a → Speaks v → Speaks (step_of v idle a)
-one_speaks v idle a told h = step_speaks (due v idle) v idle a told h.port (due_plain v.stage v idle h.stage)
+step_speaks : (s : FrontStage) (v : FrontView) (idle : Bool) (a : FrontAnswer) → TellsFirst a → v.order ≤ 4 → IsFirstPort v.port → IsPlain s → Speaks (step_at s (at s v) idle a)
+step_speaks bus.Rest v idle (answer.Watched path) told o p q = record { order = o; port = p; stage = tt }
+step_speaks bus.ReadState v idle (answer.Key text) told o p q = acted_speaks (front_action v.state v.closing idle (state_read text)) (at bus.ReadState v) o p
+step_speaks (bus.ReadFeature k) v idle (answer.Key text) told o p q = feature_speaks k (count_read text) (at (bus.ReadFeature k) v) o p
+step_speaks bus.NewPort v idle (answer.Port port) told o p q = record { order = o; port = told; stage = first_plain (ring_order v) }
+step_speaks (bus.ReadFact k) v idle (answer.Key text) told o p q = fact_speaks k (fact_read k text) (at (bus.ReadFact k) v) o p
+step_speaks (bus.WriteState s) v idle answer.Done told o p q = record { order = o; port = p; stage = state_plain s }
+step_speaks bus.ClosePort v idle answer.Done told o p q = record { order = o; port = tt; stage = tt }
+step_speaks s v idle answer.Done told o p q = record { order = o; port = p; stage = after_plain s (at s v) o q }
+step_speaks s v idle a told o p q = record { order = o; port = p; stage = q }
+
+one_speaks : (v : FrontView) (idle : Bool) (a : FrontAnswer) → TellsFirst a → Speaks v → Speaks (step_of v idle a)
+one_speaks v idle a told h = step_speaks (due v idle) v idle a told h.order h.port (due_plain v.stage v idle h.stage)
 
 settled_speaks : (b : FrontBusAsk) (v : FrontView) (idle : Bool) → Speaks v → Speaks (front_step.settled_at b idle v)
 settled_speaks front_ask.EndOtherGrants v idle h = one_speaks v idle answer.Done tt h
 settled_speaks b v idle h = h
 
-told_speaks : (v : FrontView) (idle : Bool) (a : FrontAnswer) → TellsFirst v a → Speaks v → Speaks (front_step.bus_told idle v a)
+told_speaks : (v : FrontView) (idle : Bool) (a : FrontAnswer) → TellsFirst a → Speaks v → Speaks (front_step.bus_told idle v a)
 told_speaks v idle a told h = let u : FrontView = step_of v idle a in settled_speaks (ask_of u idle) u idle (one_speaks v idle a told h)
 
 -- what the negotiation becomes in a move of the front: it is told the answer, that all is done, or nothing
@@ -165,8 +182,10 @@ module _ (P : FrontView → Type 0) (x : View) (a : FrontAnswer) (p : P x.bus)
 
   followed_is : (b : FrontBusAsk) (later : FrontRing) → P (front_step.followed b later (view.is_unoccupied x.ring) x.bus a)
   followed_is (front_ask.WriteRingWord word) later = told
+  followed_is (front_ask.Grant page) (ring.RingFrame k) = told
   followed_is (front_ask.Grant page) ring.NewPort = told
   followed_is front_ask.NewPort later = told
+  followed_is (front_ask.EndGrant page) (ring.RingRead k) = done
   followed_is (front_ask.EndGrant page) ring.ClosePort = done
   followed_is front_ask.ClosePort later = told
   followed_is front_ask.Wait later = woken_is (view.is_broken later) a told
@@ -180,7 +199,7 @@ module _ (P : FrontView → Type 0) (x : View) (a : FrontAnswer) (p : P x.bus)
   ring_is true b = followed_is b _
   ring_is false b = waited_is b
 
-  step_is : (let y : View = front_step.step_of x a in P y.bus)
+  pub step_is : (let y : View = front_step.step_of x a in P y.bus)
   step_is = by_test (front.speaks (front.bus_ask_of x)) (front.bus_ask_of x)
     where
       by_test : (speaks : Bool) (b : FrontBusAsk) → (let y : View = if speaks then front_step.spoken x a else front_step.ring_step (front.ring_moves b x.ring.stage) b x a in P y.bus)
@@ -196,23 +215,23 @@ fronts_first : (c : ChannelState) (a : FrontAsk) → IsFronts c a → AsksFirst 
 fronts_first c ask.NewPort is = is.0
 fronts_first c a is = tt
 
-abbrev Tells : FrontView → Option FrontAct → Type 0
-Tells v None = Unit {0}
-Tells v (Some a) = TellsFirst v a.answer
+abbrev Tells : Option FrontAct → Type 0
+Tells None = Unit {0}
+Tells (Some a) = TellsFirst a.answer
 
-either_tells : (b : Bool) (v : FrontView) (x y : Option FrontAct) → Tells v x → Tells v y → Tells v (if b then x else y)
-either_tells true v x y p q = p
-either_tells false v x y p q = q
+either_tells : (b : Bool) (x y : Option FrontAct) → Tells x → Tells y → Tells (if b then x else y)
+either_tells true x y p q = p
+either_tells false x y p q = q
 
-watched_tells : (h : Hypervisor) (v : FrontView) (path : Option (List ℕ)) → Tells v (front_watched h path)
-watched_tells h v None = tt
-watched_tells h v (Some path) = tt
+watched_tells : (h : Hypervisor) (path : Option (List ℕ)) → Tells (front_watched h path)
+watched_tells h None = tt
+watched_tells h (Some path) = tt
 
-act_tells : (h : Hypervisor) (v : FrontView) (a : FrontAsk) → v.order ≡ 0 → AsksFirst h.channels.made a → Tells v (front_act h a)
-act_tells h v ask.Wait one first = either_tells (is_pending h.channels end.Front) v _ (front_watched h (watch_next h end.Front)) tt (watched_tells h v (watch_next h end.Front))
-act_tells h v ask.NewPort one first = (omega arith, one)
-act_tells h v (ask.SetKey path text) one first = either_tells (is_own_path end.Front path) v _ None tt tt
-act_tells h v a one first = tt
+act_tells : (h : Hypervisor) (a : FrontAsk) → AsksFirst h.channels.made a → Tells (front_act h a)
+act_tells h ask.Wait first = either_tells (is_pending h.channels end.Front) _ (front_watched h (watch_next h end.Front)) tt (watched_tells h (watch_next h end.Front))
+act_tells h ask.NewPort first = omega arith
+act_tells h (ask.SetKey path text) first = either_tells (is_own_path end.Front path) _ None tt tt
+act_tells h a first = tt
 
 key_first : (made : ℕ) (b : FrontBusAsk) → AsksFirst made (front.key_ask b)
 key_first made front_ask.Watch = tt
@@ -238,12 +257,12 @@ asks_first w fit = by_test (front.speaks b)
 
 -- a move of the front
 pub front_speaks : (w : World) → IsFit w → Speaks w.front → Speaks (front_bus_after w (front_turn w))
-front_speaks w fit h = by_act (front_turn w) (act_tells w.rings.under w.front (front.ask_of (frontend_of w)) fit.order (asks_first w fit))
+front_speaks w fit h = by_act (front_turn w) (act_tells w.rings.under (front.ask_of (frontend_of w)) (asks_first w fit))
   where
     idle : Bool
     idle = view.is_unoccupied w.rings.front
 
-    by_act : (act : Option FrontAct) → Tells w.front act → Speaks (front_bus_after w act)
+    by_act : (act : Option FrontAct) → Tells act → Speaks (front_bus_after w act)
     by_act None tells = h
     by_act (Some a) tells = step_is Speaks (frontend_of w) a.answer h (told_speaks w.front idle a.answer tells h) (told_speaks w.front idle answer.Done tt h)
 
@@ -253,29 +272,29 @@ closed_speaks v h = by_test (v.closing || is_broken v.stage)
   where
     by_test : (b : Bool) → Speaks (if b then v else record v { closing = true })
     by_test true = h
-    by_test false = record { port = h.port; stage = h.stage }
+    by_test false = record { order = h.order; port = h.port; stage = h.stage }
 
 -- what it does with the keys
 small_port : (port : Option ℕ) → IsFirstPort port → unwrap_or port 0 < 2 ^ 64
 small_port None first = omega arith
 small_port (Some p) first = omega arith
 
-at_spelled : (s : FrontStage) (v : FrontView) → IsFirstPort v.port → IsPlain s → IsSpelled (front_key (ask_at s v))
-at_spelled bus.Start v p q = back_state_path
-at_spelled bus.ReadState v p q = back_state_path
-at_spelled (bus.ReadFeature k) v p q = back_path k
-at_spelled (bus.ReadFact k) v p q = back_path k
-at_spelled (bus.Publish key.RingPageOrder) v p q = absurd q
-at_spelled (bus.Publish (key.RingRefOf page)) v p q = absurd q
-at_spelled (bus.Publish key.RingRef) v p q = (ring_path, number_text 8 (omega arith))
-at_spelled (bus.Publish key.EventChannel) v p q = (port_path, number_text (unwrap_or v.port 0) (small_port v.port p))
-at_spelled (bus.Publish key.Protocol) v p q = (layout_path, layout_text v.abi)
-at_spelled (bus.Publish key.FeaturePersistent) v p q = (persistent_path, flag_text v.persistent)
-at_spelled (bus.WriteState s) v p q = (front_state_path, state_text s)
-at_spelled s v p q = tt
+at_spelled : (s : FrontStage) (v : FrontView) → v.order ≤ 4 → IsFirstPort v.port → IsPlain s → IsSpelled (front_key (ask_at s v))
+at_spelled bus.Start v o p q = back_state_path
+at_spelled bus.ReadState v o p q = back_state_path
+at_spelled (bus.ReadFeature k) v o p q = back_path k
+at_spelled (bus.ReadFact k) v o p q = back_path k
+at_spelled (bus.Publish key.RingPageOrder) v o p q = (order_path, number_text (ring_order v) (let few = few_orders v o in omega arith))
+at_spelled (bus.Publish (key.RingRefOf page)) v o p q = (page_path page q, number_text (8 + page) (omega arith))
+at_spelled (bus.Publish key.RingRef) v o p q = (ring_path, number_text 8 (omega arith))
+at_spelled (bus.Publish key.EventChannel) v o p q = (port_path, number_text (unwrap_or v.port 0) (small_port v.port p))
+at_spelled (bus.Publish key.Protocol) v o p q = (layout_path, layout_text v.abi)
+at_spelled (bus.Publish key.FeaturePersistent) v o p q = (persistent_path, flag_text v.persistent)
+at_spelled (bus.WriteState s) v o p q = (front_state_path, state_text s)
+at_spelled s v o p q = tt
 
 pub front_spelled : (w : World) → Speaks w.front → IsSpelled (front_key (front.bus_ask_of (frontend_of w)))
-front_spelled w h = let idle : Bool = view.is_unoccupied w.rings.front in at_spelled (due w.front idle) w.front h.port (due_plain w.front.stage w.front idle h.stage)
+front_spelled w h = let idle : Bool = view.is_unoccupied w.rings.front in at_spelled (due w.front idle) w.front h.order h.port (due_plain w.front.stage w.front idle h.stage)
 
 -- it is connected and closed as it writes so, and a word that breaks it is one of 0, 6 and 9
 abbrev pub IsNewsAt : FrontStage → Option FrontNews → Type 0

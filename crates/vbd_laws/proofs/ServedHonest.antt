@@ -1,12 +1,13 @@
 -- What happens before a hostile hand first overwrites a word is served by the machine of the ring.
-use Rattle.std.proofs.Common.{◌⊎◌, inl, inr, ◌≡◌, ◌∙◌, ap, sym, subst, ℕ, ◌<◌, ◌≤◌, ◌==◌, ◌&&◌, Bool, true, false, true≢false, List, [], ◌∷◌, ◌++◌, map, refl, arith, if◌then◌else◌}
-use Rattle.std.specs.Prelude.{Option, Some, None, is_some}
-use Rattle.std.specs.List.{AllByRecursion}
+use Rattle.std.proofs.Common.{◌⊎◌, inl, inr, ◌≡◌, ◌∙◌, ap, sym, subst, ℕ, zero, suc, ◌+◌, ◌^◌, ◌<◌, ◌≤◌, ◌==◌, ◌&&◌, Bool, true, false, true≢false, List, [], ◌∷◌, ◌++◌, map, refl, arith, if◌then◌else◌}
+use Rattle.std.specs.Prelude.{Option, Some, None, IsSome, is_some, unwrap_or}
+use Rattle.std.specs.List.{AllByRecursion, range_with_len}
 use Rattle.std.proofs.lemmas.Bool.Decides.{nat_tests}
 use Rattle.std.proofs.lemmas.Option.{none-some}
 use Rattle.blk_base.specs.Options.{Options}
 use Rattle.blk_base.specs.declared.parts.End.{End}
 use Rattle.blk_base.specs.declared.parts.End.TheVariants as end
+use Rattle.blk_base.specs.declared.operation.Abi.{Abi}
 use Rattle.blk_base.specs.declared.parts.Mapping.{Mapping}
 use Rattle.blk_base.specs.declared.moves.BackMover.TheVariants as back_mover
 use Rattle.blk_base.specs.declared.ask.BackAsk.{BackAsk}
@@ -17,6 +18,7 @@ use Rattle.hypervisor.specs.Act.{FrontAct, BackAct, Took, back_act}
 use Rattle.schedule_text.specs.Range.{AreOptions}
 use Rattle.line_text.proofs.Both.{both_true}
 use Rattle.ring_words.specs.Ring.{requests_of}
+use Rattle.ring_words.specs.Shape.{Shape}
 use Rattle.blk_front.specs.declared.stage.Stage.{Stage as FrontRing}
 use Rattle.blk_front.specs.declared.stage.Stage.TheVariants as front_ring
 use Rattle.blk_front.specs.declared.state.FrontState.{FrontState}
@@ -32,6 +34,10 @@ use Rattle.blk_back.specs.View as ring_view
 use Rattle.blk_back.specs.Ask as ring_ask
 use Rattle.blk_back.specs.Step as ring_step
 use Rattle.xenbus_state.specs.States.{state_number}
+use Rattle.xenbus_state.specs.Values.{ring_gref}
+use Rattle.xenbus_state.specs.Orders.{numbers_from}
+use Rattle.xenbus_state.specs.declared.keys.FrontKey.TheVariants as key
+use Rattle.xenbus_state.specs.declared.values.FrontTerms.{FrontTerms}
 use Rattle.xenbus_state.specs.declared.state.BusState.{BusState}
 use Rattle.xenbus_state.specs.declared.state.BusState.TheVariants as state
 use Rattle.xenbus_state.specs.declared.stage.FrontStage.{FrontStage}
@@ -41,7 +47,7 @@ use Rattle.xenbus_state.specs.declared.stage.BackStage.TheVariants as back_bus
 use Rattle.xenbus_state.specs.declared.front.FrontBusAsk.{FrontBusAsk}
 use Rattle.xenbus_state.specs.declared.front.FrontBusAsk.TheVariants as front_ask
 use Rattle.xenbus_state.specs.declared.table.BackHalt.{BackHalt}
-use Rattle.xenbus_state.specs.FrontView.{FrontView}
+use Rattle.xenbus_state.specs.FrontView.{FrontView, ring_order, terms_of}
 use Rattle.xenbus_state.specs.FrontAsk.{due_at, leaving, closing_stage, ask_at}
 use Rattle.xenbus_state.specs.BackView.{BackView, is_halting}
 use Rattle.xenbus_state.specs.BackAsk.{says_closing}
@@ -56,15 +62,16 @@ use Rattle.pipeline_laws.specs.Pipeline.{Pipeline}
 use Rattle.pipeline_laws.specs.Allowed.{is_farewell}
 use Rattle.machine_pipeline.specs.Plain.{IsPlain}
 use Rattle.machine_pipeline.specs.Allowed as ring_allowed
-use Rattle.machine_pipeline.specs.Allowed.{MayEnter, IsFarewell, is_free}
+use Rattle.machine_pipeline.specs.Allowed.{MayEnter, IsFarewell, AreTerms, is_free}
 use Rattle.machine_pipeline.proofs.Flow.{Flow}
 use Rattle.machine_pipeline.proofs.Holds.{Holds}
 use Rattle.machine_pipeline.proofs.Over.{IsGivingUp, Over, IsKept}
 use Rattle.machine_pipeline.proofs.BackMoves.{back_moves}
 use Rattle.machine_pipeline.proofs.Together.{IsStanding, run_kept, always_stands}
 use Rattle.negotiation_laws.specs.Negotiation.{Negotiation}
-use Rattle.negotiation_laws.specs.Laws.{gone_halt}
-use Rattle.negotiation_laws.proofs.Subjects.{stage_needs}
+use Rattle.negotiation_laws.specs.Run.{now}
+use Rattle.negotiation_laws.specs.Laws.{gone_halt, grefs_of}
+use Rattle.negotiation_laws.proofs.Subjects.{BackRead, serves, stage_needs}
 use Rattle.negotiation_laws.proofs.Found.{run_holds}
 use Rattle.vbd_front.specs.View as front_view
 use Rattle.vbd_front.specs.Ask as front
@@ -72,24 +79,27 @@ use Rattle.vbd_front.specs.Step as front_step
 use Rattle.vbd_back.specs.Ask as back
 use Rattle.vbd_back.specs.Step as back_step
 use Rattle.vbd_model.specs.World.{World, start_of, frontend_of, backend_of}
-use Rattle.vbd_model.specs.Happening.{Happening, FrontMoves, BackMoves, JobMoves, Closes, Submits, Notifies, Pokes, Dumps, Looks, Settles, front_turn, back_turn, entered_at, halted_at, reasons_of, front_key, closes_does, front_does, back_does, is_backs_ring, does, happens, after, all_does}
+use Rattle.vbd_model.specs.Happening.{Happening, FrontMoves, BackMoves, JobMoves, Closes, Submits, Notifies, Pokes, Dumps, Looks, Settles, front_turn, back_turn, entered_at, halted_at, reasons_of, front_key, closes_does, front_does, back_does, is_backs_ring, attaches, back_negotiates, does, happens, after, all_does}
 use Rattle.vbd_model.specs.Possible.{IsPossible, ArePossible}
-use Rattle.vbd_model.specs.Kind.{is_x64, are_carried}
-use Rattle.vbd_model.specs.Fit.{FrontRests, FrontGoesWith, BackReads, BackGoesWith, IsFit}
+use Rattle.vbd_model.specs.Kind.{are_carried}
+use Rattle.vbd_model.specs.Fit.{OpenOrdered, RestsOrdered, FrontRests, FrontGoesWith, FrontOrdered, IsGivingUp as GivesUp, IsUnmapping, is_serving, BackRests, BackReads, BackGoesWith, IsFit}
 use Rattle.vbd_laws.specs.Moves.{IsNoMove, IsFrontMove, IsBackMove}
 use Rattle.vbd_laws.specs.Quiet.{IsUnpoked, AreUnpoked}
-use Rattle.vbd_laws.proofs.MovesTurns.{front_asks, back_asks, front_cases, back_cases}
+use Rattle.vbd_laws.proofs.FitBackBus.{waits_reading}
+use Rattle.vbd_laws.proofs.MovesTurns.{front_asks, back_asks, back_learns, back_takes, front_cases, back_cases, back_speaks}
+use Rattle.vbd_laws.proofs.MovesAttached.{taken}
 use Rattle.vbd_laws.proofs.MovesFront.{front_move_is, front_move_none}
 use Rattle.vbd_laws.proofs.MovesBack.{back_move_is, back_move_none}
-use Rattle.vbd_laws.proofs.ServedFront.{front_spelled}
+use Rattle.vbd_laws.proofs.ServedFront.{IsFirstPort, front_spelled}
 use Rattle.vbd_laws.proofs.ServedBack.{IsRead, halt_read, halt_said, back_spelled}
 use Rattle.vbd_laws.proofs.NegotiatedRun.{Reached, Joined, negotiation_of, reached_as, halts_at, late_at}
 use Rattle.vbd_laws.proofs.NegotiatedFront.{front_goes}
 use Rattle.vbd_laws.proofs.NegotiatedBack.{a_page, keys_heard, IsGiven, back_goes}
 use Rattle.vbd_laws.proofs.NegotiatedKept.{IsTimely, states_timely}
 use Rattle.vbd_laws.proofs.NegotiatedRests.{apart_rests, closes_joined}
+use Rattle.vbd_laws.proofs.NegotiatedAgreed.{keeps_order}
 use Rattle.vbd_laws.proofs.NegotiatedWay.{ring_made_now, key_given, wait_given}
-use Rattle.vbd_laws.proofs.ServedPossible.{Stands, stands_start, stands_on, joined_start, quiet_of}
+use Rattle.vbd_laws.proofs.ServedPossible.{IsWord, same_is, entered_words, Stands, stands_start, stands_on, joined_start, quiet_of}
 
 -- the machine before a word is overwritten: its negotiation is a run, and the machine of its ring stands for a pipeline
 pub record Honest (config : Options) (w : World) : Type 0 where
@@ -107,7 +117,7 @@ whole_over : (config : Options) (w : rings.World) (d : Pipeline) (s : FrontRing)
 whole_over config w d (front_ring.Broken word) b o = absurd o.front_at
 whole_over config w d s b o = refl
 
-whole_now : (config : Options) (w : rings.World) → IsStanding config w → front_view.is_broken w.front.stage ≡ false
+pub whole_now : (config : Options) (w : rings.World) → IsStanding config w → front_view.is_broken w.front.stage ≡ false
 whole_now config w standing = by_kept standing.kept
   where
     by_kept : IsKept config w standing.pipeline → front_view.is_broken w.front.stage ≡ false
@@ -125,8 +135,9 @@ made_or_making : (b : FrontBusAsk) (r : FrontRing) → front.ring_moves b r ≡ 
 made_or_making (front_ask.WriteRingWord word) r moves = inr tt
 made_or_making (front_ask.Grant page) r moves = inr tt
 made_or_making front_ask.NewPort r moves = inr tt
-made_or_making (front_ask.EndGrant page) front_ring.RingRead moves = inl refl
-made_or_making (front_ask.EndGrant page) (front_ring.RingEnd seen) moves = inl refl
+made_or_making (front_ask.EndGrant page) (front_ring.RingRead k) moves = inl refl
+made_or_making (front_ask.EndGrant page) (front_ring.RingEnd k seen) moves = inl refl
+made_or_making (front_ask.EndGrant page) (front_ring.Broken word) moves = inl refl
 made_or_making (front_ask.EndGrant page) r moves = absurd (true≢false (sym moves))
 made_or_making front_ask.ClosePort front_ring.ClosePort moves = inl refl
 made_or_making front_ask.ClosePort r moves = absurd (true≢false (sym moves))
@@ -166,18 +177,23 @@ moves_made w fit j moves halted = by_kind (made_or_making (front_asks w) w.rings
         absurd (omega arith)
 
 -- the front enters its states when the machine of the ring allows it
-enters_when : (w : World) (v : rings.World) → IsFit w → v.back ≡ w.rings.back → (s : FrontState) → IsTimely w s → MayEnter v s
-enters_when w v fit same entered.Connected timely = tt
-enters_when w v fit same entered.Closing timely = tt
-enters_when w v fit same entered.Leaving timely =
+enters_when : (w : World) (v : rings.World) (n : ℕ) → IsFit w → v.back ≡ w.rings.back → v.front.shape.order ≡ n → (s : FrontState) → IsTimely w s → IsWord n s → MayEnter v s
+enters_when w v n fit same own (entered.Agreed order) timely is = is ∙ sym own
+enters_when w v n fit same own entered.Connected timely is = tt
+enters_when w v n fit same own entered.Closing timely is = tt
+enters_when w v n fit same own entered.Leaving timely is =
     let fits = subst (λ (s : BackStage). BackGoesWith s w.back.state w.rings.back.stage) timely.stage fit.back in
     ap (λ (b : ring_view.View). b.stage) same ∙ fits.1
-enters_when w v fit same entered.Closed timely = ap (λ (b : ring_view.View). is_some b.halted) same ∙ (fit.halted ∙ ap is_halting timely.stage)
-enters_when w v fit same (entered.Broken word) timely = absurd timely
+enters_when w v n fit same own entered.Closed timely is = ap (λ (b : ring_view.View). is_some b.halted) same ∙ (fit.halted ∙ ap is_halting timely.stage)
+enters_when w v n fit same own (entered.Broken word) timely is = absurd timely
 
-enters_served : (w : World) (v : rings.World) → IsFit w → v.back ≡ w.rings.back → (states : List FrontState) → AllByRecursion (IsTimely w) states → ring_allowed.AreServed (map ring_happening.FrontEnters states) v
-enters_served w v fit same [] timely = tt
-enters_served w v fit same (s ∷ states) timely = (enters_when w v fit same s timely.0, enters_served w (ring_happening.happens v (ring_happening.FrontEnters s)) fit same states timely.1)
+enters_served : (w : World) (v : rings.World) (n : ℕ) → IsFit w → v.back ≡ w.rings.back → v.front.shape.order ≡ n → (states : List FrontState) → AllByRecursion (IsTimely w) states → AllByRecursion (IsWord n) states
+    → ring_allowed.AreServed (map ring_happening.FrontEnters states) v
+enters_served w v n fit same own [] timely are = tt
+enters_served w v n fit same own (s ∷ states) timely are = (
+  enters_when w v n fit same own s timely.0 are.0,
+  enters_served w (ring_happening.happens v (ring_happening.FrontEnters s)) n fit same (keeps_order s v.front (same_is n v.front.shape.order s own are.0) ∙ own) states timely.1 are.1,
+)
 
 front_served : (config : Options) (w : World) → Honest config w → ring_allowed.AreServed (front_does w) w.rings
 front_served config w honest =
@@ -187,7 +203,9 @@ front_served config w honest =
     by_act : (act : Option FrontAct) → front_turn w ≡ act → front.speaks (front_asks w) ≡ true
         → (let v : rings.World = ring_happening.happens w.rings (ring_happening.Negotiates end.Front (front_key (front_asks w))) in ring_allowed.AreServed (map ring_happening.FrontEnters (entered_at w act)) v)
     by_act None e says = tt
-    by_act (Some a) e says = enters_served w _ honest.stands.fit refl (front_step.states_after (frontend_of w) a.answer) (states_timely w a honest.stands.fit (whole_now config w.rings honest.standing) honest.joined e says)
+    by_act (Some a) e says =
+        enters_served w _ w.rings.front.shape.order honest.stands.fit refl refl (front_step.states_after (frontend_of w) a.answer)
+        (states_timely w a honest.stands.fit (whole_now config w.rings honest.standing) honest.joined e says) (entered_words w (Some a) honest.stands e says)
 
 -- a front leaves, and knows that the back is gone, only once the back is closed
 abbrev LeavesLate : Negotiation → Type 0
@@ -224,6 +242,7 @@ closing_free (bus.WriteState state.Initialised) v r n fits e whole needs late lo
 closing_free (bus.WriteState state.Connected) v r n fits e whole needs late low = not_early v.state state.Initialised fits.0 (omega arith) e
 closing_free (bus.WriteState state.Closed) v r n fits e whole needs late low = absurd (omega arith)
 closing_free (bus.WriteState own) v r n fits e whole needs late low = absurd fits
+closing_free (bus.EndGrant page) v r n fits e whole needs late low = absurd (omega arith)
 closing_free bus.ClosePort v r n fits e whole needs late low = absurd (omega arith)
 closing_free bus.Closed v r n fits e whole needs late low = absurd (omega arith)
 closing_free (bus.Broken word) v r n fits e whole needs late low = absurd (omega arith)
@@ -238,7 +257,7 @@ low_reads own r fits = absurd fits
 
 low_at : (s : BackStage) (v : BackView) (x : BackAnswer) (r : BackRing) (why : BackHalt) → bus_step.halt_at s v x ≡ Some why → BackGoesWith s v.state r → state_number v.state < 6
 low_at back_bus.ReadState v x r why e fits = low_reads v.state r fits
-low_at (back_bus.ReadKey key) v x r why e fits = rw fits.0 (omega arith)
+low_at (back_bus.ReadKey k) v x r why e fits = rw (waits_reading k v.state r fits).0 (omega arith)
 low_at back_bus.MapPage v x r why e fits = rw fits.0 (omega arith)
 low_at back_bus.Bind v x r why e fits = rw fits.0 (omega arith)
 low_at back_bus.Watch v x r why e fits = absurd (none-some why e)
@@ -289,37 +308,40 @@ module _ (config : Options) (w : World) (honest : Honest config w) where
   moves_allowed : back.ring_moves (back_asks w) w.rings.back.stage ≡ true → is_some w.rings.back.halted ≡ false → is_connected w.rings.front.stage ≡ true
   moves_allowed moves = ring_made_now w fit honest.stands.front honest.stands.way moves
 
-  back_served : ring_allowed.AreServed (back_does w) w.rings
-  back_served =
-      back_cases (λ does asked step. back_act w.rings.under back_mover.Back asked Took ≡ back_turn w → ring_allowed.AreServed does w.rings) w
-      (λ says e. (back_spelled w fit.offers honest.stands.back, halts_served _ (back_turn w) refl (both_true (back.speaks (back_asks w)) (back.is_between w.rings.back.stage) says).0 e))
-      (λ quiet moves e. (moves_allowed moves, tt)) (λ quiet still e. (back_spelled w fit.offers honest.stands.back, tt)) refl
-
 -- no map and no bind is refused, and the back finds no overrun
 loop_refuses : (v : ring_view.View) (r : Option Reply) (x : BackAnswer) → ring_ask.IsAnswer (ring_ask.loop_ask v r) x → IsGiven x
 loop_refuses v (Some r) answer.Done is = tt
 loop_refuses v (Some r) x is = absurd is
 loop_refuses v None x is = by_sleep v.asleep is
   where
-    read : (b : Bool) (m : Mapping) (i j : ℕ) (y : BackAnswer) → ring_ask.IsAnswer (if b then back_ask.Read m i else back_ask.Read m j) y → IsGiven y
-    read true m i j (answer.Word word) is = tt
-    read true m i j y is = absurd is
-    read false m i j (answer.Word word) is = tt
-    read false m i j y is = absurd is
+    read : (b : Bool) (m n : Mapping) (i j : ℕ) (y : BackAnswer) → ring_ask.IsAnswer (if b then back_ask.Read m i else back_ask.Read n j) y → IsGiven y
+    read true m n i j (answer.Word word) is = tt
+    read true m n i j y is = absurd is
+    read false m n i j (answer.Word word) is = tt
+    read false m n i j y is = absurd is
 
     wait : (y : BackAnswer) → ring_ask.IsAnswer back_ask.Wait y → IsGiven y
     wait answer.Event is = tt
     wait (answer.Watched path) is = tt
     wait y is = absurd is
 
-    by_sleep : (b : Bool) → ring_ask.IsAnswer (if b then back_ask.Wait else (if requests_of v.ring v.seen == 0 then back_ask.Read v.page 0 else back_ask.Read v.page (ring_view.slot_word v.ring.cons 0))) x → IsGiven x
+    by_sleep : (b : Bool) → ring_ask.IsAnswer (if b then back_ask.Wait else (if requests_of v.ring v.seen == 0 then ring_ask.index_ask v 0 else ring_ask.entry_ask v 0)) x → IsGiven x
     by_sleep true is = wait x is
-    by_sleep false is = read (requests_of v.ring v.seen == 0) v.page 0 (ring_view.slot_word v.ring.cons 0) x is
+    by_sleep false is = read (requests_of v.ring v.seen == 0) (ring_view.page_of v 0) (ring_view.slot_page v v.ring.cons 0) 0 (ring_view.slot_word v.shape v.ring.cons 0) x is
+
+unmap_given : (pages : List Mapping) (x : BackAnswer) → ring_ask.IsAnswer (ring_ask.unmap_ask pages) x → IsGiven x
+unmap_given [] answer.Event is = tt
+unmap_given [] (answer.Watched path) is = tt
+unmap_given [] x is = absurd is
+unmap_given (page ∷ pages) answer.Done is = tt
+unmap_given (page ∷ pages) x is = absurd is
 
 unhalted_given : (s : BackRing) (v : ring_view.View) (x : BackAnswer) → ring_ask.IsAnswer (ring_ask.ask_at s v) x → (ring_step.step_at s v x).halted ≡ None → IsGiven x
 unhalted_given ring.MapRing v (answer.MapRefused status) is unhalted = absurd (none-some _ (sym unhalted))
 unhalted_given ring.Bind v answer.BindRefused is unhalted = absurd (none-some _ (sym unhalted))
 unhalted_given ring.Loop v x is unhalted = loop_refuses v (ring_ask.next_reply v) x is
+unhalted_given ring.UnmapRing v x is unhalted = unmap_given v.pages x is
+unhalted_given ring.UnmapUnbound v x is unhalted = unmap_given v.pages x is
 unhalted_given s v (answer.MapRefused status) is unhalted = absurd is
 unhalted_given s v answer.BindRefused is unhalted = absurd is
 unhalted_given s v x is unhalted = tt
@@ -329,15 +351,15 @@ record Quiet (r : ring_view.View) (x : BackAnswer) : Type 0 where
   given : IsGiven x
   same : (ring_step.step_of r x).halted ≡ r.halted
 
-up_quiet : (s : BackRing) (page : Mapping) (r : ring_view.View) (x : BackAnswer) → IsGivingUp page s → ring_ask.IsAnswer (ring_ask.ask_at s r) x → IsGiven x × ((ring_step.step_at s r x).halted ≡ r.halted)
-up_quiet ring.UnmapRing page r answer.Done up is = (tt, refl)
-up_quiet ring.UnmapRing page r x up is = absurd is
-up_quiet ring.ClosePort page r answer.Done up is = (tt, refl)
-up_quiet ring.ClosePort page r x up is = absurd is
-up_quiet ring.Halted page r answer.Event up is = (tt, refl)
-up_quiet ring.Halted page r (answer.Watched path) up is = (tt, refl)
-up_quiet ring.Halted page r x up is = absurd is
-up_quiet s page r x up is = absurd up
+up_quiet : (s : BackRing) (held : List Mapping) (r : ring_view.View) (x : BackAnswer) → IsGivingUp held s → ring_ask.IsAnswer (ring_ask.ask_at s r) x → IsGiven x × ((ring_step.step_at s r x).halted ≡ r.halted)
+up_quiet ring.UnmapRing held r x up is = (unmap_given r.pages x is, refl)
+up_quiet ring.UnmapUnbound held r x up is = (unmap_given r.pages x is, refl)
+up_quiet ring.ClosePort held r answer.Done up is = (tt, refl)
+up_quiet ring.ClosePort held r x up is = absurd is
+up_quiet ring.Halted held r answer.Event up is = (tt, refl)
+up_quiet ring.Halted held r (answer.Watched path) up is = (tt, refl)
+up_quiet ring.Halted held r x up is = absurd is
+up_quiet s held r x up is = absurd up
 
 module _ (config : Options) (w : World) (a : BackAct) (honest : Honest config w) (turn : back_turn w ≡ Some a) where
   -- where its end of the ring moves
@@ -353,7 +375,7 @@ module _ (config : Options) (w : World) (a : BackAct) (honest : Honest config w)
           let goes = back_moves config w.rings held.0 honest.standing.pipeline honest.plain (may (ap is_some h.unhalted)) (record { safe = honest.standing.safe; holds = h }) in
           let unhalted : (ring_step.step_of w.rings.back a.answer).halted ≡ None = subst (λ (act : Option BackAct). (let x : rings.World = back_after w.rings act in x.back.halted ≡ None)) e goes.holds.unhalted in
           record { given = unhalted_given w.rings.back.stage w.rings.back a.answer allowed unhalted; same = unhalted ∙ sym h.unhalted }
-      by_kept (inr over) = let quiet = up_quiet w.rings.back.stage w.rings.back.page w.rings.back a.answer over.back_at allowed in record { given = quiet.0; same = quiet.1 }
+      by_kept (inr over) = let quiet = up_quiet w.rings.back.stage w.rings.back.pages w.rings.back a.answer over.back_at allowed in record { given = quiet.0; same = quiet.1 }
 
   abbrev Given : BackAsk → Type 0
   Given asked = back_act w.rings.under back_mover.Back asked Took ≡ Some a → IsGiven a.answer × (is_backs_ring w ≡ true → (ring_step.step_of w.rings.back a.answer).halted ≡ w.rings.back.halted)
@@ -361,12 +383,177 @@ module _ (config : Options) (w : World) (a : BackAct) (honest : Honest config w)
   back_given : Given (back.ask_of (backend_of w))
   back_given =
       back_cases (λ does asked step. Given asked) w
-      (λ says e. (key_given w.rings.under (back_asks w) a e, λ mine. absurd (true≢false (sym mine ∙ rw says refl))))
+      (λ says untaken e. (key_given w.rings.under (back_asks w) a e, λ mine. absurd (true≢false (sym mine ∙ rw says refl))))
+      (λ says takes e. (key_given w.rings.under (back_asks w) a e, λ mine. absurd (true≢false (sym mine ∙ rw says refl))))
       (λ quiet moves e. let q = ring_quiet (moves_allowed config w honest moves) e in (q.given, λ mine. q.same))
       (λ quiet still e. (wait_given w.rings.under a e, λ mine. absurd (true≢false (sym mine ∙ rw (quiet, still) refl))))
 
   back_joined : Reached (record { front = w.front; back = (back_step.step_of (backend_of w) a.answer).bus; keys = a.under.keys })
   back_joined = let given = back_given turn in back_goes w a honest.stands.fit honest.joined turn given.0 given.1
+
+back_joins : (config : Options) (w : World) → Honest config w → Joined (happens w BackMoves)
+back_joins config w honest = by_act (back_turn w) refl
+  where
+    by_act : (act : Option BackAct) → back_turn w ≡ act → Joined (happens w BackMoves)
+    by_act None e = let still : IsNoMove w BackMoves = back_move_none w honest.stands.fit e in subst Joined (sym still.world) honest.joined
+    by_act (Some a) e = let moved : IsBackMove w a = back_move_is w a honest.stands.fit e in subst Joined (sym moved.world) (back_joined config w a honest e)
+
+-- an end of the ring that maps is elsewhere than here
+abbrev is_mapping : BackRing → Bool
+is_mapping ring.MapRing = true
+is_mapping r = false
+
+not_mapping : {A : Type 0} {r : BackRing} (t : BackRing) → t ≡ r → t ≡ ring.MapRing → is_mapping r ≡ false → A
+not_mapping t at e other = absurd (true≢false (sym (ap is_mapping e) ∙ ap is_mapping at ∙ other))
+
+served_map : {A : Type 0} (t : BackRing) → is_serving t ≡ true → t ≡ ring.MapRing → A
+served_map t is e = absurd (true≢false (sym is ∙ ap is_serving e))
+
+rests_map : {A : Type 0} (own : BusState) (t : BackRing) → BackRests own t → t ≡ ring.MapRing → A
+rests_map state.InitWait t fits e = not_mapping t fits e refl
+rests_map state.Connected t fits e = served_map t fits e
+rests_map state.Closing t fits e = served_map t fits e
+rests_map own t fits e = absurd fits
+
+reads_map : {A : Type 0} (own : BusState) (t : BackRing) → BackReads own t → t ≡ ring.MapRing → A
+reads_map state.InitWait t fits e = not_mapping t fits e refl
+reads_map state.Connected t fits e = not_mapping t fits e refl
+reads_map state.Closing t fits e = not_mapping t fits e refl
+reads_map own t fits e = absurd fits
+
+given_map : {A : Type 0} (t : BackRing) → GivesUp t → t ≡ ring.MapRing → A
+given_map (ring.GiveUp m) up e = not_mapping (ring.GiveUp m) refl e refl
+given_map t up e = absurd up
+
+unmapped_map : {A : Type 0} (t : BackRing) → IsUnmapping t → t ≡ ring.MapRing → A
+unmapped_map ring.UnmapRing up e = not_mapping ring.UnmapRing refl e refl
+unmapped_map ring.UnmapUnbound up e = not_mapping ring.UnmapUnbound refl e refl
+unmapped_map t up e = absurd up
+
+-- a back that has read the layout has read all the terms of its front but one, or all
+map_reads : (s : BackStage) (own : BusState) (t : BackRing) → BackGoesWith s own t → t ≡ ring.MapRing → (s ≡ back_bus.ReadKey key.FeaturePersistent) ⊎ (s ≡ back_bus.MapPage)
+map_reads (back_bus.ReadKey key.FeaturePersistent) own t fits e = inl refl
+map_reads (back_bus.ReadKey k) own t fits e = not_mapping t fits.1 e refl
+map_reads back_bus.MapPage own t fits e = inr refl
+map_reads (back_bus.Publish k) own t fits e = not_mapping t fits.1 e refl
+map_reads (back_bus.WriteState state.InitWait) own t fits e = not_mapping t fits.1 e refl
+map_reads (back_bus.WriteState state.Connected) own t fits e = not_mapping t fits.1 e refl
+map_reads (back_bus.WriteState state.Closing) own t fits e = not_mapping t fits e refl
+map_reads (back_bus.WriteState state.Closed) own t fits e = not_mapping t fits.1 e refl
+map_reads (back_bus.WriteState s) own t fits e = absurd fits
+map_reads back_bus.Watch own t fits e = not_mapping t fits.1 e refl
+map_reads back_bus.Rest own t fits e = rests_map own t fits e
+map_reads back_bus.ReadState own t fits e = reads_map own t fits e
+map_reads back_bus.Bind own t fits e = not_mapping t fits.1 e refl
+map_reads (back_bus.PublishFact k) own t fits e = not_mapping t fits.1 e refl
+map_reads back_bus.UnmapOthers own t fits e = given_map t fits e
+map_reads back_bus.UnmapPage own t fits e = unmapped_map t fits e
+map_reads back_bus.ClosePort own t fits e = not_mapping t fits e refl
+map_reads back_bus.Halted own t fits e = not_mapping t fits.1 e refl
+
+-- so it goes by those of a front that has written Initialised, and has its port
+record GoesByTerms (f : FrontView) (b : BackView) : Type 0 where
+  late : 3 ≤ state_number f.state
+  some : IsSome f.port
+  abi : b.terms.abi ≡ f.abi
+  order : b.terms.order ≡ ring_order f
+  port : b.terms.port ≡ unwrap_or f.port 0
+  grefs : b.grefs ≡ grefs_of (2 ^ ring_order f)
+
+abbrev MapsByTerms : Negotiation → Type 0
+MapsByTerms n = (n.back.stage ≡ back_bus.ReadKey key.FeaturePersistent) ⊎ (n.back.stage ≡ back_bus.MapPage) → GoesByTerms n.front n.back
+
+serving : (s : BackStage) (own : BusState) → (s ≡ back_bus.ReadKey key.FeaturePersistent) ⊎ (s ≡ back_bus.MapPage) → serves s own ≡ true
+serving s own (inl e) = ap (λ (x : BackStage). serves x own) e
+serving s own (inr e) = ap (λ (x : BackStage). serves x own) e
+
+maps_by_terms : (n : Negotiation) → Reached n → MapsByTerms n
+maps_by_terms n j = subst MapsByTerms j.stands (λ at. by_stage at)
+  where
+    m : Negotiation
+    m = now j.run
+
+    by_stage : (m.back.stage ≡ back_bus.ReadKey key.FeaturePersistent) ⊎ (m.back.stage ≡ back_bus.MapPage) → GoesByTerms m.front m.back
+    by_stage at =
+        let h = run_holds j.run in
+        let serves_so = serving m.back.stage m.back.state at in
+        let after = h.back.serving_after serves_so in
+        let read = h.back.read serves_so in
+        elim at [
+          | inl e ↦ (let terms = subst (λ (s : BackStage). BackRead s m.back.terms (terms_of m.front) m.back.grefs) e read in record { late = after.0; some = after.1; abi = terms.3; order = terms.0; port = terms.2; grefs = terms.1 })
+          | inr e ↦
+              (let terms = subst (λ (s : BackStage). BackRead s m.back.terms (terms_of m.front) m.back.grefs) e read in
+              record { late = after.0; some = after.1; abi = ap (λ (t : FrontTerms). t.abi) terms.0; order = ap (λ (t : FrontTerms). t.order) terms.0; port = ap (λ (t : FrontTerms). t.port) terms.0; grefs = terms.1 })
+        ]
+
+-- the front's end of the ring has the order that was agreed
+open_order : (port : Option ℕ) (agreed n : ℕ) → OpenOrdered port agreed n → IsSome port → n ≡ agreed
+open_order None agreed n ordered some = absurd (true≢false (sym some))
+open_order (Some p) agreed n ordered some = ordered
+
+rests_order : (own : BusState) (port : Option ℕ) (wished agreed n : ℕ) → RestsOrdered own port wished agreed n → 3 ≤ state_number own → IsSome port → n ≡ agreed
+rests_order state.Initialising port wished agreed n ordered late some = absurd (omega arith)
+rests_order own port wished agreed n ordered late some = open_order port agreed n ordered some
+
+portless : {A : Type 0} (port : Option ℕ) → port ≡ None → IsSome port → A
+portless port none some = absurd (true≢false (sym some ∙ ap is_some none))
+
+agreed_order : (s : FrontStage) (v : FrontView) (r : FrontRing) (n : ℕ) → FrontGoesWith s v r → FrontOrdered s v n → 3 ≤ state_number v.state → IsSome v.port → n ≡ ring_order v
+agreed_order bus.Start v r n goes ordered late some = portless v.port goes.2 some
+agreed_order (bus.ReadFeature k) v r n goes ordered late some = portless v.port goes.2 some
+agreed_order (bus.RingWord word) v r n goes ordered late some = ordered
+agreed_order (bus.Grant page) v r n goes ordered late some = ordered
+agreed_order bus.NewPort v r n goes ordered late some = ordered
+agreed_order bus.Rest v r n goes ordered late some = rests_order v.state v.port v.order (ring_order v) n ordered late some
+agreed_order bus.ReadState v r n goes ordered late some = rests_order v.state v.port v.order (ring_order v) n ordered late some
+agreed_order s v r n goes ordered late some = open_order v.port (ring_order v) n ordered some
+
+first_port : (port : Option ℕ) → IsFirstPort port → IsSome port → unwrap_or port 0 ≡ 1
+first_port None first some = absurd (true≢false (sym some))
+first_port (Some p) first some = first
+
+-- the references count from 8
+counts_from : (first count : ℕ) → map ring_gref (numbers_from first count) ≡ range_with_len (8 + first) count
+counts_from first zero = refl
+counts_from first (suc count) =
+    let next : 8 + (first + 1) ≡ 8 + first + 1 = omega arith in
+    ap (λ (grefs : List ℕ). (8 + first) ∷ grefs) (counts_from (first + 1) count ∙ ap (λ (n : ℕ). range_with_len n count) next)
+
+same_shape : (a : Abi) (n : ℕ) (s : Shape) → a ≡ s.abi → n ≡ s.order → record { abi = a; order = n } ≡ s
+same_shape a n s x y = ap (λ (c : Abi). record { abi = c; order = n }) x ∙ ap (λ (k : ℕ). record { abi = s.abi; order = k }) y
+
+terms_are : (w : World) (b : BackView) → IsFit w → IsFirstPort w.front.port → GoesByTerms w.front b → AreTerms w.rings (back_step.shape_read b) b.grefs b.terms.port
+terms_are w b fit first goes =
+    let order = agreed_order w.front.stage w.front w.rings.front.stage w.rings.front.shape.order fit.front fit.ordered goes.late goes.some in
+    record {
+      shape_is = same_shape b.terms.abi b.terms.order w.rings.front.shape (goes.abi ∙ sym fit.layout) (goes.order ∙ sym order);
+      grefs_are = goes.grefs ∙ (counts_from 0 (2 ^ ring_order w.front) ∙ ap (λ (n : ℕ). range_with_len 8 (2 ^ n)) (sym goes.order));
+      port_is = goes.port ∙ first_port w.front.port first goes.some;
+    }
+
+module _ (config : Options) (w : World) (honest : Honest config w) where
+  -- the terms that its end of the ring takes
+  takes_terms : back.bus_moves (back_asks w) w.rings.back.stage ≡ true → attaches w (back_learns w) ≡ true → (act : Option BackAct) → back_turn w ≡ act → back_act w.rings.under back_mover.Back (back.key_ask (back_asks w)) Took ≡ act
+      → AreTerms w.rings (back_step.shape_read (back_learns w)) (back_learns w).grefs (back_learns w).terms.port
+  takes_terms says takes None turn e = absurd (back_speaks w.rings.under (back_asks w) (both_true (back.speaks (back_asks w)) (back.is_between w.rings.back.stage) says).0 e)
+  takes_terms says takes (Some a) turn e =
+      let b : BackView = back_learns w in
+      let next : Stands (happens w BackMoves) = stands_on w BackMoves honest.stands in
+      let does_so : back_does w ≡ back_takes b =
+      ap (λ (m : Bool). if (if m then false else back.ring_moves (back_asks w) w.rings.back.stage) then ring_happening.BackMoves ∷ [] else back_negotiates (attaches w b) w b) says ∙ ap (λ (t : Bool). back_negotiates t w b) takes in
+      let is = taken w a (record { turn = turn; moves = says }) takes in
+      let maps : (let v : World = happens w BackMoves in v.rings.back.stage ≡ ring.MapRing) =
+      ap (λ (does : List ring_happening.Happening). (ring_happening.after does w.rings).back.stage) does_so ∙ (ap (λ (v : rings.World). v.back.stage) is.after ∙ ap (λ (r : ring_view.View). r.stage) is.led) in
+      let at = map_reads b.stage b.state (let v : World = happens w BackMoves in v.rings.back.stage) next.fit.back maps in
+      terms_are w b honest.stands.fit honest.stands.front.port (maps_by_terms (negotiation_of (happens w BackMoves)) (back_joins config w honest) at)
+
+  back_served : ring_allowed.AreServed (back_does w) w.rings
+  back_served =
+      back_cases (λ does asked step. back_act w.rings.under back_mover.Back asked Took ≡ back_turn w → ring_allowed.AreServed does w.rings) w
+      (λ says untaken e.
+      (back_spelled w honest.stands.fit.offers honest.stands.back, halts_served config w honest _ (back_turn w) refl (both_true (back.speaks (back_asks w)) (back.is_between w.rings.back.stage) says).0 e))
+      (λ says takes e. (takes_terms says takes (back_turn w) refl e, tt)) (λ quiet moves e. (moves_allowed config w honest moves, tt))
+      (λ quiet still e. (back_spelled w honest.stands.fit.offers honest.stands.back, tt)) refl
 
 closes_served : (w : rings.World) (at : End) → ring_allowed.AreServed (closes_does at) w
 closes_served w end.Front = (tt, tt)
@@ -393,13 +580,6 @@ front_joins config w honest = by_act (front_turn w) refl
     by_act (Some a) e =
         let moved : IsFrontMove w a = front_move_is w a honest.stands.fit e in
         subst Joined (sym moved.world) (front_goes w a honest.stands.fit (whole_now config w.rings honest.standing) honest.joined e)
-
-back_joins : (config : Options) (w : World) → Honest config w → Joined (happens w BackMoves)
-back_joins config w honest = by_act (back_turn w) refl
-  where
-    by_act : (act : Option BackAct) → back_turn w ≡ act → Joined (happens w BackMoves)
-    by_act None e = let still : IsNoMove w BackMoves = back_move_none w honest.stands.fit e in subst Joined (sym still.world) honest.joined
-    by_act (Some a) e = let moved : IsBackMove w a = back_move_is w a honest.stands.fit e in subst Joined (sym moved.world) (back_joined config w a honest e)
 
 joins : (config : Options) (w : World) (h : Happening) → Honest config w → Joined (happens w h)
 joins config w FrontMoves honest = front_joins config w honest
@@ -441,22 +621,18 @@ module _ (config : Options) (Are : List ring_happening.Happening → rings.World
 pub all_served : (config : Options) (hs : List Happening) (w : World) → Honest config w → ArePossible hs w → ring_allowed.AreServed (honest_history (all_does hs w)) w.rings
 all_served config = all_of config ring_allowed.AreServed (λ w. tt) served_then (served_at config)
 
--- the options that are carried out are those of a ring of one page
+-- the options that are carried out are those without indirect requests
 plain_of : (config : Options) → are_carried config ≡ true → AreOptions config → IsPlain config
 plain_of config carried are =
-    let three = both_true (is_x64 config.abi && config.order == 0 && config.persistent == 0) (config.indirect == 0) carried in
-    let two = both_true (is_x64 config.abi && config.order == 0) (config.persistent == 0) three.0 in
-    let one = both_true (is_x64 config.abi) (config.order == 0) two.0 in
-    let order = one.1 in
-    let indirect = three.1 in
+    let indirect = (both_true (config.persistent == 0) (config.indirect == 0) carried).1 in
     let sectors = are.4 in
-    record { order = grind (arith, nat_tests); indirect = grind (arith, nat_tests); start = are.3; sectors = omega arith }
+    record { order = are.0; indirect = grind (arith, nat_tests); start = are.3; sectors = omega arith }
 
 pub honest_start : (config : Options) → are_carried config ≡ true → AreOptions config → Honest config (start_of config)
 honest_start config carried are =
     let plain = plain_of config carried are in
     record {
-      stands = stands_start config carried are;
+      stands = stands_start config are;
       joined = joined_start config are;
       plain = plain;
       standing = always_stands config [] plain tt;

@@ -1,5 +1,5 @@
 -- Whatever happens to the machine is possible for the machine of its ring.
-use Rattle.std.proofs.Common.{inl, ◌≡◌, ◌&&◌, Bool, true, List, [], ◌∷◌, ◌++◌, map, refl, arith}
+use Rattle.std.proofs.Common.{inl, inr, ◌≡◌, ◌∙◌, ap, sym, ℕ, ◌^◌, ◌<◌, ◌≤◌, ◌&&◌, Bool, true, true≢false, List, [], ◌∷◌, ◌++◌, map, refl, arith}
 use Rattle.std.specs.Prelude.{Option, Some, None}
 use Rattle.std.specs.List.{AllByRecursion}
 use Rattle.blk_base.specs.Options.{Options}
@@ -10,18 +10,23 @@ use Rattle.hypervisor.specs.Act.{FrontAct, BackAct, Took, back_act}
 use Rattle.schedule_text.specs.Range.{AreOptions}
 use Rattle.line_text.proofs.Both.{both_true}
 use Rattle.blk_front.specs.declared.state.FrontState.{FrontState}
+use Rattle.blk_front.specs.declared.state.FrontState.TheVariants as enter
+use Rattle.blk_front.specs.Submit.{is_connected}
+use Rattle.xenbus_state.specs.States.{state_number}
 use Rattle.xenbus_state.specs.declared.stage.FrontStage.{FrontStage}
 use Rattle.xenbus_state.specs.declared.front.FrontBusAsk.{FrontBusAsk}
 use Rattle.xenbus_state.specs.declared.front.FrontBusAsk.TheVariants as front_ask
 use Rattle.xenbus_state.specs.declared.front.FrontNews.{FrontNews}
 use Rattle.xenbus_state.specs.declared.front.FrontNews.TheVariants as news
 use Rattle.xenbus_state.specs.declared.table.BackHalt.{BackHalt}
+use Rattle.xenbus_state.specs.FrontView.{ring_order}
 use Rattle.xenbus_state.specs.FrontAsk.{due, ask_of}
 use Rattle.split_model.specs.World as rings
 use Rattle.split_model.specs.Happening as ring_happening
 use Rattle.machine_pipeline.specs.Allowed as ring_allowed
-use Rattle.machine_pipeline.specs.Allowed.{IsStateWord, IsSaid}
+use Rattle.machine_pipeline.specs.Allowed.{IsSaid}
 use Rattle.vbd_front.specs.View as front_view
+use Rattle.vbd_front.specs.Ask as front
 use Rattle.vbd_front.specs.Step as front_step
 use Rattle.vbd_back.specs.View as back_view
 use Rattle.vbd_back.specs.Ask as back
@@ -29,16 +34,17 @@ use Rattle.vbd_back.specs.Step as back_step
 use Rattle.vbd_model.specs.World.{World, start_of, frontend_of, backend_of, is_quiet}
 use Rattle.vbd_model.specs.Happening.{Happening, FrontMoves, BackMoves, JobMoves, Closes, Submits, Notifies, Pokes, Dumps, Looks, Settles, front_turn, back_turn, entered_at, halted_at, reasons_of, closes_does, front_does, back_does, does, happens, all_does}
 use Rattle.vbd_model.specs.Possible.{IsPossible, ArePossible}
-use Rattle.vbd_model.specs.Kind.{are_carried}
 use Rattle.vbd_model.specs.Fit.{IsFit}
 use Rattle.vbd_laws.proofs.Fit.{fit_start, fit_happens}
-use Rattle.vbd_laws.proofs.MovesTurns.{front_asks, back_asks, front_cases, back_cases}
+use Rattle.vbd_laws.proofs.MovesTurns.{front_asks, back_asks, back_learns, front_cases, back_cases}
 use Rattle.vbd_laws.proofs.ServedFront as fronts
 use Rattle.vbd_laws.proofs.ServedFront.{IsNewsAt, news_is, front_speaks, front_spelled, closed_speaks}
 use Rattle.vbd_laws.proofs.ServedBack as backs
-use Rattle.vbd_laws.proofs.ServedBack.{IsRead, halt_read, halt_said, back_speaks, back_spelled, unplugged_speaks}
+use Rattle.vbd_laws.proofs.ServedBack.{IsRead, halt_read, halt_said, back_speaks, back_spelled, terms_said, unplugged_speaks}
 use Rattle.vbd_laws.proofs.NegotiatedRun.{Joined}
-use Rattle.vbd_laws.proofs.NegotiatedWay.{IsOnItsWay, on_its_way, ring_made_now, key_given}
+use Rattle.vbd_laws.proofs.NegotiatedAgreed.{IsSame, Begins, begins, begins_now, agreed_is, keeps_order}
+use Rattle.vbd_laws.proofs.NegotiatedEarly.{IsOnItsWay}
+use Rattle.vbd_laws.proofs.NegotiatedWay.{on_its_way, ring_made_now, key_given}
 
 -- what is true at every moment
 pub record Stands (w : World) : Type 0 where
@@ -52,32 +58,73 @@ both_possible : (hs rest : List ring_happening.Happening) (w : rings.World) → 
 both_possible [] rest w are later = later
 both_possible (h ∷ hs) rest w are later = (are.0, both_possible hs rest (ring_happening.happens w h) are.1 later)
 
--- the states that the front enters are words
-states_possible : (states : List FrontState) (w : rings.World) → AllByRecursion IsStateWord states → ring_allowed.ArePossible (map ring_happening.FrontEnters states) w
-states_possible [] w are = tt
-states_possible (s ∷ states) w are = (are.0, states_possible states (ring_happening.happens w (ring_happening.FrontEnters s)) are.1)
+-- a state that breaks the front is a word, and an order that is agreed is this one
+abbrev pub IsWord : ℕ → FrontState → Type 0
+IsWord n (enter.Agreed order) = order ≡ n
+IsWord n (enter.Broken word) = word < 2 ^ 32
+IsWord n s = Unit {0}
 
-due_words : (b : FrontBusAsk) → AllByRecursion IsStateWord (front_step.states_due b)
-due_words (front_ask.EndGrant page) = (tt, tt)
-due_words b = tt
+stated_is : (n : ℕ) (s : FrontState) (w : rings.World) → w.front.shape.order ≡ n → IsWord n s → ring_allowed.IsStated w s
+stated_is n (enter.Agreed order) w own is = is ∙ sym own
+stated_is n (enter.Broken word) w own is = is
+stated_is n enter.Connected w own is = tt
+stated_is n enter.Closing w own is = tt
+stated_is n enter.Leaving w own is = tt
+stated_is n enter.Closed w own is = tt
 
-news_words : (s : FrontStage) (n : Option FrontNews) (b : FrontBusAsk) → IsNewsAt s n → AllByRecursion IsStateWord (front_step.states_entered n b)
-news_words s None b is = due_words b
-news_words s (Some news.Ready) b is = (tt, due_words b)
-news_words s (Some news.Closing) b is = (tt, due_words b)
-news_words s (Some news.Closed) b is = (tt, due_words b)
-news_words s (Some (news.Broken word)) b is = (is, due_words b)
+pub same_is : (n m : ℕ) (s : FrontState) → m ≡ n → IsWord n s → IsSame s m
+same_is n m (enter.Agreed order) own is = is ∙ sym own
+same_is n m s own is = tt
 
-entered_words : (w : World) (act : Option FrontAct) → AllByRecursion IsStateWord (entered_at w act)
-entered_words w None = tt
-entered_words w (Some a) =
+-- so are the states that the front enters
+states_possible : (n : ℕ) (states : List FrontState) (w : rings.World) → w.front.shape.order ≡ n → AllByRecursion (IsWord n) states → ring_allowed.ArePossible (map ring_happening.FrontEnters states) w
+states_possible n [] w own are = tt
+states_possible n (s ∷ states) w own are = (
+  stated_is n s w own are.0,
+  states_possible n states (ring_happening.happens w (ring_happening.FrontEnters s)) (keeps_order s w.front (same_is n w.front.shape.order s own are.0) ∙ own) are.1,
+)
+
+due_words : (n : ℕ) (b : FrontBusAsk) (order : ℕ) → (begins b ≡ true → order ≡ n) → AllByRecursion (IsWord n) (front_step.states_due b order)
+due_words n (front_ask.WriteRingWord word) order agrees = (agrees refl, tt)
+due_words n (front_ask.EndGrant page) order agrees = (tt, tt)
+due_words n b order agrees = tt
+
+news_words : (n : ℕ) (s : FrontStage) (news_of : Option FrontNews) (b : FrontBusAsk) (order : ℕ) → IsNewsAt s news_of → (begins b ≡ true → order ≡ n) → AllByRecursion (IsWord n) (front_step.states_entered news_of b order)
+news_words n s None b order is agrees = due_words n b order agrees
+news_words n s (Some news.Ready) b order is agrees = (tt, due_words n b order agrees)
+news_words n s (Some news.Closing) b order is agrees = (tt, due_words n b order agrees)
+news_words n s (Some news.Closed) b order is agrees = (tt, due_words n b order agrees)
+news_words n s (Some (news.Broken word)) b order is agrees = (is, due_words n b order agrees)
+
+-- a front that begins its ring has made none, and has written no state, so the back hasn't mapped it: the order is the one that the front wished
+unmade : {A : Type 0} (w : World) → Begins w.front w.rings.front.stage w.rings.front.shape.order → is_connected w.rings.front.stage ≡ true → A
+unmade w is made = absurd (true≢false (sym made ∙ ap is_connected is.first))
+
+agrees_now : (w : World) (a : FrontAct) → Stands w → front_turn w ≡ Some a → front.speaks (front_asks w) ≡ true
+    → begins (ask_of (front_step.bus_after (frontend_of w) a.answer) (front_view.is_unoccupied w.rings.front)) ≡ true → ring_order (front_step.bus_after (frontend_of w) a.answer) ≡ w.rings.front.shape.order
+agrees_now w a stands turn says e = by_way stands.way
+  where
+    begun : Begins w.front w.rings.front.stage w.rings.front.shape.order
+    begun = begins_now w a.answer stands.fit says e
+
+    by_way : IsOnItsWay w → ring_order (front_step.bus_after (frontend_of w) a.answer) ≡ w.rings.front.shape.order
+    by_way (inl b) = agreed_is w a stands.fit b.joined stands.front turn says e
+    by_way (inr (inl b)) = unmade w begun b.made
+    by_way (inr (inr (inl h))) = let own : state_number w.front.state ≡ 1 = ap state_number begun.own in let late : 5 ≤ state_number w.front.state = h.late in absurd (omega arith)
+    by_way (inr (inr (inr p))) = unmade w begun p.made
+
+pub entered_words : (w : World) (act : Option FrontAct) → Stands w → front_turn w ≡ act → front.speaks (front_asks w) ≡ true → AllByRecursion (IsWord w.rings.front.shape.order) (entered_at w act)
+entered_words w None stands turn says = tt
+entered_words w (Some a) stands turn says =
     let idle : Bool = front_view.is_unoccupied w.rings.front in
-    news_words (due w.front idle) (front_step.news_of (frontend_of w) a.answer) (ask_of (front_step.bus_after (frontend_of w) a.answer) idle) (news_is w.front idle a.answer)
+    news_words w.rings.front.shape.order (due w.front idle) (front_step.news_of (frontend_of w) a.answer) (ask_of (front_step.bus_after (frontend_of w) a.answer) idle)
+    (ring_order (front_step.bus_after (frontend_of w) a.answer)) (news_is w.front idle a.answer) (agrees_now w a stands turn says)
 
-front_possible : (w : World) → fronts.Speaks w.front → ring_allowed.ArePossible (front_does w) w.rings
-front_possible w speaks =
+front_possible : (w : World) → Stands w → ring_allowed.ArePossible (front_does w) w.rings
+front_possible w stands =
     front_cases (λ does asked step. ring_allowed.ArePossible does w.rings) w
-    (λ says. (front_spelled w speaks, states_possible (entered_at w (front_turn w)) _ (entered_words w (front_turn w)))) (λ quiet moves. (tt, tt)) (λ quiet still. (front_spelled w speaks, tt))
+    (λ says. (front_spelled w stands.front, states_possible w.rings.front.shape.order (entered_at w (front_turn w)) _ refl (entered_words w (front_turn w) stands refl says)))
+    (λ quiet moves. (tt, tt)) (λ quiet still. (front_spelled w stands.front, tt))
 
 -- the reasons for which the back halts are said
 reasons_possible : (why : Option BackHalt) (w : rings.World) → IsRead why → ring_allowed.ArePossible (map ring_happening.BackHalts (reasons_of why)) w
@@ -92,20 +139,21 @@ halted_possible w v (Some a) speaks e = reasons_possible (back_step.halt_of (bac
 back_possible : (w : World) → Stands w → ring_allowed.ArePossible (back_does w) w.rings
 back_possible w stands =
     back_cases (λ does asked step. back_act w.rings.under back_mover.Back asked Took ≡ back_turn w → ring_allowed.ArePossible does w.rings) w
-    (λ says e. (back_spelled w stands.fit.offers stands.back, halted_possible w _ (back_turn w) stands.back e))
+    (λ says untaken e. (back_spelled w stands.fit.offers stands.back, halted_possible w _ (back_turn w) stands.back e))
+    (λ says takes e. (terms_said (back_learns w) (back_speaks w stands.back), tt))
     (λ quiet moves e. (ring_made_now w stands.fit stands.front stands.way moves, tt))
     (λ quiet still e. (back_spelled w stands.fit.offers stands.back, tt)) refl
 
 -- where all is quiet the ring's machine is
 pub quiet_of : (w : World) → is_quiet w ≡ true → rings.is_quiet w.rings ≡ true
-quiet_of w e = (both_true (front_view.rests (front_asks w) && back_view.rests (back_asks w)) (rings.is_quiet w.rings) e).1
+quiet_of w e = (both_true (front_view.is_at_rest (frontend_of w) && back_view.rests (back_asks w)) (rings.is_quiet w.rings) e).1
 
 closes_possible : (w : rings.World) (at : End) → ring_allowed.ArePossible (closes_does at) w
 closes_possible w end.Front = (tt, tt)
 closes_possible w end.Back = tt
 
 possible_at : (w : World) (h : Happening) → Stands w → IsPossible w h → ring_allowed.ArePossible (does w h) w.rings
-possible_at w FrontMoves stands is = front_possible w stands.front
+possible_at w FrontMoves stands is = front_possible w stands
 possible_at w BackMoves stands is = back_possible w stands
 possible_at w (JobMoves number outcome) stands is = (is, tt)
 possible_at w (Closes at) stands is = closes_possible w.rings at
@@ -149,10 +197,10 @@ joined_start config are = record {
   stands = refl;
 }
 
-pub stands_start : (config : Options) → are_carried config ≡ true → AreOptions config → Stands (start_of config)
-stands_start config carried are = record {
-  fit = fit_start config carried;
+pub stands_start : (config : Options) → AreOptions config → Stands (start_of config)
+stands_start config are = record {
+  fit = fit_start config;
   way = inl (record { joined = joined_start config are; ring = refl; early = refl });
-  front = record { port = tt; stage = tt };
-  back = record { sectors = are.4; order = omega arith; stage = tt };
+  front = record { order = are.0; port = tt; stage = tt };
+  back = record { sectors = are.4; order = omega arith; grefs = tt; port = omega arith; stage = tt };
 }

@@ -5,7 +5,7 @@
 //! it.
 #![tactic(auto)]
 
-ghost use Rattle.std.specs.Prelude.{◌≡◌, ◌+◌, ◌^◌, ◌<◌, ◌≤◌, List, length, true, Some, None};
+ghost use Rattle.std.specs.Prelude.{◌≡◌, ◌+◌, ◌^◌, ◌<◌, ◌≤◌, List, length, Some, None};
 ghost use Rattle.blk_base.specs.Options.{Options};
 ghost use Rattle.blk_base.specs.declared.parts.End.{End};
 ghost use Rattle.hypervisor.specs.Act.{FrontAct, BackAct};
@@ -16,17 +16,17 @@ ghost use Rattle.vbd_front.specs.Ask.{ask_of as front_ask, StaysInMemory};
 ghost use Rattle.vbd_back.specs.Ask.{ask_of as back_ask};
 ghost use Rattle.vbd_model.specs.World.{World, start_of, frontend_of, backend_of};
 ghost use Rattle.vbd_model.specs.Happening.{Happening, FrontMoves, BackMoves, front_turn, back_turn, happens, after};
-ghost use Rattle.vbd_model.specs.Kind.{are_carried};
 ghost use Rattle.vbd_model.specs.Fit.{IsFit};
 ghost use Rattle.vbd_laws.specs.Moves.{IsFrontMove, IsBackMove, IsClose, IsNoMove};
 ghost use Rattle.vbd_laws.specs.Served.{RingsPossible, RingsServed, RingGoesByTheTerms};
 ghost use Rattle.vbd_laws.specs.Quiet.{StatesAgreeAtQuiet, RingsAgreed};
 
-/// The machine is fit at the start, under options that are carried out, and stays so, whatever
-/// happens: its rings are safe, each negotiation goes with its end of the ring, closes and halts with
-/// it, and no event is pending where no port is made or bound.
+/// The machine is fit at the start, whatever the options, and stays so, whatever happens: its rings
+/// are safe, each negotiation goes with its end of the ring, closes and halts with it, both know the
+/// ring's shape, the references of its pages and its port, and no event is pending where no port is
+/// made or bound.
 pub fn the_machine_stays_fit()
-    ensures start { (config : Options) → are_carried config ≡ true → IsFit (start_of config) }
+    ensures start { (config : Options) → IsFit (start_of config) }
     ensures kept { (w : World) (h : Happening) → IsFit w → IsFit (happens w h) }
     ensures after { (hs : List Happening) (w : World) → IsFit w → IsFit (after hs w) }
 {}
@@ -45,11 +45,11 @@ pub fn a_move_is_what_its_end_asks()
 
 /// While the machine is fit, what its ends ask may be carried out: by the front, a port, each word of
 /// its memory, and its keys; by the back, each word through a mapping that it holds, and its keys;
-/// and a further mapping while at most 34 are held and its number is below 2^64.
+/// and a further mapping while at most 529 are held and its number is below 2^64.
 pub fn every_ask_may_be_carried_out()
     ensures front { (w : World) → IsFit w → StaysInMemory (front_ask (frontend_of w)) → FrontMay w.rings.under (front_ask (frontend_of w)) }
     ensures back { (w : World) → IsFit w → Names (hands_of w.rings.back) (back_ask (backend_of w)) → w.rings.under.grants.made + 1 < 2 ^ 64
-        → length (hands_of w.rings.back) ≤ 34 → BackMay w.rings.under (Some w.rings.front.sectors) (back_ask (backend_of w)) }
+        → length (hands_of w.rings.back) ≤ 529 → BackMay w.rings.under (Some w.rings.front.sectors) (back_ask (backend_of w)) }
 {}
 
 /// Whatever a schedule makes happen is possible for the machine of the ring: the back's end of the
@@ -66,8 +66,9 @@ pub fn the_honest_part_is_served()
     ensures { RingsServed }
 {}
 
-/// The back's end of the ring maps the reference and binds the port that its negotiation read of the
-/// front's keys (`ring-ref` and `event-channel` of `io/blkif.h`), once the front has made both.
+/// The back's end of the ring maps the references, one after the other, and binds the port that its
+/// negotiation read of the front's keys (`ring-ref` and `event-channel` of `io/blkif.h`), once the front
+/// has made them all.
 pub fn the_back_maps_what_the_front_granted()
     ensures { RingGoesByTheTerms }
 {}

@@ -1,5 +1,5 @@
 -- What happens echoes the schedule: an event's lines of the kinds that echo are those that answer it.
-use Rattle.std.proofs.Common.{◌≡◌, ℕ, zero, suc, List, [], ◌∷◌, ◌++◌, Bool, true, false, if◌then◌else◌, refl, ap, sym, ◌∙◌, subst}
+use Rattle.std.proofs.Common.{◌≡◌, ℕ, zero, suc, ◌≤◌, List, [], ◌∷◌, ◌++◌, Bool, true, false, if◌then◌else◌, refl, ap, sym, ◌∙◌, subst, arith}
 use Rattle.std.specs.Prelude.{◌*◌, ◌^◌, map, replicate}
 use Rattle.std.specs.List.{AllByRecursion}
 use Rattle.blk_base.specs.declared.parts.End.TheVariants as end
@@ -13,12 +13,15 @@ use Rattle.blk_front.specs.declared.state.FrontState.{FrontState}
 use Rattle.blk_back.specs.declared.told.Halt.{Halt}
 use Rattle.split_model.specs.Happening as ring
 use Rattle.split_model.proofs.Echo.{echo_of, echo-append, is_move as is_ring_move, moves_silent as ring_moves_silent, are_moves-append as ring_moves-append, submit_answers, poke_echo, dump_answers}
+use Rattle.xenbus_state.specs.BackView.{BackView}
 use Rattle.vbd_front.specs.Ask as front
 use Rattle.vbd_back.specs.Ask as back
 use Rattle.vbd_model.specs.World.{World, is_quiet, frontend_of, backend_of}
-use Rattle.vbd_model.specs.Happening.{Happening, FrontMoves, BackMoves, JobMoves, Closes, Submits, Notifies, Pokes, Dumps, Looks, Settles, front_key, back_key, entered_at, halted_at, front_enters, back_halts, front_turn, back_turn, is_fronts_ring, is_backs_ring, does, happens, after, lines_of, all_does}
+use Rattle.vbd_model.specs.Happening.{Happening, FrontMoves, BackMoves, JobMoves, Closes, Submits, Notifies, Pokes, Dumps, Looks, Settles, front_key, entered_at, halted_at, front_enters, back_halts, back_negotiates, back_bus_after, attaches, front_turn, back_turn, is_fronts_ring, is_backs_ring, does, happens, after, lines_of, all_does}
 use Rattle.vbd_model.specs.Kind.{is_carried, Makes, AreOf, AreOfAll, AreJobMoves, AreEachJobs, round_start, IsRound, AreRounds, never}
-use Rattle.vbd_model.proofs.Running.{lines_of-append, lines_lift}
+use Rattle.split_model.specs.World as rings
+use Rattle.split_model.proofs.Narrow.{after_narrow}
+use Rattle.vbd_model.proofs.Running.{lines_of-append, lines_lift, after_rings}
 pub use Rattle.split_model.proofs.Echo.{echo_of, kept_echo}
 
 -- a move of an end or of a job, a close, or a spurious event
@@ -54,13 +57,14 @@ front_does_moves : (ringed speaks : Bool) (w : World) → AreRingMoves (if ringe
 front_does_moves true speaks w = (refl, tt)
 front_does_moves false speaks w = (refl, enters_move speaks w)
 
-back_does_moves : (ringed speaks : Bool) (w : World) → AreRingMoves (if ringed then ring.BackMoves ∷ [] else ring.Negotiates end.Back (back_key (back.bus_ask_of (backend_of w))) ∷ back_halts speaks w)
-back_does_moves true speaks w = (refl, tt)
-back_does_moves false speaks w = (refl, halting_moves speaks w)
+back_does_moves : (ringed attached : Bool) (w : World) (b : BackView) → AreRingMoves (if ringed then ring.BackMoves ∷ [] else back_negotiates attached w b)
+back_does_moves true attached w b = (refl, tt)
+back_does_moves false true w b = (refl, tt)
+back_does_moves false false w b = (refl, halting_moves (back.bus_moves (back.bus_ask_of (backend_of w)) w.rings.back.stage) w)
 
 does_moves : (w : World) (h : Happening) → is_move h ≡ true → AreRingMoves (does w h)
 does_moves w FrontMoves m = front_does_moves (is_fronts_ring w) (front.speaks (front.bus_ask_of (frontend_of w))) w
-does_moves w BackMoves m = back_does_moves (is_backs_ring w) (back.bus_moves (back.bus_ask_of (backend_of w)) w.rings.back.stage) w
+does_moves w BackMoves m = let b : BackView = back_bus_after w (back_turn w) in back_does_moves (is_backs_ring w) (attaches w b) w b
 does_moves w (JobMoves number outcome) m = (refl, tt)
 does_moves w (Closes end.Front) m = (refl, tt)
 does_moves w (Closes end.Back) m = tt
@@ -134,38 +138,44 @@ shows_same : (w : World) (h : Happening) (x : ring.Happening) (hs : List Happeni
 shows_same w h x hs same all = ap (λ (l : List Happening). lines_of l w) all ∙ (lines_lift (h ∷ []) w ∙ ap (λ (l : List ring.Happening). ring.lines_of (l ++ []) w.rings) same)
 
 -- the lines of an event that echo are those that answer it
-made_echo : (order : ℕ) (e : Event) (w : World) (hs : List Happening) → is_carried e ≡ true → Makes e w hs → Answers order e (echo_of (lines_of hs w))
-made_echo order (events.Submit job) w hs c k =
+made_echo : (order : ℕ) (e : Event) (w : World) (hs : List Happening) → (let v : rings.World = w.rings in v.front.shape.order) ≤ order → is_carried e ≡ true → Makes e w hs → Answers order e (echo_of (lines_of hs w))
+made_echo order (events.Submit job) w hs narrow c k =
     let a = submit_answers job (front_submit.submit_of w.rings.front job).0 in
     (a.0, ap echo_of (shows_same w (Submits job) (ring.Submits job) hs refl k.0) ∙ a.1, a.2)
-made_echo order (events.Front n) w hs c k = ap (λ (l : List Happening). echo_of (lines_of l w)) k ∙ moves_silent (replicate n FrontMoves) w (front_are_moves n)
-made_echo order (events.Back n) w hs c k = ap (λ (l : List Happening). echo_of (lines_of l w)) k ∙ moves_silent (replicate n BackMoves) w (back_are_moves n)
-made_echo order (events.Job number n) w hs c k = moves_silent hs w (job_are_moves number hs k.0)
-made_echo order (events.Turn n) w hs c k = moves_silent hs w (rounds_are_moves never n w hs k)
-made_echo order events.Settle w hs c k =
+made_echo order (events.Front n) w hs narrow c k = ap (λ (l : List Happening). echo_of (lines_of l w)) k ∙ moves_silent (replicate n FrontMoves) w (front_are_moves n)
+made_echo order (events.Back n) w hs narrow c k = ap (λ (l : List Happening). echo_of (lines_of l w)) k ∙ moves_silent (replicate n BackMoves) w (back_are_moves n)
+made_echo order (events.Job number n) w hs narrow c k = moves_silent hs w (job_are_moves number hs k.0)
+made_echo order (events.Turn n) w hs narrow c k = moves_silent hs w (rounds_are_moves never n w hs k)
+made_echo order events.Settle w hs narrow c k =
     let a = settle_answers (is_quiet (after k.rounds w)) in
     (a.0, ap (λ (l : List Happening). echo_of (lines_of l w)) k.all ∙ (settle_echo w k.rounds (is_quiet (after k.rounds w)) (rounds_are_moves is_quiet k.are_rounds.count w k.rounds k.are_rounds.are_rounds) ∙ a.1), a.2)
-made_echo order events.Look w hs c k =
+made_echo order events.Look w hs narrow c k =
     let a = look_answers (is_quiet w) in
     (a.0, ap (λ (l : List Happening). echo_of (lines_of l w)) k ∙ a.1, a.2)
-made_echo order (events.Notify at) w hs c k = ap (λ (l : List Happening). echo_of (lines_of l w)) k
-made_echo order events.Suspend w hs c k = absurd k
-made_echo order (events.Close at) w hs c k = ap (λ (l : List Happening). echo_of (lines_of l w)) k ∙ moves_silent (Closes at ∷ []) w (refl, tt)
-made_echo order (events.Poke frame word value) w hs c k = ap echo_of (shows_same w (Pokes frame word value) (ring.Pokes frame word value) hs refl k.0) ∙ poke_echo w.rings frame word value c
-made_echo order (events.Key name text) w hs c k = absurd k
-made_echo order events.Dump w hs c k =
-    subst (AreRingWords 0 (1024 * 2 ^ order)) (sym (ap echo_of (shows_same w Dumps ring.Dumps hs refl k))) (dump_answers order w.rings)
+made_echo order (events.Notify at) w hs narrow c k = ap (λ (l : List Happening). echo_of (lines_of l w)) k
+made_echo order events.Suspend w hs narrow c k = absurd k
+made_echo order (events.Close at) w hs narrow c k = ap (λ (l : List Happening). echo_of (lines_of l w)) k ∙ moves_silent (Closes at ∷ []) w (refl, tt)
+made_echo order (events.Poke frame word value) w hs narrow c k = ap echo_of (shows_same w (Pokes frame word value) (ring.Pokes frame word value) hs refl k.0) ∙ poke_echo w.rings frame word value c
+made_echo order (events.Key name text) w hs narrow c k = absurd k
+made_echo order events.Dump w hs narrow c k =
+    subst (AreRingWords 0 (1024 * 2 ^ order)) (sym (ap echo_of (shows_same w Dumps ring.Dumps hs refl k))) (dump_answers order w.rings narrow)
 
-pub event_echo : (order : ℕ) (e : Event) (w : World) (hs : List Happening) → AreOf e w hs → Answers order e (echo_of (lines_of hs w))
-event_echo order e w hs k = made_echo order e w hs k.0 k.1
+pub event_echo : (order : ℕ) (e : Event) (w : World) (hs : List Happening) → (let v : rings.World = w.rings in v.front.shape.order) ≤ order → AreOf e w hs → Answers order e (echo_of (lines_of hs w))
+event_echo order e w hs narrow k = made_echo order e w hs narrow k.0 k.1
+
+-- the front's ring gets no more pages
+narrow_after : (order : ℕ) (hs : List Happening) (w : World) → (let v : rings.World = w.rings in v.front.shape.order) ≤ order → (let v : World = after hs w in v.rings.front.shape.order) ≤ order
+narrow_after order hs w narrow =
+    let less = after_narrow (all_does hs w) w.rings in
+    subst (λ (r : rings.World). r.front.shape.order ≤ order) (sym (after_rings hs w)) (omega (arith, less, narrow))
 
 -- what the events make happen answers them, one after another
-pub schedule_echo : (order : ℕ) (es : List Event) (w : World) (hs : List Happening) → AreOfAll es w hs → AnswersAll order es (echo_of (lines_of hs w))
-schedule_echo order [] w hs k = ap (λ (l : List Happening). echo_of (lines_of l w)) k
-schedule_echo order (e ∷ es) w hs k = (
+pub schedule_echo : (order : ℕ) (es : List Event) (w : World) (hs : List Happening) → (let v : rings.World = w.rings in v.front.shape.order) ≤ order → AreOfAll es w hs → AnswersAll order es (echo_of (lines_of hs w))
+schedule_echo order [] w hs narrow k = ap (λ (l : List Happening). echo_of (lines_of l w)) k
+schedule_echo order (e ∷ es) w hs narrow k = (
   echo_of (lines_of k.0 w),
   echo_of (lines_of k.1 (after k.0 w)),
   ap (λ (l : List Happening). echo_of (lines_of l w)) k.2 ∙ (ap echo_of (lines_of-append k.0 k.1 w) ∙ echo-append (lines_of k.0 w) (lines_of k.1 (after k.0 w))),
-  event_echo order e w k.0 k.3,
-  schedule_echo order es (after k.0 w) k.1 k.4,
+  event_echo order e w k.0 narrow k.3,
+  schedule_echo order es (after k.0 w) k.1 (narrow_after order k.0 w narrow) k.4,
 )

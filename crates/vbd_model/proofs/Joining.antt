@@ -8,7 +8,7 @@ use Rattle.blk_back.specs.Step.{next_job_of}
 use Rattle.split_model.specs.Happening.{job_turn}
 use Rattle.split_model.specs.Safe.{above}
 use Rattle.vbd_model.specs.World.{World, is_quiet}
-use Rattle.vbd_model.specs.Happening.{Happening, FrontMoves, BackMoves, JobMoves, Settles, happens, after}
+use Rattle.vbd_model.specs.Happening.{Happening, JobMoves, Settles, happens, after}
 use Rattle.vbd_model.specs.Kind.{AreJobMoves, AreSomeJobMoves, AreFewJobMoves, AreEachJobs, AreAllJobs, HasEachJobs, round_start, IsRound, IsBeginning, IsRoundSoFar, AreRounds, AreRoundsSoFar, AreRoundsUntilQuiet, settle_bound, IsSettling, IsSettlingSoFar, IsJobMove}
 use Rattle.vbd_model.specs.Leads.{Moment, Leads}
 use Rattle.vbd_model.proofs.Running.{after-append}

@@ -32,6 +32,7 @@ ring_sectors_kept w ring.BackMoves = back_sectors_at w (ring.back_turn w Took)
 ring_sectors_kept w (ring.JobMoves number outcome) = job_sectors_at w number (ring.job_turn w number outcome)
 ring_sectors_kept w (ring.Negotiates at move) = refl
 ring_sectors_kept w (ring.FrontEnters state) = (entered_kept state w.front).sectors
+ring_sectors_kept w (ring.BackAttaches shape grefs port) = refl
 ring_sectors_kept w (ring.BackHalts why) = refl
 ring_sectors_kept w (ring.Submits job) = let kept = submit_kept w.front job in kept.sectors
 ring_sectors_kept w (ring.Notifies at) = refl

@@ -5,3 +5,4 @@ pub mod Echo
 pub mod Possible
 pub mod Submitting
 pub mod Tight
+pub mod Mappings

@@ -1,6 +1,5 @@
 -- What is true of the machine at every moment: each end's negotiation and its end of the ring go together, and no event is pending at an end whose port isn't bound.
-use Rattle.std.specs.Prelude.{◌≡◌, ℕ, ◌<◌, ◌⊎◌, Bool, true, false, List, [], length, Option, Some, None, IsSome, is_some}
-use Rattle.blk_base.specs.declared.operation.Abi.TheVariants.{X64}
+use Rattle.std.specs.Prelude.{◌≡◌, ℕ, ◌^◌, ◌<◌, ◌⊎◌, Bool, true, false, [], length, Option, Some, None, IsSome, is_some}
 use Rattle.event_channel.specs.Channels.{ChannelState, is_bound}
 use Rattle.blk_front.specs.declared.stage.Stage.{Stage as FrontRing}
 use Rattle.blk_front.specs.declared.stage.Stage.TheVariants as front_ring
@@ -9,24 +8,28 @@ use Rattle.blk_front.specs.Submit.{is_ready}
 use Rattle.blk_front.specs.State.{is_made, is_bare}
 use Rattle.blk_back.specs.declared.stage.Stage.{Stage as BackRing}
 use Rattle.blk_back.specs.declared.stage.Stage.TheVariants as back_ring
+use Rattle.blk_back.specs.View as ends
 use Rattle.xenbus_state.specs.declared.state.BusState.{BusState}
 use Rattle.xenbus_state.specs.declared.state.BusState.TheVariants as state
 use Rattle.xenbus_state.specs.declared.stage.FrontStage.{FrontStage}
 use Rattle.xenbus_state.specs.declared.stage.FrontStage.TheVariants as front
 use Rattle.xenbus_state.specs.declared.stage.BackStage.{BackStage}
 use Rattle.xenbus_state.specs.declared.stage.BackStage.TheVariants as back
-use Rattle.xenbus_state.specs.FrontView.{FrontView}
+use Rattle.xenbus_state.specs.declared.keys.FrontKey.TheVariants as front_key
+use Rattle.xenbus_state.specs.FrontView.{FrontView, ring_order}
 use Rattle.xenbus_state.specs.BackView.{BackView, is_halting}
+use Rattle.xenbus_state.specs.BackSound.{IsSound}
 use Rattle.split_model.specs.Safe.{IsSafe}
 use Rattle.vbd_front.specs.View.{is_broken}
 use Rattle.vbd_back.specs.View.{offer}
+use Rattle.vbd_back.specs.Step.{shape_read}
 use Rattle.vbd_model.specs.World.{World}
 
--- the grant of the ring is being ended
-abbrev pub is_ending_ring : FrontRing → Bool
-is_ending_ring front_ring.RingRead = true
-is_ending_ring (front_ring.RingEnd seen) = true
-is_ending_ring r = false
+-- the grant of this page of the ring is being ended
+abbrev pub IsEndingPage : (page : ℕ) → FrontRing → Type 0
+IsEndingPage page (front_ring.RingRead k) = k ≡ page
+IsEndingPage page (front_ring.RingEnd k seen) = k ≡ page
+IsEndingPage page r = ⊥
 
 -- where the front's end of the ring stands as its negotiation rests after it wrote this state, has read that the back is gone or not, and has this port
 abbrev pub FrontRests : BusState → (gone : Bool) → Option ℕ → FrontRing → Type 0
@@ -35,15 +38,15 @@ FrontRests state.Initialised gone port r = (r ≡ front_ring.Initialised) × IsS
 FrontRests state.Connected gone port r = (is_ready r ≡ true) × IsSome port
 FrontRests state.Closing false None r = r ≡ front_ring.RingWord 0
 FrontRests state.Closing false (Some port) r = is_made r ≡ true
-FrontRests state.Closing true (Some port) r = is_ending_ring r ≡ true
+FrontRests state.Closing true (Some port) r = IsEndingPage 0 r
 FrontRests s gone port r = ⊥
 
--- the three moves of a grant: the frame, a fence, the flags
-abbrev pub IsGranting : FrontRing → Type 0
-IsGranting front_ring.RingFrame = Unit {0}
-IsGranting front_ring.RingFence = Unit {0}
-IsGranting front_ring.RingFlags = Unit {0}
-IsGranting r = ⊥
+-- the three moves of a page's grant: the frame, a fence, the flags
+abbrev pub IsGranting : (page : ℕ) → FrontRing → Type 0
+IsGranting page (front_ring.RingFrame k) = k ≡ page
+IsGranting page (front_ring.RingFence k) = k ≡ page
+IsGranting page (front_ring.RingFlags k) = k ≡ page
+IsGranting page r = ⊥
 
 -- and as it is at this; a ring that is broken leaves it at rest
 abbrev pub FrontGoesWith : FrontStage → FrontView → FrontRing → Type 0
@@ -52,20 +55,42 @@ FrontGoesWith front.Rest v r = FrontRests v.state v.gone v.port r ⊎ (is_broken
 FrontGoesWith front.ReadState v r = FrontRests v.state v.gone v.port r
 FrontGoesWith (front.ReadFeature key) v r = (v.state ≡ state.Initialising) × (r ≡ front_ring.RingWord 0) × (v.port ≡ None)
 FrontGoesWith (front.RingWord word) v r = (v.state ≡ state.Initialising) × (word < 16) × (r ≡ front_ring.RingWord word) × (v.port ≡ None)
-FrontGoesWith (front.Grant page) v r = (v.state ≡ state.Initialising) × (page ≡ 0) × IsGranting r × (v.port ≡ None)
+FrontGoesWith (front.Grant page) v r = (v.state ≡ state.Initialising) × IsGranting page r × (v.port ≡ None)
 FrontGoesWith front.NewPort v r = (v.state ≡ state.Initialising) × (r ≡ front_ring.NewPort) × (v.port ≡ None)
 FrontGoesWith (front.Publish key) v r = (v.state ≡ state.Initialising) × (r ≡ front_ring.Initialised) × IsSome v.port
 FrontGoesWith (front.ReadFact key) v r = (v.state ≡ state.Initialised) × (r ≡ front_ring.Initialised) × IsSome v.port
 FrontGoesWith (front.WriteState state.Initialised) v r = (v.state ≡ state.Initialising) × (r ≡ front_ring.Initialised) × IsSome v.port
 FrontGoesWith (front.WriteState state.Connected) v r = (v.state ≡ state.Initialised) × (r ≡ front_ring.Initialised) × IsSome v.port
 FrontGoesWith (front.WriteState state.Closed) v r = (v.state ≡ state.Closing) × (is_bare r ≡ true) × (v.port ≡ None)
+FrontGoesWith (front.EndGrant page) v r = (v.state ≡ state.Closing) × (IsEndingPage page r ⊎ (is_broken r ≡ true)) × IsSome v.port
 FrontGoesWith front.ClosePort v r = (v.state ≡ state.Closing) × (r ≡ front_ring.ClosePort) × IsSome v.port
 FrontGoesWith front.Closed v r = (v.state ≡ state.Closed) × (r ≡ front_ring.Closed) × (v.closing ≡ true)
 FrontGoesWith (front.Broken word) v r = is_broken r ≡ true
 FrontGoesWith b v r = ⊥
 
--- the back's end of the ring has its page and its port, and hasn't halted
+-- before it has made a ring at rest, and once it has its port
+abbrev pub OpenOrdered : Option ℕ → (agreed order : ℕ) → Type 0
+OpenOrdered None agreed order = Unit {0}
+OpenOrdered (Some port) agreed order = order ≡ agreed
+
+abbrev pub RestsOrdered : BusState → Option ℕ → (wished agreed order : ℕ) → Type 0
+RestsOrdered state.Initialising port wished agreed order = order ≡ wished
+RestsOrdered s port wished agreed order = OpenOrdered port agreed order
+
+-- the order of the ring is agreed as it is begun; until then the front's end of the ring has the order that it wishes
+abbrev pub FrontOrdered : FrontStage → FrontView → (order : ℕ) → Type 0
+FrontOrdered front.Start v order = order ≡ v.order
+FrontOrdered (front.ReadFeature key) v order = order ≡ v.order
+FrontOrdered (front.RingWord word) v order = order ≡ ring_order v
+FrontOrdered (front.Grant page) v order = order ≡ ring_order v
+FrontOrdered front.NewPort v order = order ≡ ring_order v
+FrontOrdered front.Rest v order = RestsOrdered v.state v.port v.order (ring_order v) order
+FrontOrdered front.ReadState v order = RestsOrdered v.state v.port v.order (ring_order v) order
+FrontOrdered s v order = OpenOrdered v.port (ring_order v) order
+
+-- the back's end of the ring has its pages and its port, and hasn't halted
 abbrev pub is_serving : BackRing → Bool
+is_serving back_ring.InitWait = false
 is_serving back_ring.MapRing = false
 is_serving back_ring.Bind = false
 is_serving (back_ring.GiveUp m) = false
@@ -77,18 +102,18 @@ is_serving r = true
 
 -- where it stands as its negotiation rests after it wrote this state, and as that reads the front's
 abbrev pub BackRests : BusState → BackRing → Type 0
-BackRests state.InitWait r = r ≡ back_ring.MapRing
+BackRests state.InitWait r = r ≡ back_ring.InitWait
 BackRests state.Connected r = is_serving r ≡ true
 BackRests state.Closing r = is_serving r ≡ true
 BackRests s r = ⊥
 
 abbrev pub BackReads : BusState → BackRing → Type 0
-BackReads state.InitWait r = r ≡ back_ring.MapRing
+BackReads state.InitWait r = r ≡ back_ring.InitWait
 BackReads state.Connected r = r ≡ back_ring.Loop
 BackReads state.Closing r = r ≡ back_ring.Loop
 BackReads s r = ⊥
 
--- a mapping of a job is given up; the ring's page is
+-- a mapping of a job is given up; the ring's pages are
 abbrev pub IsGivingUp : BackRing → Type 0
 IsGivingUp (back_ring.GiveUp m) = Unit {0}
 IsGivingUp r = ⊥
@@ -100,16 +125,17 @@ IsUnmapping r = ⊥
 
 -- before anything of the front is mapped; after its port is bound; and after a halt
 abbrev pub BackGoesWith : BackStage → BusState → BackRing → Type 0
-BackGoesWith (back.Publish key) s r = (s ≡ state.Initialising) × (r ≡ back_ring.MapRing)
-BackGoesWith (back.WriteState state.InitWait) s r = (s ≡ state.Initialising) × (r ≡ back_ring.MapRing)
+BackGoesWith (back.Publish key) s r = (s ≡ state.Initialising) × (r ≡ back_ring.InitWait)
+BackGoesWith (back.WriteState state.InitWait) s r = (s ≡ state.Initialising) × (r ≡ back_ring.InitWait)
 BackGoesWith (back.WriteState state.Connected) s r = (s ≡ state.InitWait) × (r ≡ back_ring.Loop)
 BackGoesWith (back.WriteState state.Closing) s r = r ≡ back_ring.Halted
 BackGoesWith (back.WriteState state.Closed) s r = (s ≡ state.Closing) × (r ≡ back_ring.Halted)
-BackGoesWith back.Watch s r = (s ≡ state.InitWait) × (r ≡ back_ring.MapRing)
+BackGoesWith back.Watch s r = (s ≡ state.InitWait) × (r ≡ back_ring.InitWait)
 BackGoesWith back.Rest s r = BackRests s r
 BackGoesWith back.ReadState s r = BackReads s r
-BackGoesWith (back.ReadKey key) s r = (s ≡ state.InitWait) × (r ≡ back_ring.MapRing)
-BackGoesWith back.MapPage s r = (s ≡ state.InitWait) × ((r ≡ back_ring.MapRing) ⊎ (r ≡ back_ring.Bind))
+BackGoesWith (back.ReadKey front_key.FeaturePersistent) s r = (s ≡ state.InitWait) × (r ≡ back_ring.MapRing)
+BackGoesWith (back.ReadKey k) s r = (s ≡ state.InitWait) × (r ≡ back_ring.InitWait)
+BackGoesWith back.MapPage s r = (s ≡ state.InitWait) × (r ≡ back_ring.MapRing)
 BackGoesWith back.Bind s r = (s ≡ state.InitWait) × (r ≡ back_ring.Bind)
 BackGoesWith (back.PublishFact key) s r = (s ≡ state.InitWait) × (r ≡ back_ring.Loop)
 BackGoesWith back.UnmapOthers s r = IsGivingUp r
@@ -118,32 +144,48 @@ BackGoesWith back.ClosePort s r = r ≡ back_ring.ClosePort
 BackGoesWith back.Halted s r = (s ≡ state.Closed) × (r ≡ back_ring.Halted)
 BackGoesWith b s r = ⊥
 
--- the pages and the port that the negotiation counts are those that the end of the ring holds
-abbrev pub BackHolds : BackRing → (pages : ℕ) → (bound : Bool) → Type 0
-BackHolds back_ring.MapRing pages bound = (pages ≡ 0) × (bound ≡ false)
-BackHolds back_ring.Bind pages bound = (pages ≡ 1) × (bound ≡ false)
-BackHolds back_ring.UnmapUnbound pages bound = (pages ≡ 1) × (bound ≡ false)
-BackHolds back_ring.ClosePort pages bound = (pages ≡ 0) × (bound ≡ true)
-BackHolds back_ring.Halted pages bound = (pages ≡ 0) × (bound ≡ false)
-BackHolds r pages bound = (pages ≡ 1) × (bound ≡ true)
+-- the port that the negotiation counts is the one that the end of the ring has, and so are the pages
+abbrev pub BackHolds : BackRing → (order pages : ℕ) → (bound : Bool) → Type 0
+BackHolds back_ring.InitWait order pages bound = (pages ≡ 0) × (bound ≡ false)
+BackHolds back_ring.MapRing order pages bound = (pages < 2 ^ order) × (bound ≡ false)
+BackHolds back_ring.Bind order pages bound = (pages ≡ 2 ^ order) × (bound ≡ false)
+BackHolds back_ring.UnmapUnbound order pages bound = (0 < pages) × (bound ≡ false)
+BackHolds back_ring.UnmapRing order pages bound = (0 < pages) × (bound ≡ true)
+BackHolds back_ring.ClosePort order pages bound = (pages ≡ 0) × (bound ≡ true)
+BackHolds back_ring.Halted order pages bound = (pages ≡ 0) × (bound ≡ false)
+BackHolds r order pages bound = (pages ≡ 2 ^ order) × (bound ≡ true)
+
+-- once the layout is read the end of the ring has the terms that the negotiation read: the shape of the ring, the references of its pages, and the port
+abbrev pub has_terms : BackRing → Bool
+has_terms back_ring.InitWait = false
+has_terms r = true
+
+pub record HaveTerms (r : ends.View) (v : BackView) : Type 0 where
+  pub shape : r.shape ≡ shape_read v
+  pub grefs : r.grefs ≡ v.grefs
+  pub port : r.port ≡ v.terms.port
 
 -- no port is bound, and no event is pending at the back, before it binds
 abbrev pub IsUnbound : BackRing → ChannelState → Type 0
+IsUnbound back_ring.InitWait c = (is_bound c ≡ false) × (c.back_pending ≡ false)
 IsUnbound back_ring.MapRing c = (is_bound c ≡ false) × (c.back_pending ≡ false)
 IsUnbound back_ring.Bind c = (is_bound c ≡ false) × (c.back_pending ≡ false)
 IsUnbound r c = Unit {0}
 
--- the machine is safe; each negotiation goes with its end of the ring, closes and halts with it, and a front that wrote Closing has no request left; the front names the layout of 64-bit guests and a ring of one page, and the back offers what it offers; and no event is pending where no port is made, or none is bound yet
+-- the machine is safe, and so is the back's negotiation; each negotiation goes with its end of the ring, closes and halts with it, and a front that wrote Closing has no request left; both know the shape of the ring, the references of its pages and the port, and the back offers what it offers; and no event is pending where no port is made, or none is bound yet
 pub record IsFit (w : World) : Type 0 where
   pub safe : IsSafe w.rings
-  pub layout : w.front.abi ≡ X64
-  pub order : w.front.order ≡ 0
+  pub layout : w.rings.front.shape.abi ≡ w.front.abi
+  pub ordered : FrontOrdered w.front.stage w.front w.rings.front.shape.order
   pub offers : w.back.features ≡ offer
   pub front : FrontGoesWith w.front.stage w.front w.rings.front.stage
   pub closing : is_broken w.rings.front.stage ≡ false → w.rings.front.closing ≡ w.front.closing
   pub through : w.front.state ≡ state.Closing → is_broken w.rings.front.stage ≡ false → is_through w.rings.front ≡ true
   pub back : BackGoesWith w.back.stage w.back.state w.rings.back.stage
-  pub held : BackHolds w.rings.back.stage (length w.back.pages) w.back.bound
+  pub held : BackHolds w.rings.back.stage w.back.terms.order (length w.back.pages) w.back.bound
+  pub pages : w.rings.back.pages ≡ w.back.pages
+  pub sound : IsSound w.back
+  pub terms : has_terms w.rings.back.stage ≡ true → is_halting w.back.stage ≡ false → HaveTerms w.rings.back w.back
   pub halted : is_some w.rings.back.halted ≡ is_halting w.back.stage
   pub unported : w.rings.under.channels.ports ≡ [] → w.rings.under.channels.front_pending ≡ false
   pub unbound : IsUnbound w.rings.back.stage w.rings.under.channels

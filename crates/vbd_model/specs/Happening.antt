@@ -1,5 +1,5 @@
 -- What may happen to the machine, and what that is to the ends of its ring and to each end's negotiation.
-use Rattle.std.specs.Prelude.{◌≡◌, ℕ, Bool, false, List, [], ◌∷◌, ◌++◌, map, Option, Some, None, if◌then◌else◌, decimal}
+use Rattle.std.specs.Prelude.{◌≡◌, ℕ, Bool, true, false, ◌&&◌, List, [], ◌∷◌, ◌++◌, map, Option, Some, None, if◌then◌else◌, decimal}
 use Rattle.blk_base.specs.declared.config.Job.{Job}
 use Rattle.blk_io.specs.Disk.{DiskSeen}
 use Rattle.blk_base.specs.declared.parts.End.{End}
@@ -95,16 +95,37 @@ front_enters speaks w = if speaks then map ring.FrontEnters (entered_at w (front
 abbrev pub back_halts : (speaks : Bool) → World → List ring.Happening
 back_halts speaks w = if speaks then map ring.BackHalts (halted_at w (back_turn w)) else []
 
--- what a move of an end is to the ring's machine: a move of its end of the ring; or of its negotiation with the keys, and what comes of it for its end of the ring
+-- what a move of an end is to the ring's machine: a move of its end of the ring; of its negotiation with the keys, and what comes of it for its end of the ring; or of both, where the back reads the layout
 abbrev pub front_does : World → List ring.Happening
 front_does w =
     let a : FrontBusAsk = front.bus_ask_of (frontend_of w) in
     if is_fronts_ring w then ring.FrontMoves ∷ [] else ring.Negotiates end.Front (front_key a) ∷ front_enters (front.speaks a) w
 
+-- what the back's negotiation knows after its act
+abbrev pub back_bus_after : World → Option BackAct → BackView
+back_bus_after w None = w.back
+back_bus_after w (Some a) = (back_step.step_of (backend_of w) a.answer).bus
+
+-- it reads the layout of its front, which its end of the ring can take with the other terms
+abbrev pub is_none : List Halt → Bool
+is_none [] = true
+is_none reasons = false
+
+abbrev pub attaches : World → BackView → Bool
+attaches w b =
+    let a : BackBusAsk = back.bus_ask_of (backend_of w) in
+    back.bus_moves a w.rings.back.stage && back_step.reads_layout a && is_none (halted_at w (back_turn w)) && ring.attaches_at w.rings (back_step.shape_read b) b.grefs
+
+abbrev pub back_negotiates : (attached : Bool) → World → BackView → List ring.Happening
+back_negotiates true w b = ring.BackAttaches (back_step.shape_read b) b.grefs b.terms.port ∷ []
+back_negotiates false w b =
+    let a : BackBusAsk = back.bus_ask_of (backend_of w) in
+    ring.Negotiates end.Back (back_key a) ∷ back_halts (back.bus_moves a w.rings.back.stage) w
+
 abbrev pub back_does : World → List ring.Happening
 back_does w =
-    let a : BackBusAsk = back.bus_ask_of (backend_of w) in
-    if is_backs_ring w then ring.BackMoves ∷ [] else ring.Negotiates end.Back (back_key a) ∷ back_halts (back.bus_moves a w.rings.back.stage) w
+    let b : BackView = back_bus_after w (back_turn w) in
+    if is_backs_ring w then ring.BackMoves ∷ [] else back_negotiates (attaches w b) w b
 
 -- a front that is asked to close begins to close; a back writes Closing in its next move
 abbrev pub closes_does : End → List ring.Happening
@@ -128,10 +149,6 @@ does w (Settles quiet) = ring.Settles quiet ∷ []
 abbrev pub front_bus_after : World → Option FrontAct → FrontView
 front_bus_after w None = w.front
 front_bus_after w (Some a) = (front_step.step_of (frontend_of w) a.answer).bus
-
-abbrev pub back_bus_after : World → Option BackAct → BackView
-back_bus_after w None = w.back
-back_bus_after w (Some a) = (back_step.step_of (backend_of w) a.answer).bus
 
 -- what something that happens makes of each end's negotiation
 abbrev pub front_bus : World → Happening → FrontView

@@ -1,8 +1,6 @@
 -- The happenings that an event of a schedule makes.
 use Rattle.std.specs.Prelude.{◌≡◌, ℕ, zero, suc, ◌+◌, ◌*◌, ◌^◌, ◌≤◌, ◌<◌, ◌⊎◌, Bool, true, false, ◌&&◌, List, [], ◌∷◌, ◌++◌, replicate, length, Some, None, ◌==◌}
 use Rattle.blk_base.specs.Options.{Options}
-use Rattle.blk_base.specs.declared.operation.Abi.{Abi}
-use Rattle.blk_base.specs.declared.operation.Abi.TheVariants.{X64, X32}
 use Rattle.blk_base.specs.declared.config.Job.{Job}
 use Rattle.blk_base.specs.declared.config.Job.TheVariants as jobs
 use Rattle.hypervisor.specs.Act.{Outcome, IsGiven}
@@ -16,13 +14,9 @@ use Rattle.vbd_model.specs.World.{World, is_quiet}
 use Rattle.split_model.specs.Happening.{is_guest_word}
 use Rattle.vbd_model.specs.Happening.{Happening, FrontMoves, BackMoves, JobMoves, Closes, Submits, Notifies, Pokes, Dumps, Looks, Settles, happens, after}
 
-abbrev pub is_x64 : Abi → Bool
-is_x64 X64 = true
-is_x64 X32 = false
-
--- the options that are carried out yet: the x86_64 layout, a ring of one page from any start, and a disk of any size, read-only or not
+-- the options that are carried out yet: either layout, a ring of 1 to 16 pages from any start, and a disk of any size, read-only or not
 abbrev pub are_carried : Options → Bool
-are_carried o = is_x64 o.abi && (o.order == 0) && (o.persistent == 0) && (o.indirect == 0)
+are_carried o = (o.persistent == 0) && (o.indirect == 0)
 
 -- a read or a write, the only submissions that are carried out yet
 abbrev pub is_carried_job : Job → Bool
@@ -110,9 +104,9 @@ never w = false
 abbrev pub settle_bound : World → ℕ
 settle_bound w = 20000 + 2000 * unfinished w.rings.front + 2000 * sectors_owed w.rings.front
 
--- and never more than these: 32 requests at most are unfinished, of 88 sectors each, and one more may be ending
+-- and never more than these: 512 requests at most are unfinished, of 88 sectors each, and one more may be ending
 abbrev pub most_rounds : ℕ
-most_rounds = 20000 + 2000 * 32 + 2000 * (33 * 88)
+most_rounds = 20000 + 2000 * 512 + 2000 * (513 * 88)
 
 -- rounds, each begun where not all is quiet, until all is or there were that many
 pub record AreRoundsUntilQuiet (bound : ℕ) (w : World) (hs : List Happening) : Type 0 where

@@ -5,6 +5,7 @@ use Rattle.schedule_text.specs.declared.recorder.RecordStop.{RecordStop}
 use Rattle.schedule_text.specs.declared.recorder.RecordStop.TheVariants.{OutOfMemory}
 use Rattle.schedule_text.specs.Recorder.{RecorderSeen, Gained, StopsAmong}
 use Rattle.vbd_model.specs.World.{World}
+use Rattle.vbd_model.specs.Mappings.{mappings_of}
 use Rattle.vbd_model.specs.Happening.{Happening, lines_at, after, lines_of, DiskRuns}
 
 -- a moment: the machine, and what the disk and the recorder expose
@@ -16,14 +17,14 @@ pub record Moment : Type 0 where
 abbrev pub moment : World → DiskSeen → RecorderSeen → Moment
 moment w disk recorder = record { world = w; disk = disk; recorder = recorder }
 
--- the disk is attached with the front's sectors, and there are numbers for so many mappings more
+-- the disk is attached with the front's sectors, and there are numbers for the mappings that the jobs may come to make and for so many more
 pub record IsReadyFor (n : ℕ) (w : World) (disk : DiskSeen) : Type 0 where
   pub attached : attached_of disk ≡ Some w.rings.front.sectors
-  pub left : w.rings.under.grants.made + n < 2 ^ 64
+  pub left : mappings_of w + n < 2 ^ 64
 
--- so many mappings more were made at most; what is attached stays
+-- so many mappings more were made at most, or may come to be by the jobs that are held; what is attached stays
 pub record Keeps (n : ℕ) (a b : Moment) : Type 0 where
-  pub made : b.world.rings.under.grants.made ≤ a.world.rings.under.grants.made + n
+  pub made : mappings_of b.world ≤ mappings_of a.world + n
   pub sectors : b.world.rings.front.sectors ≡ a.world.rings.front.sectors
   pub attachment : b.disk.attachment ≡ a.disk.attachment
 

@@ -4,5 +4,6 @@ pub mod News
 pub mod Possible
 pub mod Fit
 pub mod Kind
+pub mod Mappings
 pub mod Leads
 pub mod Report

@@ -7,7 +7,6 @@ use Rattle.xenbus_state.specs.BackAsk.{ask_of as back_bus_ask}
 use Rattle.xenbus_state.specs.Offer.{facts_of}
 use Rattle.split_model.specs.World as rings
 use Rattle.vbd_front.specs.View as front
-use Rattle.vbd_front.specs.Ask as front_ask
 use Rattle.vbd_back.specs.View as back
 
 -- the ends of the ring with what lies under both, and each end's negotiation
@@ -29,4 +28,4 @@ backend_of w = record { ring = w.rings.back; bus = w.back }
 
 -- quiet: both ends wait, and not for their own negotiation, no job is held, and neither an event nor a watch is pending
 abbrev pub is_quiet : World → Bool
-is_quiet w = front.rests (front_ask.bus_ask_of (frontend_of w)) && back.rests (back_bus_ask w.back) && rings.is_quiet w.rings
+is_quiet w = front.is_at_rest (frontend_of w) && back.rests (back_bus_ask w.back) && rings.is_quiet w.rings

@@ -5,7 +5,7 @@
 //! runner stands on it.
 #![tactic(auto)]
 
-ghost use Rattle.std.specs.Prelude.{◌≡◌, ℕ, List, [], ◌∷◌, ◌++◌, filter};
+ghost use Rattle.std.specs.Prelude.{◌≤◌, ◌≡◌, ℕ, List, [], ◌∷◌, ◌++◌, filter};
 ghost use Rattle.blk_io.specs.Disk.{DiskSeen};
 ghost use Rattle.schedule_text.specs.declared.event.Event.{Event};
 ghost use Rattle.plain_disk.specs.Echo.{AnswersAll, is_echo};
@@ -29,10 +29,11 @@ pub fn a_run_goes_on()
 {}
 
 /// What the events of a schedule make happen echoes them: the lines of the kinds that echo are, one
-/// for one and in order, those that answer the events.
+/// for one and in order, those that answer the events. A look shows words of a ring of `2^order` pages,
+/// and the front's has no more.
 pub fn a_schedule_is_echoed()
-    ensures { (order : ℕ) (events : List Event) (w : World) (history : List Happening) → AreOfAll events w history
-        → AnswersAll order events (filter is_echo (lines_of history w)) }
+    ensures { (order : ℕ) (events : List Event) (w : World) (history : List Happening) → w.rings.front.shape.order ≤ order
+        → AreOfAll events w history → AnswersAll order events (filter is_echo (lines_of history w)) }
 {}
 
 /// What the events of a schedule make happen is possible, also where the last of them was stopped in

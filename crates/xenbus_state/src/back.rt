@@ -209,6 +209,13 @@ impl BackBus {
         self.features.persistent && self.terms.persistent
     }
 
+    /// The references of the ring's pages, in order, as far as they were read.
+    pub fn grefs(&self) -> &[u32]
+        ensures { result.now ≡ self.now.grefs }
+    {
+        self.grefs.as_slice()
+    }
+
     /// The pages of the ring that are mapped, in order.
     pub fn pages(&self) -> &[Mapping]
         ensures { result.now ≡ self.now.pages }

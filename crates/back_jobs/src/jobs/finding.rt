@@ -119,7 +119,7 @@ pub(super) fn guess(tasks: &[Task], number: u64) -> Option<usize>
     }
 }
 
-// Whether numbers that ascended, or not, ascend with this one behind them.
+// Whether numbers that ascended, or not, ascend with this one after them.
 pub(super) fn goes_on_ascending(ascending: bool, tasks: &[Task], number: u64) -> bool
     ensures { result ≡ (ascending && is_above tasks.now number) }
 {

@@ -26,7 +26,7 @@ impl Task {
         requires placed { k < 128 }
         ensures { self.new ≡ step_at (stage.ReadWord mapping k) self.old (Word word) }
     {
-        // The stage comes first: behind a write at some place of the words the built code would look at it anew.
+        // The stage comes first: after a write at some place of the words the built code would look at it anew.
         if k == 127 {
             self.stage = Stage::DiskWrite(mapping);
         } else {

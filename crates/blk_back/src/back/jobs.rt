@@ -21,7 +21,7 @@ impl Back {
         ensures value { result ≡ job_ask_of self.now number }
         ensures within { StaysInPageAndDisk self.now.jobs.info.sectors result }
         ensures names { Names (hands_of self.now) result }
-        ensures few { length (hands_of self.now) ≤ 34 }
+        ensures few { length (hands_of self.now) ≤ 529 }
     {
         match self.halted {
             Some(_) => BackAsk::Wait,
@@ -47,12 +47,12 @@ impl Back {
     }
 
     /// The least number above this one of a job that is held; `None` exactly where there is none, and
-    /// always after a halt. At most 32 are held.
+    /// always after a halt. At most 512 are held.
     #[inline(always)]
     pub fn next_job(&self, after: u64) -> Option<u64>
         ensures value { result ≡ next_job_of self.now after }
         ensures above { IfSome result (λ next. after < next) }
-        ensures few { length self.now.jobs.works ≤ 32 }
+        ensures few { length self.now.jobs.works ≤ 512 }
     {
         match self.halted {
             Some(_) => None,
@@ -68,14 +68,14 @@ impl Back {
         if let Stage::Loop = self.stage {
             return self.asleep && self.next_reply().is_none();
         }
-        matches!(self.stage, Stage::Halted)
+        matches!(self.stage, Stage::InitWait | Stage::Halted)
     }
 
-    /// Whether it asks for nothing but an event, and no job is held.
+    /// Whether it asks for nothing but an event, waits for no terms, and no job is held.
     pub fn idle(&self) -> bool
         ensures { result ≡ is_idle self.now }
     {
-        self.waits() && self.jobs.count() == 0
+        !matches!(self.stage, Stage::InitWait) && self.waits() && self.jobs.count() == 0
     }
 
     /// What happened in the last move, once; `None` exactly where nothing is left to tell.

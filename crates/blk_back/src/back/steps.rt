@@ -1,10 +1,11 @@
 // What the back makes of each answer.
-ghost use Rattle.std.specs.Prelude.{◌≡◌, ◌<◌, [], ◌∷◌, ◌++◌, Some};
+ghost use Rattle.std.specs.Prelude.{◌≡◌, ◌+◌, ◌^◌, ◌<◌, [], ◌∷◌, ◌++◌, length, Some};
+ghost use Rattle.ring_words.specs.Shape.{entry_words_of};
 ghost use Rattle.blk_base.specs.declared.parts.Mode.TheVariants.{ReadWrite};
 ghost use Rattle.blk_base.specs.declared.ask.BackAnswer.TheVariants.{Word, Done, Mapped, MapRefused, BindRefused};
 ghost use Rattle.blk_back.specs.declared.stage.Stage.TheVariants as stage;
 ghost use Rattle.blk_back.specs.Ask.{loop_ask, next_reply, IsAnswer};
-ghost use Rattle.blk_back.specs.Step.{step_at, loop_step, loop_word, looked, halts, overrun, give_up, fetched, fetch_step, replied};
+ghost use Rattle.blk_back.specs.Step.{step_at, attaches, loop_step, loop_word, looked, halts, halts_at, overrun, give_up, unbound, bound, other_pages, fetched, fetch_step, replied};
 
 use super::Back;
 use crate::stage::{Reply, Stage};
@@ -12,32 +13,79 @@ use crate::told::{BackTold, Halt};
 use arrayvec::ArrayVec;
 use blk_base::{Abi, BackAnswer, Mapping};
 use blk_layout::read_request;
-use ring_words::notify;
+use ring_words::{BackRing, RingShape, notify};
 
 impl Back {
+    #[tactic(auto, using(crate::proofs::Powers::few_pages))]
     pub(super) fn mapped(&mut self, mapping: Mapping)
         requires stage { self.old.stage ≡ stage.MapRing }
         requires mode { mapping.mode ≡ ReadWrite }
         ensures { self.new ≡ step_at stage.MapRing self.old (Mapped mapping) }
     {
-        self.page = mapping;
-        self.stage = Stage::Bind;
+        self.pages.push(mapping);
+        self.stage = if self.pages.len() < self.grefs.len() {
+            Stage::MapRing
+        } else {
+            Stage::Bind
+        };
     }
 
     pub(super) fn refused(&mut self, status: i32)
         requires { self.old.stage ≡ stage.MapRing }
         ensures { self.new ≡ step_at stage.MapRing self.old (MapRefused status) }
     {
-        self.halted = Some(Halt::MapRefused { gref: 8, status });
-        self.stage = Stage::Halted;
+        let gref = self.next_gref();
+        self.halted = Some(Halt::MapRefused { gref, status });
+        self.stage = unbound(self.pages.as_slice());
     }
 
     pub(super) fn unbound(&mut self)
         requires { self.old.stage ≡ stage.Bind }
         ensures { self.new ≡ step_at stage.Bind self.old BindRefused }
     {
-        self.halted = Some(Halt::BadPort(1));
-        self.stage = Stage::UnmapUnbound;
+        self.halted = Some(Halt::BadPort(self.port));
+        self.stage = unbound(self.pages.as_slice());
+    }
+
+    // The first page that was still mapped is unmapped, of a back with its port and of one without.
+    pub(super) fn unmapped(&mut self)
+        requires { self.old.stage ≡ stage.UnmapRing }
+        ensures { self.new ≡ step_at stage.UnmapRing self.old Done }
+    {
+        let _ = self.pages.remove(0);
+        self.stage = if self.pages.is_empty() {
+            Stage::ClosePort
+        } else {
+            Stage::UnmapRing
+        };
+    }
+
+    pub(super) fn unmapped_unbound(&mut self)
+        requires { self.old.stage ≡ stage.UnmapUnbound }
+        ensures { self.new ≡ step_at stage.UnmapUnbound self.old Done }
+    {
+        let _ = self.pages.remove(0);
+        self.stage = unbound(self.pages.as_slice());
+    }
+
+    /// Takes the terms of its front where it waits for them: the layout of entries, the order of the
+    /// ring, 0 to 4 (it has `2^order` pages), a reference for each page in order, and the front's port.
+    /// It maps the pages next. Where it doesn't wait, with another order, and with more or fewer
+    /// references, nothing changes. It takes no memory.
+    #[tactic(auto, using(crate::proofs::Powers::few_pages, crate::proofs::Powers::pages_whole, crate::proofs::Powers::some_pages, crate::proofs::Powers::no_distance))]
+    pub fn attach(&mut self, abi: Abi, order: u32, grefs: &[u32], port: u32)
+        ensures { self.new ≡ attaches (record { abi = abi; order = order }) grefs.now port self.old }
+    {
+        if !matches!(self.stage, Stage::InitWait) || order > 4 || grefs.len() != 1 << order {
+            return;
+        }
+        self.abi = abi;
+        self.order = order;
+        self.grefs = ArrayVec::new();
+        let _ = self.grefs.try_extend_from_slice(grefs);
+        self.port = port;
+        self.ring = BackRing::attach(RingShape::of(abi, order), self.ring.prod());
+        self.stage = Stage::MapRing;
     }
 
     /// Begins the next step of the loop.
@@ -115,8 +163,9 @@ impl Back {
     }
 
     /// Halts for what its negotiation found, where no step is begun; else nothing changes. An overrun
-    /// isn't for it to find. A back that has mapped the ring gives up its jobs' mappings and the
-    /// ring's page, and closes its port. It takes no memory.
+    /// isn't for it to find. A back that is connected gives up its jobs' mappings and the ring's
+    /// pages, and closes its port; one that isn't gives up the pages that it has mapped. It takes no
+    /// memory.
     pub fn halt(&mut self, why: Halt)
         ensures { self.new ≡ halts why self.old }
     {
@@ -124,9 +173,9 @@ impl Back {
             return;
         }
         match self.stage {
-            Stage::MapRing => {
+            Stage::InitWait | Stage::MapRing => {
                 self.halted = Some(why);
-                self.stage = Stage::Halted;
+                self.stage = unbound(self.pages.as_slice());
             }
             Stage::Loop => {
                 self.halted = Some(why);
@@ -139,7 +188,7 @@ impl Back {
     // The requests' producer overran the ring.
     #[inline(never)]
     fn overrun(&mut self, word: u32)
-        requires { self.old.page.mode ≡ ReadWrite }
+        requires { length self.old.pages ≡ 2 ^ self.old.shape.order }
         ensures { self.new ≡ overrun self.old word }
     {
         self.halted = Some(Halt::Overrun {
@@ -151,8 +200,9 @@ impl Back {
 
     /// Gives up the jobs as far as the next mapping in a job's hand.
     #[inline(never)]
+    #[tactic(auto, using(crate::proofs::Powers::some_pages))]
     pub(super) fn give_up(&mut self)
-        requires { self.old.page.mode ≡ ReadWrite }
+        requires { length self.old.pages ≡ 2 ^ self.old.shape.order }
         ensures { self.new ≡ give_up self.old }
     {
         self.stage = match self.jobs.give_up() {
@@ -164,11 +214,11 @@ impl Back {
     /// A word of an entry was read.
     pub(super) fn fetch(&mut self, k: u32, word: u32)
         requires stage { self.old.stage ≡ stage.Fetch k }
-        requires placed { k < 28 }
+        requires placed { k < entry_words_of self.old.shape.abi }
         ensures { self.new ≡ fetch_step self.old k word }
     {
-        if k == 27 {
-            self.fetched(word);
+        if k + 1 == self.shape().entry_words() {
+            self.fetched(k, word);
         } else {
             self.entry.push(word);
             self.stage = Stage::Fetch(k + 1);
@@ -177,12 +227,13 @@ impl Back {
 
     // The last word of an entry was read: its job begins.
     #[inline(never)]
-    fn fetched(&mut self, word: u32)
-        requires { self.old.stage ≡ stage.Fetch 27 }
+    fn fetched(&mut self, k: u32, word: u32)
+        requires stage { self.old.stage ≡ stage.Fetch k }
+        requires last { k + 1 ≡ entry_words_of self.old.shape.abi }
         ensures { self.new ≡ fetched self.old (self.old.entry ++ word ∷ []) }
     {
         self.entry.push(word);
-        let request = read_request(Abi::X64, self.entry.as_slice());
+        let request = read_request(self.abi, self.entry.as_slice());
         self.fetched = self.fetched.wrapping_add(1);
         self.ring.consume();
         self.jobs.start(self.fetched, &request);
@@ -212,5 +263,16 @@ impl Back {
         } else {
             Stage::Loop
         };
+    }
+}
+
+// A back whose port isn't bound gives up the pages that it has mapped.
+fn unbound(pages: &[Mapping]) -> Stage
+    ensures { result ≡ unbound pages.now }
+{
+    if pages.is_empty() {
+        Stage::Halted
+    } else {
+        Stage::UnmapUnbound
     }
 }

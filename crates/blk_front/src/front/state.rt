@@ -1,16 +1,20 @@
 // What the front's negotiation has it enter.
-ghost use Rattle.std.specs.Prelude.{◌≡◌};
+ghost use Rattle.std.specs.Prelude.{◌≡◌, ◌≤◌};
+ghost use Rattle.blk_front.specs.declared.stage.Stage.TheVariants as stage;
+ghost use Rattle.blk_front.specs.declared.state.FrontState.TheVariants as state;
 ghost use Rattle.blk_front.specs.State.{may_enter, in_state, enters};
 
 use super::Front;
 use crate::stage::Stage;
 use crate::state::FrontState;
+use ring_words::{FrontRing, RingShape};
 
 impl Front {
-    /// Enters a state where it may, and says whether it did; no other front changes. It connects
-    /// where it waits for that, and begins to close once. It leaves, and is closed, only while it
-    /// closes with no request left, and is closed only without a ring. A closed or broken front
-    /// enters none. It takes no memory.
+    /// Enters a state where it may, and says whether it did; no other front changes. An order no
+    /// greater than it wished is agreed before its ring is begun. It connects where it waits for
+    /// that, and begins to close once. It leaves, and is closed, only while it closes with no request
+    /// left, and is closed only without a ring. A closed or broken front enters none. It takes no
+    /// memory.
     pub fn enter(&mut self, state: FrontState) -> bool
         ensures front { self.new ≡ enters state self.old }
         ensures done { result ≡ may_enter state self.old }
@@ -18,14 +22,27 @@ impl Front {
         let may = self.may_enter(state);
         if may {
             match state {
+                FrontState::Agreed(order) => self.agree(order),
                 FrontState::Connected => self.stage = Stage::Loop,
                 FrontState::Closing => self.closing = true,
-                FrontState::Leaving => self.stage = Stage::RingRead,
+                FrontState::Leaving => self.stage = Stage::RingRead(0),
                 FrontState::Closed => self.stage = Stage::Closed,
                 FrontState::Broken(word) => self.stage = Stage::Broken(word),
             }
         }
         may
+    }
+
+    // Its ring has this order, no greater than it wished.
+    #[tactic(auto, using(crate::proofs::Shapes::few_pages))]
+    fn agree(&mut self, order: u32)
+        requires unmade { self.old.stage ≡ stage.RingWord 0 }
+        requires within { order ≤ self.old.shape.order }
+        ensures { self.new ≡ in_state (state.Agreed order) self.old }
+    {
+        self.ring = FrontRing::attach(RingShape::of(self.abi, order), self.start);
+        self.order = order;
+        self.seen = self.start;
     }
 
     // Whether it may enter this state.
@@ -34,6 +51,9 @@ impl Front {
     {
         let open = !matches!(self.stage, Stage::Closed | Stage::Broken(_));
         match state {
+            FrontState::Agreed(order) => {
+                matches!(self.stage, Stage::RingWord(0)) && order <= self.order
+            }
             FrontState::Connected => matches!(self.stage, Stage::Initialised),
             FrontState::Closing => !self.closing && open,
             FrontState::Leaving => {

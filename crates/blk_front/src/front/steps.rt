@@ -7,6 +7,7 @@ ghost use Rattle.blk_front.specs.Ask.{loop_ask, IsAnswer};
 ghost use Rattle.blk_front.specs.Sound.{AreAscending};
 ghost use Rattle.blk_front.specs.Step.{step_at, loop_step, loop_word, looked, broken, found_at, issued, taken, response_step, end_step, exchanged, ring_read, ring_ended, ended, finished, pushed, entry_request, data_step, issue_stage, IsTaking, IsRevoking, IsEndingStage};
 ghost use Rattle.blk_front.specs.Request.{IsShaped};
+ghost use Rattle.ring_words.specs.Shape.{entry_words_of};
 ghost use Rattle.blk_layout.specs.Entry.{raw_of};
 ghost use Rattle.blk_front.specs.declared.request.Request.{Request};
 
@@ -14,7 +15,7 @@ use super::Front;
 use crate::request::{Request, SECTOR_WORDS, Transfer, frames_for};
 use crate::stage::{Ending, Stage};
 use crate::told::Told;
-use blk_base::{Abi, FrontAnswer, Status};
+use blk_base::{FrontAnswer, Status};
 use blk_layout::{DirectOp, Request as Wire, read_response, request_words};
 use ring_words::notify;
 
@@ -25,9 +26,24 @@ impl Front {
         ensures { self.new ≡ step_at (stage.RingWord word) self.old Done }
     {
         self.stage = if word == 15 {
-            Stage::RingFrame
+            Stage::RingFrame(0)
         } else {
             Stage::RingWord(word + 1)
+        };
+    }
+
+    /// The frame of a page of the ring was granted.
+    #[inline(never)]
+    pub(super) fn granted_page(&mut self, page: u32)
+        requires stage { self.old.stage ≡ stage.RingFlags page }
+        requires placed { page < 2 ^ self.old.shape.order }
+        ensures { self.new ≡ step_at (stage.RingFlags page) self.old Done }
+    {
+        let pages = self.pages();
+        self.stage = if page + 1 < pages {
+            Stage::RingFrame(page + 1)
+        } else {
+            Stage::NewPort
         };
     }
 
@@ -91,29 +107,34 @@ impl Front {
         }
     }
 
-    /// The entry of the ring's grant was read.
+    /// The entry of the grant of a page of the ring was read.
     #[inline(never)]
-    pub(super) fn read_ring_grant(&mut self, word: u32)
-        requires { self.old.stage ≡ stage.RingRead }
-        ensures { self.new ≡ ring_read self.old word }
+    pub(super) fn read_ring_grant(&mut self, page: u32, word: u32)
+        requires stage { self.old.stage ≡ stage.RingRead page }
+        requires placed { page < 2 ^ self.old.shape.order }
+        ensures { self.new ≡ ring_read self.old page word }
     {
         if word / 8 % 4 != 0 {
             self.break_with(word);
         } else {
-            self.stage = Stage::RingEnd(word);
+            self.stage = Stage::RingEnd(page, word);
         }
     }
 
-    /// The ring's grant was ended, if its entry was still as it was read.
+    /// That grant was ended, if its entry was still as it was read.
     #[inline(never)]
-    pub(super) fn ended_ring_grant(&mut self, seen: u32, word: u32)
-        requires { self.old.stage ≡ stage.RingEnd seen }
-        ensures { self.new ≡ ring_ended self.old seen word }
+    pub(super) fn ended_ring_grant(&mut self, page: u32, seen: u32, word: u32)
+        requires stage { self.old.stage ≡ stage.RingEnd page seen }
+        requires placed { page < 2 ^ self.old.shape.order }
+        ensures { self.new ≡ ring_ended self.old page seen word }
     {
-        if word == seen {
-            self.stage = Stage::ClosePort;
-        } else {
+        let pages = self.pages();
+        if word != seen {
             self.break_with(word);
+        } else if page + 1 < pages {
+            self.stage = Stage::RingRead(page + 1);
+        } else {
+            self.stage = Stage::ClosePort;
         }
     }
 
@@ -152,17 +173,17 @@ impl Front {
         if place + 1 < r.frames.len() as u32 {
             self.stage = Stage::GrantFrame(place + 1);
         } else {
-            self.entry = request_words(Abi::X64, &wire(r));
+            self.entry = request_words(self.abi, &wire(r));
             self.stage = Stage::Slot(0);
         }
     }
 
     pub(super) fn wrote_slot(&mut self, word: u32)
         requires stage { self.old.stage ≡ stage.Slot word }
-        requires placed { word < 28 }
+        requires placed { word < entry_words_of self.old.shape.abi }
         ensures { self.new ≡ step_at (stage.Slot word) self.old Done }
     {
-        self.stage = if word == 27 {
+        self.stage = if word + 1 == self.shape().entry_words() {
             Stage::Producer
         } else {
             Stage::Slot(word + 1)

@@ -1,5 +1,6 @@
 // What the front is handed, and what it tells.
-ghost use Rattle.std.specs.Prelude.{◌≡◌, ◌≤◌, ◌<◌, ◌+◌, ◌*◌, ◌==◌, if◌then◌else◌, [], None, All, length, sum_by, is_some, option_map, IfSome};
+ghost use Rattle.std.specs.Prelude.{◌≡◌, ◌≤◌, ◌<◌, ◌+◌, ◌*◌, ◌==◌, if◌then◌else◌, true, [], None, All, length, sum_by, is_some, option_map, IfSome};
+ghost use Rattle.ring_words.specs.Shape.{entries_of};
 ghost use Rattle.arrayvec.specs.ArrayVec.{array_vec_len};
 ghost use Rattle.blk_front.specs.declared.request.Request.{Request};
 ghost use Rattle.blk_front.specs.Request.{IsShaped, frames_for};
@@ -13,8 +14,7 @@ use crate::request::{MAX_SEGMENTS, Request, Transfer, Wish, frames_for};
 use crate::stage::Stage;
 use crate::told::{Refusal, Told};
 use arrayvec::ArrayVec;
-use blk_base::{Abi, Endpoint, FrontAsk, Job};
-use ring_words::RingShape;
+use blk_base::{Endpoint, FrontAsk, Job};
 
 impl Front {
     /// Hands the front a request, and answers its number, one more than the last. A refusal is the
@@ -46,7 +46,7 @@ impl Front {
         if needed > MAX_SEGMENTS {
             return Err(Refusal::Long);
         }
-        if self.unfinished() >= RingShape::of(Abi::X64, 0).entries() {
+        if self.unfinished() >= self.shape().entries() {
             return Err(Refusal::Full);
         }
         let Some((frames, pool)) = take_frames(self.pool, needed) else {
@@ -56,9 +56,11 @@ impl Front {
     }
 
     // Queues the next request.
+    #[tactic(auto, using(crate::proofs::Shapes::few_pages))]
     fn accept(&mut self, wish: Wish, frames: ArrayVec<PoolFrame, 11>, pool: Pool) -> u32
         requires spent { self.old.last < 4294967295 }
-        requires room { unfinished self.old < 32 }
+        requires ready { is_ready self.old.stage ≡ true }
+        requires room { unfinished self.old < entries_of self.old.shape.order }
         requires some { 1 ≤ wish.count }
         requires few { wish.count ≤ 88 }
         requires frames { array_vec_len frames ≡ frames_for wish.count }
@@ -82,9 +84,10 @@ impl Front {
     }
 
     // How many requests are unfinished.
+    #[tactic(auto, using(crate::proofs::Shapes::few_pages))]
     fn unfinished(&self) -> u32
         ensures value { result ≡ unfinished self.now }
-        ensures few { result ≤ 32 }
+        ensures few { result ≤ 512 }
     {
         self.requests.len() as u32 + ending_of(self.stage)
     }
@@ -104,9 +107,9 @@ impl Front {
         !matches!(
             self.stage,
             Stage::RingWord(_)
-                | Stage::RingFrame
-                | Stage::RingFence
-                | Stage::RingFlags
+                | Stage::RingFrame(_)
+                | Stage::RingFence(_)
+                | Stage::RingFlags(_)
                 | Stage::NewPort
         )
     }
@@ -139,11 +142,12 @@ impl Front {
     pub fn owed(&self) -> (u32, u64)
         ensures requests { result.0 ≡ unfinished self.now }
         ensures sectors { result.1 ≡ sectors_owed self.now }
-        ensures few { result.0 ≤ 32 }
-        ensures short { result.1 ≤ 2904 }
+        ensures few { result.0 ≤ 512 }
+        ensures short { result.1 ≤ 45144 }
     {
+        let requests = self.unfinished();
         let sectors = sectors_of(self.requests.as_slice());
-        (self.unfinished(), sectors + self.ending_sectors())
+        (requests, sectors + self.ending_sectors())
     }
 
     // The sectors of the request that is ending.
@@ -190,7 +194,7 @@ fn ending_of(stage: Stage) -> u32
 
 // How many sectors these requests move, 88 each at most.
 fn sectors_of(requests: &[Request]) -> u64
-    requires few { length requests.now ≤ 32 }
+    requires few { length requests.now ≤ 512 }
     requires shaped { All IsShaped requests.now }
     ensures value { result ≡ sum_by (λ (r : Request). r.count) requests.now }
     ensures short { result ≤ 88 * length requests.now }
@@ -208,13 +212,13 @@ fn is_ready(stage: Stage) -> bool
 {
     match stage {
         Stage::RingWord(_)
-        | Stage::RingFrame
-        | Stage::RingFence
-        | Stage::RingFlags
+        | Stage::RingFrame(_)
+        | Stage::RingFence(_)
+        | Stage::RingFlags(_)
         | Stage::NewPort
         | Stage::Initialised => false,
-        Stage::RingRead
-        | Stage::RingEnd(_)
+        Stage::RingRead(_)
+        | Stage::RingEnd(_, _)
         | Stage::ClosePort
         | Stage::Left
         | Stage::Closed

@@ -1,5 +1,5 @@
 // A guest's memory, which answers what the front asks, and the ring's other end by hand.
-ghost use Rattle.std.specs.Prelude.{IfSome};
+ghost use Rattle.std.specs.Prelude.{◌≤◌, IfSome};
 ghost use Rattle.blk_front.specs.Ask.{IsAnswer};
 
 use crate::{Front, FrontState, Told};
@@ -145,6 +145,16 @@ fn front_over(alloc: Global, start: u32, sectors: u64) -> Result<Front, Fail> {
     Ok(Front::new(alloc, &config(start, false, sectors))?)
 }
 
+/// A front whose ring has this shape and this first index, over a disk of 8 sectors.
+pub fn front_shaped(alloc: Global, abi: Abi, order: u32, start: u32) -> Result<Front, Fail>
+    requires { order ≤ 4 }
+{
+    let mut config = config(start, false, 8);
+    config.abi = abi;
+    config.order = order;
+    Ok(Front::new(alloc, &config)?)
+}
+
 /// A front over a read-only disk of 8 sectors.
 pub fn front_of_read_only(alloc: Global) -> Result<Front, Fail> {
     Ok(Front::new(alloc, &config(0, true, 8))?)
@@ -177,9 +187,20 @@ pub fn asks(
     Ok(())
 }
 
-/// The moves after which a front is connected: 16 words of the ring, the 3 of its grant, and the port.
+/// The moves after which a front whose ring has one page is connected: 16 words of the ring, the 3 of
+/// its grant, and the port.
 pub fn connect(rt: &impl Abort, front: &mut Front, memory: &mut Memory) -> Result<(), Fail> {
-    quiet_moves(rt, front, memory, 19)?;
+    connect_after(rt, front, memory, 19)
+}
+
+/// The same after so many moves that make and grant the ring.
+pub fn connect_after(
+    rt: &impl Abort,
+    front: &mut Front,
+    memory: &mut Memory,
+    moves: u32,
+) -> Result<(), Fail> {
+    quiet_moves(rt, front, memory, moves)?;
     asks(rt, front, memory, &[FrontAsk::NewPort])?;
     assert!(rt; front.enter(FrontState::Connected));
     Ok(())

@@ -2,10 +2,10 @@ use Rattle.move_laws.proofs.Runs.{lines_obey, report_obeys, ended_obeys, numbers
 use Rattle.move_laws.proofs.the_numbers_of_mappings_ascend.Goals as goal
 
 pub returns-clause-lines : goal.returns-clause-lines
-returns-clause-lines c config history = numbers_of _ (lines_obey config history)
+returns-clause-lines c config history narrow = numbers_of _ (lines_obey config history narrow)
 
 pub returns-clause-report : goal.returns-clause-report
-returns-clause-report c config detail history = numbers_of _ (report_obeys config detail history)
+returns-clause-report c config detail history narrow = numbers_of _ (report_obeys config detail history narrow)
 
 pub returns-clause-ended : goal.returns-clause-ended
-returns-clause-ended c config detail history = numbers_of _ (ended_obeys config detail history)
+returns-clause-ended c config detail history narrow = numbers_of _ (ended_obeys config detail history narrow)

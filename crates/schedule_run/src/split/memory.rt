@@ -1,5 +1,5 @@
 // The guest's memory, as a hostile hand overwrites it and as a dump shows it.
-ghost use Rattle.std.specs.Prelude.{◌≡◌, ◌<◌, ◌^◌, ◌∷◌, [], true};
+ghost use Rattle.std.specs.Prelude.{◌≡◌, ◌<◌, ◌+◌, ◌/◌, ◌%◌, ◌^◌, ◌∷◌, [], true};
 ghost use Rattle.blk_io.specs.Disk.{DiskSeen};
 ghost use Rattle.schedule_text.specs.Recorder.{Adds};
 ghost use Rattle.xen_pages.specs.Pages.{word_of};
@@ -10,7 +10,7 @@ ghost use Rattle.vbd_model.specs.Leads.{Goes, Is, moment};
 use super::Split;
 use schedule_text::{Line, RecordStop, Recorder};
 
-// The frame of the ring's page.
+// The frame of the ring's first page.
 const RING_FRAME: u32 = 2;
 
 impl Split {
@@ -33,30 +33,33 @@ impl Split {
         recorder.add(&Line::Poke { frame, word, value })
     }
 
-    /// Shows each word of the ring that isn't 0, in order.
+    /// Shows each word of the ring that isn't 0, in order: 1024 words of each of its pages.
     pub fn dump<R: Recorder>(&self, recorder: &mut R) -> Result<(), RecordStop>
         ensures { (disk : DiskSeen) → Goes (Is (Dumps ∷ [])) (Is (Dumps ∷ [])) 0 result
             (moment self.now disk (R.seen recorder.old))
             (moment self.now disk (R.seen recorder.new)) }
     {
-        let mut word = 0;
-        while word < 1024 {
-            self.show_word(word, recorder)?;
-            word += 1;
+        let words = 1024 * self.front.ring_pages();
+        let mut place = 0;
+        while place < words {
+            self.show_word(place, recorder)?;
+            place += 1;
         }
         Ok(())
     }
 
-    // Shows a word of the ring, unless it is 0.
-    fn show_word<R: Recorder>(&self, word: u32, recorder: &mut R) -> Result<(), RecordStop>
-        requires { word < 1024 }
-        ensures { Adds (word_lines word (word_of self.now.rings.under.pages 2 word)) result (R.seen recorder.old) (R.seen recorder.new) }
+    // Shows the word of the ring at a place, unless it is 0.
+    fn show_word<R: Recorder>(&self, place: u32, recorder: &mut R) -> Result<(), RecordStop>
+        requires { place < 16384 }
+        ensures { Adds (word_lines place (word_of self.now.rings.under.pages (2 + place / 1024) (place % 1024))) result
+            (R.seen recorder.old) (R.seen recorder.new) }
     {
-        let value = self.under.read_front(RING_FRAME, word);
+        let frame = RING_FRAME + place / 1024;
+        let word = place % 1024;
+        let value = self.under.read_front(frame, word);
         if value == 0 {
             return Ok(());
         }
-        let frame = RING_FRAME;
         recorder.add(&Line::Word { frame, word, value })
     }
 }

@@ -36,8 +36,8 @@ impl Split {
         disk: &mut D,
         recorder: &mut R,
     ) -> Result<(), RecordStop>
-        requires { IsReadyFor count self.old (D.seen disk.old) }
-        ensures { GoesThrough (replicate count BackMoves) count result
+        requires { IsReadyFor (13 * count) self.old (D.seen disk.old) }
+        ensures { GoesThrough (replicate count BackMoves) (13 * count) result
             (moment self.old (D.seen disk.old) (R.seen recorder.old))
             (moment self.new (D.seen disk.new) (R.seen recorder.new)) }
     {
@@ -55,8 +55,8 @@ impl Split {
         disk: &mut D,
         recorder: &mut R,
     ) -> Result<(), RecordStop>
-        requires { IsReadyFor count self.old (D.seen disk.old) }
-        ensures { Goes (AreSomeJobMoves number count) (AreFewJobMoves number count) count result
+        requires { IsReadyFor 1 self.old (D.seen disk.old) }
+        ensures { Goes (AreSomeJobMoves number count) (AreFewJobMoves number count) 0 result
             (moment self.old (D.seen disk.old) (R.seen recorder.old))
             (moment self.new (D.seen disk.new) (R.seen recorder.new)) }
     {
@@ -73,8 +73,8 @@ impl Split {
         disk: &mut D,
         recorder: &mut R,
     ) -> Result<(), RecordStop>
-        requires { IsReadyFor 32 self.old (D.seen disk.old) }
-        ensures { Goes (AreAllJobs self.old) (λ hs. HasEachJobs self.old hs) 32 result
+        requires { IsReadyFor 1 self.old (D.seen disk.old) }
+        ensures { Goes (AreAllJobs self.old) (λ hs. HasEachJobs self.old hs) 0 result
             (moment self.old (D.seen disk.old) (R.seen recorder.old))
             (moment self.new (D.seen disk.new) (R.seen recorder.new)) }
     {
@@ -93,8 +93,8 @@ impl Split {
         disk: &mut D,
         recorder: &mut R,
     ) -> Result<(), RecordStop>
-        requires { IsReadyFor 33 self.old (D.seen disk.old) }
-        ensures { Goes (IsRound self.old) (IsRoundSoFar self.old) 33 result
+        requires { IsReadyFor 14 self.old (D.seen disk.old) }
+        ensures { Goes (IsRound self.old) (IsRoundSoFar self.old) 14 result
             (moment self.old (D.seen disk.old) (R.seen recorder.old))
             (moment self.new (D.seen disk.new) (R.seen recorder.new)) }
     {
@@ -110,8 +110,8 @@ impl Split {
         disk: &mut D,
         recorder: &mut R,
     ) -> Result<(), RecordStop>
-        requires { IsReadyFor (33 * count) self.old (D.seen disk.old) }
-        ensures { Goes (AreRounds never count self.old) (AreRoundsSoFar never count self.old) (33 * count) result
+        requires { IsReadyFor (14 * count) self.old (D.seen disk.old) }
+        ensures { Goes (AreRounds never count self.old) (AreRoundsSoFar never count self.old) (14 * count) result
             (moment self.old (D.seen disk.old) (R.seen recorder.old))
             (moment self.new (D.seen disk.new) (R.seen recorder.new)) }
     {
@@ -128,8 +128,8 @@ impl Split {
         disk: &mut D,
         recorder: &mut R,
     ) -> Result<(), RecordStop>
-        requires { IsReadyFor (33 * bound) self.old (D.seen disk.old) }
-        ensures { Goes (AreRoundsUntilQuiet bound self.old) (AreRoundsSoFar is_quiet bound self.old) (33 * bound) result
+        requires { IsReadyFor (14 * bound) self.old (D.seen disk.old) }
+        ensures { Goes (AreRoundsUntilQuiet bound self.old) (AreRoundsSoFar is_quiet bound self.old) (14 * bound) result
             (moment self.old (D.seen disk.old) (R.seen recorder.old))
             (moment self.new (D.seen disk.new) (R.seen recorder.new)) }
     {
@@ -148,8 +148,8 @@ impl Split {
         disk: &mut D,
         recorder: &mut R,
     ) -> Result<(), RecordStop>
-        requires { IsReadyFor (33 * most_rounds) self.old (D.seen disk.old) }
-        ensures { Goes (IsSettling self.old) (IsSettlingSoFar self.old) (33 * most_rounds) result
+        requires { IsReadyFor (14 * most_rounds) self.old (D.seen disk.old) }
+        ensures { Goes (IsSettling self.old) (IsSettlingSoFar self.old) (14 * most_rounds) result
             (moment self.old (D.seen disk.old) (R.seen recorder.old))
             (moment self.new (D.seen disk.new) (R.seen recorder.new)) }
     {

@@ -22,7 +22,7 @@ impl Backend {
         ensures value { result ≡ job_ask_of self.now number }
         ensures within { StaysInPageAndDisk self.now.ring.jobs.info.sectors result }
         ensures names { Names (hands_of self.now.ring) result }
-        ensures few { length (hands_of self.now.ring) ≤ 34 }
+        ensures few { length (hands_of self.now.ring) ≤ 529 }
     {
         self.ring.job_ask(number)
     }
@@ -39,12 +39,12 @@ impl Backend {
     }
 
     /// The least number above this one of a job that is held; `None` exactly where there is none, and
-    /// always after a halt. At most 32 are held.
+    /// always after a halt. At most 512 are held.
     #[inline(always)]
     pub fn next_job(&self, after: u64) -> Option<u64>
         ensures value { result ≡ next_job_of self.now after }
         ensures above { IfSome result (λ next. after < next) }
-        ensures few { length self.now.ring.jobs.works ≤ 32 }
+        ensures few { length self.now.ring.jobs.works ≤ 512 }
     {
         self.ring.next_job(after)
     }

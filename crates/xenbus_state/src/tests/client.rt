@@ -1,7 +1,8 @@
-// A client: both ends over one directory of keys.
+// A client: both ends over one directory of keys, and a back over keys that are written by hand.
+use super::{DISK, OFFER, short};
 use crate::back::{BackBus, BackBusAsk};
 use crate::front::{FrontBus, FrontBusAsk, FrontNews};
-use crate::keys::{back_path, front_path, state_path};
+use crate::keys::{FrontKey, back_path, front_path, state_path};
 use crate::offer::{DiskFacts, Features};
 use crate::state::BusState;
 use crate::table::BackHalt;
@@ -163,5 +164,33 @@ fn both_ends_agree_and_close(rt: HostRuntime) -> Result<(), Fail> {
         (BusState::Closed, BusState::Closed)
     );
     assert!(rt; back.pages().is_empty() && back.is_halted());
+    Ok(())
+}
+
+// A front says that its ring has two pages, whose references are 12 and 9.
+fn says_two_pages(keys: &mut Keys) -> Result<(), Fail> {
+    for (key, text) in [
+        (FrontKey::RingPageOrder, "1"),
+        (FrontKey::RingRefOf(0), "12"),
+        (FrontKey::RingRefOf(1), "9"),
+        (FrontKey::EventChannel, "1"),
+    ] {
+        write(keys, End::Front, &front_path(key), &short(text))?;
+    }
+    write(keys, End::Front, &state_path(End::Front), &short("3"))?;
+    Ok(())
+}
+
+#[test]
+fn the_references_that_were_read_are_given_in_order(rt: HostRuntime) -> Result<(), Fail> {
+    let mut keys = Keys::new(rt.alloc())?;
+    says_two_pages(&mut keys)?;
+    let mut back = BackBus::new(OFFER, DISK);
+    assert!(rt; back.grefs().is_empty());
+    for _ in 0..40 {
+        let _ = move_back(&mut back, &mut keys)?;
+    }
+    assert_eq!(rt; back.grefs(), [12, 9].as_slice());
+    assert_eq!(rt; back.pages().len(), 2);
     Ok(())
 }

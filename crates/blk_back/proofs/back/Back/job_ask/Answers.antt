@@ -1,4 +1,4 @@
-use Rattle.std.proofs.Common.{◌≤◌, length}
+use Rattle.blk_back.specs.Sound.{IsSound}
 use Rattle.back_jobs.specs.Hands.{hands_in, Names}
 use Rattle.blk_back.proofs.Hands.{job_names, few_hands}
 use Rattle.blk_back.proofs.back.Back.job_ask.Goals as goal
@@ -10,10 +10,10 @@ returns-in-None-clause-names c =
 
 pub returns-in-Some-clause-few : goal.returns-in-Some-clause-few
 returns-in-Some-clause-few c =
-    let few : length c.args.self.now.jobs.works ≤ 32 = rw (← c.self.view_is) c.self.invariant.few in
-    few_hands c.args.self.now few
+    let sound : IsSound c.args.self.now = rw (← c.self.view_is) c.self.invariant in
+    few_hands c.args.self.now sound
 
 pub returns-in-None-clause-few : goal.returns-in-None-clause-few
 returns-in-None-clause-few c =
-    let few : length c.args.self.now.jobs.works ≤ 32 = rw (← c.self.view_is) c.self.invariant.few in
-    few_hands c.args.self.now few
+    let sound : IsSound c.args.self.now = rw (← c.self.view_is) c.self.invariant in
+    few_hands c.args.self.now sound

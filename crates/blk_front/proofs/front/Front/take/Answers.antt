@@ -10,11 +10,13 @@ invariant_of-self c =
     let sound = c.self.invariant.0 in
     let within : c.args.place < length requests = search rules in (
       record {
+        order = search rules;
         entries = search rules;
         counted = grind (arith, common_steps);
         room = grind (arith, common_steps);
         seen = grind (arith, common_steps);
         placed = omega arith;
+        unmade = tt;
         issuing = tt;
         reading = tt;
         ascending = rw c.remove-request.ensures.items (remove_ascending requests c.args.place within sound.ascending);

@@ -33,7 +33,7 @@ pub returns-in-Front-clause-goes : goal.returns-in-Front-clause-goes
 returns-in-Front-clause-goes g c = rw (c.in-Front.is, ← c.self.view_is) (goes_as _ _ _ _ 0 (10 ^ 10) _ _ _ (omega arith) (λ hs k. k) (λ hs k. k) (c.front_moves.ensures (g.D.SectorDisk.seen c.args.disk.now)))
 
 pub returns-in-Settle-clause-goes : goal.returns-in-Settle-clause-goes
-returns-in-Settle-clause-goes g c = rw (c.in-Settle.is, ← c.self.view_is) (goes_as _ _ _ _ (33 * most_rounds) (10 ^ 10) _ _ _ (omega arith) (λ hs k. k) (λ hs k. k) c.settle.ensures)
+returns-in-Settle-clause-goes g c = rw (c.in-Settle.is, ← c.self.view_is) (goes_as _ _ _ _ (14 * most_rounds) (10 ^ 10) _ _ _ (omega arith) (λ hs k. k) (λ hs k. k) c.settle.ensures)
 
 pub returns-in-Look-clause-goes : goal.returns-in-Look-clause-goes
 returns-in-Look-clause-goes g c = rw (c.in-Look.is, ← c.self.view_is) (goes_as _ _ _ _ 0 (10 ^ 10) _ _ _ (omega arith) (λ hs k. k) (λ hs k. k) (c.look.ensures (g.D.SectorDisk.seen c.args.disk.now)))

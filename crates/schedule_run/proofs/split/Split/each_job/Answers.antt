@@ -1,4 +1,4 @@
-use Rattle.std.proofs.Common.{◌≡◌, ◌≤◌, length, Some, None, sym}
+use Rattle.std.proofs.Common.{◌≡◌, Some, None, sym}
 use Rattle.std.proofs.lemmas.Result.{err_from_is_err_and}
 use Rattle.blk_back.specs.Step.{next_job_of}
 use Rattle.vbd_model.proofs.Joining.{fewer_above}
@@ -10,16 +10,13 @@ loop-number-init g c = jobs_none _
 
 pub job_move-requires : goal.job_move-requires
 job_move-requires g c =
-    let next : next_job_of c.loop-number.self.rings.back c.loop-number.last ≡ Some c.in-Some.number = rw (← c.self.view_is) (sym c.in-Some.ensures.value) in
-    let few : length c.loop-number.self.rings.back.jobs.works ≤ 32 = rw (← c.self.view_is) c.next_job.ensures.few in
-    jobs_ready _ _ _ _ next few c.requires c.loop-number.invariant
+    jobs_ready _ _ _ c.requires c.loop-number.invariant
 
 pub returns-in_err-job_move : goal.returns-in_err-job_move
 returns-in_err-job_move g c =
     let next : next_job_of c.loop-number.self.rings.back c.loop-number.last ≡ Some c.in-Some.number = rw (← c.self.view_is) (sym c.in-Some.ensures.value) in
-    let few : length c.loop-number.self.rings.back.jobs.works ≤ 32 = rw (← c.self.view_is) c.next_job.ensures.few in
     let stopped = err_from_is_err_and c.from_residual.result c.from_residual.ensures.1 in
-    rw (stopped.1, stopped.2) (jobs_stop _ _ _ _ _ _ next few c.loop-number.invariant c.in_err-job_move.ensures)
+    rw (stopped.1, stopped.2) (jobs_stop _ _ _ _ _ _ next c.loop-number.invariant c.in_err-job_move.ensures)
 
 pub loop-number-smaller : goal.loop-number-smaller
 loop-number-smaller g c =
@@ -35,5 +32,4 @@ loop-number-preserved g c =
 pub returns : goal.returns
 returns g c =
     let none : next_job_of c.loop-number.self.rings.back c.loop-number.last ≡ None = rw (← c.self.view_is) (sym c.in_default.ensures.value) in
-    let few : length c.loop-number.self.rings.back.jobs.works ≤ 32 = rw (← c.self.view_is) c.next_job.ensures.few in
-    jobs_done _ _ _ none few c.loop-number.invariant
+    jobs_done _ _ _ none c.loop-number.invariant

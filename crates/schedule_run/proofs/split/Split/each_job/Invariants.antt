@@ -3,7 +3,7 @@ use Rattle.split_model.specs.Safe.{above}
 use Rattle.schedule_run.proofs.Jobs.{HasMovedJobs}
 use Rattle.schedule_run.proofs.split.Split.each_job.Given as goal
 
--- a move of each job up to the last one led here, and there was a map at most for each
+-- a move of each job up to the last one led here
 abbrev pub invariant-loop-number : goal.invariant-loop-number
 invariant-loop-number g l =
     HasMovedJobs l.last (moment l.fn.self (g.D.SectorDisk.seen l.fn.disk) (g.R.Recorder.seen l.fn.recorder)) (moment l.self (g.D.SectorDisk.seen l.disk) (g.R.Recorder.seen l.recorder))

@@ -3,7 +3,6 @@ use Rattle.blk_base.specs.declared.parts.End.TheVariants.{Front, Back}
 use Rattle.hypervisor.specs.Act.{has_to_take}
 use Rattle.blk_front.specs.Submit.{is_idle as front_ring_idle}
 use Rattle.blk_back.specs.Ask.{is_idle as back_ring_idle}
-use Rattle.vbd_front.specs.Ask.{bus_ask_of as front_bus_ask}
 use Rattle.xenbus_state.specs.BackAsk.{ask_of as back_bus_ask}
 use Rattle.vbd_front.specs.View as front
 use Rattle.vbd_back.specs.View as back
@@ -43,7 +42,7 @@ returns-then-not-has_to_take c =
       | else-idle-2 w ↦ left_out ends here c.if-idle-2.value (sym first ∙ w.if-idle-2.false) (w.value-is ∙ w.if-idle-2.false)
     ] in
     rw (← c.self.view_is) (picked (ends && here) there _ (sym second ∙ c.if-not-has_to_take.true) (ap not c.has_to_take-then-not-has_to_take.ensures)
-    ∙ all_idle (front.rests (front_bus_ask f)) (front_ring_idle f.ring) (back.rests (back_bus_ask b.bus)) (back_ring_idle b.ring) here there)
+    ∙ all_idle (front.is_at_rest f) (front_ring_idle f.ring) (back.rests (back_bus_ask b.bus)) (back_ring_idle b.ring) here there)
 
 pub returns-else-not-has_to_take : goal.returns-else-not-has_to_take
 returns-else-not-has_to_take c =
@@ -61,4 +60,4 @@ returns-else-not-has_to_take c =
       | else-idle-2 w ↦ left_out ends here c.if-idle-2.value (sym first ∙ w.if-idle-2.false) (w.value-is ∙ w.if-idle-2.false)
     ] in
     rw (← c.self.view_is) (left_out (ends && here) there c.if-idle-2.value (sym second ∙ c.if-not-has_to_take.false) c.if-not-has_to_take.false
-    ∙ all_idle (front.rests (front_bus_ask f)) (front_ring_idle f.ring) (back.rests (back_bus_ask b.bus)) (back_ring_idle b.ring) here there)
+    ∙ all_idle (front.is_at_rest f) (front_ring_idle f.ring) (back.rests (back_bus_ask b.bus)) (back_ring_idle b.ring) here there)

@@ -1,4 +1,4 @@
-use Rattle.std.proofs.Common.{◌∷◌, [], refl, ap}
+use Rattle.std.proofs.Common.{◌∷◌, [], refl, ap, arith}
 use Rattle.std.specs.Prelude.{Some, None}
 use Rattle.std.proofs.lemmas.List.{append-nil}
 use Rattle.split_model.specs.Shown.{back_lines}
@@ -17,7 +17,7 @@ use Rattle.schedule_run.proofs.split.Split.job_acts.Goals as goal
 pub back-requires : goal.back-requires
 back-requires g c =
     let w : World = world_of c.self.inside.front c.self.inside.back c.self.inside.under in
-    record { may = job_asked_may w.rings c.args.self.now.rings c.args.number c.job_ask-ask.result _ (ap (λ (x : World). x.rings) c.self.view_is) (let fit = c.self.invariant.1 in fit.safe) c.job_ask-ask.ensures.value c.job_ask-ask.ensures.names c.job_ask-ask.ensures.within c.job_ask-ask.ensures.few c.requires.attached c.requires.left }
+    record { may = job_asked_may w.rings c.args.self.now.rings c.args.number c.job_ask-ask.result _ (ap (λ (x : World). x.rings) c.self.view_is) (let fit = c.self.invariant.1 in fit.safe) c.job_ask-ask.ensures.value c.job_ask-ask.ensures.names c.job_ask-ask.ensures.within c.job_ask-ask.ensures.few c.requires.attached (let left = c.requires.left in omega arith) }
 
 -- nothing is asked for that takes memory
 pub returns-in_default : goal.returns-in_default

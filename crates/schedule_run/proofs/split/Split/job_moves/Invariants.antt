@@ -5,4 +5,4 @@ use Rattle.schedule_run.proofs.split.Split.job_moves.Given as goal
 
 -- so many moves of the job led here
 abbrev pub invariant-loop : goal.invariant-loop
-invariant-loop g l = HasGone (AreSomeJobMoves l.number l.counter) 1 l.counter l.count (moment l.fn.self (g.D.SectorDisk.seen l.fn.disk) (g.R.Recorder.seen l.fn.recorder)) (moment l.self (g.D.SectorDisk.seen l.disk) (g.R.Recorder.seen l.recorder))
+invariant-loop g l = HasGone (AreSomeJobMoves l.number l.counter) 0 l.counter l.count (moment l.fn.self (g.D.SectorDisk.seen l.fn.disk) (g.R.Recorder.seen l.fn.recorder)) (moment l.self (g.D.SectorDisk.seen l.disk) (g.R.Recorder.seen l.recorder))

@@ -18,5 +18,5 @@ invariant_of-self g c =
 pub returns-clause-goes : goal.returns-clause-goes
 returns-clause-goes g c =
     let w : World = world_of c.self.inside.front c.self.inside.back c.self.inside.under in
-    rw (← c.self.view_is) (λ disk. front_seen_as (Submits c.args.job) (ring.Submits c.args.job) w c.submit-answer.new.self disk _ _ c.add.result refl refl refl (ap (λ (v : View). v.bus) c.submit-answer.ensures.front)
+    rw (← c.self.view_is) (λ disk. front_seen_as (Submits c.args.job) (ring.Submits c.args.job) w c.submit-answer.new.self disk _ _ c.add.result refl refl refl (ap (λ (v : View). v.bus) c.submit-answer.ensures.front) refl
     (submit_goes w.rings c.args.job c.submit-answer.new.self.ring c.submit-answer.result c.submit_line.result disk _ _ c.add.result (ap (λ (v : View). v.ring) c.submit-answer.ensures.front) c.submit-answer.ensures.answer c.submit_line.ensures c.add.ensures))

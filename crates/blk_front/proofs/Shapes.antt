@@ -1,0 +1,14 @@
+-- Rings of 1 to 16 pages, and the entries of both layouts.
+use Rattle.std.proofs.Common.{ℕ, ◌^◌, ◌≤◌, arith}
+use Rattle.std.proofs.Math.Nat.{pow-le-pow_right}
+use Rattle.blk_base.specs.declared.operation.Abi.{Abi}
+use Rattle.blk_base.specs.declared.operation.Abi.TheVariants.{X64, X32}
+use Rattle.ring_words.specs.Shape.{entry_words_of}
+
+pub few_pages : (order : ℕ) → order ≤ 4 → 2 ^ order ≤ 16
+few_pages order le = pow-le-pow_right (omega arith) le
+
+-- an entry has 27 words at least
+pub wide_entries : (abi : Abi) → 27 ≤ entry_words_of abi
+wide_entries X64 = omega arith
+wide_entries X32 = omega arith

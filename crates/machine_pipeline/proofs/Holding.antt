@@ -1,0 +1,243 @@
+-- As many frames of the front's pool are in use as the pipeline's unfinished requests hold.
+use Rattle.std.proofs.Common.{◌≡◌, ◌≢◌, ℕ, zero, suc, ◌+◌, ◌-◌, ◌/◌, ◌≤◌, ◌==◌, ◌⊎◌, inl, inr, ◌||◌, Bool, true, false, true≢false, not, cond, List, [], ◌∷◌, length, get_or, refl, ap, sym, ◌∙◌, arith}
+use Rattle.std.specs.Prelude.{All, Option, Some, None, slice_get, slice_set, count_by, sum_by, nat_lt, if◌then◌else◌, map}
+use Rattle.std.specs.List.{list_any}
+use Rattle.std.proofs.lemmas.Bool.Decides.{nat_tests}
+use Rattle.std.proofs.lemmas.Option.{none-some, same_Some}
+use Rattle.std.proofs.lemmas.List.Sums.{sum_by-cons}
+use Rattle.std.proofs.lemmas.List.Elements.{All-head, All-tail}
+use Rattle.blk_base.specs.Options.{Options}
+use Rattle.blk_base.specs.declared.operation.Status.TheVariants.{Okay}
+use Rattle.plain_disk.specs.Request.{is_finished}
+use Rattle.plain_disk.specs.Refusal.{frames_of as job_frames, frames_held}
+use Rattle.pipeline_laws.specs.Station.{Station, Telling, Finished, Request as Carried, asked, stage_at, is_finished as is_ended}
+use Rattle.pipeline_laws.specs.Pipeline.{Pipeline}
+use Rattle.blk_front.specs.declared.request.Request.{Request}
+use Rattle.blk_front.specs.declared.request.Transfer.{Transfer}
+use Rattle.blk_front.specs.declared.request.Transfer.TheVariants as transfer
+use Rattle.blk_front.specs.declared.stage.Ending.{Ending}
+use Rattle.blk_front.specs.View.{next_request}
+use Rattle.split_model.specs.World.{World}
+use Rattle.machine_pipeline.proofs.Flow.{Flow, frames_of, ending_at, ending_frames, count_of, job_of}
+use Rattle.machine_pipeline.proofs.Holds.{AreSubmitted, IsSubmitted, Holds}
+use Rattle.machine_pipeline.proofs.Frames.{ending_is}
+use Rattle.machine_pipeline.proofs.Lists.{count_none, count_set, sum_set, set_was}
+use Rattle.machine_pipeline.proofs.Stations.{AreKnown, AreOpen}
+
+-- of the plain disk a request is finished where it is of the pipeline
+pub same_stage : (s : Station) → is_finished (stage_at s) ≡ is_ended s
+same_stage (Telling next) = refl
+same_stage (Finished status) = refl
+same_stage s = refl
+
+abbrev pub is_open : Carried → Bool
+is_open x = not (is_ended x.station)
+
+abbrev pub held : Carried → ℕ
+held x = frames_held (asked x)
+
+pub held_asked : (carried : List Carried) → sum_by frames_held (map asked carried) ≡ sum_by held carried
+held_asked [] = refl
+held_asked (x ∷ carried) =
+    let one = sum_by-cons frames_held (asked x) (map asked carried) in
+    let other = sum_by-cons held x carried in
+    let rest = held_asked carried in
+    omega arith
+
+-- the same request once it is finished
+abbrev ended : Carried → Carried
+ended x = record x { station = Finished Okay }
+
+-- an unfinished one holds its frames, and a finished one none
+held_open : (x : Carried) → is_ended x.station ≡ false → held x ≡ job_frames x.job
+held_open x unended = ap (λ (b : Bool). if b then 0 else job_frames x.job) (same_stage x.station ∙ unended)
+
+held_ended : (x : Carried) → is_ended x.station ≡ true → held x ≡ 0
+held_ended x closed = ap (λ (b : Bool). if b then 0 else job_frames x.job) (same_stage x.station ∙ closed)
+
+-- each request that isn't finished is one of these
+abbrev AreAmong : List Request → List Carried → Type 0
+AreAmong requests carried = (k : ℕ) (x : Carried) → slice_get carried k ≡ Some x → is_ended x.station ≡ false → list_any (λ (r : Request). r.number == k + 1) requests ≡ true
+
+-- and these have the frames that its job needs
+abbrev IsFitting : List Carried → Request → Type 0
+IsFitting carried r = (k : ℕ) (x : Carried) → r.number ≡ k + 1 → slice_get carried k ≡ Some x → job_frames x.job ≡ frames_of r
+
+later : (a b : Bool) → a ≡ false → (a || b) ≡ true → b ≡ true
+later true b none t = absurd (true≢false none)
+later false b none t = t
+
+-- one of which no unfinished request is
+skips : (r : Request) (requests : List Request) (carried : List Carried) → ((k : ℕ) (x : Carried) → slice_get carried k ≡ Some x → is_ended x.station ≡ false → r.number ≢ k + 1) → AreAmong (r ∷ requests) carried → AreAmong requests carried
+skips r requests carried none among k x here unended =
+    let apart = none k x here unended in
+    later (r.number == k + 1) (list_any (λ (q : Request). q.number == k + 1) requests) (grind (arith, nat_tests)) (among k x here unended)
+
+-- one that is finished
+ends : (r : Request) (requests : List Request) (carried : List Carried) (p : ℕ) (x : Carried) → r.number ≡ p + 1 → slice_get carried p ≡ Some x → AreAmong (r ∷ requests) carried → AreAmong requests (slice_set carried p (ended x))
+ends r requests carried p x number here among k y at unended = elim (set_was carried p k x (ended x) y here at) [
+  | inl is ↦ absurd (true≢false (sym (ap (λ (z : Carried). is_ended z.station) is.1) ∙ unended))
+  | inr was ↦ (
+      let apart = was.0 in
+      let other : r.number ≢ k + 1 = λ same. apart (omega arith) in
+      later (r.number == k + 1) (list_any (λ (q : Request). q.number == k + 1) requests) (grind (arith, nat_tests)) (among k y was.1 unended))
+]
+
+fits_on : (carried : List Carried) (p : ℕ) (x : Carried) → slice_get carried p ≡ Some x → (r : Request) → IsFitting carried r → IsFitting (slice_set carried p (ended x)) r
+fits_on carried p x here r fits k y number at = elim (set_was carried p k x (ended x) y here at) [
+  | inl is ↦ ap (λ (z : Carried). job_frames z.job) is.1 ∙ fits p x (number ∙ ap (λ (n : ℕ). n + 1) is.0) here
+  | inr was ↦ fits k y number was.1
+]
+
+-- the unfinished request of a number
+record IsOpenAt (carried : List Carried) (n : ℕ) : Type 0 where
+  pub place : ℕ
+  pub x : Carried
+  pub number : n ≡ place + 1
+  pub here : slice_get carried place ≡ Some x
+  pub unended : is_ended x.station ≡ false
+
+looked_up : (carried : List Carried) (n : ℕ) → IsOpenAt carried n ⊎ ((k : ℕ) (x : Carried) → slice_get carried k ≡ Some x → is_ended x.station ≡ false → n ≢ k + 1)
+looked_up carried zero = inr (λ k x here unended. omega arith)
+looked_up carried (suc p) = by_place (slice_get carried p) refl
+  where
+    Found : Type 0
+    Found = IsOpenAt carried (suc p) ⊎ ((k : ℕ) (x : Carried) → slice_get carried k ≡ Some x → is_ended x.station ≡ false → suc p ≢ k + 1)
+
+    by_end : (x : Carried) → slice_get carried p ≡ Some x → (b : Bool) → is_ended x.station ≡ b → Found
+    by_end x here false e = inl (record { place = p; x = x; number = omega arith; here = here; unended = e })
+    by_end x here true e = inr (λ k y at unended same.
+        let place : p ≡ k = omega arith in
+        let one : x ≡ y = same_Some x y (sym here ∙ (ap (slice_get carried) place ∙ at)) in
+        absurd (true≢false (sym e ∙ (ap (λ (z : Carried). is_ended z.station) one ∙ unended))))
+
+    by_place : (o : Option Carried) → slice_get carried p ≡ o → Found
+    by_place (Some x) here = by_end x here (is_ended x.station) refl
+    by_place None none = inr (λ k y at unended same.
+        let place : p ≡ k = omega arith in
+        absurd (none-some y (sym none ∙ (ap (slice_get carried) place ∙ at))))
+
+-- no more are unfinished than these
+count_few : (requests : List Request) (carried : List Carried) → AreAmong requests carried → count_by is_open carried ≤ length requests
+count_few [] carried among = let none = count_none is_open carried (λ i x e. by_end x (is_ended x.station) refl (among i x e)) in omega arith
+  where
+    by_end : (x : Carried) (b : Bool) → is_ended x.station ≡ b → (is_ended x.station ≡ false → false ≡ true) → is_open x ≡ false
+    by_end x true e h = ap not e
+    by_end x false e h = absurd (true≢false (sym (h e)))
+count_few (r ∷ requests) carried among = elim (looked_up carried r.number) [
+  | inl it ↦ (
+      let rest = count_few requests (slice_set carried it.place (ended it.x)) (ends r requests carried it.place it.x it.number it.here among) in
+      let counted = count_set is_open carried it.place it.x (ended it.x) it.here in
+      let one : ◌≡◌ {A = ℕ} (cond (is_open it.x) 1 0) 1 = ap (λ (b : Bool). cond (not b) 1 0) it.unended in
+      omega arith)
+  | inr none ↦ (let rest = count_few requests carried (skips r requests carried none among) in omega arith)
+]
+
+sum_none : (carried : List Carried) → ((k : ℕ) (x : Carried) → slice_get carried k ≡ Some x → held x ≡ 0) → sum_by held carried ≡ 0
+sum_none [] none = refl
+sum_none (x ∷ carried) none =
+    let one = sum_by-cons held x carried in
+    let here = none zero x refl in
+    let rest = sum_none carried (λ k y e. none (suc k) y e) in
+    omega arith
+
+-- where as many are, they hold these frames
+held_alike : (requests : List Request) (carried : List Carried) → AreAmong requests carried → All (IsFitting carried) requests → count_by is_open carried ≡ length requests → sum_by held carried ≡ sum_by frames_of requests
+held_alike [] carried among fits counted = sum_none carried (λ i x e. by_end x (is_ended x.station) refl (among i x e))
+  where
+    by_end : (x : Carried) (b : Bool) → is_ended x.station ≡ b → (is_ended x.station ≡ false → false ≡ true) → held x ≡ 0
+    by_end x true e h = held_ended x e
+    by_end x false e h = absurd (true≢false (sym (h e)))
+held_alike (r ∷ requests) carried among fits counted = elim (looked_up carried r.number) [
+  | inl it ↦ (
+      let now = count_set is_open carried it.place it.x (ended it.x) it.here in
+      let one : ◌≡◌ {A = ℕ} (cond (is_open it.x) 1 0) 1 = ap (λ (b : Bool). cond (not b) 1 0) it.unended in
+      let tail : All (IsFitting carried) requests = All-tail (IsFitting carried) r requests fits in
+      let rest = held_alike requests (slice_set carried it.place (ended it.x)) (ends r requests carried it.place it.x it.number it.here among)
+      (λ k d lt. fits_on carried it.place it.x it.here (get_or requests k d) (tail k d lt)) (omega arith) in
+      let summed = sum_set held carried it.place it.x (ended it.x) it.here in
+      let own = held_open it.x it.unended in
+      let its = All-head (IsFitting carried) r requests fits it.place it.x it.number it.here in
+      let first = sum_by-cons frames_of r requests in
+      omega arith)
+  | inr none ↦ (let fewer = count_few requests carried (skips r requests carried none among) in absurd (omega arith))
+]
+
+-- the front's requests, and the one that ends
+abbrev ones : List Request → Option Ending → List Request
+ones requests None = requests
+ones requests (Some e) = e.request ∷ requests
+
+numbered : (n m : ℕ) → n ≡ m → (n == m) ≡ true
+numbered n m e = grind (arith, nat_tests)
+
+among_ones : (carried : List Carried) (requests : List Request) (ending : Option Ending) → AreOpen carried requests ending → AreAmong (ones requests ending) carried
+among_ones carried requests None opened k x here unended = elim (opened.held k x here unended) [
+  | inl any ↦ any
+  | inr other ↦ absurd (none-some other.0 other.1)
+]
+among_ones carried requests (Some e) opened k x here unended = elim (opened.held k x here unended) [
+  | inl any ↦ or_second (e.request.number == k + 1) (list_any (λ (r : Request). r.number == k + 1) requests) any
+  | inr other ↦ (
+      let same : e ≡ other.0 = same_Some e other.0 other.1 in
+      let number : e.request.number ≡ k + 1 = ap (λ (z : Ending). z.request.number) same ∙ other.2 in
+      or_first (e.request.number == k + 1) (list_any (λ (r : Request). r.number == k + 1) requests) (numbered e.request.number (k + 1) number))
+]
+  where
+    or_second : (a b : Bool) → b ≡ true → (a || b) ≡ true
+    or_second true b t = refl
+    or_second false b t = t
+
+    or_first : (a b : Bool) → a ≡ true → (a || b) ≡ true
+    or_first true b t = refl
+    or_first false b t = absurd (true≢false (sym t))
+
+length_ones : (requests : List Request) (ending : Option Ending) → length (ones requests ending) ≡ length requests + count_of ending
+length_ones requests None = omega arith
+length_ones requests (Some e) = omega arith
+
+frames_ones : (requests : List Request) (ending : Option Ending) → sum_by frames_of (ones requests ending) ≡ sum_by frames_of requests + ending_frames ending
+frames_ones requests None = omega arith
+frames_ones requests (Some e) = let first = sum_by-cons frames_of e.request requests in omega arith
+
+-- a read or a write of at most 88 sectors needs a frame for each eight of them
+few_frames : (way : Transfer) (sector count : ℕ) → count ≤ 88 → job_frames (job_of way sector count) ≡ (count + 7) / 8
+few_frames transfer.Read sector count few = let short : nat_lt 11 ((count + 7) / 8) ≡ false = grind (arith, nat_tests) in rw short refl
+few_frames (transfer.Write tag) sector count few = let short : nat_lt 11 ((count + 7) / 8) ≡ false = grind (arith, nat_tests) in rw short refl
+
+fitting : (submitted : List Request) (sectors last : ℕ) (carried : List Carried) (r : Request) → AreSubmitted submitted sectors last → AreKnown submitted carried → slice_get submitted (r.number - 1) ≡ Some r → IsFitting carried r
+fitting submitted sectors last carried r all known stands k x number here =
+    let place : r.number - 1 ≡ k = omega arith in
+    let at : slice_get submitted k ≡ Some r = ap (slice_get submitted) (sym place) ∙ stands in
+    let is : IsSubmitted sectors k r = all.each k r at in
+    let shaped = is.shaped in
+    ap job_frames (known.each k r x at here) ∙ (few_frames r.transfer r.sector r.count shaped.few ∙ sym shaped.frames)
+
+pub frames_alike : (config : Options) (w : World) (g : Flow) (d : Pipeline) → Holds config w g d w.front.stage w.back.stage → sum_by frames_held (map asked d.requests) ≡ count_by (λ (b : Bool). b) w.front.pool
+frames_alike config w g d h =
+    let used = h.pool.used in
+    let unended = h.stations.opened.unfinished in
+    let alike = held_alike (ones w.front.requests ending) d.requests (among_ones d.requests w.front.requests ending h.stations.opened) (all_fit ending refl)
+    (unended ∙ sym (length_ones w.front.requests ending)) in
+    let all = frames_ones w.front.requests ending in
+    let same = held_asked d.requests in
+    omega arith
+  where
+    ending : Option Ending
+    ending = ending_at w.front.stage w.front.ending
+
+    fit : (r : Request) → slice_get g.submitted (r.number - 1) ≡ Some r → IsFitting d.requests r
+    fit r stands = fitting g.submitted w.front.sectors w.front.last d.requests r h.submitted h.stations.known stands
+
+    each : All (IsFitting d.requests) w.front.requests
+    each k x lt = fit (get_or w.front.requests k x) (let queue = h.queue in queue.known k x lt)
+
+    all_fit : (o : Option Ending) → ending ≡ o → All (IsFitting d.requests) (ones w.front.requests o)
+    all_fit None same = each
+    all_fit (Some e) same =
+        let its = ending_is g.shape g.start g.pushed g.taken g.front_seen g.submitted g.replies (next_request w.front) w.front.entry w.front.ending w.front.stage e h.front_at same in
+        by_place (fit e.request its.known)
+      where
+        by_place : IsFitting d.requests e.request → All (IsFitting d.requests) (e.request ∷ w.front.requests)
+        by_place first zero x lt = first
+        by_place first (suc k) x lt = each k x (omega arith)

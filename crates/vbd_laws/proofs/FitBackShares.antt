@@ -1,0 +1,505 @@
+-- The back's negotiation and its end of the ring count the same pages, and until a halt go by the same terms, whatever either is told.
+use Rattle.std.proofs.Common.{◌≡◌, ℕ, ◌+◌, Bool, true, false, true≢false, ◌&&◌, if◌then◌else◌, List, [], ◌∷◌, ◌++◌, refl, sym, ap, ◌∙◌, subst}
+use Rattle.std.specs.Prelude.{Option, Some, None, ◌==◌}
+use Rattle.line_text.proofs.Both.{both_true}
+use Rattle.blk_base.specs.declared.parts.Mapping.{Mapping}
+use Rattle.blk_base.specs.declared.ask.BackAnswer.{BackAnswer}
+use Rattle.blk_base.specs.declared.ask.BackAnswer.TheVariants as answer
+use Rattle.ring_words.specs.Ring.{requests_of, overruns}
+use Rattle.ring_words.specs.Shape.{Shape, entry_words_of}
+use Rattle.blk_back.specs.declared.stage.Reply.{Reply}
+use Rattle.blk_back.specs.declared.stage.Stage.{Stage as Ring}
+use Rattle.blk_back.specs.declared.stage.Stage.TheVariants as ring
+use Rattle.blk_back.specs.declared.told.Halt.{Halt}
+use Rattle.blk_back.specs.View as ends
+use Rattle.blk_back.specs.Ask.{next_reply, IsAnswer as IsRingAnswer, ask_at as ring_ask_at}
+use Rattle.blk_back.specs.Step as ring_step
+use Rattle.xenbus_state.specs.declared.keys.FrontKey.{FrontKey}
+use Rattle.xenbus_state.specs.declared.keys.FrontKey.TheVariants as key
+use Rattle.xenbus_state.specs.declared.state.BusState.{BusState}
+use Rattle.xenbus_state.specs.declared.state.BusState.TheVariants as state
+use Rattle.xenbus_state.specs.declared.stage.BackStage.{BackStage}
+use Rattle.xenbus_state.specs.declared.stage.BackStage.TheVariants as stage
+use Rattle.xenbus_state.specs.declared.back.BackBusAsk.{BackBusAsk}
+use Rattle.xenbus_state.specs.declared.back.BackBusAsk.TheVariants as bus_ask
+use Rattle.xenbus_state.specs.declared.table.BackAction.{BackAction}
+use Rattle.xenbus_state.specs.declared.table.BackAction.TheVariants as action
+use Rattle.xenbus_state.specs.declared.table.BackHalt.{BackHalt}
+use Rattle.xenbus_state.specs.States.{state_read}
+use Rattle.xenbus_state.specs.Tables.{back_action}
+use Rattle.xenbus_state.specs.BackView.{BackView, is_halting, halted, stopped, unplugged}
+use Rattle.xenbus_state.specs.BackAsk.{says_closing_at, says_closing, unmap_ask, ask_at, ask_of, IsAnswer}
+use Rattle.xenbus_state.specs.BackReading.{key_read}
+use Rattle.xenbus_state.specs.BackStep.{at, acted, action_halt, key_halt, kept_or_halted, giving_up, other_pages, step_at, step_of, halt_at, halt_of}
+use Rattle.xenbus_state.specs.BackSound.{IsSound}
+use Rattle.xenbus_state.specs.declared.values.FrontTerms.{FrontTerms}
+use Rattle.xenbus_state.specs.Runs.{Unplugs, Stops}
+use Rattle.xenbus_state.proofs.BackKeeps.{back_keeps}
+use Rattle.xenbus_state.proofs.BackTurns.{back_turn_keeps}
+use Rattle.vbd_back.proofs.Turns.{heard}
+use Rattle.vbd_back.specs.Ask.{speaks, ring_moves}
+use Rattle.vbd_back.specs.Step.{reads_layout, shape_read, ring_halt, ring_led, bus_halted, settled_at, settled, caught_up, woken, followed, waited, IsHeard}
+use Rattle.split_model.proofs.States.{halts_cases, is_unbound}
+use Rattle.vbd_model.specs.Fit.{is_serving, BackRests, BackReads, IsUnmapping, BackGoesWith, has_terms, HaveTerms}
+use Rattle.vbd_laws.proofs.FitBackBus.{BackFits, BackShares, Reads, told_at, reads_key, waits_reading}
+
+-- what the end of the ring has of its front's terms, and the pages that it has mapped
+abbrev pub Terms : Type 0
+Terms = Shape × List ℕ × ℕ × List Mapping
+
+abbrev pub terms_in : ends.View → Terms
+terms_in r = (r.shape, r.grefs, r.port, r.pages)
+
+either : (b : Bool) (x y : ends.View) (t : Terms) → terms_in x ≡ t → terms_in y ≡ t → terms_in (if b then x else y) ≡ t
+either true x y t p q = p
+either false x y t p q = q
+
+looked_terms : (v : ends.View) (word : ℕ) (otherwise : ends.View) → terms_in otherwise ≡ terms_in v → terms_in (ring_step.looked v word otherwise) ≡ terms_in v
+looked_terms v word otherwise h =
+    either (overruns v.ring word) (ring_step.overrun v word) (if word == v.ring.cons then otherwise else record v { seen = word; stage = ring.Loop }) (terms_in v) refl
+    (either (word == v.ring.cons) otherwise (record v { seen = word; stage = ring.Loop }) (terms_in v) h refl)
+
+loop_terms : (v : ends.View) (r : Option Reply) (x : BackAnswer) → terms_in (ring_step.loop_step v r x) ≡ terms_in v
+loop_terms v (Some r) x = refl
+loop_terms v None (answer.Word word) =
+    either (requests_of v.ring v.seen == 0) (ring_step.looked v word (record v { seen = word; stage = ring.StoreEvent })) (record v { entry = word ∷ []; stage = ring.Fetch 1 }) (terms_in v)
+    (looked_terms v word (record v { seen = word; stage = ring.StoreEvent }) refl) refl
+loop_terms v None answer.Event = refl
+loop_terms v None x = refl
+
+-- it maps or unmaps a page now
+abbrev changes : Ring → Bool
+changes ring.MapRing = true
+changes ring.UnmapRing = true
+changes ring.UnmapUnbound = true
+changes s = false
+
+step_all : (s : Ring) (v : ends.View) (x : BackAnswer) → changes s ≡ false → terms_in (ring_step.step_at s v x) ≡ terms_in v
+step_all ring.MapRing v x still = absurd (true≢false still)
+step_all ring.UnmapRing v x still = absurd (true≢false still)
+step_all ring.UnmapUnbound v x still = absurd (true≢false still)
+step_all ring.Bind v answer.Done still = refl
+step_all ring.Bind v answer.BindRefused still = refl
+step_all ring.Loop v x still = loop_terms v (next_reply v) x
+step_all (ring.Fetch k) v (answer.Word word) still = either (k + 1 == entry_words_of v.shape.abi) (ring_step.fetched v (v.entry ++ word ∷ [])) (record v { entry = v.entry ++ word ∷ []; stage = ring.Fetch (k + 1) }) (terms_in v) refl refl
+step_all (ring.ResponseEvent old) v (answer.Word event) still = refl
+step_all ring.LookAgain v (answer.Word word) still = looked_terms v word (record v { seen = word; stage = ring.Loop; asleep = true }) refl
+step_all (ring.ReplyHigh r) v x still = refl
+step_all (ring.ReplyLast r) v x still = refl
+step_all (ring.Producer r) v x still = refl
+step_all (ring.ProducerFence old) v x still = refl
+step_all ring.Send v x still = refl
+step_all ring.StoreEvent v x still = refl
+step_all ring.EventFence v x still = refl
+step_all (ring.GiveUp m) v x still = refl
+step_all ring.ClosePort v x still = refl
+step_all s v x still = refl
+
+-- the terms alone
+abbrev of_front : ends.View → Shape × List ℕ × ℕ
+of_front r = (r.shape, r.grefs, r.port)
+
+step_terms : (s : Ring) (v : ends.View) (x : BackAnswer) → of_front (ring_step.step_at s v x) ≡ of_front v
+step_terms ring.MapRing v (answer.Mapped m) = refl
+step_terms ring.MapRing v (answer.MapRefused status) = refl
+step_terms ring.MapRing v x = refl
+step_terms ring.UnmapRing v x = refl
+step_terms ring.UnmapUnbound v x = refl
+step_terms s v x = ap (λ (t : Terms). (t.0, t.1, t.2)) (step_all s v x refl)
+
+step_pages : (s : Ring) (v : ends.View) (x : BackAnswer) → changes s ≡ false → (ring_step.step_at s v x).pages ≡ v.pages
+step_pages s v x still = ap (λ (t : Terms). t.3) (step_all s v x still)
+
+serving_still : (s : Ring) → is_serving s ≡ true → changes s ≡ false
+serving_still ring.MapRing is = absurd (true≢false (sym is))
+serving_still ring.UnmapRing is = absurd (true≢false (sym is))
+serving_still ring.UnmapUnbound is = absurd (true≢false (sym is))
+serving_still s is = refl
+
+-- the negotiation has the same pages and terms
+pub record IsAlike (v u : BackView) : Type 0 where
+  pub pages : u.pages ≡ v.pages
+  pub terms : u.terms ≡ v.terms
+  pub grefs : u.grefs ≡ v.grefs
+
+alike : (v : BackView) → IsAlike v v
+alike v = record { pages = refl; terms = refl; grefs = refl }
+
+-- it counts what the end of the ring has to give up, and goes on
+gives_halting : (pages : List Mapping) (bound : Bool) (own : BusState) → is_halting (giving_up pages bound own) ≡ true
+gives_halting (page ∷ pages) bound own = refl
+gives_halting [] true own = refl
+gives_halting [] false state.Closing = refl
+gives_halting [] false own = refl
+
+never : (b : Bool) → (b && false) ≡ false
+never true = refl
+never false = refl
+
+others_asked : (v : BackView) → v.stage ≡ stage.UnmapOthers → says_closing v ≡ false
+others_asked v here = ap (λ (b : BackStage). v.unplugged && says_closing_at b v.state) here ∙ never v.unplugged
+
+gave_up : (v : BackView) → v.stage ≡ stage.UnmapOthers → step_of v answer.Done ≡ at (giving_up v.pages v.bound v.state) v
+gave_up v here = told_at v answer.Done (others_asked v here) ∙ ap (λ (b : BackStage). step_at b v answer.Done) here
+
+settled_cases : (P : BackView → Type 0) (s : Ring) (v : BackView) → P v → (v.stage ≡ stage.UnmapOthers → P (step_of v answer.Done)) → P (settled s v)
+settled_cases P s v same given = by_stage v.stage s refl
+  where
+    by_stage : (b : BackStage) (s : Ring) → v.stage ≡ b → P (settled_at b s v)
+    by_stage stage.UnmapOthers (ring.GiveUp m) here = same
+    by_stage stage.UnmapOthers s here = given here
+    by_stage b s here = same
+
+pub settled_alike : (s : Ring) (v : BackView) → IsAlike v (settled s v)
+settled_alike s v = settled_cases (IsAlike v) s v (alike v) (λ here. subst (IsAlike v) (sym (gave_up v here)) (record { pages = refl; terms = refl; grefs = refl }))
+
+settled_sound : (s : Ring) (v : BackView) → IsSound v → IsSound (settled s v)
+settled_sound s v sound =
+    settled_cases IsSound s v sound (λ here. back_keeps v answer.Done (subst (λ (c : Bool). IsAnswer (if c then bus_ask.SetState state.Closing else ask_at v.stage v) answer.Done) (sym (others_asked v here)) (rw here tt)) sound)
+
+-- where it goes on it went on before
+settled_on : (s : Ring) (v : BackView) → is_halting (settled s v).stage ≡ false → is_halting v.stage ≡ false
+settled_on s v on = settled_cases (λ (u : BackView). is_halting u.stage ≡ false → is_halting v.stage ≡ false) s v (λ same. same)
+    (λ here still. absurd (true≢false (sym (ap (λ (u : BackView). is_halting u.stage) (gave_up v here) ∙ gives_halting v.pages v.bound v.state) ∙ still))) on
+
+have_alike : (r : ends.View) (v u : BackView) → IsAlike v u → HaveTerms r v → HaveTerms r u
+have_alike r v u same have = record { shape = have.shape ∙ ap (λ (t : FrontTerms). record { abi = t.abi; order = t.order }) (sym same.terms); grefs = have.grefs ∙ sym same.grefs; port = have.port ∙ ap (λ (t : FrontTerms). t.port) (sym same.terms) }
+
+-- the end of the ring is led by the negotiation: no page is mapped or given up at once
+led_pages : (why : Option BackHalt) (reads : Bool) (w : BackView) (r : ends.View) → (ring_led why reads w r).pages ≡ r.pages
+led_pages (Some why) reads w r = halts_cases (λ (x : ends.View). x.pages ≡ r.pages) (ring_halt why) r (λ here. refl) (λ here. refl) refl
+led_pages None true w r = by_test (ring_step.may_attach (shape_read w) w.grefs r)
+  where
+    by_test : (may : Bool) → (if may then ring_step.attached (shape_read w) w.grefs w.terms.port r else r).pages ≡ r.pages
+    by_test true = refl
+    by_test false = refl
+led_pages None false w r = refl
+
+-- what the negotiation hears of the keys leaves its pages
+spoken_pages : (b : BackStage) (v : BackView) (x : BackAnswer) → speaks (ask_at b v) ≡ true → (step_at b v x).pages ≡ v.pages
+spoken_pages (stage.Publish k) v answer.Done says = refl
+spoken_pages (stage.WriteState own) v answer.Done says = refl
+spoken_pages stage.Watch v answer.Done says = refl
+spoken_pages stage.ReadState v (answer.Key text) says = by_act (back_action v.state v.unplugged (state_read text))
+  where
+    by_act : (act : BackAction) → (acted act v).pages ≡ v.pages
+    by_act action.Nothing = refl
+    by_act action.Connect = refl
+    by_act (action.Halt reason) = refl
+spoken_pages (stage.ReadKey k) v (answer.Key text) says = reads_key (λ (o : Option BackView). (kept_or_halted o v).pages ≡ v.pages) k text v (λ u reads. reads.pages) refl
+spoken_pages (stage.PublishFact k) v answer.Done says = refl
+spoken_pages stage.UnmapPage v x says = absurd (unmap_says v.pages says)
+  where
+    unmap_says : (pages : List Mapping) → speaks (unmap_ask pages) ≡ true → ⊥
+    unmap_says [] says = true≢false (sym says)
+    unmap_says (page ∷ pages) says = true≢false (sym says)
+spoken_pages stage.Rest v x says = absurd (true≢false (sym says))
+spoken_pages stage.MapPage v x says = absurd (true≢false (sym says))
+spoken_pages stage.Bind v x says = absurd (true≢false (sym says))
+spoken_pages stage.UnmapOthers v x says = absurd (true≢false (sym says))
+spoken_pages stage.ClosePort v x says = absurd (true≢false (sym says))
+spoken_pages stage.Halted v x says = absurd (true≢false (sym says))
+spoken_pages b v x says = refl
+
+-- and the terms of the end of the ring are those that it has read, once it has taken them
+abbrev TermsAfter : Option BackHalt → Bool → BackView → ends.View → Type 0
+TermsAfter why reads w r = let y : ends.View = ring_led why reads w r in has_terms y.stage ≡ true → is_halting w.stage ≡ false → HaveTerms y w
+
+waits_not : (r : ends.View) → r.stage ≡ ring.InitWait → has_terms r.stage ≡ true → ⊥
+waits_not r here has = true≢false (sym has ∙ ap has_terms here)
+
+key_terms : (k : FrontKey) (text : Option (List ℕ)) (v : BackView) (r : ends.View) → v.stage ≡ stage.ReadKey k → BackGoesWith (stage.ReadKey k) v.state r.stage → BackShares v r
+    → TermsAfter (key_halt k (key_read k text v)) (reads_layout (bus_ask.GetKey k)) (kept_or_halted (key_read k text v) v) r
+key_terms k text v r here goes shares =
+    reads_key (λ (o : Option BackView). TermsAfter (key_halt k o) (reads_layout (bus_ask.GetKey k)) (kept_or_halted o v) r) k text v (λ u reads. by_key k goes u reads) (λ has on. absurd (true≢false on))
+  where
+    by_key : (k : FrontKey) → BackGoesWith (stage.ReadKey k) v.state r.stage → (u : BackView) → Reads k v u → TermsAfter None (reads_layout (bus_ask.GetKey k)) u r
+    by_key key.Protocol goes u reads = by_test (ring_step.may_attach (shape_read u) u.grefs r)
+      where
+        by_test : (may : Bool) → let y : ends.View = if may then ring_step.attached (shape_read u) u.grefs u.terms.port r else r in has_terms y.stage ≡ true → is_halting u.stage ≡ false → HaveTerms y u
+        by_test true has on = record { shape = refl; grefs = refl; port = refl }
+        by_test false has on = absurd (waits_not r goes.1 has)
+    by_key key.FeaturePersistent goes u reads = λ has on.
+        let have = shares.terms has (ap is_halting here) in
+        record { shape = have.shape ∙ sym reads.next.1; grefs = have.grefs ∙ sym reads.next.2; port = have.port ∙ sym reads.next.3 }
+    by_key key.RingPageOrder goes u reads = λ has on. absurd (waits_not r goes.1 has)
+    by_key (key.RingRefOf page) goes u reads = λ has on. absurd (waits_not r goes.1 has)
+    by_key key.RingRef goes u reads = λ has on. absurd (waits_not r goes.1 has)
+    by_key key.EventChannel goes u reads = λ has on. absurd (waits_not r goes.1 has)
+
+same_terms : (b : BackStage) (v w : BackView) (r : ends.View) → v.stage ≡ b → is_halting b ≡ false → IsAlike v w → BackShares v r → has_terms r.stage ≡ true → is_halting w.stage ≡ false → HaveTerms r w
+same_terms b v w r here on same shares has still = have_alike r v w same (shares.terms has (ap is_halting here ∙ on))
+
+heard_terms : (b : BackStage) (v : BackView) (r : ends.View) (x : BackAnswer) → v.stage ≡ b → BackGoesWith b v.state r.stage → BackShares v r → speaks (ask_at b v) ≡ true → IsAnswer (ask_at b v) x
+    → TermsAfter (halt_at b v x) (reads_layout (ask_at b v)) (step_at b v x) r
+heard_terms (stage.Publish k) v r answer.Done here goes shares says allowed = same_terms (stage.Publish k) v _ r here refl (record { pages = refl; terms = refl; grefs = refl }) shares
+heard_terms (stage.WriteState state.Closing) v r answer.Done here goes shares says allowed = λ has on. absurd (true≢false on)
+heard_terms (stage.WriteState state.Closed) v r answer.Done here goes shares says allowed = λ has on. absurd (true≢false on)
+heard_terms (stage.WriteState state.InitWait) v r answer.Done here goes shares says allowed = same_terms (stage.WriteState state.InitWait) v _ r here refl (record { pages = refl; terms = refl; grefs = refl }) shares
+heard_terms (stage.WriteState state.Connected) v r answer.Done here goes shares says allowed = same_terms (stage.WriteState state.Connected) v _ r here refl (record { pages = refl; terms = refl; grefs = refl }) shares
+heard_terms (stage.WriteState own) v r answer.Done here goes shares says allowed = absurd goes
+heard_terms stage.Watch v r answer.Done here goes shares says allowed = same_terms stage.Watch v _ r here refl (record { pages = refl; terms = refl; grefs = refl }) shares
+heard_terms stage.ReadState v r (answer.Key text) here goes shares says allowed = by_act (back_action v.state v.unplugged (state_read text))
+  where
+    by_act : (act : BackAction) → TermsAfter (action_halt act) false (acted act v) r
+    by_act action.Nothing = same_terms stage.ReadState v _ r here refl (record { pages = refl; terms = refl; grefs = refl }) shares
+    by_act action.Connect = same_terms stage.ReadState v _ r here refl (record { pages = refl; terms = refl; grefs = refl }) shares
+    by_act (action.Halt reason) = λ has on. absurd (true≢false on)
+heard_terms (stage.ReadKey k) v r (answer.Key text) here goes shares says allowed = key_terms k text v r here goes shares
+heard_terms (stage.PublishFact k) v r answer.Done here goes shares says allowed = same_terms (stage.PublishFact k) v _ r here refl (record { pages = refl; terms = refl; grefs = refl }) shares
+heard_terms (stage.Publish k) v r x here goes shares says allowed = absurd allowed
+heard_terms (stage.WriteState own) v r x here goes shares says allowed = absurd allowed
+heard_terms stage.Watch v r x here goes shares says allowed = absurd allowed
+heard_terms stage.ReadState v r x here goes shares says allowed = absurd allowed
+heard_terms (stage.ReadKey k) v r x here goes shares says allowed = absurd allowed
+heard_terms (stage.PublishFact k) v r x here goes shares says allowed = absurd allowed
+heard_terms stage.UnmapPage v r x here goes shares says allowed = absurd (unmap_says v.pages says)
+  where
+    unmap_says : (pages : List Mapping) → speaks (unmap_ask pages) ≡ true → ⊥
+    unmap_says [] says = true≢false (sym says)
+    unmap_says (page ∷ pages) says = true≢false (sym says)
+heard_terms b v r x here goes shares says allowed = absurd (true≢false (sym says))
+
+-- settled, both share what they shared
+settled_shares : (r y : ends.View) (v w : BackView) → y.pages ≡ r.pages → r.pages ≡ v.pages → w.pages ≡ v.pages → IsSound w → (has_terms y.stage ≡ true → is_halting w.stage ≡ false → HaveTerms y w) → BackShares (settled y.stage w) y
+settled_shares r y v w kept shared same sound terms =
+    let still = settled_alike y.stage w in
+    record {
+      pages = kept ∙ (shared ∙ (sym same ∙ sym still.pages));
+      sound = settled_sound y.stage w sound;
+      terms = λ has on. have_alike y w (settled y.stage w) still (terms has (settled_on y.stage w on));
+    }
+
+-- the negotiation was answered
+pub spoken_shares : (v : BackView) (r : ends.View) (x : BackAnswer) → BackFits v r → BackShares v r → speaks (ask_of v) ≡ true → IsAnswer (ask_of v) x
+    → let y : ends.View = ring_led (halt_of v x) (reads_layout (ask_of v)) (step_of v x) r in BackShares (settled y.stage (step_of v x)) y
+spoken_shares v r x h shares says allowed =
+    settled_shares r (ring_led (halt_of v x) (reads_layout (ask_of v)) (step_of v x) r) v (step_of v x) (led_pages (halt_of v x) (reads_layout (ask_of v)) (step_of v x) r) shares.pages
+    (by_pages (says_closing v) refl) (back_keeps v x allowed shares.sound) (by_terms (says_closing v) refl)
+  where
+    by_pages : (c : Bool) → says_closing v ≡ c → (step_of v x).pages ≡ v.pages
+    by_pages true is = rw is refl
+    by_pages false is = rw is (spoken_pages v.stage v x (rw is at says))
+
+    going : (b : BackStage) (own : BusState) → says_closing_at b own ≡ true → is_halting b ≡ false
+    going stage.Rest state.Connected is = refl
+    going stage.ReadState state.Connected is = refl
+    going b own is = absurd (true≢false (sym is))
+
+    by_terms : (c : Bool) → says_closing v ≡ c → TermsAfter (halt_of v x) (reads_layout (ask_of v)) (step_of v x) r
+    by_terms true is = rw is (same_terms v.stage v _ r refl (going v.stage v.state (both_true v.unplugged (says_closing_at v.stage v.state) is).1) (record { pages = refl; terms = refl; grefs = refl }) shares)
+    by_terms false is = rw is (heard_terms v.stage v r x refl h.goes shares (rw is at says) (rw is at allowed))
+
+-- what the negotiation makes of a move of the ring's end
+record Moves (v : BackView) (r y : ends.View) (f : BackView) : Type 0 where
+  pages : y.pages ≡ f.pages
+  terms : f.terms ≡ v.terms
+  grefs : f.grefs ≡ v.grefs
+  halts : is_halting v.stage ≡ true → is_halting f.stage ≡ true
+
+stays : (v : BackView) (r y : ends.View) → y.pages ≡ r.pages → r.pages ≡ v.pages → Moves v r y v
+stays v r y kept shared = record { pages = kept ∙ shared; terms = refl; grefs = refl; halts = λ h. h }
+
+woken_moves : (v : BackView) (r y : ends.View) (x : BackAnswer) → v.stage ≡ stage.Rest → says_closing v ≡ false → y.pages ≡ r.pages → r.pages ≡ v.pages → Moves v r y (woken v x)
+woken_moves v r y (answer.Watched path) here on kept shared =
+    subst (Moves v r y) (sym (told_at v (answer.Watched path) on ∙ ap (λ (b : BackStage). step_at b v (answer.Watched path)) here))
+    (record { pages = kept ∙ shared; terms = refl; grefs = refl; halts = λ h. absurd (true≢false (sym h ∙ ap is_halting here)) })
+woken_moves v r y x here on kept shared = stays v r y kept shared
+
+serves_at_rest : (own : BusState) (s : Ring) → BackRests own s → ring_moves bus_ask.Wait s ≡ true → is_serving s ≡ true
+serves_at_rest state.InitWait s rests moves = absurd (true≢false (sym moves ∙ ap (ring_moves bus_ask.Wait) rests))
+serves_at_rest state.Connected s rests moves = rests
+serves_at_rest state.Closing s rests moves = rests
+serves_at_rest own s rests moves = absurd rests
+
+told_moves : (b : BackStage) (v : BackView) (r y : ends.View) (x : BackAnswer) → v.stage ≡ b → says_closing v ≡ false → Moves v r y (step_at b v x) → Moves v r y (step_of v x)
+told_moves b v r y x here on m = subst (Moves v r y) (sym (told_at v x on ∙ ap (λ (b : BackStage). step_at b v x) here)) m
+
+begun_moves : (b : BackStage) (s : Ring) (v : BackView) (r : ends.View) (x : BackAnswer) → v.stage ≡ b → says_closing v ≡ false → BackGoesWith b v.state s → r.pages ≡ v.pages
+    → ring_moves (ask_at b v) s ≡ true → IsRingAnswer (ring_ask_at s r) x → Moves v r (ring_step.step_at s r x) (followed (ask_at b v) v x)
+begun_moves stage.Rest s v r x here on goes shared moves allowed =
+    woken_moves v r (ring_step.step_at s r x) x here on (step_pages s r x (serving_still s (serves_at_rest v.state s goes moves))) shared
+begun_moves stage.MapPage s v r x here on goes shared moves allowed = rw goes.1 (maps x (rw goes.1 at allowed))
+  where
+    maps : (x : BackAnswer) → IsRingAnswer (ring_ask_at ring.MapRing r) x → Moves v r (ring_step.step_at ring.MapRing r x) (step_of v x)
+    maps (answer.Mapped m) allowed = told_moves stage.MapPage v r _ (answer.Mapped m) here on (record { pages = ap (λ (pages : List Mapping). pages ++ m ∷ []) shared; terms = refl; grefs = refl; halts = λ h. absurd (true≢false (sym h ∙ ap is_halting here)) })
+    maps (answer.MapRefused status) allowed = told_moves stage.MapPage v r _ (answer.MapRefused status) here on (record { pages = shared; terms = refl; grefs = refl; halts = λ h. refl })
+    maps x allowed = absurd allowed
+begun_moves stage.Bind s v r x here on goes shared moves allowed = rw goes.1 (binds x (rw goes.1 at allowed))
+  where
+    binds : (x : BackAnswer) → IsRingAnswer (ring_ask_at ring.Bind r) x → Moves v r (ring_step.step_at ring.Bind r x) (step_of v x)
+    binds answer.Done allowed = told_moves stage.Bind v r _ answer.Done here on (record { pages = shared; terms = refl; grefs = refl; halts = λ h. absurd (true≢false (sym h ∙ ap is_halting here)) })
+    binds answer.BindRefused allowed = told_moves stage.Bind v r _ answer.BindRefused here on (record { pages = shared; terms = refl; grefs = refl; halts = λ h. refl })
+    binds x allowed = absurd allowed
+begun_moves stage.UnmapOthers (ring.GiveUp m) v r x here on goes shared moves allowed = stays v r _ refl shared
+begun_moves stage.UnmapOthers s v r x here on goes shared moves allowed = absurd goes
+begun_moves stage.UnmapPage s v r x here on goes shared moves allowed = by_stage s goes
+  where
+    gone : (y : ends.View) (pages : List Mapping) → v.pages ≡ pages → y.pages ≡ ring_step.other_pages r.pages → Moves v r y (followed (unmap_ask pages) v x)
+    gone y [] same kept = subst (Moves v r y) (sym (still x)) (record { pages = kept ∙ (ap ring_step.other_pages (shared ∙ same) ∙ sym same); terms = refl; grefs = refl; halts = λ h. h })
+      where
+        still : (x : BackAnswer) → woken v x ≡ v
+        still (answer.Watched path) = told_at v (answer.Watched path) on ∙ ap (λ (b : BackStage). step_at b v (answer.Watched path)) here
+        still x = refl
+    gone y (page ∷ pages) same kept =
+        told_moves stage.UnmapPage v r y answer.Done here on
+        (record { pages = kept ∙ ap ring_step.other_pages shared ∙ others v.pages; terms = refl; grefs = refl; halts = λ h. gives_halting (other_pages v.pages) v.bound v.state })
+      where
+        others : (pages : List Mapping) → ring_step.other_pages pages ≡ other_pages pages
+        others [] = refl
+        others (page ∷ pages) = refl
+
+    by_stage : (s : Ring) → IsUnmapping s → Moves v r (ring_step.step_at s r x) (followed (unmap_ask v.pages) v x)
+    by_stage ring.UnmapRing unmaps = gone _ v.pages refl refl
+    by_stage ring.UnmapUnbound unmaps = gone _ v.pages refl refl
+    by_stage s unmaps = absurd unmaps
+begun_moves stage.ClosePort s v r x here on goes shared moves allowed = rw goes (closes x (rw goes at allowed))
+  where
+    closes : (x : BackAnswer) → IsRingAnswer (ring_ask_at ring.ClosePort r) x → Moves v r (ring_step.step_at ring.ClosePort r x) (step_of v x)
+    closes answer.Done allowed = told_moves stage.ClosePort v r _ answer.Done here on (record { pages = shared; terms = refl; grefs = refl; halts = λ h. gives_last v.state })
+      where
+        gives_last : (own : BusState) → is_halting (giving_up [] false own) ≡ true
+        gives_last own = gives_halting [] false own
+    closes x allowed = absurd allowed
+begun_moves stage.Halted s v r x here on goes shared moves allowed = rw goes.1 (subst (Moves v r r) (sym (still x)) (stays v r r refl shared))
+  where
+    still : (x : BackAnswer) → woken v x ≡ v
+    still (answer.Watched path) = told_at v (answer.Watched path) on ∙ ap (λ (b : BackStage). step_at b v (answer.Watched path)) here
+    still x = refl
+begun_moves (stage.Publish k) s v r x here on goes shared moves allowed = rw goes.1 (stays v r _ refl shared)
+begun_moves (stage.WriteState state.InitWait) s v r x here on goes shared moves allowed = rw goes.1 (stays v r _ refl shared)
+begun_moves (stage.WriteState state.Connected) s v r x here on goes shared moves allowed = rw goes.1 (stays v r _ (step_pages ring.Loop r x refl) shared)
+begun_moves (stage.WriteState state.Closing) s v r x here on goes shared moves allowed = rw goes (stays v r _ refl shared)
+begun_moves (stage.WriteState state.Closed) s v r x here on goes shared moves allowed = rw goes.1 (stays v r _ refl shared)
+begun_moves (stage.WriteState own) s v r x here on goes shared moves allowed = absurd goes
+begun_moves stage.Watch s v r x here on goes shared moves allowed = rw goes.1 (stays v r _ refl shared)
+begun_moves stage.ReadState s v r x here on goes shared moves allowed = reading v.state s goes
+  where
+    reading : (own : BusState) (s : Ring) → BackReads own s → Moves v r (ring_step.step_at s r x) v
+    reading state.InitWait s reads = rw reads (stays v r _ refl shared)
+    reading state.Connected s reads = rw reads (stays v r _ (step_pages ring.Loop r x refl) shared)
+    reading state.Closing s reads = rw reads (stays v r _ (step_pages ring.Loop r x refl) shared)
+    reading own s reads = absurd reads
+begun_moves (stage.ReadKey k) s v r x here on goes shared moves allowed = by_stage s (waits_reading k v.state s goes).1 moves
+  where
+    by_stage : (s : Ring) → is_unbound s ≡ true → ring_moves (bus_ask.GetKey k) s ≡ true → Moves v r (ring_step.step_at s r x) v
+    by_stage ring.InitWait is moves = absurd (true≢false (sym moves))
+    by_stage ring.MapRing is moves = absurd (true≢false (sym moves))
+    by_stage s is moves = absurd (true≢false (sym is))
+begun_moves (stage.PublishFact k) s v r x here on goes shared moves allowed = rw goes.1 (stays v r _ (step_pages ring.Loop r x refl) shared)
+
+-- where it says that it closes it hears of nothing else
+closing_moves : (b : BackStage) (own : BusState) (v : BackView) (r : ends.View) (x : BackAnswer) → says_closing_at b own ≡ true → BackGoesWith b own r.stage → r.pages ≡ v.pages → Moves v r (ring_step.step_of r x) v
+closing_moves stage.Rest state.Connected v r x is goes shared = stays v r _ (step_pages r.stage r x (serving_still r.stage goes)) shared
+closing_moves stage.ReadState state.Connected v r x is goes shared = stays v r _ (step_pages r.stage r x (serving_still r.stage (ap is_serving goes))) shared
+closing_moves b own v r x is goes shared = absurd (true≢false (sym is))
+
+-- it halts with the end of the ring
+halted_pages : (h : Option Halt) (f : BackView) → (bus_halted h f).pages ≡ f.pages
+halted_pages None f = refl
+halted_pages (Some why) f = by_test (is_halting f.stage)
+  where
+    by_test : (c : Bool) → (if c then f else halted f).pages ≡ f.pages
+    by_test true = refl
+    by_test false = refl
+
+halted_sound : (h : Option Halt) (f : BackView) → IsSound f → IsSound (bus_halted h f)
+halted_sound None f sound = sound
+halted_sound (Some why) f sound = back_turn_keeps Stops f tt sound
+
+stopped_halts : (f : BackView) → is_halting (stopped f).stage ≡ true
+stopped_halts f = by_test (is_halting f.stage) refl
+  where
+    by_test : (c : Bool) → is_halting f.stage ≡ c → is_halting (if c then f else halted f).stage ≡ true
+    by_test true is = is
+    by_test false is = refl
+
+halted_on : (h : Option Halt) (f : BackView) → is_halting (bus_halted h f).stage ≡ false → bus_halted h f ≡ f
+halted_on None f on = refl
+halted_on (Some why) f on = absurd (true≢false (sym (stopped_halts f) ∙ on))
+
+caught_shares : (v : BackView) (r y : ends.View) (f : BackView) → of_front y ≡ of_front r → (has_terms y.stage ≡ true → has_terms r.stage ≡ true) → IsSound f → Moves v r y f → BackShares v r → BackShares (caught_up y f) y
+caught_shares v r y f same had sound m shares =
+    settled_shares y y f (bus_halted y.halted f) refl m.pages (halted_pages y.halted f) (halted_sound y.halted f sound) by_terms
+  where
+    running : (c : Bool) → is_halting v.stage ≡ c → is_halting f.stage ≡ false → is_halting v.stage ≡ false
+    running true is on = absurd (true≢false (sym (m.halts is) ∙ on))
+    running false is on = is
+
+    by_terms : has_terms y.stage ≡ true → is_halting (bus_halted y.halted f).stage ≡ false → HaveTerms y (bus_halted y.halted f)
+    by_terms has on =
+        let plain = halted_on y.halted f on in
+        let have = shares.terms (had has) (running (is_halting v.stage) refl (ap (λ (u : BackView). is_halting u.stage) (sym plain) ∙ on)) in
+        subst (HaveTerms y) (sym plain)
+        (record {
+          shape = ap (λ (t : Shape × List ℕ × ℕ). t.0) same ∙ (have.shape ∙ ap (λ (t : FrontTerms). record { abi = t.abi; order = t.order }) (sym m.terms));
+          grefs = ap (λ (t : Shape × List ℕ × ℕ). t.1) same ∙ (have.grefs ∙ sym m.grefs);
+          port = ap (λ (t : Shape × List ℕ × ℕ). t.2) same ∙ (have.port ∙ ap (λ (t : FrontTerms). t.port) (sym m.terms));
+        })
+
+followed_sound : (a : BackBusAsk) (v : BackView) (x : BackAnswer) → ask_of v ≡ a → IsHeard a x → IsSound v → IsSound (followed a v x)
+followed_sound (bus_ask.Map gref) v x e heard sound = back_keeps v x (rw e heard) sound
+followed_sound (bus_ask.Bind port) v x e heard sound = back_keeps v x (rw e heard) sound
+followed_sound (bus_ask.Unmap m) v x e heard sound = back_keeps v answer.Done (rw e tt) sound
+followed_sound bus_ask.ClosePort v x e heard sound = back_keeps v x (rw e heard) sound
+followed_sound bus_ask.Wait v (answer.Watched path) e heard sound = back_keeps v (answer.Watched path) (rw e tt) sound
+followed_sound bus_ask.Wait v x e heard sound = sound
+followed_sound a v x e heard sound = sound
+
+moves_have : (a : BackBusAsk) (s : Ring) → ring_moves a s ≡ true → has_terms s ≡ true
+moves_have (bus_ask.Map gref) ring.InitWait moves = absurd (true≢false (sym moves))
+moves_have (bus_ask.Bind port) ring.InitWait moves = absurd (true≢false (sym moves))
+moves_have bus_ask.UnmapOthers ring.InitWait moves = absurd (true≢false (sym moves))
+moves_have (bus_ask.Unmap m) ring.InitWait moves = absurd (true≢false (sym moves))
+moves_have bus_ask.ClosePort ring.InitWait moves = absurd (true≢false (sym moves))
+moves_have a ring.InitWait moves = absurd (true≢false (sym moves))
+moves_have a s moves = refl
+
+-- a move of the ring's end
+pub moved_shares : (v : BackView) (r : ends.View) (x : BackAnswer) → BackFits v r → BackShares v r → ring_moves (ask_of v) r.stage ≡ true → IsRingAnswer (ring_ask_at r.stage r) x
+    → BackShares (caught_up (ring_step.step_of r x) (followed (ask_of v) v x)) (ring_step.step_of r x)
+moved_shares v r x h shares moves allowed =
+    caught_shares v r (ring_step.step_of r x) (followed (ask_of v) v x) (step_terms r.stage r x) (λ has. moves_have (ask_of v) r.stage moves)
+    (followed_sound (ask_of v) v x refl (heard (ask_of v) r x moves allowed) shares.sound) (by_test (says_closing v) refl) shares
+  where
+    by_test : (c : Bool) → says_closing v ≡ c → Moves v r (ring_step.step_of r x) (followed (ask_of v) v x)
+    by_test true is = rw is (closing_moves v.stage v.state v r x (both_true v.unplugged (says_closing_at v.stage v.state) is).1 h.goes shares.pages)
+    by_test false on = rw on (begun_moves v.stage r.stage v r x refl on h.goes shares.pages (rw on at moves) allowed)
+
+-- the negotiation alone waited
+pub waited_shares : (v : BackView) (r : ends.View) (x : BackAnswer) → BackShares v r → BackShares (waited (ask_of v) v x) r
+waited_shares v r x shares = by_ask (ask_of v) refl x
+  where
+    woken_stage : (b : BackStage) (path : List ℕ) → v.stage ≡ b → says_closing v ≡ false → IsAlike v (step_at b v (answer.Watched path)) × (is_halting (step_at b v (answer.Watched path)).stage ≡ false → is_halting v.stage ≡ false)
+    woken_stage stage.Rest path here on = (record { pages = refl; terms = refl; grefs = refl }, λ still. ap is_halting here)
+    woken_stage b path here on = (alike v, λ still. still)
+
+    woken_shares : (path : List ℕ) → ask_of v ≡ bus_ask.Wait → BackShares (step_of v (answer.Watched path)) r
+    woken_shares path e = by_test (says_closing v) refl
+      where
+        by_test : (c : Bool) → says_closing v ≡ c → BackShares (step_of v (answer.Watched path)) r
+        by_test true is = absurd (closing_asks (rw is at e))
+          where
+            closing_asks : bus_ask.SetState state.Closing ≡ bus_ask.Wait → ⊥
+            closing_asks same = true≢false (ap speaks same)
+        by_test false on =
+            let w = woken_stage v.stage path refl on in
+            subst (λ (u : BackView). BackShares u r) (sym (told_at v (answer.Watched path) on))
+            (record { pages = shares.pages ∙ sym w.0.pages; sound = subst IsSound (told_at v (answer.Watched path) on) (back_keeps v (answer.Watched path) (rw e tt) shares.sound); terms = λ has still. have_alike r v _ w.0 (shares.terms has (w.1 still)) })
+
+    by_ask : (a : BackBusAsk) → ask_of v ≡ a → (x : BackAnswer) → BackShares (waited a v x) r
+    by_ask bus_ask.Wait e (answer.Watched path) = woken_shares path e
+    by_ask bus_ask.Wait e x = shares
+    by_ask a e x = shares
+
+-- it was asked to close
+pub closed_shares : (v : BackView) (r : ends.View) → BackShares v r → BackShares (unplugged v) r
+closed_shares v r shares = record { pages = by_pages (is_halting v.stage); sound = back_turn_keeps Unplugs v tt shares.sound; terms = by_terms (is_halting v.stage) refl }
+  where
+    by_pages : (c : Bool) → r.pages ≡ (if c then v else record v { unplugged = true }).pages
+    by_pages true = shares.pages
+    by_pages false = shares.pages
+
+    by_terms : (c : Bool) → is_halting v.stage ≡ c → let u : BackView = if c then v else record v { unplugged = true } in has_terms r.stage ≡ true → is_halting u.stage ≡ false → HaveTerms r u
+    by_terms true is has on = shares.terms has on
+    by_terms false is has on = have_alike r v (record v { unplugged = true }) (record { pages = refl; terms = refl; grefs = refl }) (shares.terms has on)

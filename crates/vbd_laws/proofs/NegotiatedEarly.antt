@@ -1,0 +1,247 @@
+-- Until the back has mapped the ring and has its terms the negotiation is a run of its own, and from then on the front's ring and port are made, or the back has halted: so it stays as the front moves, and as an end is asked to close.
+use Rattle.std.proofs.Common.{◌⊎◌, inl, inr, ◌≡◌, ◌∙◌, ap, sym, subst, ◌+◌, ◌==◌, ◌^◌, ◌||◌, Bool, true, false, true≢false, List, [], ◌∷◌, refl, if◌then◌else◌}
+use Rattle.std.specs.Prelude.{Option, Some, None, is_some, nat_lt}
+use Rattle.std.specs.List.{AllByRecursion}
+use Rattle.blk_base.specs.declared.parts.End.{End}
+use Rattle.blk_base.specs.declared.parts.End.TheVariants as end
+use Rattle.blk_base.specs.declared.ask.FrontAnswer.{FrontAnswer}
+use Rattle.schedule_text.specs.declared.line.Line.{Line}
+use Rattle.hypervisor.specs.Act.{FrontAct, front_act}
+use Rattle.blk_front.specs.declared.stage.Stage.{Stage as FrontRing}
+use Rattle.blk_front.specs.declared.stage.Stage.TheVariants as front_ring
+use Rattle.blk_front.specs.declared.state.FrontState.{FrontState}
+use Rattle.blk_front.specs.declared.state.FrontState.TheVariants as entered
+use Rattle.blk_front.specs.State.{in_state, enters}
+use Rattle.blk_front.specs.Submit.{is_connected}
+use Rattle.blk_front.specs.View as front_ends
+use Rattle.blk_front.specs.Step as front_ring_step
+use Rattle.blk_back.specs.declared.stage.Stage.{Stage as BackRing}
+use Rattle.blk_back.specs.declared.stage.Stage.TheVariants as ring
+use Rattle.blk_back.specs.View as ring_view
+use Rattle.xenbus_state.specs.declared.state.BusState.{BusState}
+use Rattle.xenbus_state.specs.declared.state.BusState.TheVariants as state
+use Rattle.xenbus_state.specs.declared.stage.BackStage.{BackStage}
+use Rattle.xenbus_state.specs.declared.stage.BackStage.TheVariants as bus
+use Rattle.xenbus_state.specs.declared.keys.FrontKey.TheVariants as key
+use Rattle.xenbus_state.specs.Tables.{is_connected as bus_connected}
+use Rattle.xenbus_state.specs.FrontView.{FrontView, closed}
+use Rattle.xenbus_state.specs.FrontView as bus_front
+use Rattle.xenbus_state.specs.BackView.{BackView, is_halting, unplugged}
+use Rattle.split_model.proofs.States.{is_unbound, enters_cases}
+use Rattle.machine_pipeline.proofs.Connected.{connected_after}
+use Rattle.negotiation_laws.specs.Negotiation.{Negotiation}
+use Rattle.negotiation_laws.specs.Laws.{IsHalted}
+use Rattle.vbd_front.specs.View as front_view
+use Rattle.vbd_front.specs.Step as front_step
+use Rattle.vbd_model.specs.World.{World, frontend_of}
+use Rattle.vbd_model.specs.Happening.{FrontMoves, Closes, front_turn, front_bus_after, does, happens}
+use Rattle.vbd_model.specs.Fit.{BackGoesWith, BackRests, BackReads, IsGivingUp, IsUnmapping, is_serving, IsFit}
+use Rattle.vbd_laws.specs.Moves.{IsNoMove, IsFrontMove}
+use Rattle.vbd_laws.proofs.FitBackRing.{is_past}
+use Rattle.vbd_laws.proofs.MovesTurns.{front_cases}
+use Rattle.vbd_laws.proofs.MovesFront.{front_move_is, front_move_none}
+use Rattle.vbd_laws.proofs.NegotiatedRun.{Joined, negotiation_of, reached_as}
+use Rattle.vbd_laws.proofs.NegotiatedFront.{front_goes}
+use Rattle.vbd_laws.proofs.NegotiatedAgreed.{IsLate, front_late}
+use Rattle.vbd_laws.proofs.NegotiatedRests.{Rests, same_rests, closes_joined}
+use Rattle.vbd_laws.proofs.NegotiatedKept.{IsTimely, states_timely}
+
+-- the front's end of the ring before it is connected, and after a close of one that has no ring
+abbrev pub is_early : FrontRing → Bool
+is_early (front_ring.RingWord k) = true
+is_early (front_ring.RingFrame page) = true
+is_early (front_ring.RingFence page) = true
+is_early (front_ring.RingFlags page) = true
+is_early front_ring.NewPort = true
+is_early front_ring.Initialised = true
+is_early front_ring.Closed = true
+is_early s = false
+
+pub early_whole : (s : FrontRing) → is_early s ≡ true → front_view.is_broken s ≡ false
+early_whole (front_ring.Broken word) is = absurd (true≢false (sym is))
+early_whole s is = refl
+
+-- before the back has mapped the ring
+pub record Before (w : World) : Type 0 where
+  pub joined : Joined w
+  pub ring : is_unbound w.rings.back.stage ≡ true
+  pub early : is_early w.rings.front.stage ≡ true
+
+-- then it has mapped the ring and binds the port; or it has halted, and the front wrote that it closes; or it is past that, and the front's ring and port are made
+pub record Bound (r : ring_view.View) (v : BackView) (connected : Bool) : Type 0 where
+  pub ring : r.stage ≡ ring.Bind
+  pub stage : v.stage ≡ bus.Bind
+  pub port : v.terms.port ≡ 1
+  pub made : connected ≡ true
+
+pub record Halted (r : ring_view.View) (f : FrontView) : Type 0 where
+  pub ring : r.stage ≡ ring.Halted
+  pub halted : is_some r.halted ≡ true
+  pub late : IsLate f
+
+pub record Past (r : ring_view.View) (connected : Bool) : Type 0 where
+  pub past : is_past r.stage ≡ true
+  pub made : connected ≡ true
+
+abbrev pub After : ring_view.View → BackView → FrontView → Bool → Type 0
+After r v f connected = Bound r v connected ⊎ Halted r f ⊎ Past r connected
+
+abbrev pub IsOnItsWay : World → Type 0
+IsOnItsWay w = Before w ⊎ After w.rings.back w.back w.front (is_connected w.rings.front.stage)
+
+pub after_at : (r s : ring_view.View) (u v : BackView) (f g : FrontView) (c d : Bool) → s.stage ≡ r.stage → s.halted ≡ r.halted → v.stage ≡ u.stage → v.terms.port ≡ u.terms.port → (IsLate f → IsLate g) → (c ≡ true → d ≡ true)
+    → After r u f c → After s v g d
+after_at r s u v f g c d at halt stage port late made (inl b) = inl (record { ring = at ∙ b.ring; stage = stage ∙ b.stage; port = port ∙ b.port; made = made b.made })
+after_at r s u v f g c d at halt stage port late made (inr (inl h)) = inr (inl (record { ring = at ∙ h.ring; halted = ap is_some halt ∙ h.halted; late = late h.late }))
+after_at r s u v f g c d at halt stage port late made (inr (inr p)) = inr (inr (record { past = ap is_past at ∙ p.past; made = made p.made }))
+
+pub rests_way : (v w : World) → Rests v w → IsOnItsWay w → IsOnItsWay v
+rests_way v w same (inl b) = inl (record { joined = reached_as (negotiation_of w) (negotiation_of v) same.bus b.joined; ring = ap is_unbound same.back ∙ b.ring; early = ap is_early same.front ∙ b.early })
+rests_way v w same (inr a) =
+    let bus : v.back ≡ w.back = ap (λ (n : Negotiation). n.back) same.bus in
+    let front : w.front ≡ v.front = sym (ap (λ (n : Negotiation). n.front) same.bus) in
+    inr (after_at w.rings.back v.rings.back w.back v.back w.front v.front (is_connected w.rings.front.stage) (is_connected v.rings.front.stage) same.back same.halted (ap (λ (u : BackView). u.stage) bus)
+    (ap (λ (u : BackView). u.terms.port) bus) (subst IsLate front) (λ made. ap is_connected same.front ∙ made) a)
+
+-- while the back hasn't mapped the ring its front enters no state but that it closes, and that it is closed
+elsewhere : {A : Type 0} (r s : BackRing) → is_unbound r ≡ true → is_unbound s ≡ false → r ≡ s → A
+elsewhere r s early none e = absurd (true≢false (sym early ∙ (ap is_unbound e ∙ none)))
+
+not_served : {A : Type 0} (r : BackRing) → is_unbound r ≡ true → is_serving r ≡ true → A
+not_served ring.InitWait early is = absurd (true≢false (sym is))
+not_served ring.MapRing early is = absurd (true≢false (sym is))
+not_served r early is = absurd (true≢false (sym early))
+
+not_given_up : {A : Type 0} (r : BackRing) → is_unbound r ≡ true → IsGivingUp r → A
+not_given_up (ring.GiveUp m) early is = absurd (true≢false (sym early))
+not_given_up r early is = absurd is
+
+not_unmapped : {A : Type 0} (r : BackRing) → is_unbound r ≡ true → IsUnmapping r → A
+not_unmapped ring.UnmapRing early is = absurd (true≢false (sym early))
+not_unmapped ring.UnmapUnbound early is = absurd (true≢false (sym early))
+not_unmapped r early is = absurd is
+
+unconnected_rests : (own : BusState) (r : BackRing) → is_unbound r ≡ true → BackRests own r → bus_connected own ≡ true → ⊥
+unconnected_rests state.Connected r early fits is = not_served r early fits
+unconnected_rests state.Closing r early fits is = not_served r early fits
+unconnected_rests own r early fits is = true≢false (sym is)
+
+unconnected_reads : (own : BusState) (r : BackRing) → is_unbound r ≡ true → BackReads own r → bus_connected own ≡ true → ⊥
+unconnected_reads state.Connected r early fits is = elsewhere r ring.Loop early refl fits
+unconnected_reads state.Closing r early fits is = elsewhere r ring.Loop early refl fits
+unconnected_reads own r early fits is = true≢false (sym is)
+
+unlike : (own s : BusState) → own ≡ s → bus_connected s ≡ false → bus_connected own ≡ true → ⊥
+unlike own s e none is = true≢false (sym is ∙ (ap bus_connected e ∙ none))
+
+unconnected : (s : BackStage) (own : BusState) (r : BackRing) → is_unbound r ≡ true → BackGoesWith s own r → bus_connected own ≡ true → ⊥
+unconnected (bus.Publish k) own r early fits is = unlike own state.Initialising fits.0 refl is
+unconnected (bus.WriteState state.InitWait) own r early fits is = unlike own state.Initialising fits.0 refl is
+unconnected (bus.WriteState state.Connected) own r early fits is = unlike own state.InitWait fits.0 refl is
+unconnected (bus.WriteState state.Closing) own r early fits is = elsewhere r ring.Halted early refl fits
+unconnected (bus.WriteState state.Closed) own r early fits is = elsewhere r ring.Halted early refl fits.1
+unconnected (bus.WriteState s) own r early fits is = absurd fits
+unconnected bus.Watch own r early fits is = unlike own state.InitWait fits.0 refl is
+unconnected bus.Rest own r early fits is = unconnected_rests own r early fits is
+unconnected bus.ReadState own r early fits is = unconnected_reads own r early fits is
+unconnected (bus.ReadKey key.FeaturePersistent) own r early fits is = unlike own state.InitWait fits.0 refl is
+unconnected (bus.ReadKey k) own r early fits is = unlike own state.InitWait fits.0 refl is
+unconnected bus.MapPage own r early fits is = unlike own state.InitWait fits.0 refl is
+unconnected bus.Bind own r early fits is = unlike own state.InitWait fits.0 refl is
+unconnected (bus.PublishFact k) own r early fits is = unlike own state.InitWait fits.0 refl is
+unconnected bus.UnmapOthers own r early fits is = not_given_up r early fits
+unconnected bus.UnmapPage own r early fits is = not_unmapped r early fits
+unconnected bus.ClosePort own r early fits is = elsewhere r ring.ClosePort early refl fits
+unconnected bus.Halted own r early fits is = unlike own state.Closed fits.0 refl is
+
+not_halted : (v : BackView) (r : BackRing) → is_unbound r ≡ true → BackGoesWith v.stage v.state r → IsHalted v → ⊥
+not_halted v r early fits h = elsewhere r ring.Halted early refl (subst (λ (s : BackStage). BackGoesWith s v.state r) h.stage fits).1
+
+enter_early : (w : World) → BackGoesWith w.back.stage w.back.state w.rings.back.stage → is_unbound w.rings.back.stage ≡ true → (states : List FrontState) (r : front_ends.View) → AllByRecursion (IsTimely w) states
+    → is_early r.stage ≡ true → is_early (front_step.all_entered states r).stage ≡ true
+enter_early w fits unbound [] r timely early = early
+enter_early w fits unbound (s ∷ states) r timely early =
+    enter_early w fits unbound states (enters s r) timely.1
+    (enters_cases (λ (v : front_ends.View) (shown : List Line). is_early v.stage ≡ true) s r (λ may. by_state s timely.0) early)
+  where
+    by_state : (s : FrontState) → IsTimely w s → is_early (in_state s r).stage ≡ true
+    by_state (entered.Agreed order) now = early
+    by_state entered.Connected now = absurd (unconnected w.back.stage w.back.state w.rings.back.stage unbound fits now)
+    by_state entered.Closing now = early
+    by_state entered.Leaving now = absurd (not_halted w.back w.rings.back.stage unbound fits now)
+    by_state entered.Closed now = refl
+    by_state (entered.Broken word) now = absurd now
+
+either_early : (b : Bool) (s t : FrontRing) → is_early s ≡ true → is_early t ≡ true → is_early (if b then s else t) ≡ true
+either_early true s t p q = p
+either_early false s t p q = q
+
+step_early : (s : FrontRing) (r : front_ends.View) (x : FrontAnswer) → r.stage ≡ s → is_early s ≡ true → is_early (front_ring_step.step_at s r x).stage ≡ true
+step_early (front_ring.RingWord k) r x here early = either_early (k == 15) (front_ring.RingFrame 0) (front_ring.RingWord (k + 1)) refl refl
+step_early (front_ring.RingFrame page) r x here early = refl
+step_early (front_ring.RingFence page) r x here early = refl
+step_early (front_ring.RingFlags page) r x here early = either_early (nat_lt (page + 1) (2 ^ r.shape.order)) (front_ring.RingFrame (page + 1)) front_ring.NewPort refl refl
+step_early front_ring.NewPort r x here early = refl
+step_early front_ring.Initialised r x here early = ap is_early here
+step_early front_ring.Closed r x here early = ap is_early here
+step_early s r x here early = absurd (true≢false (sym early))
+
+-- the machine after a move of the front that made this of it
+abbrev front_to : World → FrontAct → front_view.View → World
+front_to w a x = record { rings = record { front = (front_view.heard x).ring; back = w.rings.back; under = a.under }; front = x.bus; back = w.back }
+
+before_front : (w : World) (a : FrontAct) → IsFit w → front_turn w ≡ Some a → Before w → Before (front_to w a (front_step.step_of (frontend_of w) a.answer))
+before_front w a fit turn b =
+    let whole = early_whole w.rings.front.stage b.early in
+    record {
+      joined = front_goes w a fit whole b.joined turn;
+      ring = b.ring;
+      early =
+          front_cases (λ does asked step. front_act w.rings.under asked ≡ Some a → is_early (step a.answer).ring.stage ≡ true) w
+          (λ says e. enter_early w fit.back b.ring (front_step.states_after (frontend_of w) a.answer) w.rings.front (states_timely w a fit whole b.joined turn says) b.early)
+          (λ quiet moves e. step_early w.rings.front.stage w.rings.front a.answer refl b.early) (λ quiet still e. b.early) turn;
+    }
+
+pub front_way : (w : World) → IsFit w → IsOnItsWay w → IsOnItsWay (happens w FrontMoves)
+front_way w fit way = by_act (front_turn w) refl
+  where
+    by_way : (a : FrontAct) → front_turn w ≡ Some a → happens w FrontMoves ≡ front_to w a (front_step.step_of (frontend_of w) a.answer) → IsOnItsWay w
+        → IsOnItsWay (front_to w a (front_step.step_of (frontend_of w) a.answer))
+    by_way a e world (inl b) = inl (before_front w a fit e b)
+    by_way a e world (inr x) =
+        inr (after_at w.rings.back w.rings.back w.back w.back w.front (front_step.step_of (frontend_of w) a.answer).bus (is_connected w.rings.front.stage) _ refl refl refl refl
+        (λ late. subst (λ (act : Option FrontAct). IsLate (front_bus_after w act)) e (front_late w fit late))
+        (λ made. subst (λ (v : World). is_connected v.rings.front.stage ≡ true) world (connected_after (does w FrontMoves) w.rings made)) x)
+
+    by_act : (act : Option FrontAct) → front_turn w ≡ act → IsOnItsWay (happens w FrontMoves)
+    by_act None e = let still : IsNoMove w FrontMoves = front_move_none w fit e in rests_way (happens w FrontMoves) w (same_rests (happens w FrontMoves) w still.world) way
+    by_act (Some a) e = let moved : IsFrontMove w a = front_move_is w a fit e in subst IsOnItsWay (sym moved.world) (by_way a e moved.world way)
+
+-- an end is asked to close
+unplugged_same : (v : BackView) → ((unplugged v).stage ≡ v.stage) × ((unplugged v).terms.port ≡ v.terms.port)
+unplugged_same v = by_test (is_halting v.stage)
+  where
+    by_test : (b : Bool) → (let u : BackView = if b then v else record v { unplugged = true } in (u.stage ≡ v.stage) × (u.terms.port ≡ v.terms.port))
+    by_test true = (refl, refl)
+    by_test false = (refl, refl)
+
+closed_late : (v : FrontView) → IsLate v → IsLate (closed v)
+closed_late v late = by_test (v.closing || bus_front.is_broken v.stage)
+  where
+    by_test : (b : Bool) → IsLate (if b then v else record v { closing = true })
+    by_test true = late
+    by_test false = late
+
+pub close_way : (w : World) (at : End) → IsOnItsWay w → IsOnItsWay (happens w (Closes at))
+close_way w end.Front (inl b) =
+    inl (record {
+      joined = closes_joined w end.Front b.joined;
+      ring = b.ring;
+      early = enters_cases (λ (v : front_ends.View) (shown : List Line). is_early v.stage ≡ true) entered.Closing w.rings.front (λ may. b.early) b.early;
+    })
+close_way w end.Back (inl b) = inl (record { joined = closes_joined w end.Back b.joined; ring = b.ring; early = b.early })
+close_way w end.Front (inr x) =
+    inr (after_at w.rings.back w.rings.back w.back w.back w.front (closed w.front) (is_connected w.rings.front.stage) _ refl refl refl refl (closed_late w.front) (connected_after (does w (Closes end.Front)) w.rings) x)
+close_way w end.Back (inr x) =
+    let same = unplugged_same w.back in
+    inr (after_at w.rings.back w.rings.back w.back (unplugged w.back) w.front w.front (is_connected w.rings.front.stage) _ refl refl same.0 same.1 (λ late. late) (λ made. made) x)

@@ -1,0 +1,318 @@
+-- How many mappings what happens comes to: a move of the back one of its own and those of a job that it begins, and nothing else any.
+use Rattle.std.proofs.Common.{◌≡◌, ℕ, zero, suc, ◌+◌, ◌≤◌, Bool, true, false, if◌then◌else◌, cond, List, [], ◌∷◌, ◌++◌, length, take, refl, sym, ap, ◌∙◌, subst, arith}
+use Rattle.std.specs.Prelude.{Option, Some, None, Result, Ok, Err, is_some, position, sum_by, map, min, ◌==◌, nat_le, nat_lt, remove}
+use Rattle.std.proofs.lemmas.Bool.Decides.{nat_tests}
+use Rattle.std.proofs.lemmas.List.{length-take}
+use Rattle.std.proofs.lemmas.List.Sums.{sum_by-cons, sum_by-append, sum_by-remove}
+use Rattle.std.proofs.lemmas.List.Quantifiers.{position-Some}
+use Rattle.std.proofs.lemmas.Option.{none-some}
+use Rattle.blk_base.specs.declared.parts.Mapping.{Mapping}
+use Rattle.blk_base.specs.declared.parts.Mode.{Mode}
+use Rattle.blk_base.specs.declared.parts.End.{End}
+use Rattle.blk_base.specs.declared.parts.End.TheVariants as end
+use Rattle.blk_base.specs.declared.ask.BackAsk.{BackAsk}
+use Rattle.blk_base.specs.declared.ask.BackAsk.TheVariants as back_ask
+use Rattle.blk_base.specs.declared.ask.BackAnswer.{BackAnswer}
+use Rattle.blk_base.specs.declared.ask.BackAnswer.TheVariants as answer
+use Rattle.blk_base.specs.declared.moves.BackMover.{BackMover}
+use Rattle.blk_base.specs.declared.moves.BackMover.TheVariants as back_mover
+use Rattle.blk_layout.specs.declared.segment.Segment.{Segment}
+use Rattle.blk_layout.specs.declared.request.RawRequest.{RawRequest}
+use Rattle.blk_layout.specs.declared.request.RawRequest.TheVariants as raw
+use Rattle.segment_list.specs.declared.verdict.DiskInfo.{DiskInfo}
+use Rattle.segment_list.specs.declared.verdict.Kind.{Kind}
+use Rattle.segment_list.specs.declared.verdict.Kind.TheVariants as kind
+use Rattle.segment_list.specs.declared.verdict.Plan.{Plan}
+use Rattle.segment_list.specs.declared.verdict.Verdict.{Verdict}
+use Rattle.segment_list.specs.declared.verdict.Verdict.TheVariants as verdict
+use Rattle.segment_list.specs.Verdict.{verdict_of, transfer_verdict}
+use Rattle.segment_list.proofs.Served.{transfer_served}
+use Rattle.grant_table.specs.Table.{GrantTable, verdict_at}
+use Rattle.hypervisor.specs.Hypervisor.{Hypervisor}
+use Rattle.hypervisor.specs.Act.{FrontAct, BackAct, Outcome, Took, Gave, Failed, back_act, map_act, with_pages}
+use Rattle.xen_pages.specs.Pages.{with_word}
+use Rattle.back_jobs.specs.declared.stage.Stage.{Stage as JobStage}
+use Rattle.back_jobs.specs.declared.stage.Stage.TheVariants as job_stage
+use Rattle.back_jobs.specs.Task as task
+use Rattle.back_jobs.specs.Task.{Work}
+use Rattle.back_jobs.specs.Jobs.{asked, place_of, work_at, work_of, told_at, removed_at, is_done, behind_mapping, mapping_at}
+use Rattle.back_jobs.proofs.Hands.{place_among}
+use Rattle.ring_words.specs.Shape.{Shape, entry_words_of}
+use Rattle.ring_words.specs.Ring.{requests_of, overruns, notifies}
+use Rattle.blk_layout.specs.Entry.{request_of}
+use Rattle.blk_back.specs.declared.stage.Reply.{Reply}
+use Rattle.blk_back.specs.declared.stage.Stage.{Stage}
+use Rattle.blk_back.specs.declared.stage.Stage.TheVariants as stage
+use Rattle.blk_back.specs.declared.told.Halt.{Halt}
+use Rattle.blk_back.specs.declared.told.Halt.TheVariants as halt
+use Rattle.blk_back.specs.View.{View}
+use Rattle.blk_front.specs.Ask as front_asks
+use Rattle.blk_back.specs.Ask as back_asks
+use Rattle.blk_back.specs.Ask.{next_reply}
+use Rattle.blk_back.specs.Step.{at, give_up, halts, may_attach, attached, overrun, looked, loop_step, fetched, fetch_step, step_at, step_of, job_step, job_ask_of, next_number}
+use Rattle.split_model.proofs.SafeActs.{made_back, made_front, of_back}
+use Rattle.split_model.proofs.States.{halts_cases}
+use Rattle.split_model.proofs.Attaching.{attach_cases}
+use Rattle.split_model.specs.World as rings
+use Rattle.split_model.specs.Happening as ring
+use Rattle.xenbus_state.specs.BackView.{BackView}
+use Rattle.xenbus_state.specs.declared.back.BackBusAsk.{BackBusAsk}
+use Rattle.vbd_back.specs.Ask as backend_asks
+use Rattle.vbd_back.specs.Step as back_step
+use Rattle.vbd_model.specs.World.{World, backend_of}
+use Rattle.vbd_model.specs.Happening.{Happening, FrontMoves, BackMoves, JobMoves, Closes, Submits, Notifies, Pokes, Dumps, Looks, Settles, does, happens, attaches, back_negotiates, back_halts, back_key, back_bus_after, back_turn, halted_at, is_backs_ring}
+use Rattle.vbd_model.specs.Mappings.{is_mapping, maps_left, mappings_in, mappings_of}
+
+-- A job. What it maps is left to it no more.
+abbrev left_at : JobStage → Work → ℕ
+left_at s t = length t.rest + is_mapping s
+
+sector_maps : (writes : Bool) (m : Mapping) → is_mapping (task.sector_stage writes m) ≡ 0
+sector_maps true m = refl
+sector_maps false m = refl
+
+either_left : (b : Bool) (t u : Work) (n : ℕ) → maps_left t ≤ n → maps_left u ≤ n → maps_left (if b then t else u) ≤ n
+either_left true t u n p q = p
+either_left false t u n p q = q
+
+sector_left : (t : Work) (m : Mapping) → maps_left (task.next_sector t m) ≤ length t.rest
+sector_left t m =
+    let none = sector_maps t.writes m in
+    either_left (t.within == task.last_of t.rest) (record t { stage = job_stage.Unmap m }) (record t { within = t.within + 1; stage = task.sector_stage t.writes m }) (length t.rest) (omega arith) (omega arith)
+
+segment_left : (t : Work) (rest : List Segment) → maps_left (task.next_segment t (task.rest_of rest)) ≤ length rest
+segment_left t [] = omega arith
+segment_left t (s ∷ []) = omega arith
+segment_left t (s ∷ r ∷ rest) = omega arith
+
+-- what an act of a job comes to
+abbrev IsLeft : Hypervisor → JobStage → Work → BackAct → Type 0
+IsLeft h s t a = a.under.grants.made + maps_left (task.step_at s t a.answer) ≤ h.grants.made + left_at s t
+
+map_left : (h : Hypervisor) (k gref : ℕ) (mode : Mode) (t : Work) (v : Result ℕ _) → IsLeft h job_stage.Map t (map_act h (back_mover.Job k) gref mode v)
+map_left h k gref mode t (Ok frame) = let none = sector_maps t.writes (record { number = h.grants.made + 1; gref = gref; mode = mode }) in omega arith
+map_left h k gref mode t (Err refusal) = omega arith
+
+mapped_left : (h : Hypervisor) (k : ℕ) (t : Work) (rest : List Segment) (o : Outcome) (a : BackAct) → back_act h (back_mover.Job k) (task.map_ask rest t.writes) o ≡ Some a → IsLeft h job_stage.Map t a
+mapped_left h k t [] o a e = absurd (none-some a e)
+mapped_left h k t (s ∷ rest) o a e = of_back (IsLeft h job_stage.Map t) _ a (map_left h k s.gref (task.mode_of t.writes) t (verdict_at h.pages s.gref (task.mode_of t.writes))) e
+
+read_stage : (m : Mapping) (k : ℕ) → is_mapping (if k == 127 then job_stage.DiskWrite m else job_stage.ReadWord m (k + 1)) ≡ 0
+read_stage m k = by_test (k == 127)
+  where
+    by_test : (b : Bool) → is_mapping (if b then job_stage.DiskWrite m else job_stage.ReadWord m (k + 1)) ≡ 0
+    by_test true = refl
+    by_test false = refl
+
+write_left : (t : Work) (m : Mapping) (k : ℕ) → maps_left (task.step_at (job_stage.WriteWord m k) t answer.Done) ≤ length t.rest
+write_left t m k = either_left (k == 127) (task.next_sector t m) (record t { stage = job_stage.WriteWord m (k + 1) }) (length t.rest) (sector_left t m) (omega arith)
+
+act_left : (h : Hypervisor) (k : ℕ) (s : JobStage) (t : Work) (o : Outcome) (a : BackAct) → back_act h (back_mover.Job k) (task.ask_at s t) o ≡ Some a → IsLeft h s t a
+act_left h k job_stage.Map t o a e = mapped_left h k t t.rest o a e
+act_left h k (job_stage.ReadWord m n) t o a e = of_back (IsLeft h (job_stage.ReadWord m n) t) _ a (let none = read_stage m n in omega arith) e
+act_left h k (job_stage.DiskWrite m) t Took a e = of_back (IsLeft h (job_stage.DiskWrite m) t) _ a (let less = sector_left (task.counted t) m in omega arith) e
+act_left h k (job_stage.DiskWrite m) t Failed a e = of_back (IsLeft h (job_stage.DiskWrite m) t) _ a (omega arith) e
+act_left h k (job_stage.DiskWrite m) t (Gave words) a e = absurd (none-some a e)
+act_left h k (job_stage.DiskRead m) t Took a e = absurd (none-some a e)
+act_left h k (job_stage.DiskRead m) t Failed a e = of_back (IsLeft h (job_stage.DiskRead m) t) _ a (omega arith) e
+act_left h k (job_stage.DiskRead m) t (Gave words) a e = of_back (IsLeft h (job_stage.DiskRead m) t) _ a (omega arith) e
+act_left h k (job_stage.WriteWord m n) t o a e = of_back (IsLeft h (job_stage.WriteWord m n) t) _ a (let less = write_left t m n in omega arith) e
+act_left h k (job_stage.Unmap m) t o a e = of_back (IsLeft h (job_stage.Unmap m) t) _ a (let less = segment_left t t.rest in omega arith) e
+act_left h k (job_stage.GiveUp m) t o a e = of_back (IsLeft h (job_stage.GiveUp m) t) _ a (omega arith) e
+act_left h k (job_stage.Done status) t o a e = absurd (none-some a e)
+
+-- among all that are held
+abbrev all_left : List Work → ℕ
+all_left works = sum_by maps_left works
+
+between_left : (front rest : List Work) (t : Work) → all_left (front ++ t ∷ rest) ≡ all_left front + maps_left t + all_left rest
+between_left front rest t =
+    let both = sum_by-append maps_left front (t ∷ rest) in
+    let one = sum_by-cons maps_left t rest in
+    omega arith
+
+told_left : (h : Hypervisor) (k : ℕ) (works : List Work) (place : Option ℕ) (found : Option Work) (o : Outcome) (a : BackAct) → work_at works place ≡ found → back_act h (back_mover.Job k) (asked found) o ≡ Some a → a.under.grants.made + all_left (told_at works place found a.answer) ≤ h.grants.made + all_left works
+told_left h k works place None o a found e = absurd (none-some a e)
+told_left h k works None (Some t) o a found e = absurd (none-some t found)
+told_left h k works (Some place) (Some t) o a found e =
+    let r = place_among works place t found in
+    let one = act_left h k t.stage t o a e in
+    let before = ap all_left r.is ∙ between_left r.front r.rest t in
+    let now = ap all_left (r.set (task.step_of t a.answer)) ∙ between_left r.front r.rest (task.step_of t a.answer) in
+    omega arith
+
+job_left : (w : rings.World) (k : ℕ) (o : Outcome) (act : Option BackAct) → ring.job_turn w k o ≡ act → mappings_in (ring.job_after w k act) ≤ mappings_in w
+job_left w k o None e = omega arith
+job_left w k o (Some a) e = by_halt (is_some w.back.halted) e
+  where
+    by_halt : (b : Bool) → back_act w.under (back_mover.Job k) (if b then back_ask.Wait else asked (work_of w.back.jobs.works k)) o ≡ Some a → mappings_in (ring.job_after w k (Some a)) ≤ mappings_in w
+    by_halt true asks = absurd (none-some a asks)
+    by_halt false asks = told_left w.under k w.back.jobs.works (place_of w.back.jobs.works k) (work_of w.back.jobs.works k) o a refl asks
+
+-- The back. A job that it begins has 11 segments at most.
+transfer_left : (number size : ℕ) (writes : Bool) (k : Kind) (count sector : ℕ) (request : RawRequest) (segments : List Segment) (info : DiskInfo) (plan : Plan) → transfer_verdict k count sector segments info ≡ verdict.Serve plan → maps_left (task.moving number request size writes sector (take count segments)) ≤ 12
+transfer_left number size writes k count sector request segments info plan served =
+    let t = transfer_served k count sector segments info plan served in
+    let few = t.few in
+    let used : length (take count segments) ≤ count = grind (arith, length-take) in
+    omega arith
+
+served_left : (number size op count device id sector : ℕ) (segments : List Segment) (info : DiskInfo) (plan : Plan) → verdict_of (raw.Direct op count device id sector segments) info ≡ verdict.Serve plan → maps_left (task.served number (raw.Direct op count device id sector segments) size) ≤ 12
+served_left number size zero count device id sector segments info plan served = transfer_left number size false kind.Read count sector (raw.Direct 0 count device id sector segments) segments info plan served
+served_left number size (suc zero) count device id sector segments info plan served = transfer_left number size true kind.Write count sector (raw.Direct 1 count device id sector segments) segments info plan served
+served_left number size (suc (suc op)) count device id sector segments info plan served = let other : nat_le (suc (suc op)) 1 ≡ false = grind (arith, nat_tests) in rw other (omega arith)
+
+begun_left : (number size : ℕ) (request : RawRequest) (info : DiskInfo) (v : Verdict) → verdict_of request info ≡ v → maps_left (task.begun number request size v) ≤ 12
+begun_left number size (raw.Direct op count device id sector segments) info (verdict.Serve plan) e = served_left number size op count device id sector segments info plan e
+begun_left number size (raw.Discard flag device id sector count) info (verdict.Serve plan) e = omega arith
+begun_left number size (raw.Indirect op count device id sector pages) info (verdict.Serve plan) e = omega arith
+begun_left number size request info (verdict.Error why) e = omega arith
+begun_left number size request info verdict.Unsupported e = omega arith
+
+behind_left : (works : List Work) → all_left (behind_mapping works) ≤ all_left works
+behind_left [] = omega arith
+behind_left (t ∷ works) = by_test (is_some (mapping_at t.stage)) (behind_left works)
+  where
+    by_test : (b : Bool) → all_left (behind_mapping works) ≤ all_left works → all_left (cond b works (behind_mapping works)) ≤ all_left (t ∷ works)
+    by_test true rest = let one = sum_by-cons maps_left t works in omega arith
+    by_test false rest = let one = sum_by-cons maps_left t works in omega arith
+
+removed_left : (works : List Work) (place : Option ℕ) → position (λ (t : Work). is_done t) works ≡ place → all_left (removed_at works place) ≤ all_left works
+removed_left works None e = omega arith
+removed_left [] (Some place) e = absurd (none-some place e)
+removed_left (w ∷ works) (Some place) e =
+    let p = position-Some (λ (t : Work). is_done t) (w ∷ works) place w e in
+    let less = sum_by-remove maps_left (w ∷ works) place w p.0 in
+    omega arith
+
+-- no more than that, in either case
+either_few : (b : Bool) (u v : View) (n : ℕ) → all_left u.jobs.works ≤ n → all_left v.jobs.works ≤ n → all_left (if b then u else v).jobs.works ≤ n
+either_few true u v n p q = p
+either_few false u v n p q = q
+
+looked_few : (v : View) (word : ℕ) (otherwise : View) (n : ℕ) → all_left v.jobs.works ≤ n → all_left otherwise.jobs.works ≤ n → all_left (looked v word otherwise).jobs.works ≤ n
+looked_few v word otherwise n p q =
+    either_few (overruns v.ring word) (overrun v word) (if word == v.ring.cons then otherwise else record v { seen = word; stage = stage.Loop }) n (let less = behind_left v.jobs.works in omega arith)
+    (either_few (word == v.ring.cons) otherwise (record v { seen = word; stage = stage.Loop }) n q p)
+
+loop_few : (v : View) (r : Option Reply) (x : BackAnswer) → all_left (loop_step v r x).jobs.works ≤ all_left v.jobs.works + 12
+loop_few v (Some r) x = let less = removed_left v.jobs.works (position (λ (t : Work). is_done t) v.jobs.works) refl in omega arith
+loop_few v None (answer.Word word) =
+    either_few (requests_of v.ring v.seen == 0) (looked v word (record v { seen = word; stage = stage.StoreEvent })) (record v { entry = word ∷ []; stage = stage.Fetch 1 }) (all_left v.jobs.works + 12)
+    (looked_few v word (record v { seen = word; stage = stage.StoreEvent }) (all_left v.jobs.works + 12) (omega arith) (omega arith)) (omega arith)
+loop_few v None answer.Event = omega arith
+loop_few v None x = omega arith
+
+fetch_few : (v : View) (k word : ℕ) → all_left (fetch_step v k word).jobs.works ≤ all_left v.jobs.works + 12
+fetch_few v k word =
+    let words = v.entry ++ word ∷ [] in
+    let request : RawRequest = request_of v.shape.abi words in
+    let one = begun_left (next_number v) v.jobs.info.sectors request v.jobs.info (verdict_of request v.jobs.info) refl in
+    let begun = task.begun (next_number v) request v.jobs.info.sectors (verdict_of request v.jobs.info) in
+    let both = sum_by-append maps_left v.jobs.works (begun ∷ []) in
+    let alone = sum_by-cons maps_left begun [] in
+    either_few (k + 1 == entry_words_of v.shape.abi) (fetched v words) (record v { entry = words; stage = stage.Fetch (k + 1) }) (all_left v.jobs.works + 12) (omega arith) (omega arith)
+
+step_few : (s : Stage) (v : View) (x : BackAnswer) → all_left (step_at s v x).jobs.works ≤ all_left v.jobs.works + 12
+step_few stage.MapRing v (answer.Mapped m) = omega arith
+step_few stage.MapRing v (answer.MapRefused status) = omega arith
+step_few stage.Bind v answer.Done = omega arith
+step_few stage.Bind v answer.BindRefused = omega arith
+step_few stage.Loop v x = loop_few v (next_reply v) x
+step_few (stage.Fetch k) v (answer.Word word) = fetch_few v k word
+step_few (stage.ReplyHigh r) v x = omega arith
+step_few (stage.ReplyLast r) v x = omega arith
+step_few (stage.Producer r) v x = omega arith
+step_few (stage.ProducerFence old) v x = omega arith
+step_few (stage.ResponseEvent old) v (answer.Word event) = omega arith
+step_few stage.Send v x = omega arith
+step_few stage.StoreEvent v x = omega arith
+step_few stage.EventFence v x = omega arith
+step_few stage.LookAgain v (answer.Word word) = looked_few v word (record v { seen = word; stage = stage.Loop; asleep = true }) (all_left v.jobs.works + 12) (omega arith) (omega arith)
+step_few (stage.GiveUp m) v x = let less = behind_left v.jobs.works in omega arith
+step_few stage.UnmapRing v x = omega arith
+step_few stage.ClosePort v x = omega arith
+step_few stage.UnmapUnbound v x = omega arith
+step_few s v x = omega arith
+
+back_left : (w : rings.World) (act : Option BackAct) → ring.back_turn w Took ≡ act → mappings_in (ring.back_after w act) ≤ mappings_in w + 13
+back_left w None e = omega arith
+back_left w (Some a) e =
+    let made = made_back w.under back_mover.Back (back_asks.ask_of w.back) Took a e in
+    let jobs = step_few w.back.stage w.back a.answer in
+    omega arith
+
+front_left : (w : rings.World) (act : Option FrontAct) → ring.front_turn w ≡ act → mappings_in (ring.front_after w act) ≤ mappings_in w
+front_left w None e = omega arith
+front_left w (Some a) e = let same = ap (λ (t : GrantTable). t.made) (made_front w.under (front_asks.ask_of w.front) a e) in omega arith
+
+halted_left : (why : Halt) (v : View) → all_left (halts why v).jobs.works ≤ all_left v.jobs.works
+halted_left why v = halts_cases (λ x. all_left x.jobs.works ≤ all_left v.jobs.works) why v (λ here. omega arith) (λ here. behind_left v.jobs.works) (omega arith)
+
+attached_left : (w : rings.World) (shape : Shape) (grefs : List ℕ) (port : ℕ) → mappings_in (ring.happens w (ring.BackAttaches shape grefs port)) ≤ mappings_in w
+attached_left w shape grefs port = attach_cases (λ b shown. w.under.grants.made + all_left b.jobs.works ≤ mappings_in w) w shape grefs port (λ may named. omega arith) (omega arith)
+
+overwritten_left : (b : Bool) (w : rings.World) (x : Hypervisor) → x.grants ≡ w.under.grants → mappings_in (record { front = w.front; back = w.back; under = if b then x else w.under }) ≤ mappings_in w
+overwritten_left true w x same = let made = ap (λ (t : GrantTable). t.made) same in omega arith
+overwritten_left false w x same = omega arith
+
+-- what a happening of the ring's machine comes to
+abbrev pub cost_of : ring.Happening → ℕ
+cost_of ring.BackMoves = 13
+cost_of h = 0
+
+pub ring_left : (w : rings.World) (h : ring.Happening) → mappings_in (ring.happens w h) ≤ mappings_in w + cost_of h
+ring_left w ring.FrontMoves = let same = front_left w (ring.front_turn w) refl in omega arith
+ring_left w ring.BackMoves = back_left w (ring.back_turn w Took) refl
+ring_left w (ring.JobMoves number outcome) = let same = job_left w number outcome (ring.job_turn w number outcome) refl in omega arith
+ring_left w (ring.Negotiates who move) = omega arith
+ring_left w (ring.FrontEnters s) = omega arith
+ring_left w (ring.BackAttaches shape grefs port) = let same = attached_left w shape grefs port in omega arith
+ring_left w (ring.BackHalts why) = let less = halted_left why w.back in omega arith
+ring_left w (ring.Submits job) = omega arith
+ring_left w (ring.Notifies at) = omega arith
+ring_left w (ring.Pokes frame word value) = let same = overwritten_left (ring.is_guest_word frame word) w (with_pages w.under (with_word w.under.pages frame word value)) refl in omega arith
+ring_left w ring.Dumps = omega arith
+ring_left w (ring.Looks quiet) = omega arith
+ring_left w (ring.Settles quiet) = omega arith
+
+pub all_rings_left : (hs : List ring.Happening) (w : rings.World) → mappings_in (ring.after hs w) ≤ mappings_in w + sum_by cost_of hs
+all_rings_left [] w = omega arith
+all_rings_left (h ∷ hs) w =
+    let one = ring_left w h in
+    let rest = all_rings_left hs (ring.happens w h) in
+    let both = sum_by-cons cost_of h hs in
+    omega arith
+
+-- a move of the back, of its end of the ring or of its negotiation
+halts_cost : (whys : List Halt) → sum_by cost_of (map ring.BackHalts whys) ≡ 0
+halts_cost [] = refl
+halts_cost (why ∷ whys) = let rest = halts_cost whys in let both = sum_by-cons cost_of (ring.BackHalts why) (map ring.BackHalts whys) in omega arith
+
+spoken_cost : (speaks : Bool) (w : World) → sum_by cost_of (back_halts speaks w) ≡ 0
+spoken_cost true w = halts_cost (halted_at w (back_turn w))
+spoken_cost false w = refl
+
+negotiates_cost : (attached : Bool) (w : World) (b : BackView) → sum_by cost_of (back_negotiates attached w b) ≡ 0
+negotiates_cost true w b = sum_by-cons cost_of (ring.BackAttaches (back_step.shape_read b) b.grefs b.terms.port) []
+negotiates_cost false w b =
+    let a : BackBusAsk = backend_asks.bus_ask_of (backend_of w) in
+    let more : List ring.Happening = back_halts (backend_asks.bus_moves a w.rings.back.stage) w in
+    let rest = spoken_cost (backend_asks.bus_moves a w.rings.back.stage) w in
+    let both = sum_by-cons cost_of (ring.Negotiates end.Back (back_key a)) more in
+    omega arith
+
+does_cost : (b : Bool) (hs : List ring.Happening) → sum_by cost_of hs ≡ 0 → sum_by cost_of (if b then ring.BackMoves ∷ [] else hs) ≤ 13
+does_cost true hs none = let one = sum_by-cons cost_of ring.BackMoves [] in omega arith
+does_cost false hs none = omega arith
+
+pub back_comes : (w : World) → mappings_of (happens w BackMoves) ≤ mappings_of w + 13
+back_comes w =
+    let b : BackView = back_bus_after w (back_turn w) in
+    let all = all_rings_left (does w BackMoves) w.rings in
+    let cost = does_cost (is_backs_ring w) (back_negotiates (attaches w b) w b) (negotiates_cost (attaches w b) w b) in
+    omega arith
+
+-- a move of a job comes to none
+pub job_comes : (w : World) (number : ℕ) (outcome : Outcome) → mappings_of (happens w (JobMoves number outcome)) ≤ mappings_of w
+job_comes w number outcome = job_left w.rings number outcome (ring.job_turn w.rings number outcome) refl
